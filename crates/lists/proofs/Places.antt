@@ -1,0 +1,26 @@
+-- A list at a place: its first element from there on, and a part that grows by one. Assumes nothing.
+use Prim.Native.Nat.{ℕ, suc, _+_, _≤_, _<_}
+use mathlib.Core.Path.{_≡_, ap, sym, _∙_}
+use mathlib.Core.List.{List, [], _∷_, _++_, head-eq-of-cons-eq, tail-eq-of-cons-eq}
+use native.Mathlib.Omega.{arith}
+use native.Mathlib.Numerals.{add-one}
+use lib.ListN.{length, take, drop, getD, length-drop}
+use lib.Seq.{slice, take-suc, drop-cons, drop-append-le, length-take-le}
+
+-- the code's `i + 1`, where the library has `suc i`
+pub drop-next : (s : List ℕ) (i : ℕ) → i < length s → drop i s ≡ getD s i 0 ∷ drop (i + 1) s
+drop-next s i h = rw (drop-cons s i 0, add-one)
+
+-- what stands at o, where the list from o on is known
+pub at-place : (o : ℕ) (t : List ℕ) (b : ℕ) (bs : List ℕ) → drop o t ≡ b ∷ bs → (o < length t) × (getD t o 0 ≡ b) × (drop (suc o) t ≡ bs)
+at-place o t b bs h =
+    let l : o < length t = omega (arith, length-drop o t, ap length h) in
+    let c : getD t o 0 ∷ drop (suc o) t ≡ b ∷ bs = sym (drop-cons t o 0 l) ∙ h in
+    (l, head-eq-of-cons-eq c, tail-eq-of-cons-eq c)
+
+pub slice-snoc : (a o : ℕ) (t : List ℕ) (b : ℕ) (bs : List ℕ) → a ≤ o → drop o t ≡ b ∷ bs → slice a (suc o) t ≡ slice a o t ++ (b ∷ [])
+slice-snoc a o t b bs l h =
+    let p = at-place o t b bs h in
+    ap (drop a) (take-suc t o 0 (p .0))
+    ∙ drop-append-le a (take o t) (getD t o 0 ∷ []) (omega (arith, p .0, length-take-le o t (omega (arith, p .0))))
+    ∙ ap (λ (z : ℕ). slice a o t ++ (z ∷ [])) (p .1)

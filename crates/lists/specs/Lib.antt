@@ -1,0 +1,5 @@
+pub mod All
+pub mod Once
+pub mod Pick
+pub mod Put
+pub mod Run

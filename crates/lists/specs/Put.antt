@@ -1,0 +1,14 @@
+-- Numbers put into a lent list where there is room.
+use mathlib.Core.List.{List, _++_}
+use mathlib.Core.Path.{_≡_}
+use Prim.Native.Nat.{ℕ, _+_, _≤_}
+use lib.ListN.{length, take, drop}
+
+-- the list with `vs` at the place `at`
+abbrev pub putAt : List ℕ → ℕ → List ℕ → List ℕ
+putAt t at vs = take at t ++ (vs ++ drop (at + length vs) t)
+
+-- `vs` is at `at` where there is room for it
+pub record PutIs (t : List ℕ) (at : ℕ) (vs t′ : List ℕ) : Type 0 where
+  pub len : length t′ ≡ length t
+  pub put : at + length vs ≤ length t → t′ ≡ putAt t at vs
