@@ -1,0 +1,6 @@
+pub mod Bounds
+pub mod Join
+pub mod Rest
+pub mod Scans
+pub mod Values
+pub mod Within

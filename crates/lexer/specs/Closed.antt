@@ -1,0 +1,14 @@
+-- Closed values.
+use Prim.Native.Nat.{ℕ}
+use mathlib.Core.Bool.{Bool, false, _||_, _&&_, not}
+use mathlib.Core.List.{List, [], _∷_}
+use lib.Dec.{eqb}
+
+-- scanned with an escape pending or not: no unescaped `]`, and at the end no pending escape
+abbrev pub closedFrom : Bool → List ℕ → Bool
+closedFrom esc [] = not esc
+closedFrom esc (b ∷ bs) = (esc || not (eqb b 0x5d)) && closedFrom (not esc && eqb b 0x5c) bs
+
+-- scanned from no pending escape
+abbrev pub closed : List ℕ → Bool
+closed v = closedFrom false v
