@@ -3,3 +3,4 @@ pub mod Once
 pub mod Pick
 pub mod Put
 pub mod Run
+pub mod Same

@@ -1,0 +1,24 @@
+-- The tables as they are lent: the numbers of the rows, one behind the other.
+use Prim.Native.Nat.{ℕ}
+use mathlib.Core.List.{List, [], _∷_}
+use Rattle.tables.specs.Rows.{TreeRow, NodeRow, PropRow, ValRow}
+
+-- root, game type
+abbrev pub flatTrees : List TreeRow → List ℕ
+flatTrees [] = []
+flatTrees (r ∷ rs) = r .root ∷ r .kind ∷ flatTrees rs
+
+-- parent, first child, next sibling, first property, property count
+abbrev pub flatNodes : List NodeRow → List ℕ
+flatNodes [] = []
+flatNodes (r ∷ rs) = r .parent ∷ r .child ∷ r .sibling ∷ r .first ∷ r .count ∷ flatNodes rs
+
+-- identifier start and end, first value, value count
+abbrev pub flatProps : List PropRow → List ℕ
+flatProps [] = []
+flatProps (r ∷ rs) = r .from ∷ r .to ∷ r .first ∷ r .count ∷ flatProps rs
+
+-- start and end
+abbrev pub flatVals : List ValRow → List ℕ
+flatVals [] = []
+flatVals (r ∷ rs) = r .from ∷ r .to ∷ flatVals rs

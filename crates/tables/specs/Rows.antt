@@ -1,0 +1,90 @@
+-- The rows of the four tables of a record.
+use Prim.Native.Nat.{ℕ, suc, _+_}
+use mathlib.Core.Bool.{_&&_}
+use mathlib.Core.List.{List, [], _∷_}
+use lib.ListN.{length}
+use lib.Dec.{leb, eqb}
+use Rattle.lists.specs.Pick.{pick}
+use Rattle.lexer.specs.Token.{Val, Prop}
+use Rattle.tables.specs.Numbers.{none}
+use Rattle.tables.specs.Record.{Node, Tree, allNodes, allProps, allVals}
+
+-- a row of the tree table
+pub record TreeRow : Type 0 where
+  pub root : ℕ
+  pub kind : ℕ
+
+-- a row of the node table: first child, next sibling, first property and property count beside the parent
+pub record NodeRow : Type 0 where
+  pub parent : ℕ
+  pub child : ℕ
+  pub sibling : ℕ
+  pub first : ℕ
+  pub count : ℕ
+
+-- a row of the property table: identifier span, first value, value count
+pub record PropRow : Type 0 where
+  pub from : ℕ
+  pub to : ℕ
+  pub first : ℕ
+  pub count : ℕ
+
+-- a row of the value table: the span between the brackets
+pub record ValRow : Type 0 where
+  pub from : ℕ
+  pub to : ℕ
+
+-- all rows
+pub record Tables : Type 0 where
+  pub trees : List TreeRow
+  pub nodes : List NodeRow
+  pub props : List PropRow
+  pub vals : List ValRow
+
+-- the first of the nodes, numbered from k by their parents, whose parent is p and whose number is at least lo
+abbrev pub next : (p lo k : ℕ) → List ℕ → ℕ
+next p lo k [] = none
+next p lo k (q ∷ qs) = let r = next p lo (suc k) qs in pick (eqb p q && leb lo k) k r
+
+-- root and game type
+abbrev pub treeRows : List Tree → List TreeRow
+treeRows [] = []
+treeRows (t ∷ ts) = record { root = t .root; kind = t .kind } ∷ treeRows ts
+
+-- the parents of the nodes
+abbrev pub parents : List Node → List ℕ
+parents [] = []
+parents (n ∷ ns) = n .parent ∷ parents ns
+
+-- ps: all parents; k: the number of the first of these nodes; f: its first property. Children are linked in ascending order, a root has no next sibling
+abbrev pub nodeRows : (ps : List ℕ) (k f : ℕ) → List Node → List NodeRow
+nodeRows ps k f [] = []
+nodeRows ps k f (n ∷ ns) =
+    record {
+      parent = n .parent;
+      child = next k 0 0 ps;
+      sibling = pick (eqb (n .parent) none) none (next (n .parent) (suc k) 0 ps);
+      first = f;
+      count = length (n .props);
+    }
+    ∷ nodeRows ps (suc k) (f + length (n .props)) ns
+
+-- f: the first value of the first property
+abbrev pub propRows : ℕ → List Prop → List PropRow
+propRows f [] = []
+propRows f (p ∷ ps) = record { from = p .from; to = p .to; first = f; count = length (p .vals) } ∷ propRows (f + length (p .vals)) ps
+
+-- the spans of the values
+abbrev pub valRows : List Val → List ValRow
+valRows [] = []
+valRows (v ∷ vs) = record { from = v .from; to = v .to } ∷ valRows vs
+
+-- the tables of a record
+abbrev pub tables : List Tree → Tables
+tables ts =
+    record {
+      trees = treeRows ts;
+      nodes = nodeRows (parents (allNodes ts)) 0 0 (allNodes ts);
+      props = propRows 0 (allProps (allNodes ts));
+      vals = valRows (allVals (allProps (allNodes ts)));
+    }

@@ -1,0 +1,149 @@
+// The four lent tables: their rows, the counts and numbers given back, and rows put where there is room.
+ghost use mathlib.Core.Path.{_≡_};
+ghost use mathlib.Core.List.{[], _∷_};
+ghost use Rattle.lists.specs.Put.{PutIs};
+ghost use Rattle.tables.specs.Numbers.{numberOf, reasonOf};
+
+// The longest text, in bytes.
+pub const TEXT_LIMIT: usize = 1048576;
+
+// The greatest number of open trees.
+pub const DEPTH_LIMIT: usize = 1024;
+
+// "None" in a row.
+pub const NONE: u32 = 4294967295;
+
+// Numbers in a row of each table.
+pub const TREE_STRIDE: usize = 2;
+
+pub const NODE_STRIDE: usize = 5;
+
+pub const PROPERTY_STRIDE: usize = 4;
+
+pub const VALUE_STRIDE: usize = 2;
+
+// Used rows of each table.
+pub struct Counts {
+    pub trees: usize,
+    pub nodes: usize,
+    pub properties: usize,
+    pub values: usize,
+}
+
+// Why something is refused.
+pub enum Reason {
+    TextTooLong,
+    NotUtf8,
+    MissingPropertyIdentifier,
+    UnexpectedEndOfPropertyIdentifier,
+    UnexpectedEndOfPropertyValue,
+    UnexpectedGameTreeEnd,
+    UnexpectedEndOfData,
+    NoGameTrees,
+    TooDeep,
+    UnexpectedGameTreeStart,
+    UnexpectedProperty,
+    InvalidGameType,
+    InvalidFF4Property,
+    NoRoom,
+    EmptyIdentifier,
+    NoSuchNumber,
+    GameTypeFixed,
+    NotClosed,
+    NotFitting,
+}
+
+// A reading: the counts, or why it is refused and the place.
+pub enum Reading {
+    Accepted(Counts),
+    Refused(Reason, usize),
+}
+
+// The number of a refusal.
+pub fn number(reason: Reason) -> u32
+    ensures { λ r. ⌜ r ≡ numberOf reason ⌝ }
+{
+    match reason {
+        Reason::TextTooLong => 1,
+        Reason::NotUtf8 => 2,
+        Reason::MissingPropertyIdentifier => 3,
+        Reason::UnexpectedEndOfPropertyIdentifier => 4,
+        Reason::UnexpectedEndOfPropertyValue => 5,
+        Reason::UnexpectedGameTreeEnd => 6,
+        Reason::UnexpectedEndOfData => 7,
+        Reason::NoGameTrees => 8,
+        Reason::TooDeep => 9,
+        Reason::UnexpectedGameTreeStart => 10,
+        Reason::UnexpectedProperty => 11,
+        Reason::InvalidGameType => 12,
+        Reason::InvalidFF4Property => 13,
+        Reason::NoRoom => 14,
+        Reason::EmptyIdentifier => 15,
+        Reason::NoSuchNumber => 16,
+        Reason::GameTypeFixed => 17,
+        Reason::NotClosed => 18,
+        Reason::NotFitting => 19,
+    }
+}
+
+// A token's fault as a reason.
+pub fn fault_reason(fault: lexer::Fault) -> Reason
+    ensures { λ r. ⌜ r ≡ reasonOf fault ⌝ }
+{
+    match fault {
+        lexer::Fault::MissingPropertyIdentifier => Reason::MissingPropertyIdentifier,
+        lexer::Fault::UnexpectedEndOfPropertyIdentifier =>
+            Reason::UnexpectedEndOfPropertyIdentifier,
+        lexer::Fault::UnexpectedEndOfPropertyValue => Reason::UnexpectedEndOfPropertyValue,
+    }
+}
+
+// One number put at a place, where there is room.
+pub fn put1(t: &mut [u32], at: usize, a: u32)
+    ensures { λ _. ⌜ PutIs (now (t .entry)) at (a ∷ []) (now (t .exit)) ⌝ }
+{
+    if at < t.len() {
+        t[at] = a;
+    }
+}
+
+// Two numbers put from a place on, where there is room for both.
+pub fn put2(t: &mut [u32], at: usize, a: u32, b: u32)
+    ensures { λ _. ⌜ PutIs (now (t .entry)) at (a ∷ b ∷ []) (now (t .exit)) ⌝ }
+{
+    if at < t.len() {
+        if 1 < t.len() - at {
+            t[at] = a;
+            t[at + 1] = b;
+        }
+    }
+}
+
+// Four numbers put from a place on, where there is room for all.
+pub fn put4(t: &mut [u32], at: usize, a: u32, b: u32, c: u32, d: u32)
+    ensures { λ _. ⌜ PutIs (now (t .entry)) at (a ∷ b ∷ c ∷ d ∷ []) (now (t .exit)) ⌝ }
+{
+    if at < t.len() {
+        if 3 < t.len() - at {
+            t[at] = a;
+            t[at + 1] = b;
+            t[at + 2] = c;
+            t[at + 3] = d;
+        }
+    }
+}
+
+// Five numbers put from a place on, where there is room for all.
+pub fn put5(t: &mut [u32], at: usize, a: u32, b: u32, c: u32, d: u32, e: u32)
+    ensures { λ _. ⌜ PutIs (now (t .entry)) at (a ∷ b ∷ c ∷ d ∷ e ∷ []) (now (t .exit)) ⌝ }
+{
+    if at < t.len() {
+        if 4 < t.len() - at {
+            t[at] = a;
+            t[at + 1] = b;
+            t[at + 2] = c;
+            t[at + 3] = d;
+            t[at + 4] = e;
+        }
+    }
+}
