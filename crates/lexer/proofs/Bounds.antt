@@ -46,7 +46,7 @@ skip-within-from i [] = omega arith
 skip-within-from i (b ∷ l) = go (space b) (skip-within-from (i + 1) l)
   where
     go : (t : Bool) → (i + 1 ≤ skipFrom (i + 1) l) × (skipFrom (i + 1) l ≤ i + 1 + length l)
-      → (i ≤ pick t (skipFrom (i + 1) l) i) × (pick t (skipFrom (i + 1) l) i ≤ i + length (b ∷ l))
+        → (i ≤ pick t (skipFrom (i + 1) l) i) × (pick t (skipFrom (i + 1) l) i ≤ i + length (b ∷ l))
     go true h = omega arith
     go false h = omega arith
 

@@ -33,7 +33,7 @@ module _ (u : List ℕ) (s k : ℕ) (w : List ℕ) where
 
   -- after a value, at a place that is no white space and no `[`: the property comes out, and the tokens go on
   after-ends : (vs : List Val) (x : ℕ) → x ≤ length u → space (getD u x 0) ≡ false → (getD u x 0 ≡ 0x5b → ⊥)
-    → rest (after (made u s k w vs)) x (length u) (drop x u) ≡ lexed (prop (made u s k w vs) x ∷ []) (lexAt u x)
+      → rest (after (made u s k w vs)) x (length u) (drop x u) ≡ lexed (prop (made u s k w vs) x ∷ []) (lexAt u x)
   unfolding lexAt
   after-ends vs x h q n = go (ltb x (length u)) refl
     where
@@ -53,7 +53,7 @@ module _ (u : List ℕ) (s k : ℕ) (w : List ℕ) where
 
   abbrev Values : ℕ → Type 0
   Values n = (vs : List Val) (q : ℕ) → length u - q < n → getD u q 0 ≡ 0x5b
-    → rest (value s k w vs false (suc q) []) (suc q) (length u) (drop (suc q) u) ≡ valuesOn vs q (valuesAt u q)
+      → rest (value s k w vs false (suc q) []) (suc q) (length u) (drop (suc q) u) ≡ valuesOn vs q (valuesAt u q)
 
   module _ (n : ℕ) (ih : Values n) (vs : List Val) (q : ℕ) (f : length u - q < suc n) (b : getD u q 0 ≡ 0x5b) where
     abbrev grown : ℕ → List Val
@@ -72,12 +72,12 @@ module _ (u : List ℕ) (s k : ℕ) (w : List ℕ) where
       same-values = sym (values-more u q (q + 1) j x (value-on u q j x b e ex))
 
       opened : x ≤ length u → space (getD u x 0) ≡ false → getD u x 0 ≡ 0x5b
-        → rest (after (made u s k w (grown j))) x (length u) (drop x u) ≡ valuesOn vs q (valuesAt u q)
+          → rest (after (made u s k w (grown j))) x (length u) (drop x u) ≡ valuesOn vs q (valuesAt u q)
       opened h sp o =
           let cb = close-bounds u (q + 1) j e in
           let sb = skip-bounds u (j + 1) in
           let lt : x < length u = elim (ltb x (length u)) as (λ (t : Bool). ltb x (length u) ≡ t → x < length u)
-            [ true ↦ λ t. ltb-true x (length u) t | false ↦ λ t. absurd (past u x (ltb-false x (length u) t) o) ] refl in
+          [ true ↦ λ t. ltb-true x (length u) t | false ↦ λ t. absurd (past u x (ltb-false x (length u) t) o) ] refl in
           let y : step (after (made u s k w (grown j))) x (getD u x 0) ≡ silent (value s k w (grown j) false (suc x) []) = rw (sp, eq-eqb (getD u x 0) 0x5b o) in
           step-at u (after (made u s k w (grown j))) x lt
           ∙ ap (λ (z : Out). lexed (z .toks) (rest (z .next) (suc x) (length u) (drop (suc x) u))) y
@@ -86,11 +86,11 @@ module _ (u : List ℕ) (s k : ℕ) (w : List ℕ) where
           ∙ join (valuesAt u q)
 
       closed : x ≤ length u → space (getD u x 0) ≡ false → (getD u x 0 ≡ 0x5b → ⊥)
-        → rest (after (made u s k w (grown j))) x (length u) (drop x u) ≡ valuesOn vs q (valuesAt u q)
+          → rest (after (made u s k w (grown j))) x (length u) (drop x u) ≡ valuesOn vs q (valuesAt u q)
       closed h sp o =
           after-ends (grown j) x h sp o
           ∙ ap (λ (z : List Val). lexed (prop (made u s k w z) x ∷ []) (lexAt u x))
-            (sym (append-nil (grown j)) ∙ ap (λ (z : List Val). grown j ++ z) (sym (vals-none u x (value-none u x o))) ∙ lists)
+          (sym (append-nil (grown j)) ∙ ap (λ (z : List Val). grown j ++ z) (sym (vals-none u x (value-none u x o))) ∙ lists)
           ∙ ap (valuesOn vs q) (sym (values-none u x (value-none u x o)) ∙ same-values)
 
     from-close : (z : Close) → closeAt u (q + 1) ≡ z → closeOn u s k w vs (q + 1) z ≡ valuesOn vs q (valuesAt u q)
@@ -101,7 +101,7 @@ module _ (u : List ℕ) (s k : ℕ) (w : List ℕ) where
       where
         go : (x : ℕ) → x ≡ skipAt u (j + 1) → x ≤ length u → space (getD u x 0) ≡ false → rest (after (made u s k w (grown j))) x (length u) (drop x u) ≡ valuesOn vs q (valuesAt u q)
         go x ex h sp = elim (eqb (getD u x 0) 0x5b) as (λ (c : Bool). eqb (getD u x 0) 0x5b ≡ c → rest (after (made u s k w (grown j))) x (length u) (drop x u) ≡ valuesOn vs q (valuesAt u q))
-          [ true ↦ λ c. opened j x e ex h sp (eqb-true (getD u x 0) 0x5b c) | false ↦ λ c. closed j x e ex h sp (eqb-false (getD u x 0) 0x5b c) ] refl
+            [ true ↦ λ c. opened j x e ex h sp (eqb-true (getD u x 0) 0x5b c) | false ↦ λ c. closed j x e ex h sp (eqb-false (getD u x 0) 0x5b c) ] refl
     from-close Open e = ap (valuesOn vs q) (sym (values-unclosed u q (value-open u q b e)))
 
   values-lex : (n : ℕ) → Values n
@@ -123,7 +123,7 @@ module _ (u : List ℕ) where
       ∙ ap (λ (z : ℕ). lexed (t ∷ []) (rest between z (length u) (drop z u))) (sym (add-one i))
 
   token-ident : (i : ℕ) → i < length u → eqb (getD u i 0) 0x28 ≡ false → eqb (getD u i 0) 0x29 ≡ false → eqb (getD u i 0) 0x3b ≡ false → space (getD u i 0) ≡ false
-    → lexAt u i ≡ identOn u i (identAt u i)
+      → lexAt u i ≡ identOn u i (identAt u i)
   unfolding lexAt
   token-ident i h a b c sp =
       let x : step between i (getD u i 0) ≡ step (ident i []) i (getD u i 0) = rw (a, b, c, sp) in

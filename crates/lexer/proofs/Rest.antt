@@ -60,7 +60,7 @@ module _ (u : List ℕ) where
   ident-rest (b ∷ bs) i s d h = go (eqb b 0x5b) (leb 0x80 b) (ident-rest bs (suc i) s (at-place i u b bs d .2) (omega arith))
     where
       go : (c1 c2 : Bool) → rest (ident s (slice s (suc i) u)) (suc i) (length u) bs ≡ identOn s (identFrom (suc i) bs)
-        → rest (starts c1 c2 s (slice s i u) i b) (suc i) (length u) bs ≡ identOn s (pick c1 (Opens i) (pick c2 Foreign (identFrom (i + 1) bs)))
+          → rest (starts c1 c2 s (slice s i u) i b) (suc i) (length u) bs ≡ identOn s (pick c1 (Opens i) (pick c2 Foreign (identFrom (i + 1) bs)))
       go true c2 ih = ap (rest (value s i (slice s i u) [] false (suc i) []) (suc i) (length u)) (sym (at-place i u b bs d .2))
       go false true ih = fault-rest UnexpectedEndOfPropertyIdentifier s (suc i) (length u) bs
       go false false ih =
@@ -78,7 +78,7 @@ module _ (u : List ℕ) where
     closeOn vs v Open = record { toks = []; end = broken UnexpectedEndOfPropertyValue s }
 
     pub value-rest : (bs : List ℕ) (e : Bool) (i : ℕ) (vs : List Val) (v : ℕ) → drop i u ≡ bs → v ≤ i
-      → rest (value s k w vs e v (slice v i u)) i (length u) bs ≡ closeOn vs v (closeFrom e i bs)
+        → rest (value s k w vs e v (slice v i u)) i (length u) bs ≡ closeOn vs v (closeFrom e i bs)
     unfolding closeFrom
     value-rest [] e i vs v d h = refl
     value-rest (b ∷ bs) true i vs v d h =
@@ -88,7 +88,7 @@ module _ (u : List ℕ) where
     value-rest (b ∷ bs) false i vs v d h = go (eqb b 0x5d) (value-rest bs (eqb b 0x5c) (suc i) vs v (at-place i u b bs d .2) (omega arith))
       where
         go : (c : Bool) → rest (value s k w vs (eqb b 0x5c) v (slice v (suc i) u)) (suc i) (length u) bs ≡ closeOn vs v (closeFrom (eqb b 0x5c) (suc i) bs)
-          → rest (values false c (eqb b 0x5c) s k w vs v (slice v i u) i b) (suc i) (length u) bs ≡ closeOn vs v (pick c (At i) (closeFrom (eqb b 0x5c) (i + 1) bs))
+            → rest (values false c (eqb b 0x5c) s k w vs v (slice v i u) i b) (suc i) (length u) bs ≡ closeOn vs v (pick c (At i) (closeFrom (eqb b 0x5c) (i + 1) bs))
         go true ih = ap (rest (after (made (vs ++ (record { from = v; to = i; raw = slice v i u } ∷ [])))) (suc i) (length u)) (sym (at-place i u b bs d .2))
         go false ih =
             ap (λ (z : List ℕ). rest (value s k w vs (eqb b 0x5c) v z) (suc i) (length u) bs) (sym (slice-snoc v i u b bs h d))
@@ -97,7 +97,7 @@ module _ (u : List ℕ) where
   -- ---- white space, where it changes nothing
 
   pub skip-rest : (st : St) → ((o b : ℕ) → space b ≡ true → step st o b ≡ silent st) → (bs : List ℕ) (i : ℕ) → drop i u ≡ bs
-    → rest st i (length u) bs ≡ restAt st (skipFrom i bs)
+      → rest st i (length u) bs ≡ restAt st (skipFrom i bs)
   unfolding skipFrom
   skip-rest st k [] i d = ap (rest st i (length u)) (sym d)
   skip-rest st k (b ∷ bs) i d = go (space b) refl (skip-rest st k bs (suc i) (at-place i u b bs d .2))

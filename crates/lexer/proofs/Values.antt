@@ -48,7 +48,7 @@ module _ (s : List ℕ) where
   vals-fuel (suc f) (suc g) k p q = go (valueAt s k) refl (vals-fuel f g)
     where
       go : (v : ValueStep) → valueAt s k ≡ v → ((x : ℕ) → length s - x < f → length s - x < g → valsBy f s x ≡ valsBy g s x)
-        → valsOn (valsBy f s) s v ≡ valsOn (valsBy g s) s v
+          → valsOn (valsBy f s) s v ≡ valsOn (valsBy g s) s v
       go (Value a e n) h ih =
           let i = value-is s k a e n h in
           ap (λ (z : List Val). record { from = a; to = e; raw = slice a e s } ∷ z) (ih n (omega arith) (omega arith))
