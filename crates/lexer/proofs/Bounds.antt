@@ -15,7 +15,7 @@ use Rattle.lexer.specs.Scan.{closeFrom, closeAt, skipFrom, skipAt, ident
 use Rattle.lexer.specs.declared.Close.{Close}
 use Rattle.lexer.specs.declared.Close.the-variants.{At, Open}
 use Rattle.lexer.specs.declared.Ident.{Ident}
-use Rattle.lexer.specs.declared.Ident.the-variants.{Opens, Missing, Foreign}
+use Rattle.lexer.specs.declared.Ident.the-variants.{Opens}
 use Rattle.lexer.specs.declared.ValueStep.{ValueStep}
 use Rattle.lexer.specs.declared.ValueStep.the-variants.{Value, NoMore, Unclosed}
 

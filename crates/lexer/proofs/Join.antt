@@ -11,9 +11,9 @@ use lib.Dec.{eqb, ltb}
 use borrow.Author.Tests.{ne-eqb, eq-eqb, eqb-true, eqb-false, ltb-true, ltb-false}
 use Rattle.lists.proofs.Pick.{pick-elim}
 use Rattle.lexer.specs.Token.{Val, Tok, start, end, node, prop, between, ident, value, after, Out, silent, step, space, Lexed, lexed, lexAt, done, broken}
-use Rattle.lexer.specs.Scan.{closeAt, skipAt, identAt, valueAt, valuesAt}
+use Rattle.lexer.specs.Scan.{closeAt, skipAt, identAt, valuesAt}
 use Rattle.lexer.specs.Step.{onIdent, headFrom, headAt, onValues, onHead, nextAt, valsAt, propAt, stepOn}
-use Rattle.lexer.proofs.Bounds.{never, past, close-bounds, skip-bounds, skip-within, ident-bounds, value-on, value-open, value-none}
+use Rattle.lexer.proofs.Bounds.{past, close-bounds, skip-bounds, skip-within, ident-bounds, value-on, value-open, value-none}
 use Rattle.lexer.proofs.Values.{values-more, values-unclosed, values-none, vals-more, vals-none}
 use Rattle.lexer.proofs.Rest.{rest, step-at, end-at, identOn, ident-rest, made, closeOn, value-rest, skip-rest, between-skips, after-skips, skip-stops}
 use Rattle.lexer.specs.declared.Fault.the-variants.{UnexpectedEndOfPropertyValue}

@@ -1,14 +1,12 @@
 -- The scans' definitions at an offset of a text, one step at a time. Assumes nothing.
-use Prim.Native.Nat.{ℕ, suc, _+_, _≤_, _<_}
+use Prim.Native.Nat.{ℕ, _+_, _≤_, _<_}
 use mathlib.Core.Path.{_≡_}
 use mathlib.Core.Bool.{Bool, true, false}
-use mathlib.Core.List.{List, [], _∷_}
+use mathlib.Core.List.{List}
 use lib.ListN.{length, drop, getD, drop-of-length-le}
 use lib.Dec.{eqb}
 use borrow.Author.Tests.{eq-eqb, ne-eqb, lt-leb, le-leb}
-use Rattle.lexer.specs.declared.Close.{Close}
 use Rattle.lexer.specs.declared.Close.the-variants.{At, Open}
-use Rattle.lexer.specs.declared.Ident.{Ident}
 use Rattle.lexer.specs.declared.Ident.the-variants.{Opens, Missing, Foreign}
 use Rattle.lists.proofs.Places.{drop-next}
 use Rattle.lexer.specs.Token.{space}

@@ -3,9 +3,9 @@ use Prim.Native.Nat.{ℕ, zero, suc, _+_, _-_, _≤_, _<_}
 use mathlib.Core.Path.{_≡_, refl, sym, ap, _∙_}
 use mathlib.Core.List.{List, [], _∷_}
 use native.Mathlib.Omega.{arith}
-use lib.ListN.{length, getD}
+use lib.ListN.{length}
 use lib.Seq.{slice}
-use Rattle.lists.specs.Run.{Next, more, done, run}
+use Rattle.lists.specs.Run.{more}
 use Rattle.lists.proofs.Run.{run-more, run-done}
 use Rattle.lexer.specs.Token.{Val}
 use Rattle.lexer.specs.Scan.{onValue, valueAt, valuesAt}

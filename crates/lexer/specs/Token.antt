@@ -1,5 +1,5 @@
 -- The tokens of a text: one machine, one step for each byte. Places count from the start of the untrimmed text; a token has its contents beside its places.
-use Prim.Native.Nat.{ℕ, zero, suc}
+use Prim.Native.Nat.{ℕ, suc}
 use mathlib.Core.Bool.{Bool, true, false, _||_}
 use mathlib.Core.List.{List, [], _∷_, _++_}
 use lib.Dec.{leb, eqb}
@@ -119,10 +119,10 @@ abbrev pub lexFrom : ℕ → ℕ → List ℕ → Lexed
 lexFrom f l bs = lexed (emits between f bs) (finish (ends between f bs) l)
 
 -- the number of a fault
-abbrev pub number : Fault → ℕ
-number MissingPropertyIdentifier = 3
-number UnexpectedEndOfPropertyIdentifier = 4
-number UnexpectedEndOfPropertyValue = 5
+abbrev pub numberOf : Fault → ℕ
+numberOf MissingPropertyIdentifier = 3
+numberOf UnexpectedEndOfPropertyIdentifier = 4
+numberOf UnexpectedEndOfPropertyValue = 5
 
 -- what the machine gives from the place i of a text on, where no token is begun
 unfoldable pub lexAt : List ℕ → ℕ → Lexed

@@ -1,6 +1,6 @@
 // The token rules of SGF: bytes to tokens with spans. The text is the part that trimming keeps, from the start of the buffer to its last place; places count from the start of the buffer.
 ghost use mathlib.Core.Path.{_≡_};
-ghost use Rattle.lexer.specs.Token.{space};
+ghost use Rattle.lexer.specs.Token.{space, numberOf};
 ghost use Rattle.lexer.specs.Scan.{closeAt, skipAt, identAt, valueAt, valuesAt};
 ghost use Rattle.lexer.specs.Step.{headFrom, headAt, onValues, nextAt, SteppedIs};
 
@@ -9,6 +9,17 @@ pub enum Fault {
     MissingPropertyIdentifier,
     UnexpectedEndOfPropertyIdentifier,
     UnexpectedEndOfPropertyValue,
+}
+
+// The number of a fault.
+pub fn number(fault: Fault) -> u32
+    ensures { λ r. ⌜ r ≡ numberOf fault ⌝ }
+{
+    match fault {
+        Fault::MissingPropertyIdentifier => 3,
+        Fault::UnexpectedEndOfPropertyIdentifier => 4,
+        Fault::UnexpectedEndOfPropertyValue => 5,
+    }
 }
 
 // Where a scan for a closing bracket ends.
@@ -222,17 +233,17 @@ impl Cursor {
     {
         let at = self.at;
         match next_token(s, at) {
-            Step::Start(i) => moved(Step::Start(i), i + 1),
-            Step::End(i) => moved(Step::End(i), i + 1),
-            Step::Node(i) => moved(Step::Node(i), i + 1),
-            Step::Property(i, k, e) => moved(Step::Property(i, k, e), e),
-            Step::Refused(f, i) => moved(Step::Refused(f, i), at),
-            Step::Done => moved(Step::Done, at),
+            Step::Start(i) => with_next(Step::Start(i), i + 1),
+            Step::End(i) => with_next(Step::End(i), i + 1),
+            Step::Node(i) => with_next(Step::Node(i), i + 1),
+            Step::Property(i, k, e) => with_next(Step::Property(i, k, e), e),
+            Step::Refused(f, i) => with_next(Step::Refused(f, i), at),
+            Step::Done => with_next(Step::Done, at),
         }
     }
 }
 
-fn moved(token: Step, at: usize) -> Stepped
+fn with_next(token: Step, at: usize) -> Stepped
     ensures { λ r. ⌜ (r .token ≡ token) × (r .next .at ≡ at) ⌝ }
 {
     Stepped {

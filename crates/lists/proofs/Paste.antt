@@ -1,12 +1,12 @@
 -- Copies within a list, from the front and from the back. Assumes nothing.
 use mathlib.Core.Path.{_≡_, refl, sym, ap, _∙_, subst}
-use mathlib.Core.List.{List, [], _∷_, _++_, append-assoc, append-nil}
+use mathlib.Core.List.{List, [], _∷_, _++_, append-assoc}
 use Prim.Native.Nat.{ℕ, zero, suc, _+_, _-_, _≤_, _<_}
 use native.Mathlib.Omega.{arith}
 use native.Mathlib.Nat.{not-suc-le-zero, le-of-suc-le-suc, le-antisymm}
 use native.Mathlib.Numerals.{add-one}
-use lib.ListN.{length, take, drop, getD, set, replicate, take-append-drop, length-append, length-take, length-drop, length-set, length-replicate, getD-replicate, List·getD-append}
-use lib.Seq.{paste, paste-zero, paste-suc, length-paste-head, length-paste, length-take-le, drop-cons, drop-length, drop-drop, drop-append-add, drop-at, take-at, take-all, take-length, take-take, take-append-le, drop-append-le, getD-append-add, getD-drop, getD-take}
+use lib.ListN.{length, take, drop, getD, set, take-append-drop, length-append, length-drop, length-set, List·getD-append}
+use lib.Seq.{paste, paste-zero, paste-suc, length-paste-head, length-take-le, drop-cons, drop-length, drop-at, take-at, getD-append-add, getD-drop, getD-take}
 
 -- ---- a copy from the front: t is d with the first i of s at `at`, and n are to come in all
 

@@ -1,11 +1,14 @@
 -- A list at a place: its first element from there on, and a part that grows by one. Assumes nothing.
 use Prim.Native.Nat.{ℕ, suc, _+_, _≤_, _<_}
-use mathlib.Core.Path.{_≡_, ap, sym, _∙_}
+use mathlib.Core.Bool.{Bool, true, false}
+use mathlib.Core.Path.{_≡_, refl, ap, sym, _∙_}
 use mathlib.Core.List.{List, [], _∷_, _++_, head-eq-of-cons-eq, tail-eq-of-cons-eq}
 use native.Mathlib.Omega.{arith}
 use native.Mathlib.Numerals.{add-one}
-use lib.ListN.{length, take, drop, getD, length-drop}
+use lib.ListN.{length, take, drop, getD, length-drop, take-append-drop, drop-of-length-le}
+use lib.Dec.{ltb}
 use lib.Seq.{slice, take-suc, drop-cons, drop-append-le, length-take-le}
+use borrow.Author.Tests.{ltb-true, ltb-false}
 
 -- the code's `i + 1`, where the library has `suc i`
 pub drop-next : (s : List ℕ) (i : ℕ) → i < length s → drop i s ≡ getD s i 0 ∷ drop (i + 1) s
@@ -24,3 +27,14 @@ slice-snoc a o t b bs l h =
     ap (drop a) (take-suc t o 0 (p .0))
     ∙ drop-append-le a (take o t) (getD t o 0 ∷ []) (omega (arith, p .0, length-take-le o t (omega (arith, p .0))))
     ∙ ap (λ (z : ℕ). slice a o t ++ (z ∷ [])) (p .1)
+
+-- what stands from f to l is what the list from f on begins with
+pub part-begins : (f l : ℕ) (t : List ℕ) → (xs : List ℕ) × (drop f t ≡ drop f (take l t) ++ xs)
+part-begins f l t = go (ltb (length (take l t)) f) refl
+  where
+    go : (b : Bool) → ltb (length (take l t)) f ≡ b → (xs : List ℕ) × (drop f t ≡ drop f (take l t) ++ xs)
+    go true e =
+        let h : length (take l t) ≤ f = omega (arith, ltb-true (length (take l t)) f e) in
+        (drop f t, ap (λ (z : List ℕ). z ++ drop f t) (sym (drop-of-length-le (take l t) h)))
+    go false e =
+        (drop l t, ap (drop f) (sym (take-append-drop l t)) ∙ drop-append-le f (take l t) (drop l t) (omega (arith, ltb-false (length (take l t)) f e)))

@@ -1,12 +1,14 @@
 -- Rows put one behind the other. Assumes nothing.
 use mathlib.Core.Path.{_≡_, refl, sym, ap, _∙_, subst}
-use mathlib.Core.List.{List, [], _∷_, _++_, append-assoc, append-nil}
-use Prim.Native.Nat.{ℕ, zero, suc, _+_, _-_, _*_, _≤_, _<_}
+use mathlib.Core.Bool.{Bool, true, false}
+use lib.Dec.{leb}
+use borrow.Author.Tests.{leb-true, leb-false}
+use mathlib.Core.List.{List, [], _++_, append-assoc}
+use Prim.Native.Nat.{ℕ, _+_, _-_, _≤_}
 use native.Mathlib.Omega.{arith}
-use native.Mathlib.Numerals.{add-one}
-use lib.ListN.{length, take, drop, set, take-append-drop, length-append}
-use lib.Seq.{take-at, drop-at, drop-append-add, drop-drop, sets-eq, length-take-le}
-use Rattle.lists.specs.Put.{putAt, PutIs}
+use lib.ListN.{length, take, drop, take-append-drop, length-append}
+use lib.Seq.{take-at, drop-at, drop-append-add, drop-drop, length-take-le}
+use Rattle.lists.specs.Put.{putAt, PutIs, Stored}
 
 put-behind : (r d vs : List ℕ) (n : ℕ) → length r ≡ n → putAt (r ++ drop n d) n vs ≡ (r ++ vs) ++ drop (n + length vs) d
 put-behind r d vs n e =
@@ -69,3 +71,11 @@ put-last {t} {t1} {t2} {zs} xs ys {at} {k} p q e l =
 -- all rows, from the first on
 pub put-all : {t t′ rs : List ℕ} → PutIs t 0 rs t′ → length rs ≤ length t → t′ ≡ rs ++ drop (length rs) t
 put-all {t} {t′} {rs} p h = let e : 0 + length rs ≡ length rs = omega arith in p .put (omega arith) ∙ ap (λ (m : ℕ). rs ++ drop m t) e
+
+-- what is stored leaves no second list
+pub stored-once : {t vs : List ℕ} {at : ℕ} (x y : List ℕ) → Stored t at vs x → Stored t at vs y → x ≡ y
+stored-once {t} {vs} {at} x y p q = go (leb (at + length vs) (length t)) refl
+  where
+    go : (b : Bool) → leb (at + length vs) (length t) ≡ b → x ≡ y
+    go true e = let h = leb-true (at + length vs) (length t) e in p .is .put h ∙ sym (q .is .put h)
+    go false e = let h = leb-false (at + length vs) (length t) e in p .stays h ∙ sym (q .stays h)

@@ -1,6 +1,6 @@
 -- `run`: with fuel above a measure that falls at each step, its amount does not matter. Assumes nothing.
-use Prim.Native.Nat.{ℕ, zero, suc, _+_, _≤_, _<_}
-use mathlib.Core.Path.{_≡_, refl, sym, _∙_}
+use Prim.Native.Nat.{ℕ, zero, suc, _<_}
+use mathlib.Core.Path.{_≡_, refl}
 use native.Mathlib.Omega.{arith}
 use Rattle.lists.specs.Run.{Next, more, done, onward, run}
 

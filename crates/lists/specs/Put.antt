@@ -1,7 +1,7 @@
 -- Numbers put into a lent list where there is room.
 use mathlib.Core.List.{List, _++_}
 use mathlib.Core.Path.{_≡_}
-use Prim.Native.Nat.{ℕ, _+_, _≤_}
+use Prim.Native.Nat.{ℕ, _+_, _≤_, _<_}
 use lib.ListN.{length, take, drop}
 
 -- the list with `vs` at the place `at`
@@ -12,3 +12,8 @@ putAt t at vs = take at t ++ (vs ++ drop (at + length vs) t)
 pub record PutIs (t : List ℕ) (at : ℕ) (vs t′ : List ℕ) : Type 0 where
   pub len : length t′ ≡ length t
   pub put : at + length vs ≤ length t → t′ ≡ putAt t at vs
+
+-- the same, and where there is no room nothing changes
+pub record Stored (t : List ℕ) (at : ℕ) (vs t′ : List ℕ) : Type 0 where
+  pub is : PutIs t at vs t′
+  pub stays : length t < at + length vs → t′ ≡ t

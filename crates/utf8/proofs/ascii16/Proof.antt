@@ -1,0 +1,50 @@
+-- `utf8::ascii16` meets its contract. The loop's invariant: as long as the flag holds, all bytes so far are ASCII. Assumes nothing.
+use mathlib.Core.Path.{_≡_}
+use mathlib.Core.Bool.{true}
+use Prim.Native.Nat.{ℕ, _+_, _-_, _≤_, _<_}
+use native.Mathlib.Omega.{arith}
+use lib.Dec.{ltb}
+use lib.ListN.{getD}
+use denote.Ref.{now}
+use borrow.Author.Count.{below-more}
+use borrow.Author.Needs.{needs}
+use borrow.Author.Tests.{ltb-true}
+use Rattle.utf8.proofs.Tests.{and-both}
+use Rattle.utf8.proofs.ascii16.Statement.{statement}
+use Rattle.utf8.proofs.ascii16.Tie as tie
+
+abbrev Inv-loop : tie.InvT-loop
+Inv-loop s i low₀ k₀ low k = (k ≤ 16) × (low ≡ true → (m : ℕ) → m < k → getD s (i + m) 0 < 128)
+
+abbrev μ-loop : tie.MeasureT-loop
+μ-loop s i low₀ k₀ low k = 16 - k
+
+loop-holds : tie.Need-loop-holds Inv-loop μ-loop
+loop-holds c = (search needs, λ e m l. absurd (omega arith))
+
+loop-again : tie.Need-loop-again Inv-loop μ-loop
+loop-again c =
+    let l = c .before .before in
+    let a = l .before .args in (
+      search needs,
+      λ e.
+          let p = and-both (l .loop .low) (ltb (getD (now (a .s)) (a .i + l .loop .k) 0) 128) e in
+          below-more (λ (m : ℕ). getD (now (a .s)) (a .i + m) 0 < 128) (l .loop .k) (l .loop .inv .1 (p .0)) (ltb-true _ _ (p .1)),
+    )
+
+returns : tie.Need-returns Inv-loop μ-loop
+returns c = λ e m l. c .before .loop .inv .1 e m (omega arith)
+
+pub ascii16-spec : {M : Type 1} → statement M
+ascii16-spec =
+    tie.close
+    (tie.spec
+    Inv-loop
+    μ-loop
+    loop-holds
+    (λ c. search needs)
+    (λ c. search needs)
+    (λ c. search needs)
+    (λ c. search needs)
+    loop-again
+    returns)

@@ -1,0 +1,16 @@
+-- `utf8::is_white` meets its contract. Assumes nothing.
+use Rattle.utf8.proofs.White.{far-dark}
+use Rattle.utf8.specs.Text.{white}
+use mathlib.Core.Path.{refl, sym}
+use Rattle.utf8.proofs.is_white.Statement.{statement}
+use Rattle.utf8.proofs.is_white.Tie as tie
+
+returns : tie.Need-returns
+returns c = sym (far-dark (c .before .args .c) (c .if1 .taken))
+
+returns-2 : tie.Need-returns-2
+unfolding white
+returns-2 c = refl
+
+pub is-white-spec : {M : Type 1} → statement M
+is-white-spec = tie.close (tie.spec returns returns-2)

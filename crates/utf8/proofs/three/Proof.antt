@@ -1,0 +1,19 @@
+-- `utf8::three` meets its contract. Assumes nothing.
+use Rattle.utf8.proofs.Widths.{listed-3}
+use borrow.Author.Needs.{needs}
+use Rattle.utf8.proofs.three.Statement.{statement}
+use Rattle.utf8.proofs.three.Tie as tie
+
+returns : tie.Need-returns
+returns c = rw (listed-3, c .before .before .before .before .leads .ensures, c .before .before .before .leads2 .ensures, c .before .before .leads3 .ensures, c .before .leads4 .ensures, c .continues .ensures)
+
+pub three-spec : {M : Type 1} → statement M
+three-spec =
+    tie.close
+    (tie.spec
+    (λ c κs. search needs)
+    (λ c κs. search needs)
+    (λ c κs. search needs)
+    (λ c κs. search needs)
+    (λ c κs. search needs)
+    returns)

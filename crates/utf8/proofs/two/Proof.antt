@@ -1,0 +1,11 @@
+-- `utf8::two` meets its contract. Assumes nothing.
+use Rattle.utf8.proofs.Widths.{listed-2}
+use borrow.Author.Needs.{needs}
+use Rattle.utf8.proofs.two.Statement.{statement}
+use Rattle.utf8.proofs.two.Tie as tie
+
+returns : tie.Need-returns
+returns c = rw listed-2 (c .leads .ensures)
+
+pub two-spec : {M : Type 1} → statement M
+two-spec = tie.close (tie.spec (λ c κs. search needs) returns)

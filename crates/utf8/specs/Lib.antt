@@ -1,0 +1,5 @@
+pub mod Decode
+pub mod Locals
+pub mod Table
+pub mod Text
+pub mod Trim
