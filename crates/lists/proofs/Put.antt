@@ -8,7 +8,7 @@ use Prim.Native.Nat.{ℕ, _+_, _-_, _≤_}
 use native.Mathlib.Omega.{arith}
 use lib.ListN.{length, take, drop, take-append-drop, length-append}
 use lib.Seq.{take-at, drop-at, drop-append-add, drop-drop, length-take-le}
-use Rattle.lists.specs.Put.{putAt, PutIs, Stored}
+use Rattle.lists.specs.Put.{putAt, PutIs, PutWhole}
 
 put-behind : (r d vs : List ℕ) (n : ℕ) → length r ≡ n → putAt (r ++ drop n d) n vs ≡ (r ++ vs) ++ drop (n + length vs) d
 put-behind r d vs n e =
@@ -73,8 +73,8 @@ pub put-all : {t t′ rs : List ℕ} → PutIs t 0 rs t′ → length rs ≤ len
 put-all {t} {t′} {rs} p h = let e : 0 + length rs ≡ length rs = omega arith in p .put (omega arith) ∙ ap (λ (m : ℕ). rs ++ drop m t) e
 
 -- what is stored leaves no second list
-pub stored-once : {t vs : List ℕ} {at : ℕ} (x y : List ℕ) → Stored t at vs x → Stored t at vs y → x ≡ y
-stored-once {t} {vs} {at} x y p q = go (leb (at + length vs) (length t)) refl
+pub put-whole-once : {t vs : List ℕ} {at : ℕ} (x y : List ℕ) → PutWhole t at vs x → PutWhole t at vs y → x ≡ y
+put-whole-once {t} {vs} {at} x y p q = go (leb (at + length vs) (length t)) refl
   where
     go : (b : Bool) → leb (at + length vs) (length t) ≡ b → x ≡ y
     go true e = let h = leb-true (at + length vs) (length t) e in p .is .put h ∙ sym (q .is .put h)

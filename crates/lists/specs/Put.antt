@@ -14,6 +14,6 @@ pub record PutIs (t : List ℕ) (at : ℕ) (vs t′ : List ℕ) : Type 0 where
   pub put : at + length vs ≤ length t → t′ ≡ putAt t at vs
 
 -- the same, and where there is no room nothing changes
-pub record Stored (t : List ℕ) (at : ℕ) (vs t′ : List ℕ) : Type 0 where
+pub record PutWhole (t : List ℕ) (at : ℕ) (vs t′ : List ℕ) : Type 0 where
   pub is : PutIs t at vs t′
   pub stays : length t < at + length vs → t′ ≡ t

@@ -1,7 +1,7 @@
 // The four lent tables: their rows, the counts and numbers given back, and rows put where there is room.
 ghost use mathlib.Core.Path.{_≡_};
 ghost use mathlib.Core.List.{[], _∷_};
-ghost use Rattle.lists.specs.Put.{Stored};
+ghost use Rattle.lists.specs.Put.{PutWhole};
 ghost use Rattle.tables.specs.Numbers.{numberOf, reasonOf};
 
 // The longest text, in bytes.
@@ -100,7 +100,7 @@ pub fn fault_reason(fault: lexer::Fault) -> Reason
 
 // One number put at a place, where there is room.
 pub fn put1(t: &mut [u32], at: usize, a: u32)
-    ensures { λ _. ⌜ Stored (now (t .entry)) at (a ∷ []) (now (t .exit)) ⌝ }
+    ensures { λ _. ⌜ PutWhole (now (t .entry)) at (a ∷ []) (now (t .exit)) ⌝ }
 {
     if at < t.len() {
         t[at] = a;
@@ -109,7 +109,7 @@ pub fn put1(t: &mut [u32], at: usize, a: u32)
 
 // Two numbers put from a place on, where there is room for both.
 pub fn put2(t: &mut [u32], at: usize, a: u32, b: u32)
-    ensures { λ _. ⌜ Stored (now (t .entry)) at (a ∷ b ∷ []) (now (t .exit)) ⌝ }
+    ensures { λ _. ⌜ PutWhole (now (t .entry)) at (a ∷ b ∷ []) (now (t .exit)) ⌝ }
 {
     if at < t.len() {
         if 1 < t.len() - at {
@@ -121,7 +121,7 @@ pub fn put2(t: &mut [u32], at: usize, a: u32, b: u32)
 
 // Four numbers put from a place on, where there is room for all.
 pub fn put4(t: &mut [u32], at: usize, a: u32, b: u32, c: u32, d: u32)
-    ensures { λ _. ⌜ Stored (now (t .entry)) at (a ∷ b ∷ c ∷ d ∷ []) (now (t .exit)) ⌝ }
+    ensures { λ _. ⌜ PutWhole (now (t .entry)) at (a ∷ b ∷ c ∷ d ∷ []) (now (t .exit)) ⌝ }
 {
     if at < t.len() {
         if 3 < t.len() - at {
@@ -135,7 +135,7 @@ pub fn put4(t: &mut [u32], at: usize, a: u32, b: u32, c: u32, d: u32)
 
 // Five numbers put from a place on, where there is room for all.
 pub fn put5(t: &mut [u32], at: usize, a: u32, b: u32, c: u32, d: u32, e: u32)
-    ensures { λ _. ⌜ Stored (now (t .entry)) at (a ∷ b ∷ c ∷ d ∷ e ∷ []) (now (t .exit)) ⌝ }
+    ensures { λ _. ⌜ PutWhole (now (t .entry)) at (a ∷ b ∷ c ∷ d ∷ e ∷ []) (now (t .exit)) ⌝ }
 {
     if at < t.len() {
         if 4 < t.len() - at {
