@@ -1,6 +1,8 @@
 -- A fact of each element of a list: of joined, mapped and reversed lists. Assumes nothing.
 use mathlib.Core.Path.{_≡_, refl, sym, subst}
 use mathlib.Core.List.{List, [], _∷_, _++_, reverse, reverseAux, List·Memᴰ, List·Memᴰ·head, List·Memᴰ·tail, map}
+use mathlib.Core.Bool.{Bool, true, _&&_}
+use Rattle.lists.proofs.Tests.{and-both}
 use Rattle.lists.specs.All.{All}
 
 module _ {A : Type 0} where
@@ -35,3 +37,16 @@ module _ {A : Type 0} where
   pub map-same : (f : A → A) (xs : List A) → All (λ x. f x ≡ x) xs → map f xs ≡ xs
   map-same f [] h = refl
   map-same f (x ∷ xs) h = rw (h .0, map-same f xs (h .1))
+
+  pub all-each : (P : A → Type 0) → ((x : A) → P x) → (xs : List A) → All P xs
+  all-each P f [] = tt
+  all-each P f (x ∷ xs) = (f x, all-each P f xs)
+
+  -- the test holds of every element
+  abbrev pub every : (A → Bool) → List A → Bool
+  every f [] = true
+  every f (x ∷ xs) = f x && every f xs
+
+  pub all-every : (f : A → Bool) (P : A → Type 0) → ((x : A) → f x ≡ true → P x) → (xs : List A) → every f xs ≡ true → All P xs
+  all-every f P g [] h = tt
+  all-every f P g (x ∷ xs) h = let p = and-both (f x) (every f xs) h in (g x (p .0), all-every f P g xs (p .1))

@@ -5,3 +5,4 @@ pub mod Pick
 pub mod Places
 pub mod Put
 pub mod Run
+pub mod Tests

@@ -7,7 +7,7 @@ use native.Mathlib.Omega.{arith}
 use native.Mathlib.Numerals.{add-one}
 use lib.ListN.{length, take, drop, getD, length-drop, take-append-drop, drop-of-length-le}
 use lib.Dec.{ltb}
-use lib.Seq.{slice, take-suc, drop-cons, drop-append-le, length-take-le}
+use lib.Seq.{take-add, drop-at, slice, take-suc, drop-cons, drop-append-le, length-take-le}
 use borrow.Author.Tests.{ltb-true, ltb-false}
 
 -- the code's `i + 1`, where the library has `suc i`
@@ -38,3 +38,6 @@ part-begins f l t = go (ltb (length (take l t)) f) refl
         (drop f t, ap (λ (z : List ℕ). z ++ drop f t) (sym (drop-of-length-le (take l t) h)))
     go false e =
         (drop l t, ap (drop f) (sym (take-append-drop l t)) ∙ drop-append-le f (take l t) (drop l t) (omega (arith, ltb-false (length (take l t)) f e)))
+
+pub drop-take : {A : Type 0} (n m : ℕ) (l : List A) → n ≤ length l → drop n (take (n + m) l) ≡ take m (drop n l)
+drop-take n m l h = rw (take-add n m l) (drop-at (take n l) (take m (drop n l)) n (length-take-le n l h))

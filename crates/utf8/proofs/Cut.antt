@@ -16,7 +16,8 @@ use Rattle.utf8.specs.Table.{to, table, fits, listed}
 use Rattle.utf8.proofs.Ranges.{bytes, holds-is, after}
 use Rattle.utf8.proofs.Rows.{unlisted-all, rows-short}
 use Rattle.utf8.proofs.Steps.{utfs-bad}
-use Rattle.utf8.proofs.Tests.{and-second, within-true, in-within}
+use Rattle.lists.proofs.Tests.{and-second}
+use Rattle.utf8.proofs.Tests.{within-true, in-within}
 
 -- a character that is cut off, or goes on with another byte
 rest-cut : (n : ℕ) (r : Range) (cs : List ℕ) → fits (after r n) cs ≡ false → (k : Ink) (s code o : ℕ) → shown (utfs (part k s n r code) o cs) ≡ NotUtf8 s

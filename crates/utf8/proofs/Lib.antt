@@ -2,9 +2,9 @@ pub mod Blocks
 pub mod Bounds
 pub mod Cut
 pub mod Decoding
+pub mod Examples
 pub mod Extent
 pub mod Like
-pub mod Lists
 pub mod Moved
 pub mod Padded
 pub mod Ranges

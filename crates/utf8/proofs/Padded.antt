@@ -11,9 +11,9 @@ use lib.Seq.{drop-cons}
 use borrow.Author.Tests.{not-true}
 use Rattle.utf8.specs.Text.{within}
 use Rattle.utf8.specs.Table.{Bytes, table, fits, listed}
-use Rattle.utf8.proofs.Lists.{all-every}
+use Rattle.lists.proofs.All.{all-every}
 use Rattle.utf8.proofs.Rows.{listed-same}
-use Rattle.utf8.proofs.Tests.{and-both}
+use Rattle.lists.proofs.Tests.{and-both}
 
 -- the n bytes from i on
 abbrev pub bytesAt : List ℕ → ℕ → ℕ → List ℕ

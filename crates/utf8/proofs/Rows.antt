@@ -11,8 +11,8 @@ use Rattle.lists.specs.All.{All}
 use Rattle.lists.proofs.All.{all-map}
 use Rattle.utf8.specs.Text.{within}
 use Rattle.utf8.specs.Table.{Bytes, table, fits, listedIn, listed}
-use Rattle.utf8.proofs.Lists.{all-each, all-every}
-use Rattle.utf8.proofs.Tests.{and-both, and-second, or-neither}
+use Rattle.lists.proofs.All.{all-each, all-every}
+use Rattle.lists.proofs.Tests.{and-both, and-second, or-neither}
 
 -- what each row that fits shows of its width holds of the width of the sequence
 pub listed-elim : (P : ℕ → Type 0) (rows : List (List Bytes)) (n : ℕ) (t : List ℕ) → listedIn rows n t ≡ true → All (λ row. fits row t ≡ true → P (length row)) rows → P n

@@ -1,18 +1,11 @@
--- Tests that are Booleans: what a conjunction and a range say. Assumes nothing.
+-- What the test of a range says. Assumes nothing.
 use mathlib.Core.Path.{_≡_, refl}
 use Prim.Native.Nat.{ℕ, _≤_, _<_}
-use mathlib.Core.Bool.{Bool, true, false, _&&_, _||_, false≢true, true≢false}
+use mathlib.Core.Bool.{Bool, true, false, _&&_}
 use lib.Dec.{leb}
 use borrow.Author.Tests.{leb-true, le-leb, lt-leb}
+use Rattle.lists.proofs.Tests.{and-both}
 use Rattle.utf8.specs.Text.{within}
-
-pub and-both : (x y : Bool) → x && y ≡ true → (x ≡ true) × (y ≡ true)
-and-both true y h = (refl, h)
-and-both false y h = absurd (false≢true h)
-
-pub and-second : (x y : Bool) → x && y ≡ false → x ≡ true → y ≡ false
-and-second true y h e = h
-and-second false y h e = absurd (false≢true e)
 
 pub within-true : (lo hi b : ℕ) → within lo hi b ≡ true → (lo ≤ b) × (b ≤ hi)
 within-true lo hi b h = let p = and-both (leb lo b) (leb b hi) h in (leb-true lo b (p .0), leb-true b hi (p .1))
@@ -29,7 +22,3 @@ above-within lo hi b h = go (leb lo b) (leb b hi) (lt-leb b hi h)
     go : (x y : Bool) → y ≡ false → x && y ≡ false
     go true y e = e
     go false y e = refl
-
-pub or-neither : (x y : Bool) → x || y ≡ false → (x ≡ false) × (y ≡ false)
-or-neither true y h = absurd (true≢false h)
-or-neither false y h = (refl, h)

@@ -15,7 +15,7 @@ use Rattle.utf8.specs.Text.{white, Ink, blank, inked, mark, Utf, whole, 
 use Rattle.utf8.specs.Trim.{shown, trimmed}
 use Rattle.utf8.specs.Table.{listed, scalar, WellFormed, empty, begins, BadFrom}
 use Rattle.utf8.specs.Decode.{decoded}
-use Rattle.utf8.proofs.Lists.{drop-take}
+use Rattle.lists.proofs.Places.{drop-take}
 use Rattle.utf8.proofs.Rows.{listed-long, listed-short, listed-take}
 use Rattle.utf8.proofs.Steps.{place, place-is, utfs-append}
 use Rattle.utf8.proofs.Cut.{unlisted-bad}

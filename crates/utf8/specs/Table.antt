@@ -7,11 +7,12 @@ use lib.Dec.{eqb}
 use lib.ListN.{length, take, drop}
 use Rattle.utf8.specs.Text.{within}
 
--- the bytes from low to high
+-- a range of bytes, both ends in it
 pub record Bytes : Type 0 where
   pub low : ℕ
   pub high : ℕ
 
+-- the range from a to b
 abbrev pub to : ℕ → ℕ → Bytes
 to a b = record { low = a; high = b }
 

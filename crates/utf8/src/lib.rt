@@ -105,18 +105,21 @@ fn joined(code: u32, b: u8) -> u32
     code * 64 + above(b, 0x80)
 }
 
+// The character that two bytes code.
 fn scalar2(b: u8, c: u8) -> u32
     ensures { λ r. ⌜ r ≡ scalar (b ∷ c ∷ []) ⌝ }
 {
     joined(above(b, 0xC0), c)
 }
 
+// The character that three bytes code.
 fn scalar3(b: u8, c: u8, d: u8) -> u32
     ensures { λ r. ⌜ r ≡ scalar (b ∷ c ∷ d ∷ []) ⌝ }
 {
     joined(joined(above(b, 0xE0), c), d)
 }
 
+// The character that four bytes code.
 fn scalar4(b: u8, c: u8, d: u8, e: u8) -> u32
     ensures { λ r. ⌜ r ≡ scalar (b ∷ c ∷ d ∷ e ∷ []) ⌝ }
 {

@@ -9,7 +9,7 @@ use denote.Ref.{now}
 use borrow.Author.Count.{below-more}
 use borrow.Author.Needs.{needs}
 use borrow.Author.Tests.{ltb-true}
-use Rattle.utf8.proofs.Tests.{and-both}
+use Rattle.lists.proofs.Tests.{and-both}
 use Rattle.utf8.proofs.ascii16.Statement.{statement}
 use Rattle.utf8.proofs.ascii16.Tie as tie
 

@@ -8,7 +8,7 @@ use denote.Ref.{now}
 use borrow.Author.Needs.{needs}
 use borrow.Author.Tests.{ltb-true}
 use Rattle.utf8.proofs.Decoding.{decoded-within}
-use Rattle.utf8.proofs.Tests.{and-both}
+use Rattle.lists.proofs.Tests.{and-both}
 use Rattle.utf8.proofs.Turns.{Onward, onward-start, turn, turn-ascii, turn-plain, stop-bad, end-blank, end-kept}
 use Rattle.utf8.proofs.trim.Statement.{statement}
 use Rattle.utf8.proofs.trim.Tie as tie

@@ -1,0 +1,15 @@
+-- Tests that are Booleans: what a conjunction and a disjunction say. Assumes nothing.
+use mathlib.Core.Path.{_≡_, refl}
+use mathlib.Core.Bool.{Bool, true, false, _&&_, _||_, false≢true, true≢false}
+
+pub and-both : (x y : Bool) → x && y ≡ true → (x ≡ true) × (y ≡ true)
+and-both true y h = (refl, h)
+and-both false y h = absurd (false≢true h)
+
+pub and-second : (x y : Bool) → x && y ≡ false → x ≡ true → y ≡ false
+and-second true y h e = h
+and-second false y h e = absurd (false≢true e)
+
+pub or-neither : (x y : Bool) → x || y ≡ false → (x ≡ false) × (y ≡ false)
+or-neither true y h = absurd (true≢false h)
+or-neither false y h = (refl, h)
