@@ -1,4 +1,5 @@
 pub mod Flat
+pub mod Links
 pub mod Numbers
 pub mod Record
 pub mod Rows

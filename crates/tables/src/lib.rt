@@ -1,7 +1,8 @@
-// The four lent tables: their rows, the counts and numbers given back, and rows put where there is room.
+// The four lent tables: their rows, the counts and numbers given back, rows put where there is room, and the links of the nodes.
 ghost use mathlib.Core.Path.{_≡_};
 ghost use mathlib.Core.List.{[], _∷_};
 ghost use Rattle.lists.specs.Put.{PutWhole};
+ghost use Rattle.tables.specs.Links.{LinksIs};
 ghost use Rattle.tables.specs.Numbers.{numberOf, reasonOf};
 
 // The longest text, in bytes.
@@ -144,6 +145,31 @@ pub fn put5(t: &mut [u32], at: usize, a: u32, b: u32, c: u32, d: u32, e: u32)
             t[at + 2] = c;
             t[at + 3] = d;
             t[at + 4] = e;
+        }
+    }
+}
+
+// The first child and the next sibling of each of n nodes, from the parents, by one pass from the back. The rows have no first child yet.
+pub fn link_nodes(t: &mut [u32], n: usize)
+    ensures { λ _. ⌜ LinksIs n (now (t .entry)) (now (t .exit)) ⌝ }
+{
+    if t.len() / NODE_STRIDE < n {
+        return;
+    }
+    if (NONE as usize) < n {
+        return;
+    }
+    let mut k = n;
+    while 0 < k {
+        k -= 1;
+        let at = k * NODE_STRIDE;
+        let parent = t[at] as usize;
+        if parent < n {
+            let child = parent * NODE_STRIDE + 1;
+            t[at + 2] = t[child];
+            t[child] = k as u32;
+        } else {
+            t[at + 2] = NONE;
         }
     }
 }

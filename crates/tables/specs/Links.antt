@@ -1,0 +1,45 @@
+-- First children and next siblings in the node table, as the parents say.
+use mathlib.Core.Bool.{true, false}
+use mathlib.Core.Path.{_≡_}
+use mathlib.Core.List.{List}
+use Prim.Native.Nat.{ℕ, zero, suc, _+_, _-_, _*_, _/_, _≤_, _<_}
+use lib.Dec.{ltb, eqb}
+use lib.ListN.{length, getD}
+use Rattle.lists.specs.Pick.{pick}
+use Rattle.tables.specs.Numbers.{none}
+
+-- the parent, and the first child, in row i
+abbrev pub parentAt : List ℕ → ℕ → ℕ
+parentAt t i = getD t (i * 5) 0
+
+abbrev pub childAt : List ℕ → ℕ → ℕ
+childAt t i = getD t (i * 5 + 1) 0
+
+-- the first of the m nodes from k on whose parent is p; where there is none, the first child that stands in row p
+unfoldable pub least : List ℕ → (p k m : ℕ) → ℕ
+least t p k zero = childAt t p
+least t p k (suc m) = pick (eqb (parentAt t k) p) k (least t p (suc k) m)
+
+-- the next of n nodes with the parent of i; none where its parent is no node
+abbrev pub nextOf : ℕ → List ℕ → ℕ → ℕ
+nextOf n t i = pick (ltb (parentAt t i) n) (least t (parentAt t i) (suc i) (n - suc i)) none
+
+-- i is no cell of a link of the n rows
+abbrev pub NoLink : ℕ → ℕ → Type 0
+NoLink n i = (r : ℕ) → r < n → (i ≡ r * 5 + 1 → ⊥) × (i ≡ r * 5 + 2 → ⊥)
+
+-- t is t₀ with the links of the nodes from k on
+pub record LinkedFrom (n : ℕ) (t₀ t : List ℕ) (k : ℕ) : Type 0 where
+  pub len : length t ≡ length t₀
+  pub first : (i : ℕ) → i < n → childAt t i ≡ least t₀ i k (n - k)
+  pub next : (i : ℕ) → k ≤ i → i < n → getD t (i * 5 + 2) 0 ≡ nextOf n t₀ i
+  pub kept : (i : ℕ) → NoLink n i → getD t i 0 ≡ getD t₀ i 0
+
+-- there are n rows, and none is no number of one
+abbrev pub HasRows : ℕ → List ℕ → Type 0
+HasRows n t = (n ≤ length t / 5) × (n ≤ none)
+
+-- all links of n nodes where there are so many rows; else nothing
+pub record LinksIs (n : ℕ) (t₀ t : List ℕ) : Type 0 where
+  pub made : HasRows n t₀ → LinkedFrom n t₀ t 0
+  pub left : (HasRows n t₀ → ⊥) → t ≡ t₀
