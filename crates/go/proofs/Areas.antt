@@ -1,0 +1,30 @@
+-- Points and areas by their letters. Assumes nothing.
+use Prim.Native.Nat.{ℕ, _+_, _-_, _≤_, _<_}
+use mathlib.Core.Path.{_≡_, refl}
+use mathlib.Core.List.{List, [], _∷_}
+use native.Mathlib.Omega.{arith}
+use lib.Dec.{ltb, leb, eqb}
+use borrow.Author.Tests.{eq-eqb, ne-eqb, le-leb, lt-leb, ltb-true, ltb-false, leb-true}
+use Rattle.lists.proofs.Pick.{pick-elim}
+use Rattle.go.specs.Area.{letterOf, letter, moveTo, moveOf, cornered, areaOf}
+use Rattle.go.specs.declared.point.Area.{Area}
+use Rattle.go.specs.declared.point.Area.the-variants.{Bad, Rect}
+use Rattle.go.specs.declared.value.Value.{Value}
+
+pub move-point : (a b : ℕ) {x y : ℕ} {r : Value} → x ≡ letterOf a → y ≡ letterOf b → r ≡ moveTo x y → r ≡ moveOf (a ∷ b ∷ [])
+unfolding moveOf
+move-point a b e f g = rw (← e, ← f) g
+
+pub area-point : (a b : ℕ) {x y : ℕ} {r : Area} → x ≡ letterOf a → y ≡ letterOf b → r ≡ cornered x y x y → r ≡ areaOf (a ∷ b ∷ [])
+unfolding areaOf
+area-point a b e f g = rw (← e, ← f) g
+
+pub area-rect : (a b c d e : ℕ) {x y x2 y2 : ℕ} {r : Area} → c ≡ 0x3a → x ≡ letterOf a → y ≡ letterOf b → x2 ≡ letterOf d → y2 ≡ letterOf e
+    → r ≡ cornered x y x2 y2 → r ≡ areaOf (a ∷ b ∷ c ∷ d ∷ e ∷ [])
+unfolding areaOf
+area-rect a b c d e h p q s t g = rw (eq-eqb c 0x3a h, ← p, ← q, ← s, ← t) g
+
+pub area-colonless : (a b c d e : ℕ) (r : List ℕ) → (c ≡ 0x3a → ⊥) → Bad ≡ areaOf (a ∷ b ∷ c ∷ d ∷ e ∷ r)
+unfolding areaOf
+area-colonless a b c d e [] h = rw (ne-eqb c 0x3a h)
+area-colonless a b c d e (f ∷ r) h = refl

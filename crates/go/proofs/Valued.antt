@@ -1,0 +1,54 @@
+-- Raw values by their rows: one of them, and all that are left. Assumes nothing.
+use Prim.Native.Nat.{ℕ, zero, suc, _+_, _-_, _*_, _/_, _≤_, _<_, min}
+use mathlib.Core.Path.{_≡_, refl, sym, ap, ap₂, _∙_}
+use mathlib.Core.Bool.{Bool, true, false}
+use mathlib.Core.List.{List, [], _∷_}
+use native.Mathlib.Nat.{add-suc}
+use native.Mathlib.Numerals.{add-one}
+use native.Mathlib.Omega.{arith}
+use lib.Dec.{leb}
+use lib.ListN.{length, getD, take, drop, length-drop}
+use lib.Seq.{take-all}
+use borrow.Author.Tests.{leb-true, leb-false, lt-ltb, le-ltb}
+use Rattle.go.specs.Rows.{cut, valueAt, valuesAt}
+
+-- a span that ends beyond the text ends with it
+cut-within : (text : List ℕ) (from to : ℕ) → cut text from to ≡ cut text from (min to (length text))
+cut-within text from to = go (leb to (length text)) refl
+  where
+    go : (t : Bool) → leb to (length text) ≡ t → cut text from to ≡ cut text from (min to (length text))
+    go true e = let p = leb-true to (length text) e in let q : to ≡ min to (length text) = omega arith in ap (cut text from) q
+    go false e =
+        let p = leb-false to (length text) e in
+        let l = length-drop from text in
+        take-all (to - from) (drop from text) (omega arith) ∙ sym (take-all (min to (length text) - from) (drop from text) (omega arith))
+
+module _ (text vals : List ℕ) (v : ℕ) where
+  pub value-none : length vals / 2 ≤ v → [] ≡ valueAt text vals v
+  unfolding valueAt
+  value-none h = rw (le-ltb v (length vals / 2) h)
+
+  module _ {from to end : ℕ} (h : v < length vals / 2) (p : from ≡ getD vals (v * 2) 0) (q : to ≡ getD vals (v * 2 + 1) 0) (r : end ≡ min to (length text)) where
+    pub value-part : cut text from end ≡ valueAt text vals v
+    unfolding valueAt
+    value-part = rw (lt-ltb v (length vals / 2) h, ← p, ← q) (ap (cut text from) r ∙ sym (cut-within text from to))
+
+    pub value-empty : end < from → [] ≡ valueAt text vals v
+    value-empty l = let e : 0 ≡ end - from = omega arith in ap (λ (n : ℕ). take n (drop from text)) e ∙ value-part
+
+module _ (text vals : List ℕ) (first : ℕ) where
+  -- the values from the nth on
+  pub values-next : (count n : ℕ) → n < count
+      → valuesAt text vals (first + n) (count - n) ≡ valueAt text vals (first + n) ∷ valuesAt text vals (first + (n + 1)) (count - (n + 1))
+  unfolding valuesAt
+  values-next count n h =
+      let e : count - n ≡ suc (count - (n + 1)) = omega arith in
+      let f : suc (first + n) ≡ first + (n + 1) = omega arith in
+      ap (valuesAt text vals (first + n)) e ∙ ap (λ (k : ℕ). valueAt text vals (first + n) ∷ valuesAt text vals k (count - (n + 1))) f
+
+  pub values-all : (count : ℕ) → valuesAt text vals first count ≡ valuesAt text vals (first + 0) (count - 0)
+  values-all count = let e : first ≡ first + 0 = omega arith in let f : count ≡ count - 0 = omega arith in ap₂ (valuesAt text vals) e f
+
+  pub values-end : (count n : ℕ) → count ≤ n → valuesAt text vals (first + n) (count - n) ≡ []
+  unfolding valuesAt
+  values-end count n h = let e : count - n ≡ 0 = omega arith in ap (valuesAt text vals (first + n)) e

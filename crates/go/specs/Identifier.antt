@@ -1,0 +1,13 @@
+-- The letters of a read identifier, one at a time.
+use Prim.Native.Nat.{ℕ}
+use mathlib.Core.Path.{_≡_}
+use mathlib.Core.List.{List, [], _∷_}
+use lib.ListN.{drop}
+use Rattle.values.specs.Read.{readIdentifier}
+use Rattle.values.specs.declared.read.Step.{Step}
+use Rattle.values.specs.declared.read.Step.the-variants.{Byte, End}
+
+-- what reading at a place of the raw identifier gives: the first letter from there on and the place after it, or the end
+abbrev pub Letters : List ℕ → ℕ → Step → Type 0
+Letters s at (Byte b n) = readIdentifier (drop at s) ≡ b ∷ readIdentifier (drop n s)
+Letters s at End = readIdentifier (drop at s) ≡ []

@@ -1,0 +1,5 @@
+pub mod Area
+pub mod Identifier
+pub mod Marks
+pub mod Rows
+pub mod Value

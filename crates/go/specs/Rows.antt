@@ -1,0 +1,19 @@
+-- Raw values by their rows: a flat table with two numbers a value, its start and its end in the text.
+use Prim.Native.Nat.{ℕ, zero, suc, _+_, _-_, _*_, _/_}
+use mathlib.Core.List.{List, [], _∷_}
+use lib.Dec.{ltb}
+use lib.ListN.{length, getD, take, drop}
+use Rattle.lists.specs.Pick.{pick}
+
+-- the bytes from `from` up to `to`
+abbrev pub cut : List ℕ → (from to : ℕ) → List ℕ
+cut text from to = take (to - from) (drop from text)
+
+-- the raw value of row v; nothing where there is no such row
+unfoldable pub valueAt : (text vals : List ℕ) → ℕ → List ℕ
+valueAt text vals v = pick (ltb v (length vals / 2)) (cut text (getD vals (v * 2) 0) (getD vals (v * 2 + 1) 0)) []
+
+-- the raw values of `count` rows from `first` on
+unfoldable pub valuesAt : (text vals : List ℕ) (first count : ℕ) → List (List ℕ)
+valuesAt text vals first zero = []
+valuesAt text vals first (suc n) = valueAt text vals first ∷ valuesAt text vals (suc first) n

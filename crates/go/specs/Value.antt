@@ -1,0 +1,67 @@
+-- The Go value of a property by its read identifier, in Go trees.
+use Prim.Native.Nat.{ℕ, _-_, _^_}
+use mathlib.Core.Bool.{Bool, true, false, _&&_, _||_}
+use mathlib.Core.List.{List, [], _∷_, map}
+use lib.Dec.{leb, eqb}
+use lib.ListN.{replicate}
+use Rattle.lists.specs.Pick.{pick}
+use Rattle.values.specs.Read.{readValue}
+use Rattle.values.specs.Decimal.{decimalOf}
+use Rattle.values.specs.declared.decimal.Number.{Number}
+use Rattle.values.specs.declared.decimal.Number.the-variants.{Bad, Plus, Minus}
+use Rattle.go.specs.Area.{moveOf, areaOf}
+use Rattle.go.specs.Marks.{allGood, inSome, marksOf}
+use Rattle.go.specs.declared.point.Area.{Area}
+use Rattle.go.specs.declared.value.Shape.{Shape}
+use Rattle.go.specs.declared.value.Shape.the-variants.{OneMove, OneNumber, ManyPoints, Unread}
+use Rattle.go.specs.declared.value.Value.{Value}
+use Rattle.go.specs.declared.value.Value.the-variants.{Other, Invalid, Handicap, Points}
+use Rattle.go.specs.declared.value.GoValue.{GoValue}
+
+-- B, W; HA; AB, AW, AE, TB, TW; any other
+unfoldable pub shapeOf : List ℕ → Shape
+shapeOf [] = Unread
+shapeOf (a ∷ []) = pick (eqb a 0x42 || eqb a 0x57) OneMove Unread
+shapeOf (a ∷ b ∷ []) =
+    pick (eqb a 0x48 && eqb b 0x41) OneNumber
+    (pick ((eqb a 0x41 && (eqb b 0x42 || (eqb b 0x57 || eqb b 0x45))) || (eqb a 0x54 && (eqb b 0x42 || eqb b 0x57))) ManyPoints Unread)
+shapeOf (a ∷ b ∷ c ∷ r) = Unread
+
+-- a number of stones, at least 2
+unfoldable pub handicapOf : Number → Value
+handicapOf Bad = Invalid
+handicapOf (Plus n) = pick (leb 2 n) (Handicap n) Invalid
+handicapOf (Minus n) = Invalid
+
+-- one value by f
+abbrev pub oneBy : (List ℕ → Value) → List (List ℕ) → Value
+oneBy f [] = Invalid
+oneBy f (v ∷ []) = f v
+oneBy f (v ∷ w ∷ ws) = Invalid
+
+abbrev pub noMarks : List Bool
+noMarks = replicate 2704 false
+
+-- a value that is no set has no mark
+abbrev pub unmarked : Value → GoValue
+unmarked v = record { value = v; marks = noMarks }
+
+abbrev pub marked : List Bool → GoValue
+marked m = record { value = Points; marks = m }
+
+abbrev pub areasOf : List (List ℕ) → List Area
+areasOf vs = map (λ v. areaOf (readValue v)) vs
+
+-- the union of all, where each value stands for points
+unfoldable pub pointsOf : List (List ℕ) → GoValue
+pointsOf vs = pick (allGood (areasOf vs)) (marked (marksOf (inSome (areasOf vs)))) (unmarked Invalid)
+
+unfoldable pub valueBy : Shape → List (List ℕ) → GoValue
+valueBy OneMove vs = unmarked (oneBy (λ v. moveOf (readValue v)) vs)
+valueBy OneNumber vs = unmarked (oneBy (λ v. handicapOf (decimalOf (2 ^ 63 - 1) (readValue v))) vs)
+valueBy ManyPoints vs = pointsOf vs
+valueBy Unread vs = unmarked Other
+
+-- of a property with this game type (0 is Go), read identifier and raw values
+unfoldable pub goValue : (kind : ℕ) (identifier : List ℕ) (values : List (List ℕ)) → GoValue
+goValue kind identifier values = pick (eqb kind 0) (valueBy (shapeOf identifier) values) (unmarked Other)

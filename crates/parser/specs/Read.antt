@@ -1,0 +1,92 @@
+-- Reading: a text to a record, or a number and a place.
+use Prim.Native.Nat.{ℕ, suc, _+_}
+use mathlib.Core.Bool.{Bool, true, false}
+use mathlib.Core.List.{List, [], _∷_, reverse}
+use lib.ListN.{length, take, drop}
+use lib.Dec.{ltb}
+use Rattle.lists.specs.Pick.{pick}
+use Rattle.utf8.specs.Text.{Ink, blank, inked, Utf, whole, part, bad, utfs}
+use Rattle.lexer.specs.Token.{Tok, End, done, broken, Lexed, lexFrom}
+use Rattle.tables.specs.Numbers.{textLimit, none, reasonOf}
+use Rattle.tables.specs.Record.{Node, Tree}
+use Rattle.tables.specs.declared.Reason.{Reason}
+use Rattle.tables.specs.declared.Reason.the-variants.{TextTooLong, NotUtf8, UnexpectedEndOfData}
+use Rattle.parser.specs.Split.{Slices, no, slices, slicesOf}
+use Rattle.parser.specs.Kind.{Kind, is, unkind, kind}
+use Rattle.parser.specs.Walk.{Opts, Walk, walk, halted, stopped, shut, walked}
+
+-- a record, or why there is none and the place
+pub data Answer : Type 0 where
+  refused : Reason → (place : ℕ) → Answer
+  accepted : List Tree → Answer
+
+-- ---- all trees
+
+-- the number of nodes so far and the trees (last first), or refused
+pub data Growing : Type 0 where
+  growing : ℕ → List Tree → Growing
+  failing : Reason → Growing
+
+-- the nodes of a slice (last first) as a tree: without any it is refused, lenient reading makes an empty root
+abbrev pub rooted : Bool → (base k : ℕ) → List Node → List Tree → Growing
+rooted len base k (n ∷ ns) ts = growing (base + length (n ∷ ns)) (record { root = base; kind = k; nodes = reverse (n ∷ ns) } ∷ ts)
+rooted true base k [] ts = growing (suc base) (record { root = base; kind = k; nodes = record { parent = none; props = [] } ∷ [] } ∷ ts)
+rooted false base k [] ts = failing UnexpectedEndOfData
+
+-- the tree of a slice that was walked
+abbrev pub grown : Bool → (base k : ℕ) → Walk → List Tree → Growing
+grown len base k (walk cur st g ns) ts = rooted len base k ns ts
+grown len base k (halted ns) ts = rooted len base k ns ts
+grown len base k (stopped r) ts = failing r
+
+-- a slice of this game type; lenient reading turns a refusal into Go
+abbrev pub kinded : Opts → ℕ → Kind → List Tok → List Tree → Growing
+kinded op base (is k) s ts = grown (op .lenient) base k (walked op base (walk none [] shut []) s) ts
+kinded op base (unkind r) s ts = pick (op .lenient) (grown true base 0 (walked op base (walk none [] shut []) s) ts) (failing r)
+
+-- one slice
+abbrev pub grows : Opts → Growing → List Tok → Growing
+grows op (growing base ts) s = kinded op base (kind s) s ts
+grows op (failing r) s = failing r
+
+-- all slices
+abbrev pub growAll : Opts → Growing → List (List Tok) → Growing
+growAll op r [] = r
+growAll op r (s ∷ ss) = growAll op (grows op r s) ss
+
+-- the trees in text order
+abbrev pub answer : Growing → Answer
+answer (growing n ts) = accepted (reverse ts)
+answer (failing r) = refused r 0
+
+-- ---- the whole, in the order of the numbers
+
+-- the slices
+abbrev pub planted : Opts → Slices → Answer
+planted op (no r) = refused r 0
+planted op (slices ss) = answer (growAll op (growing 0 []) ss)
+
+-- the tokens
+abbrev pub parsed : Opts → List Tok → Answer
+parsed op ts = planted op (slicesOf (op .lenient) ts)
+
+-- a fault of the tokens: lenient reading takes those before it
+abbrev pub lexing : Opts → Bool → End → List Tok → Answer
+lexing op true e ts = parsed op ts
+lexing op false done ts = parsed op ts
+lexing op false (broken f s) ts = refused (reasonOf f) s
+
+-- the tokens of what trimming keeps
+abbrev pub lex : Ink → List ℕ → Lexed
+lex blank t = record { toks = []; end = done }
+lex (inked f l) t = lexFrom f l (drop f (take l t))
+
+-- UTF-8: a bad sequence, an unfinished one at the end included
+abbrev pub decoded : Opts → Utf → List ℕ → Answer
+decoded op (whole k) t = lexing op (op .lenient) (lex k t .end) (lex k t .toks)
+decoded op (part k s n r c) t = refused NotUtf8 s
+decoded op (bad p) t = refused NotUtf8 p
+
+-- a reading of a text
+abbrev pub read : Opts → List ℕ → Answer
+read op t = pick (ltb textLimit (length t)) (refused TextTooLong 0) (decoded op (utfs (whole blank) 0 t) t)
