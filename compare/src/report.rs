@@ -1,0 +1,85 @@
+//! Counts of texts compared, and the smallest text on which a comparison differs.
+use std::fmt::Debug;
+use std::time::Instant;
+
+/// A comparison of one text; the error says what differs.
+pub type Comparison = fn(&[u8]) -> Result<(), String>;
+
+/// Differences after which no further one is made smaller.
+const SHRUNK: u64 = 20;
+
+/// What came of comparing texts of one subject.
+pub struct Report {
+    subject: &'static str,
+    compare: Comparison,
+    texts: u64,
+    differences: u64,
+    smallest: Option<Vec<u8>>,
+    begun: Instant,
+}
+
+impl Report {
+    pub fn new(subject: &'static str, compare: Comparison) -> Self {
+        Report { subject, compare, texts: 0, differences: 0, smallest: None, begun: Instant::now() }
+    }
+
+    /// Compares a text.
+    pub fn text(&mut self, text: &[u8]) {
+        self.texts += 1;
+        if (self.compare)(text).is_ok() {
+            return;
+        }
+        self.differences += 1;
+        if self.differences > SHRUNK {
+            return;
+        }
+        let small = shrink(self.compare, text);
+        if self.smallest.as_ref().is_none_or(|old| (small.len(), &small) < (old.len(), old)) {
+            self.smallest = Some(small);
+        }
+    }
+
+    /// Prints the counts so far under the name of a group of texts.
+    pub fn group(&self, name: &str) {
+        println!("  {}: {} ({} texts so far, {:.1} s)", self.subject, name, self.texts, self.begun.elapsed().as_secs_f32());
+    }
+
+    /// Prints the summary; true if nothing differed.
+    pub fn close(self) -> bool {
+        println!("{}: {} texts compared, {} differences", self.subject, self.texts, self.differences);
+        if let Some(text) = &self.smallest {
+            println!("  smallest text ({} bytes): {}", text.len(), text.escape_ascii());
+            println!("  {}", (self.compare)(text).unwrap_err());
+        }
+        self.differences == 0
+    }
+}
+
+/// The text with parts left out as long as the comparison still differs.
+fn shrink(compare: Comparison, text: &[u8]) -> Vec<u8> {
+    let mut small = text.to_vec();
+    let mut part = small.len().next_power_of_two();
+    while part > 0 {
+        match without_part(compare, &small, part) {
+            Some(smaller) => small = smaller,
+            None => part /= 2,
+        }
+    }
+    small
+}
+
+/// The first text without `part` bytes on which the comparison differs.
+fn without_part(compare: Comparison, text: &[u8], part: usize) -> Option<Vec<u8>> {
+    (0..text.len())
+        .step_by(part)
+        .map(|at| [&text[..at], &text[(at + part).min(text.len())..]].concat())
+        .find(|smaller| compare(smaller).is_err())
+}
+
+/// An error that names what differs.
+pub fn same<T: PartialEq + Debug>(what: &str, ours: T, expected: T) -> Result<(), String> {
+    if ours == expected {
+        return Ok(());
+    }
+    Err(format!("{what}: library {ours:?}, expected {expected:?}"))
+}

@@ -1,0 +1,23 @@
+-- `token_cases::say` meets its contract. Assumes nothing.
+use mathlib.Core.Path.{sym}
+use lib.Seq.{length-take-le}
+use borrow.Author.Needs.{needs}
+use Rattle.token_cases.proofs.say.Statement.{statement}
+use Rattle.token_cases.proofs.say.Tie as tie
+
+slice-aggregate-say-trimmed : tie.Need-slice-aggregate-say-trimmed
+slice-aggregate-say-trimmed c = sym (length-take-le _ _ (c .before .before .decode .ensures))
+
+pub say-spec : {M : Type 1} → statement M
+say-spec =
+    tie.close
+    (tie.spec
+    (λ c κs. search needs)
+    (λ c. search needs)
+    (λ c κs. search needs)
+    (λ c. search needs)
+    slice-aggregate-say-trimmed
+    (λ c κs. search needs)
+    (λ c. search needs)
+    (λ c κs. search needs)
+    (λ c. search needs))
