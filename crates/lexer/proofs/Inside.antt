@@ -27,9 +27,9 @@ Only q e w n v = v .from ≡ q → (v .to ≡ e) × (n ≡ w)
 
 -- a fact of each value of a token
 abbrev pub OfVals : (List ℕ → Val → Type 0) → Tok → Type 0
-OfVals P = OfTok (Each P 0)
+OfVals P = OfTok (Each P)
 
-vals-map : (P Q : List ℕ → Val → Type 0) → ((n : List ℕ) (v : Val) → P n v → Q n v) → (t : Tok) → OfVals P t → OfVals Q t
+pub vals-map : (P Q : List ℕ → Val → Type 0) → ((n : List ℕ) (v : Val) → P n v → Q n v) → (t : Tok) → OfVals P t → OfVals Q t
 vals-map P Q f (start o) h = tt
 vals-map P Q f (end o) h = tt
 vals-map P Q f (node o) h = tt

@@ -15,13 +15,13 @@ use Rattle.lexer.specs.Token.{Val, Prop, start, end, St, between, value,
 use Rattle.lexer.specs.Closed.{closedFrom}
 use Rattle.lexer.proofs.Invariant.{EachAt, Invariant, Keeps, keep-run}
 
+-- every value of a property
+abbrev pub Each : (List ℕ → Val → Type 0) → Prop → Type 0
+Each P p = All (P (p .name)) (p .vals)
+
 -- ---- a fact of each value, from a fact of every value that could start at a place after o and end before E
 
 module _ (P : List ℕ → Val → Type 0) (E : ℕ) where
-  -- every value of a property
-  abbrev pub Each : Prop → Type 0
-  Each p = All (P (p .name)) (p .vals)
-
   abbrev pub From : ℕ → ℕ → Type 0
   From o b = (o < E) × ((w : List ℕ) (v e : ℕ) (r : List ℕ) → o < v → v ≤ e → e < E → P w (record { from = v; to = e; raw = r }))
 
@@ -29,7 +29,7 @@ module _ (P : List ℕ → Val → Type 0) (E : ℕ) where
   abbrev pub Later : ℕ → List ℕ → ℕ → Type 0
   Later o w v = (e : ℕ) (r : List ℕ) → o ≤ e → e < E → P w (record { from = v; to = e; raw = r })
 
-  pub each-value : Invariant From (λ o s w. Unit {0}) (λ o s i w vs esc v r. All (P w) vs × Later o w v) Each
+  pub each-value : Invariant From (λ o s w. Unit {0}) (λ o s i w vs esc v r. All (P w) vs × Later o w v) (Each P)
   each-value =
       record {
         starting = λ a. tt;
