@@ -5,3 +5,6 @@ pub mod Splits
 pub mod Surveys
 pub mod Tokens
 pub mod Unique
+pub mod Lift
+pub mod Moved
+pub mod Denoted

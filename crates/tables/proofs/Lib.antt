@@ -1,3 +1,4 @@
 pub mod Links
 pub mod Stores
 pub mod Unique
+pub mod Moved

@@ -1,5 +1,6 @@
 pub mod Flat
 pub mod Links
+pub mod Move
 pub mod Numbers
 pub mod Record
 pub mod Rows

@@ -1,0 +1,5 @@
+pub mod Accepted
+pub mod DemandThree
+pub mod Found
+pub mod Numbered
+pub mod Reread

@@ -1,0 +1,178 @@
+-- What holds of every token holds of every token of every slice; what holds of every property token holds of every property of every tree. Assumes nothing.
+use Prim.Native.Nat.{ℕ, zero, suc}
+use mathlib.Core.Bool.{Bool, true, false, _||_}
+use mathlib.Core.List.{List, [], _∷_, reverse}
+use lib.Dec.{ltb}
+use Rattle.lexer.proofs.Invariant.{OfTok}
+use Rattle.lexer.specs.Token.{Prop, Tok, end, node, prop, start}
+use Rattle.lists.proofs.All.{all-append, all-reverse, every}
+use Rattle.lists.specs.All.{All}
+use Rattle.lists.specs.Pick.{pick}
+use Rattle.parser.specs.Kind.{Kind, is, kind, unkind}
+use Rattle.parser.specs.Read.{Answer, Growing, accepted, answer, failing, growAll, growing, grown, grows, kinded, planted, refused, rooted}
+use Rattle.parser.specs.Split.{Slices, Splitting, ended, filled, no, over, sliced, slices, split, splits, splitting, wrong}
+use Rattle.parser.specs.Walk.{Gate, Opts, Walk, adds, children, closes, gated, halted, opens, refuse, shut, skips, stopped, takes, uppers, walk, walked, walks}
+use Rattle.tables.specs.Numbers.{depthLimit, none}
+use Rattle.tables.specs.Record.{Node, Tree, allNodes, allProps}
+use Rattle.tables.specs.declared.Reason.{Reason}
+use Rattle.tables.specs.declared.Reason.the-variants.{TooDeep, UnexpectedGameTreeEnd, UnexpectedGameTreeStart, UnexpectedProperty}
+use Rattle.utf8.specs.Table.{base, to}
+use Rattle.utf8.specs.Text.{holds}
+
+-- ---- slices
+
+module _ (R : Tok → Type 0) where
+  abbrev pub OfSplitting : Splitting → Type 0
+  OfSplitting (splitting d m cur ss) = All R cur × All (All R) ss
+  OfSplitting (over m ss) = All (All R) ss
+  OfSplitting (wrong n) = Unit {0}
+
+  of-ended : (len : Bool) (d m : ℕ) (t : Tok) (cur : List Tok) (ss : List (List Tok)) → R t → All R cur → All (All R) ss → OfSplitting (ended len d m t cur ss)
+  of-ended true zero m t cur ss r c s = s
+  of-ended false zero m t cur ss r c s = tt
+  of-ended len (suc zero) m t cur ss r c s = (tt, (all-reverse R (t ∷ cur) (r, c), s))
+  of-ended len (suc (suc d)) m t cur ss r c s = ((r, c), s)
+
+  of-splits : (len : Bool) (s : Splitting) (t : Tok) → R t → OfSplitting s → OfSplitting (splits len s t)
+  of-splits len (splitting d m cur ss) (start o) r h = ((r, h .0), h .1)
+  of-splits len (splitting d m cur ss) (end o) r h = of-ended len d m (end o) cur ss r (h .0) (h .1)
+  of-splits len (splitting d m cur ss) (node o) r h = ((r, h .0), h .1)
+  of-splits len (splitting d m cur ss) (prop p e) r h = ((r, h .0), h .1)
+  of-splits len (over m ss) t r h = h
+  of-splits len (wrong n) t r h = tt
+
+  pub of-split : (len : Bool) (s : Splitting) (ts : List Tok) → All R ts → OfSplitting s → OfSplitting (split len s ts)
+  of-split len s [] r h = h
+  of-split len s (t ∷ ts) r h = of-split len (splits len s t) ts (r .1) (of-splits len s t (r .0) h)
+
+  abbrev pub OfSlices : Slices → Type 0
+  OfSlices (no n) = Unit {0}
+  OfSlices (slices ss) = All (All R) ss
+
+  of-deep : (b : Bool) (ss : List (List Tok)) → All (All R) ss → OfSlices (pick b (no TooDeep) (slices ss))
+  of-deep true ss h = tt
+  of-deep false ss h = h
+
+  of-filled : (len : Bool) (m : ℕ) (ss : List (List Tok)) → All (All R) ss → OfSlices (filled len m ss)
+  of-filled true m [] h = (tt, tt)
+  of-filled false m [] h = tt
+  of-filled len m (s ∷ ss) h = of-deep (ltb depthLimit m) (reverse (s ∷ ss)) (all-reverse (All R) (s ∷ ss) h)
+
+  pub of-sliced : (len : Bool) (s : Splitting) → OfSplitting s → OfSlices (sliced len s)
+  of-sliced len (splitting zero m cur ss) h = of-filled len m ss (h .1)
+  of-sliced true (splitting (suc d) m cur ss) h = of-deep (ltb depthLimit m) (reverse (reverse cur ∷ ss)) (all-reverse (All R) (reverse cur ∷ ss) (all-reverse R cur (h .0), h .1))
+  of-sliced false (splitting (suc d) m cur ss) h = tt
+  of-sliced len (over m ss) h = of-filled len m ss h
+  of-sliced len (wrong n) h = tt
+
+-- ---- trees
+
+module _ (Q : Prop → Type 0) where
+  abbrev pub OfNode : Node → Type 0
+  OfNode n = All Q (n .props)
+
+  abbrev pub OfTree : Tree → Type 0
+  OfTree t = All OfNode (t .nodes)
+
+  abbrev pub OfWalk : Walk → Type 0
+  OfWalk (walk cur st g ns) = All OfNode ns
+  OfWalk (halted ns) = All OfNode ns
+  OfWalk (stopped n) = Unit {0}
+
+  of-refuse : (len : Bool) (n : Reason) (ns : List Node) → All OfNode ns → OfWalk (refuse len n ns)
+  of-refuse true n ns h = h
+  of-refuse false n ns h = tt
+
+  of-opens : (len : Bool) (cur : ℕ) (st : List ℕ) (ns : List Node) → All OfNode ns → OfWalk (opens len cur st ns)
+  of-opens len cur [] ns h = h
+  of-opens len cur (p ∷ st) ns h = go (children p ns)
+    where
+      go : (b : Bool) → OfWalk (pick b (walk cur (cur ∷ p ∷ st) shut ns) (refuse len UnexpectedGameTreeStart ns))
+      go true = h
+      go false = of-refuse len UnexpectedGameTreeStart ns h
+
+  of-closes : (len : Bool) (cur : ℕ) (st : List ℕ) (ns : List Node) → All OfNode ns → OfWalk (closes len cur st ns)
+  of-closes len cur [] ns h = of-refuse len UnexpectedGameTreeEnd ns h
+  of-closes len cur (p ∷ st) ns h = h
+
+  of-adds : (ok len : Bool) (p : Prop) (cur : ℕ) (st : List ℕ) (ns : List Node) → Q p → All OfNode ns → OfWalk (adds ok len p cur st ns)
+  of-adds ok len p cur st [] q h = of-refuse len UnexpectedProperty [] tt
+  of-adds true len p cur st (n ∷ ns) q h = (all-append Q (n .props) (p ∷ []) (h .0) (q, tt), h .1)
+  of-adds false true p cur st (n ∷ ns) q h = h
+  of-adds false false p cur st (n ∷ ns) q h = tt
+
+  of-gated : (op : Opts) (g : Gate) (p : Prop) (cur : ℕ) (st : List ℕ) (ns : List Node) → Q p → All OfNode ns → OfWalk (gated op g p cur st ns)
+  of-gated op shut p cur st ns q h = of-refuse (op .lenient) UnexpectedProperty ns h
+  of-gated op takes p cur st ns q h = of-adds (op .convert || uppers (p .name)) (op .lenient) p cur st ns q h
+  of-gated op skips p cur st ns q h = h
+
+  of-walks : (op : Opts) (base : ℕ) (w : Walk) (t : Tok) → OfTok Q t → OfWalk w → OfWalk (walks op base w t)
+  of-walks op base (walk cur st g ns) (start o) q h = of-opens (op .lenient) cur st ns h
+  of-walks op base (walk cur st g ns) (end o) q h = of-closes (op .lenient) cur st ns h
+  of-walks op base (walk cur st g ns) (node o) q h = (tt, h)
+  of-walks op base (walk cur st g ns) (prop p e) q h = of-gated op g p cur st ns q h
+  of-walks op base (halted ns) t q h = h
+  of-walks op base (stopped n) t q h = tt
+
+  pub of-walked : (op : Opts) (base : ℕ) (w : Walk) (ts : List Tok) → All (OfTok Q) ts → OfWalk w → OfWalk (walked op base w ts)
+  of-walked op base w [] q h = h
+  of-walked op base w (t ∷ ts) q h = of-walked op base (walks op base w t) ts (q .1) (of-walks op base w t (q .0) h)
+
+  abbrev pub OfReading : Growing → Type 0
+  OfReading (growing n ts) = All OfTree ts
+  OfReading (failing n) = Unit {0}
+
+  of-rooted : (len : Bool) (base k : ℕ) (ns : List Node) (ts : List Tree) → All OfNode ns → All OfTree ts → OfReading (rooted len base k ns ts)
+  of-rooted len base k (n ∷ ns) ts h g = (all-reverse OfNode (n ∷ ns) h, g)
+  of-rooted true base k [] ts h g = ((tt, tt), g)
+  of-rooted false base k [] ts h g = tt
+
+  of-grown : (len : Bool) (base k : ℕ) (w : Walk) (ts : List Tree) → OfWalk w → All OfTree ts → OfReading (grown len base k w ts)
+  of-grown len base k (walk cur st g ns) ts h t = of-rooted len base k ns ts h t
+  of-grown len base k (halted ns) ts h t = of-rooted len base k ns ts h t
+  of-grown len base k (stopped n) ts h t = tt
+
+  of-kinded : (op : Opts) (base : ℕ) (k : Kind) (s : List Tok) (ts : List Tree) → All (OfTok Q) s → All OfTree ts → OfReading (kinded op base k s ts)
+  of-kinded op base (is k) s ts h t = of-grown (op .lenient) base k (walked op base (walk none [] shut []) s) ts (of-walked op base (walk none [] shut []) s h tt) t
+  of-kinded op base (unkind n) s ts h t = go (op .lenient)
+    where
+      go : (b : Bool) → OfReading (pick b (grown true base 0 (walked op base (walk none [] shut []) s) ts) (failing n))
+      go true = of-grown true base 0 (walked op base (walk none [] shut []) s) ts (of-walked op base (walk none [] shut []) s h tt) t
+      go false = tt
+
+  of-grows : (op : Opts) (r : Growing) (s : List Tok) → All (OfTok Q) s → OfReading r → OfReading (grows op r s)
+  of-grows op (growing base ts) s h t = of-kinded op base (kind s) s ts h t
+  of-grows op (failing n) s h t = tt
+
+  pub of-growAll : (op : Opts) (r : Growing) (ss : List (List Tok)) → All (All (OfTok Q)) ss → OfReading r → OfReading (growAll op r ss)
+  of-growAll op r [] h t = t
+  of-growAll op r (s ∷ ss) h t = of-growAll op (grows op r s) ss (h .1) (of-grows op r s (h .0) t)
+
+  abbrev pub OfAnswer : Answer → Type 0
+  OfAnswer (refused n p) = Unit {0}
+  OfAnswer (accepted ts) = All OfTree ts
+
+  of-answer : (r : Growing) → OfReading r → OfAnswer (answer r)
+  of-answer (growing n ts) h = all-reverse OfTree ts h
+  of-answer (failing n) h = tt
+
+  of-planted : (op : Opts) (s : Slices) → OfSlices (OfTok Q) s → OfAnswer (planted op s)
+  of-planted op (no n) h = tt
+  of-planted op (slices ss) h = of-answer (growAll op (growing 0 []) ss) (of-growAll op (growing 0 []) ss h tt)
+
+  -- from the tokens to the answer
+  pub of-tokens : (op : Opts) (ts : List Tok) → All (OfTok Q) ts → OfAnswer (planted op (sliced (op .lenient) (split (op .lenient) (splitting 0 0 [] []) ts)))
+  of-tokens op ts h =
+      of-planted op (sliced (op .lenient) (split (op .lenient) (splitting 0 0 [] []) ts))
+      (of-sliced (OfTok Q) (op .lenient) (split (op .lenient) (splitting 0 0 [] []) ts) (of-split (OfTok Q) (op .lenient) (splitting 0 0 [] []) ts h (tt, tt)))
+
+  of-nodes : (ns : List Node) → All OfNode ns → All Q (allProps ns)
+  of-nodes [] h = tt
+  of-nodes (n ∷ ns) h = all-append Q (n .props) (allProps ns) (h .0) (of-nodes ns (h .1))
+
+  of-allNodes : (ts : List Tree) → All OfTree ts → All OfNode (allNodes ts)
+  of-allNodes [] h = tt
+  of-allNodes (t ∷ ts) h = all-append OfNode (t .nodes) (allNodes ts) (h .0) (of-allNodes ts (h .1))
+
+  pub of-trees : (ts : List Tree) → All OfTree ts → All Q (allProps (allNodes ts))
+  of-trees ts h = of-nodes (allNodes ts) (of-allNodes ts h)
