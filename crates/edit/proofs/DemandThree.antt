@@ -1,11 +1,11 @@
 -- Demand 3: a record that strict reading gives stays one under any run of edits. Assumes nothing.
 use mathlib.Core.Path.{_≡_, refl, sym, ap, ap₂, _∙_, subst}
-use Prim.Native.Nat.{ℕ, zero, suc, _+_, _-_, _≤_, _<_}
+use Prim.Native.Nat.{ℕ, zero, suc, _+_, _-_}
 use native.Mathlib.Omega.{arith}
 use mathlib.Core.Bool.{Bool, true, false}
-use mathlib.Core.List.{List, [], _∷_, _++_}
+use mathlib.Core.List.{List, [], _∷_}
 use lib.Dec.{ltb}
-use lib.ListN.{length, take, drop, getD}
+use lib.ListN.{length, getD}
 use lib.Seq.{slice, slice-empty}
 use borrow.Author.Tests.{ltb-true, ltb-false, le-ltb, lt-ltb}
 use Rattle.lists.specs.All.{All}
@@ -23,7 +23,7 @@ use Rattle.tables.proofs.Moved.{tables-move}
 use Rattle.parser.specs.Kind.{GM}
 use Rattle.parser.specs.Read.{accepted, read}
 use Rattle.parser.proofs.Denoted.{read-denotes}
-use Rattle.edit.specs.Edit.{ownerRow, ownerName, spanAt, pasted, shifted, Outcome, refuses, gives, outcome, edit}
+use Rattle.edit.specs.Edit.{ownerRow, ownerName, spanAt, pasted, shifted, Outcome, gives, outcome, edit}
 use Rattle.edit.specs.Run.{strictly, Held, Order, after, run, Fresh}
 use Rattle.edit.proofs.Numbered.{noVal, ownerOf, valueOf, newText, newTrees, edit-number}
 
@@ -64,16 +64,16 @@ name-of t (p ∷ ps) h f k = go (ltb k (length (p .vals))) refl (name-of t ps (h
 -- ---- the edit over rows is the edit over trees
 
 module _ (c : Bool) (room : ℕ) (t : List ℕ) (ts : List Tree) (k : ℕ) (new : List ℕ) (h : read (strictly c) t ≡ accepted ts) where
-  abbrev v : Val
+  abbrev pub v : Val
   v = valueOf ts k
 
   abbrev Row0 : ValRow
   Row0 = record { from = v .from; to = v .to }
 
-  abbrev U : List ℕ
+  abbrev pub U : List ℕ
   U = newText t v new
 
-  abbrev US : List Tree
+  abbrev pub US : List Tree
   US = newTrees ts v new
 
   span-is : spanAt (tables ts .vals) k ≡ Row0
@@ -91,7 +91,7 @@ module _ (c : Bool) (room : ℕ) (t : List ℕ) (ts : List Tree) (k : ℕ) (new 
       (name-of t (allProps (allNodes ts)) (read-denotes (strictly c) t ts h) 0 k)
 
   -- the same tests, over trees
-  edit-is : edit room t (tables ts) k new
+  pub edit-is : edit room t (tables ts) k new
       ≡ outcome (ltb k (length (allVals (allProps (allNodes ts))))) (same (ownerOf (allProps (allNodes ts)) k) GM) (utfs (whole blank) 0 new) (closed new)
       (ltb textLimit (length U)) (ltb room (length U)) U (tables US)
   edit-is =

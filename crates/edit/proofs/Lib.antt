@@ -3,3 +3,4 @@ pub mod DemandThree
 pub mod Found
 pub mod Numbered
 pub mod Reread
+pub mod Undo

@@ -49,13 +49,13 @@ mem-getD [] k h = absurd (omega arith)
 mem-getD (v ∷ vs) zero h = List·Memᴰ·head refl
 mem-getD (v ∷ vs) (suc k) h = List·Memᴰ·tail (mem-getD vs k (omega arith))
 
-record Owned (ps : List Prop) (k : ℕ) : Type 0 where
-  p : Prop
-  mp : List·Memᴰ p ps
-  mv : List·Memᴰ (getD (allVals ps) k noVal) (p .vals)
-  name : p .name ≡ ownerOf ps k
+pub record Owned (ps : List Prop) (k : ℕ) : Type 0 where
+  pub p : Prop
+  pub mp : List·Memᴰ p ps
+  pub mv : List·Memᴰ (getD (allVals ps) k noVal) (p .vals)
+  pub name : p .name ≡ ownerOf ps k
 
-owned : (ps : List Prop) (k : ℕ) → k < length (allVals ps) → Owned ps k
+pub owned : (ps : List Prop) (k : ℕ) → k < length (allVals ps) → Owned ps k
 owned [] k h = absurd (omega arith)
 owned (q ∷ qs) k h = go (ltb k (length (q .vals))) refl (owned qs (k - length (q .vals)))
   where
@@ -81,14 +81,14 @@ owned (q ∷ qs) k h = go (ltb k (length (q .vals))) refl (owned qs (k - length 
         }
 
 -- the text, cut at two places
-cut-text : (a b : ℕ) (t : List ℕ) → a ≤ b → take a t ++ (drop a (take b t) ++ drop b t) ≡ t
+pub cut-text : (a b : ℕ) (t : List ℕ) → a ≤ b → take a t ++ (drop a (take b t) ++ drop b t) ≡ t
 cut-text a b t l =
     sym (append-assoc (take a t) (drop a (take b t)) (drop b t))
     ∙ ap (λ (z : List ℕ). z ++ drop a (take b t) ++ drop b t) (sym (take-take a b t l))
     ∙ ap (λ (z : List ℕ). z ++ drop b t) (take-append-drop a (take b t))
     ∙ take-append-drop b t
 
-inside-text : (c : Bool) (t : List ℕ) (ts : List Tree) (p : Prop) (v : Val) → Accepted c t ts → List·Memᴰ p (allProps (allNodes ts)) → List·Memᴰ v (p .vals)
+pub inside-text : (c : Bool) (t : List ℕ) (ts : List Tree) (p : Prop) (v : Val) → Accepted c t ts → List·Memᴰ p (allProps (allNodes ts)) → List·Memᴰ v (p .vals)
     → (v .from ≤ v .to) × (v .to ≤ length t)
 unfolding Between
 inside-text c t ts p v A mp mv =

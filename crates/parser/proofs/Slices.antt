@@ -12,10 +12,10 @@ use Rattle.lists.specs.Pick.{pick}
 use Rattle.lexer.specs.Token.{Tok}
 use Rattle.tables.specs.Numbers.{depthLimit}
 use Rattle.tables.specs.declared.Reason.the-variants.{TooDeep}
-use Rattle.parser.specs.Split.{Splitting, splitting, over, wrong, split, Slices, no, slices, deep, filled, sliced, slicesOf}
+use Rattle.parser.specs.Split.{Splitting, splitting, over, wrong, split, no, slices, deep, filled, sliced, slicesOf}
 use Rattle.parser.specs.Slice.{restFrom, cut, Shallow}
 use Rattle.parser.specs.Survey.{foundAs, counted}
-use Rattle.parser.specs.declared.Survey.the-variants.{Refused, Slices as found, Empty}
+use Rattle.parser.specs.declared.Survey.the-variants.{Slices as found}
 use Rattle.parser.proofs.Cuts.{standing, deepest, Right, cut-first, deep-first, split-cut}
 
 -- what is known of k slices that were found

@@ -9,12 +9,12 @@ use lib.Dec.{ltb}
 use Rattle.lists.specs.All.{All}
 use Rattle.lists.specs.Pick.{pick}
 use Rattle.lists.proofs.All.{all-reverse}
-use Rattle.lexer.specs.Token.{Tok, start, end, node, prop, End, done, broken, Lexed, lexAt}
+use Rattle.lexer.specs.Token.{Tok, End, Lexed, lexAt}
 use Rattle.lexer.specs.declared.Fault.{Fault}
 use Rattle.tables.specs.Numbers.{depthLimit, reasonOf}
 use Rattle.tables.specs.declared.Reason.{Reason}
 use Rattle.tables.specs.declared.Reason.the-variants.{UnexpectedGameTreeEnd, UnexpectedEndOfData, NoGameTrees, TooDeep}
-use Rattle.parser.specs.Split.{Splitting, splitting, over, wrong, split, Slices, no, slices, deep, filled, sliced, slicesOf}
+use Rattle.parser.specs.Split.{Splitting, splitting, over, wrong, split, no, slices, deep, filled, sliced, slicesOf}
 use Rattle.parser.specs.Survey.{foundAs, counted, strictly, surveyOf, leftAt, StopsAt, Splits, SplitIs}
 use Rattle.parser.specs.declared.Survey.{Survey}
 use Rattle.parser.specs.declared.Survey.the-variants.{Refused, Slices as found, Empty}

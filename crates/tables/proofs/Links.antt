@@ -1,7 +1,7 @@
 -- The links of the nodes, by one pass from the back. Assumes nothing.
-use mathlib.Core.Path.{_≡_, refl, sym, ap, _∙_, subst}
+use mathlib.Core.Path.{_≡_, refl, sym, _∙_, subst}
 use mathlib.Core.List.{List}
-use Prim.Native.Nat.{ℕ, suc, _+_, _-_, _*_, _/_, _≤_, _<_}
+use Prim.Native.Nat.{ℕ, suc, _+_, _-_, _*_, _≤_, _<_}
 use native.Mathlib.Omega.{arith}
 use native.Mathlib.Decide.{ℕ-discrete}
 use lib.Dec.{eqb}
@@ -10,7 +10,7 @@ use lib.ListN.{length, getD, set, length-set}
 use lib.Seq.{getD-set-same, getD-set-other}
 use Rattle.lists.specs.Pick.{pick}
 use Rattle.tables.specs.Numbers.{none}
-use Rattle.tables.specs.Links.{parentAt, childAt, least, nextOf, NoLink, LinkedFrom, HasRows, LinksIs}
+use Rattle.tables.specs.Links.{parentAt, childAt, least, LinkedFrom, HasRows, LinksIs}
 
 same-or {ℓ} : {X : Type ℓ} (a b : ℕ) → (a ≡ b → X) → ((a ≡ b → ⊥) → X) → X
 same-or a b f g = elim (ℕ-discrete a b) [ yes h ↦ f h | no h ↦ g h ]

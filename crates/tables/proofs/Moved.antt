@@ -10,15 +10,15 @@ use Rattle.tables.specs.Record.{Node, Tree, allNodes, allProps, allVals}
 use Rattle.tables.specs.Rows.{nodeRows, parents, propRows, tables, treeRows, valRows}
 
 module _ (f g : ℕ → ℕ) (h : ℕ → List ℕ → List ℕ) where
-  nodes-move : (ts : List Tree) → allNodes (map (moveTree f g h) ts) ≡ map (moveNode f g h) (allNodes ts)
+  pub nodes-move : (ts : List Tree) → allNodes (map (moveTree f g h) ts) ≡ map (moveNode f g h) (allNodes ts)
   nodes-move [] = refl
   nodes-move (t ∷ ts) = rw (nodes-move ts, map-append (moveNode f g h) (t .nodes) (allNodes ts))
 
-  props-move : (ns : List Node) → allProps (map (moveNode f g h) ns) ≡ map (moveProp f g h) (allProps ns)
+  pub props-move : (ns : List Node) → allProps (map (moveNode f g h) ns) ≡ map (moveProp f g h) (allProps ns)
   props-move [] = refl
   props-move (n ∷ ns) = rw (props-move ns, map-append (moveProp f g h) (n .props) (allProps ns))
 
-  vals-move : (ps : List Prop) → allVals (map (moveProp f g h) ps) ≡ map (moveVal f g h) (allVals ps)
+  pub vals-move : (ps : List Prop) → allVals (map (moveProp f g h) ps) ≡ map (moveVal f g h) (allVals ps)
   vals-move [] = refl
   vals-move (p ∷ ps) = rw (vals-move ps, map-append (moveVal f g h) (p .vals) (allVals ps))
 
