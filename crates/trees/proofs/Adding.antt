@@ -1,0 +1,187 @@
+-- A turn of the walk at a property: added, dropped, or the tree stops. Assumes nothing.
+use Prim.Native.Nat.{ℕ, suc, _+_, _-_, _*_, _≤_, _<_}
+use mathlib.Core.Path.{_≡_, refl, sym, ap, _∙_, subst, subst⁻¹}
+use mathlib.Core.Bool.{Bool, true, false, _||_}
+use mathlib.Core.List.{List, [], _∷_, _++_, reverse, reverse-cons}
+use native.Mathlib.Omega.{arith}
+use lib.ListN.{length}
+use lib.Seq.{slice}
+use Rattle.lists.specs.Pick.{pick}
+use Rattle.lexer.specs.Token.{Prop, Tok, prop, Lexed, lexed, lexAt}
+use Rattle.lexer.specs.Scan.{valuesAt}
+use Rattle.lexer.specs.Step.{valsAt, propAt, headAt}
+use Rattle.lexer.specs.declared.Close.{Close}
+use Rattle.lexer.specs.declared.Close.the-variants.{At, Open}
+use Rattle.lexer.specs.declared.Head.the-variants.{Name}
+use Rattle.lexer.specs.declared.Step.the-variants.{Property}
+use Rattle.lexer.proofs.Within.{Within}
+use Rattle.tables.specs.Record.{Node}
+use Rattle.tables.specs.declared.Reason.{Reason}
+use Rattle.tables.specs.declared.Reason.the-variants.{UnexpectedProperty, InvalidFF4Property}
+use Rattle.parser.specs.Walk.{Opts, Gate, Walk, walk, stopped, takes, skips, refuse, adds, gated, uppers, walked}
+use Rattle.parser.specs.Slice.{sliceFrom}
+use Rattle.trees.specs.Walks.{opts, Shallow, walkOf, Stored}
+use Rattle.trees.specs.Turns.{stackOf, gateOf, added, dropped, Closes, AddIs, SkippedIs, KeptIs, GateIs, TurnIs}
+use Rattle.trees.specs.declared.State.{State}
+use Rattle.trees.specs.declared.Turn.the-variants.{On, Stop}
+use Rattle.trees.proofs.Stored.{stored-prop}
+use Rattle.trees.proofs.Lines.{Line, line-prop}
+use Rattle.trees.proofs.Behind.{skipping-prop}
+use Rattle.trees.proofs.Meets.{step-meets, step-lies, name-next}
+use Rattle.trees.proofs.Turned.{gate-takes, gate-skips}
+use Rattle.trees.proofs.Walking.{Walking, Last, onto, shallow-onto, refuse-stays}
+
+-- tables that are kept
+pub walking-kept : {op : Opts} {u : List ℕ} {from base p0 v0 : ℕ} {t₀ q₀ w₀ t q w t′ q′ w′ a : List ℕ} {st : State} → Walking op u from base p0 v0 t₀ q₀ w₀ t q w a st → KeptIs t q w t′ q′ w′
+    → Walking op u from base p0 v0 t₀ q₀ w₀ t′ q′ w′ a st
+walking-kept {op} {u} {from} {base} {p0} {v0} {t₀} {q₀} {w₀} {t} {q} {w} {t′} {q′} {w′} {a} {st} x k =
+    subst⁻¹ (λ (l : List ℕ). Walking op u from base p0 v0 t₀ q₀ w₀ l q′ w′ a st) (k .nodes)
+    (subst⁻¹ (λ (l : List ℕ). Walking op u from base p0 v0 t₀ q₀ w₀ t l w′ a st) (k .props)
+    (subst⁻¹ (λ (l : List ℕ). Walking op u from base p0 v0 t₀ q₀ w₀ t q l a st) (k .vals) x))
+
+module _ {len con : Bool} {u : List ℕ} {from base p0 v0 : ℕ} {t₀ q₀ w₀ t q w a : List ℕ} {st : State} (x : Walking (opts len con) u from base p0 v0 t₀ q₀ w₀ t q w a st) (i k : ℕ)
+    (g : headAt u (st .at) ≡ Name i k) where
+  module _ {e : ℕ} (h : valuesAt u k ≡ At e) where
+    met : lexAt u (st .at) ≡ lexed (prop (propAt u i k) e ∷ []) (lexAt u e)
+    met = step-meets u (st .at) (name-next u (st .at) i k g h)
+
+    lies : Within u (st .at) (Property i k e)
+    lies = step-lies u (st .at) (name-next u (st .at) i k g h)
+
+    -- the walk behind the property
+    Behind : Walk → Walk
+    Behind z = walked (opts len con) base z (sliceFrom (st .depth) (lexAt u e .toks))
+
+    reaches : {y : Gate} → gateOf (st .follows) (st .drops) ≡ y
+        → walkOf (opts len con) base (lexAt u from .toks) ≡ Behind (gated (opts len con) y (propAt u i k) (st .cur) (stackOf a (st .depth)) (x .ns))
+    unfolding sliceFrom Behind
+    reaches y = onto x met ∙ ap (λ (z : Gate). Behind (gated (opts len con) z (propAt u i k) (st .cur) (stackOf a (st .depth)) (x .ns))) y
+
+    -- where the gate takes, by whether the identifier may be taken
+    takes-it : {ok : Bool} → gateOf (st .follows) (st .drops) ≡ takes → (con || uppers (slice i k u)) ≡ ok
+        → walkOf (opts len con) base (lexAt u from .toks) ≡ Behind (adds ok len (propAt u i k) (st .cur) (stackOf a (st .depth)) (x .ns))
+    unfolding propAt
+    takes-it y o = reaches y ∙ ap (λ (z : Bool). Behind (adds z len (propAt u i k) (st .cur) (stackOf a (st .depth)) (x .ns))) o
+
+    shallow-on : Shallow (st .depth) (sliceFrom (st .depth) (lexAt u e .toks))
+    unfolding sliceFrom Shallow
+    shallow-on = shallow-onto x met
+
+    stays : (r : Reason) → Behind (refuse len r (x .ns)) ≡ refuse len r (x .ns)
+    unfolding Behind
+    stays r = refuse-stays (opts len con) base len r (x .ns) (sliceFrom (st .depth) (lexAt u e .toks))
+
+    walking-drop : st .follows ≡ true → walkOf (opts len con) base (lexAt u from .toks) ≡ Behind (walk (st .cur) (stackOf a (st .depth)) skips (x .ns))
+        → Walking (opts len con) u from base p0 v0 t₀ q₀ w₀ t q w a (dropped st e)
+    unfolding Behind
+    walking-drop f s =
+        let b = lies in
+        let fe = x .few in
+        let li = x .little in
+        let sm = x .small in
+        record {
+          ready = x .ready;
+          ns = x .ns;
+          array = x .array;
+          deep = x .deep;
+          few = omega arith;
+          little = omega arith;
+          small = omega arith;
+          stored = x .stored;
+          skip = skipping-prop (x .skip) (omega arith) (b .4) met;
+          same = s ∙ ap (λ (z : Bool). Behind (walk (st .cur) (stackOf a (st .depth)) (gateOf z true) (x .ns))) (sym f);
+          shallow = shallow-on;
+          last = x .last;
+          line = x .line;
+        }
+
+    walking-add : st .follows ≡ true → st .drops ≡ false → (con || uppers (slice i k u)) ≡ true → {r : State} {t′ q′ w′ : List ℕ} → AddIs u st i k t q w r t′ q′ w′
+        → Walking (opts len con) u from base p0 v0 t₀ q₀ w₀ t′ q′ w′ a (added st e (length (valsAt u k)))
+    unfolding Behind propAt
+    walking-add f d o {r} {t′} {q′} {w′} y = go (x .last f)
+      where
+        go : Last (x .ns) p0 (st .first) → Walking (opts len con) u from base p0 v0 t₀ q₀ w₀ t′ q′ w′ a (added st e (length (valsAt u k)))
+        go z =
+            let b = lies in
+            let fe = x .few in
+            let li = x .little in
+            let sm = x .small in
+            record {
+              ready = x .ready;
+              ns = record { parent = z .top .parent; props = z .top .props ++ (propAt u i k ∷ []) } ∷ z .below;
+              array = x .array;
+              deep = x .deep;
+              few = omega arith;
+              little = omega arith;
+              small = omega arith;
+              stored =
+                  subst⁻¹ (λ (l : List Node). Stored base p0 v0 l t₀ q₀ w₀ t′ q′ w′ (st .nodes) (st .props + 1) (st .vals + length (valsAt u k))) (reverse-cons (record { parent = z .top .parent; props = z .top .props ++ (propAt u i k ∷ []) }) (z .below))
+                  (stored-prop (reverse (z .below)) (z .top)
+                  (subst (λ (l : List Node). Stored base p0 v0 l t₀ q₀ w₀ t q w (st .nodes) (st .props) (st .vals)) (ap reverse (z .is) ∙ reverse-cons (z .top) (z .below)) (x .stored))
+                  (propAt u i k) (z .at) (y .props) (y .vals) (y .nodes));
+              skip = skipping-prop (x .skip) (omega arith) (b .4) met;
+              same =
+                  takes-it (gate-takes st f d) o
+                  ∙ ap (λ (l : List Node). Behind (adds true len (propAt u i k) (st .cur) (stackOf a (st .depth)) l)) (z .is)
+                  ∙ ap (λ (y : Gate). Behind (walk (st .cur) (stackOf a (st .depth)) y (record { parent = z .top .parent; props = z .top .props ++ (propAt u i k ∷ []) } ∷ z .below))) (sym (gate-takes st f d));
+              shallow = shallow-on;
+              last = λ c. record { top = record { parent = z .top .parent; props = z .top .props ++ (propAt u i k ∷ []) }; below = z .below; is = refl; at = z .at };
+              line = line-prop (z .top .props ++ (propAt u i k ∷ [])) (subst (λ (l : List Node). Line base l (st .cur) (stackOf a (st .depth))) (z .is) (x .line));
+            }
+
+  -- an identifier that may not be taken: the node's properties are dropped from here on, or the tree is refused
+  not-taken : {e : ℕ} (h : valuesAt u k ≡ At e) → st .follows ≡ true → st .drops ≡ false → (con || uppers (slice i k u)) ≡ false
+      → walkOf (opts len con) base (lexAt u from .toks) ≡ Behind h (pick len (walk (st .cur) (stackOf a (st .depth)) skips (x .ns)) (stopped InvalidFF4Property))
+  not-taken h f d o =
+      let z = x .last f in
+      takes-it h (gate-takes st f d) o
+      ∙ ap (λ (l : List Node). Behind h (adds false len (propAt u i k) (st .cur) (stackOf a (st .depth)) l)) (z .is)
+      ∙ ap (Behind h) (by len (z .top) (z .below))
+      ∙ ap (λ (l : List Node). Behind h (pick len (walk (st .cur) (stackOf a (st .depth)) skips l) (stopped InvalidFF4Property))) (sym (z .is))
+    where
+      by : (len : Bool) (n : Node) (ns : List Node) → adds false len (propAt u i k) (st .cur) (stackOf a (st .depth)) (n ∷ ns) ≡ pick len (walk (st .cur) (stackOf a (st .depth)) skips (n ∷ ns)) (stopped InvalidFF4Property)
+      by true n ns = refl
+      by false n ns = refl
+
+  pub walking-property : {y : State} {t′ q′ w′ : List ℕ} → TurnIs len con u st i k t q w (On y) t′ q′ w′ → Walking (opts len con) u from base p0 v0 t₀ q₀ w₀ t′ q′ w′ a y
+  unfolding TurnIs
+  walking-property {y} {t′} {q′} {w′} = go (st .follows) (st .drops) (con || uppers (slice i k u)) len refl refl refl refl
+    where
+      W : Type 0
+      W = Walking (opts len con) u from base p0 v0 t₀ q₀ w₀ t′ q′ w′ a y
+
+      dropped-on : SkippedIs u st k y × KeptIs t q w t′ q′ w′ → Walking (opts len con) u from base p0 v0 t₀ q₀ w₀ t q w a (dropped st (y .at)) → W
+      dropped-on z v = walking-kept (subst⁻¹ (Walking (opts len con) u from base p0 v0 t₀ q₀ w₀ t q w a) (z .0 .is) v) (z .1)
+
+      go : (f d o l : Bool) → st .follows ≡ f → st .drops ≡ d → (con || uppers (slice i k u)) ≡ o → len ≡ l → GateIs (gateOf f d) o l u st i k t q w (On y) t′ q′ w′ → W
+      go false d o l ef ed eo el z = absurd z
+      go true true o l ef ed eo el z = dropped-on z (walking-drop (z .0 .ends) ef (reaches (z .0 .ends) (gate-skips st ef ed)))
+      go true false true l ef ed eo el z = subst⁻¹ (λ (r : State). Walking (opts len con) u from base p0 v0 t₀ q₀ w₀ t′ q′ w′ a r) (z .is) (walking-add (z .ends) ef ed eo z)
+      go true false false true ef ed eo el z =
+          dropped-on z (walking-drop (z .0 .ends) ef
+          (not-taken (z .0 .ends) ef ed eo ∙ ap (λ (c : Bool). Behind (z .0 .ends) (pick c (walk (st .cur) (stackOf a (st .depth)) skips (x .ns)) (stopped InvalidFF4Property))) el))
+      go true false false false ef ed eo el z = absurd z
+
+  pub property-stops : Closes u k → (r : Reason) (t₁ q₁ w₁ t′ q′ w′ : List ℕ) → TurnIs len con u st i k t₁ q₁ w₁ (Stop r) t′ q′ w′ → walkOf (opts len con) base (lexAt u from .toks) ≡ refuse len r (x .ns)
+  unfolding TurnIs
+  property-stops c r t₁ q₁ w₁ t′ q′ w′ z = closed (valuesAt u k) refl
+    where
+      W : Type 0
+      W = walkOf (opts len con) base (lexAt u from .toks) ≡ refuse len r (x .ns)
+
+      go : {e : ℕ} → valuesAt u k ≡ At e → (f d o l : Bool) → st .follows ≡ f → st .drops ≡ d → (con || uppers (slice i k u)) ≡ o → len ≡ l → GateIs (gateOf f d) o l u st i k t₁ q₁ w₁ (Stop r) t′ q′ w′ → W
+      go h false d o l ef ed eo el z =
+          reaches h (ap (λ (c : Bool). gateOf c (st .drops)) ef) ∙ stays h UnexpectedProperty ∙ ap (λ (y : Reason). refuse len y (x .ns)) (sym (z .0))
+      go h true true o l ef ed eo el z = absurd z
+      go h true false true l ef ed eo el z = absurd z
+      go h true false false true ef ed eo el z = absurd z
+      go h true false false false ef ed eo el z =
+          not-taken h ef ed eo
+          ∙ ap (λ (c : Bool). Behind h (pick c (walk (st .cur) (stackOf a (st .depth)) skips (x .ns)) (stopped InvalidFF4Property))) el
+          ∙ ap (λ (c : Bool). Behind h (refuse c InvalidFF4Property (x .ns))) (sym el)
+          ∙ stays h InvalidFF4Property
+          ∙ ap (λ (y : Reason). refuse len y (x .ns)) (sym (z .0))
+
+      closed : (v : Close) → valuesAt u k ≡ v → W
+      closed (At e) h = go h (st .follows) (st .drops) (con || uppers (slice i k u)) len refl refl refl refl z
+      closed Open h = absurd (c h)

@@ -1,0 +1,15 @@
+pub mod Adding
+pub mod Arms
+pub mod Behind
+pub mod Between
+pub mod Faults
+pub mod Flats
+pub mod Giving
+pub mod Lines
+pub mod Meets
+pub mod Stacks
+pub mod Stored
+pub mod Takings
+pub mod Turned
+pub mod Uppers
+pub mod Walking

@@ -1,0 +1,164 @@
+-- What the steps of the walk do, in the code's own terms. Nothing public is stated by these.
+use Prim.Native.Nat.{ℕ, zero, suc, _+_, _-_, _*_, _≤_}
+use mathlib.Core.Path.{_≡_}
+use mathlib.Core.Bool.{Bool, true, false, _||_}
+use mathlib.Core.List.{List, [], _∷_}
+use lib.ListN.{length, getD}
+use lib.Dec.{eqb, ltb}
+use lib.Seq.{slice}
+use Rattle.lists.specs.Pick.{pick}
+use Rattle.lists.specs.Put.{PutIs}
+use Rattle.lexer.specs.Token.{Lexed, lexAt}
+use Rattle.lexer.specs.Scan.{valuesAt}
+use Rattle.lexer.specs.Step.{valsAt}
+use Rattle.lexer.specs.declared.Close.{Close}
+use Rattle.lexer.specs.declared.Close.the-variants.{At, Open}
+use Rattle.tables.specs.Numbers.{textLimit, depthLimit, none}
+use Rattle.tables.specs.Rows.{valRows}
+use Rattle.tables.specs.Flat.{flatVals}
+use Rattle.tables.specs.declared.Reason.{Reason}
+use Rattle.tables.specs.declared.Reason.the-variants.{UnexpectedEndOfData, UnexpectedProperty, InvalidFF4Property}
+use Rattle.parser.specs.Walk.{Gate, shut, takes, skips, uppers}
+use Rattle.parser.specs.Slice.{restFrom}
+use Rattle.trees.specs.declared.State.{State}
+use Rattle.trees.specs.declared.Taken.{Taken}
+use Rattle.trees.specs.declared.Turn.{Turn}
+use Rattle.trees.specs.declared.Turn.the-variants.{On, Stop}
+use Rattle.trees.specs.declared.Walked.{Walked}
+use Rattle.trees.specs.declared.Walked.the-variants.{Tree, Refused}
+
+-- more rows than a walk comes to
+abbrev pub rowLimit : ℕ
+rowLimit = 4194304
+
+-- the numbers of a state are small
+pub record Small (st : State) : Type 0 where
+  pub deep : st .depth ≤ depthLimit
+  pub nodes : st .nodes ≤ rowLimit
+  pub props : st .props ≤ rowLimit
+  pub vals : st .vals ≤ rowLimit
+
+-- ---- the stack
+
+-- what is on it, the top first
+unfoldable pub stackOf : List ℕ → ℕ → List ℕ
+stackOf a zero = []
+stackOf a (suc d) = getD a d 0 ∷ stackOf a d
+
+-- the list of x is not empty, where n nodes exist, and those of this tree from base on
+abbrev pub fuller : ℕ → ℕ → ℕ → Bool
+fuller base n x = pick (eqb x none) (ltb base n) (ltb (x + 1) n)
+
+-- the list on top of the stack is not empty
+abbrev pub mayOpen : ℕ → ℕ → List ℕ → Bool
+mayOpen base n [] = true
+mayOpen base n (x ∷ st) = fuller base n x
+
+-- ---- the state after a token
+
+-- before the first
+abbrev pub begun : (at n p v : ℕ) → State
+begun at n p v = record { at = at; depth = 0; cur = none; nodes = n; props = p; vals = v; first = p; follows = false; drops = false }
+
+-- a start at i
+abbrev pub started : State → ℕ → State
+started st i = record { at = i + 1; depth = st .depth + 1; cur = st .cur; nodes = st .nodes; props = st .props; vals = st .vals; first = st .first; follows = false; drops = st .drops }
+
+-- an end at i
+abbrev pub ended : State → ℕ → List ℕ → State
+ended st i a = record { at = i + 1; depth = st .depth - 1; cur = getD a (st .depth - 1) 0; nodes = st .nodes; props = st .props; vals = st .vals; first = st .first; follows = false; drops = st .drops }
+
+-- a node at i
+abbrev pub noded : State → ℕ → State
+noded st i = record { at = i + 1; depth = st .depth; cur = st .nodes; nodes = st .nodes + 1; props = st .props; vals = st .vals; first = st .props; follows = true; drops = false }
+
+-- a property with c values that ends at e
+abbrev pub added : State → (e c : ℕ) → State
+added st e c = record { at = e; depth = st .depth; cur = st .cur; nodes = st .nodes; props = st .props + 1; vals = st .vals + c; first = st .first; follows = st .follows; drops = st .drops }
+
+-- one that ends at e and is dropped
+abbrev pub dropped : State → (e : ℕ) → State
+dropped st e = record { at = e; depth = st .depth; cur = st .cur; nodes = st .nodes; props = st .props; vals = st .vals; first = st .first; follows = st .follows; drops = true }
+
+-- ---- properties
+
+-- may a property follow, is it dropped
+abbrev pub gateOf : Bool → Bool → Gate
+gateOf false drops = shut
+gateOf true false = takes
+gateOf true true = skips
+
+-- each value from k on closes
+abbrev pub Closes : List ℕ → ℕ → Type 0
+Closes u k = valuesAt u k ≡ Open → ⊥
+
+-- lenient reading finds a value that does not close
+abbrev pub UnclosedIs : Bool → Close → Bool → Type 0
+UnclosedIs len c true = c ≡ Open
+UnclosedIs len c false = len ≡ true → c ≡ Open → ⊥
+
+-- the values from k on are rows from v0 on
+pub record TakenIs (u : List ℕ) (k v0 : ℕ) (w w′ : List ℕ) (r : Taken) : Type 0 where
+  pub ends : valuesAt u k ≡ At (r .end)
+  pub next : r .next ≡ v0 + length (valsAt u k)
+  pub rows : PutIs w (v0 * 2) (flatVals (valRows (valsAt u k))) w′
+
+-- the property from i, whose first `[` is at k, is a row, its values are, and its node counts it
+pub record AddIs (u : List ℕ) (st : State) (i k : ℕ) (t q w : List ℕ) (r : State) (t′ q′ w′ : List ℕ) : Type 0 where
+  pub ends : valuesAt u k ≡ At (r .at)
+  pub is : r ≡ added st (r .at) (length (valsAt u k))
+  pub vals : PutIs w (st .vals * 2) (flatVals (valRows (valsAt u k))) w′
+  pub props : PutIs q (st .props * 4) (i ∷ k ∷ st .vals ∷ length (valsAt u k) ∷ []) q′
+  pub nodes : PutIs t (st .nodes * 5 - 1) ((st .props + 1 - st .first) ∷ []) t′
+
+-- it is dropped
+pub record SkippedIs (u : List ℕ) (st : State) (k : ℕ) (r : State) : Type 0 where
+  pub ends : valuesAt u k ≡ At (r .at)
+  pub is : r ≡ dropped st (r .at)
+
+-- no table changes
+pub record KeptIs (t q w t′ q′ w′ : List ℕ) : Type 0 where
+  pub nodes : t′ ≡ t
+  pub props : q′ ≡ q
+  pub vals : w′ ≡ w
+
+-- a property, by the gate, by whether its identifier may be taken, and by leniency
+abbrev pub GateIs : Gate → (ok len : Bool) (u : List ℕ) → State → (i k : ℕ) (t q w : List ℕ) → Turn → (t′ q′ w′ : List ℕ) → Type 0
+GateIs shut ok len u st i k t q w (On x) t′ q′ w′ = ⊥
+GateIs shut ok len u st i k t q w (Stop r) t′ q′ w′ = (r ≡ UnexpectedProperty) × KeptIs t q w t′ q′ w′
+GateIs skips ok len u st i k t q w (On x) t′ q′ w′ = SkippedIs u st k x × KeptIs t q w t′ q′ w′
+GateIs skips ok len u st i k t q w (Stop r) t′ q′ w′ = ⊥
+GateIs takes true len u st i k t q w (On x) t′ q′ w′ = AddIs u st i k t q w x t′ q′ w′
+GateIs takes true len u st i k t q w (Stop r) t′ q′ w′ = ⊥
+GateIs takes false true u st i k t q w (On x) t′ q′ w′ = SkippedIs u st k x × KeptIs t q w t′ q′ w′
+GateIs takes false true u st i k t q w (Stop r) t′ q′ w′ = ⊥
+GateIs takes false false u st i k t q w (On x) t′ q′ w′ = ⊥
+GateIs takes false false u st i k t q w (Stop r) t′ q′ w′ = (r ≡ InvalidFF4Property) × KeptIs t q w t′ q′ w′
+
+-- a property of the text
+unfoldable pub TurnIs : (len con : Bool) (u : List ℕ) → State → (i k : ℕ) (t q w : List ℕ) → Turn → (t′ q′ w′ : List ℕ) → Type 0
+TurnIs len con u st i k t q w r t′ q′ w′ = GateIs (gateOf (st .follows) (st .drops)) (con || uppers (slice i k u)) len u st i k t q w r t′ q′ w′
+
+-- ---- the end of the slice
+
+-- r is the place behind the slice, of which d trees are open at `from`
+pub record BehindIs (u : List ℕ) (from d r : ℕ) : Type 0 where
+  pub rest : restFrom d (lexAt u from .toks) ≡ lexAt u r .toks
+  pub ends : lexAt u r .end ≡ lexAt u from .end
+  pub on : from ≤ r
+  pub inside : r ≤ length u
+
+-- the tree, by whether it has no node and by leniency
+abbrev pub RootBy : (none? len : Bool) → State → (at : ℕ) → List ℕ → Walked → List ℕ → Type 0
+RootBy false len st at t r t′ = (r ≡ Tree at (st .nodes) (st .props) (st .vals)) × (t′ ≡ t)
+RootBy true true st at t r t′ = (r ≡ Tree at (st .nodes + 1) (st .props) (st .vals)) × PutIs t (st .nodes * 5) (none ∷ none ∷ none ∷ st .props ∷ 0 ∷ []) t′
+RootBy true false st at t r t′ = r ≡ Refused UnexpectedEndOfData
+
+-- the tree whose slice ends before `at`
+abbrev pub RootIs : (len : Bool) (base : ℕ) → State → (at : ℕ) → List ℕ → Walked → List ℕ → Type 0
+RootIs len base st at t r t′ = RootBy (eqb (st .nodes) base) len st at t r t′
+
+-- the tree stops
+abbrev pub StopIs : (len : Bool) (u : List ℕ) (base : ℕ) → State → Reason → List ℕ → Walked → List ℕ → Type 0
+StopIs false u base st reason t r t′ = r ≡ Refused reason
+StopIs true u base st reason t r t′ = (at : ℕ) × BehindIs u (st .at) (st .depth) at × RootIs true base st at t r t′

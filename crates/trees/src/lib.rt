@@ -1,0 +1,361 @@
+// The tree of one slice, read from the tokens from a place on into the lent tables, strict or lenient. One token a turn, each byte scanned once where reading is strict.
+use lexer::Close;
+use lexer::Head;
+use lexer::Step;
+use lexer::ValueStep;
+use tables::Reason;
+use tables::NONE;
+ghost use mathlib.Core.Path.{_≡_};
+ghost use mathlib.Core.Bool.{true, _||_};
+ghost use mathlib.Core.List.{[], _∷_};
+ghost use Prim.Native.Nat.{_*_, _≤_, _<_};
+ghost use lib.ListN.{length, set, getD};
+ghost use lib.Seq.{slice};
+ghost use Rattle.lists.specs.Put.{PutIs};
+ghost use Rattle.lexer.specs.Token.{lexAt};
+ghost use Rattle.lexer.specs.Scan.{valuesAt};
+ghost use Rattle.tables.specs.Numbers.{textLimit, depthLimit, none};
+ghost use Rattle.parser.specs.Walk.{uppers};
+ghost use Rattle.trees.specs.Walks.{opts, Ready, WalkIs};
+ghost use Rattle.trees.specs.Turns.{rowLimit, Small, stackOf, mayOpen, begun, started, ended, noded, Closes, UnclosedIs, TakenIs, AddIs, SkippedIs, TurnIs, BehindIs, RootIs, StopIs};
+
+// What a walk gives: the place behind the slice and the next row of each table (nodes, properties, values); or why there is no tree.
+pub enum Walked {
+    Tree(usize, usize, usize, usize),
+    Refused(Reason),
+}
+
+// Between two tokens: the next place, how many trees are open, the node whose child list is current, the next row of each table, the first property of the last node; may a property follow, and is it dropped.
+struct State {
+    at: usize,
+    depth: usize,
+    cur: u32,
+    nodes: usize,
+    props: usize,
+    vals: usize,
+    first: usize,
+    follows: bool,
+    drops: bool,
+}
+
+// What a property leads to: the next token, or the tree stops.
+enum Turn {
+    On(State),
+    Stop(Reason),
+}
+
+// The next row of the values, and where the values end.
+struct Taken {
+    next: usize,
+    end: usize,
+}
+
+fn peek(stack: &[u32; 1024], d: usize) -> u32
+    requires { ⌜ d < 1024 ⌝ }
+    ensures { λ r. ⌜ r ≡ getD (now (stack .entry)) d 0 ⌝ }
+{
+    stack[d]
+}
+
+fn wide(x: u32) -> usize
+    ensures { λ r. ⌜ r ≡ x ⌝ }
+{
+    x as usize
+}
+
+// Is the list on top of the stack not empty: a node has children exactly where the node after it exists.
+fn may_open(stack: &[u32; 1024], depth: usize, base: usize, n: usize) -> bool
+    requires { ⌜ depth ≤ 1024 ⌝ }
+    ensures { λ r. ⌜ r ≡ mayOpen base n (stackOf (now (stack .entry)) depth) ⌝ }
+{
+    if depth == 0 {
+        return true;
+    }
+    let x = peek(stack, depth - 1);
+    if x == NONE {
+        return base < n;
+    }
+    let y = wide(x);
+    if n <= y {
+        return false;
+    }
+    y + 1 < n
+}
+
+// A start: the current list goes on the stack.
+fn start(mut w: State, i: usize, stack: &mut [u32; 1024]) -> State
+    requires { ⌜ (w .depth < 1024) × (i < textLimit) ⌝ }
+    ensures { λ r. ⌜ (r ≡ started w i) × (now (stack .exit) ≡ set (now (stack .entry)) (w .depth) (w .cur)) ⌝ }
+{
+    let depth = w.depth;
+    stack[depth] = w.cur;
+    w.at = i + 1;
+    w.depth = depth + 1;
+    w.follows = false;
+    w
+}
+
+// An end that leaves a tree open: the list on top of the stack is current again.
+fn end(mut w: State, i: usize, stack: &[u32; 1024]) -> State
+    requires { ⌜ (0 < w .depth) × (w .depth ≤ 1024) × (i < textLimit) ⌝ }
+    ensures { λ r. ⌜ r ≡ ended w i (now (stack .entry)) ⌝ }
+{
+    let depth = w.depth - 1;
+    w.at = i + 1;
+    w.depth = depth;
+    w.cur = peek(stack, depth);
+    w.follows = false;
+    w
+}
+
+// A node: its row, without links and properties. Its own list becomes current.
+fn node(mut w: State, i: usize, nodes: &mut [u32]) -> State
+    requires { ⌜ Small w × (i < textLimit) ⌝ }
+    ensures { λ r. ⌜ (r ≡ noded w i) × PutIs (now (nodes .entry)) (w .nodes * 5) (w .cur ∷ none ∷ none ∷ w .props ∷ 0 ∷ []) (now (nodes .exit)) ⌝ }
+{
+    let n = w.nodes;
+    let p = w.props;
+    tables::put5(nodes, n * 5, w.cur, NONE, NONE, p as u32, 0);
+    w.at = i + 1;
+    w.cur = n as u32;
+    w.nodes = n + 1;
+    w.first = p;
+    w.follows = true;
+    w.drops = false;
+    w
+}
+
+// The values that stand from a place on, as rows from `v0` on. All of them close.
+fn take_values(s: &[u8], from: usize, v0: usize, vals: &mut [u32]) -> Taken
+    requires { ⌜ (length (now s) ≤ textLimit) × (from ≤ length (now s)) × (v0 ≤ rowLimit) × Closes (now s) from ⌝ }
+    ensures { λ r. ⌜ TakenIs (now (s .entry)) from v0 (now (vals .entry)) (now (vals .exit)) r ⌝ }
+{
+    let mut i = from;
+    let mut v = v0;
+    loop {
+        match lexer::next_value(s, i) {
+            ValueStep::Value(a, e, next) => {
+                tables::put2(vals, v * 2, a as u32, e as u32);
+                v += 1;
+                i = next;
+            }
+            ValueStep::NoMore => return Taken { next: v, end: i },
+            ValueStep::Unclosed => return Taken { next: v, end: i },
+        }
+    }
+}
+
+// The property at `i`, whose first `[` is at `k`: its values' rows, its own, and the count of its node.
+fn add(s: &[u8], mut w: State, i: usize, k: usize, nodes: &mut [u32], props: &mut [u32], vals: &mut [u32]) -> State
+    requires { ⌜ Small w × (length (now s) ≤ textLimit) × (i ≤ k) × (k ≤ length (now s)) × (0 < w .nodes) × (w .first ≤ w .props) × Closes (now s) k ⌝ }
+    ensures { λ r. ⌜ AddIs (now (s .entry)) w i k (now (nodes .entry)) (now (props .entry)) (now (vals .entry)) r (now (nodes .exit)) (now (props .exit)) (now (vals .exit)) ⌝ }
+{
+    let p = w.props;
+    let v = w.vals;
+    let first = w.first;
+    let cell = w.nodes * 5 - 1;
+    let taken = take_values(s, k, v, vals);
+    let count = taken.next - v;
+    tables::put4(props, p * 4, i as u32, k as u32, v as u32, count as u32);
+    tables::put1(nodes, cell, (p + 1 - first) as u32);
+    w.at = taken.end;
+    w.props = p + 1;
+    w.vals = taken.next;
+    w
+}
+
+// The property whose first `[` is at `k` is dropped, and those after it.
+fn skip_property(s: &[u8], mut w: State, k: usize) -> State
+    requires { ⌜ Closes (now s) k ⌝ }
+    ensures { λ r. ⌜ SkippedIs (now (s .entry)) w k r ⌝ }
+{
+    w.drops = true;
+    let Close::At(e) = lexer::values_end(s, k) else {
+        return w;
+    };
+    w.at = e;
+    w
+}
+
+// Are the bytes uppercase letters only.
+fn plain(s: &[u8], from: usize, to: usize) -> bool
+    requires { ⌜ to ≤ length (now s) ⌝ }
+    ensures { λ r. ⌜ r ≡ uppers (slice from to (now (s .entry))) ⌝ }
+{
+    let mut i = from;
+    while i < to {
+        let b = s[i];
+        if b < b'A' {
+            return false;
+        }
+        if b'Z' < b {
+            return false;
+        }
+        i += 1;
+    }
+    true
+}
+
+// May this identifier be taken.
+fn named(s: &[u8], from: usize, to: usize, convert: bool) -> bool
+    requires { ⌜ to ≤ length (now s) ⌝ }
+    ensures { λ r. ⌜ r ≡ (convert || uppers (slice from to (now (s .entry)))) ⌝ }
+{
+    if convert {
+        return true;
+    }
+    plain(s, from, to)
+}
+
+// A property that closes: it is added, dropped, or stops the tree.
+fn property(s: &[u8], lenient: bool, convert: bool, w: State, i: usize, k: usize, nodes: &mut [u32], props: &mut [u32], vals: &mut [u32]) -> Turn
+    requires { ⌜ Small w × (length (now s) ≤ textLimit) × (i ≤ k) × (k ≤ length (now s)) × (w .follows ≡ true → (0 < w .nodes) × (w .first ≤ w .props)) × Closes (now s) k ⌝ }
+    ensures { λ r. ⌜ TurnIs lenient convert (now (s .entry)) w i k (now (nodes .entry)) (now (props .entry)) (now (vals .entry)) r (now (nodes .exit)) (now (props .exit)) (now (vals .exit)) ⌝ }
+{
+    if !w.follows {
+        return Turn::Stop(Reason::UnexpectedProperty);
+    }
+    if w.drops {
+        return Turn::On(skip_property(s, w, k));
+    }
+    if named(s, i, k, convert) {
+        return Turn::On(add(s, w, i, k, nodes, props, vals));
+    }
+    if lenient {
+        return Turn::On(skip_property(s, w, k));
+    }
+    Turn::Stop(Reason::InvalidFF4Property)
+}
+
+// Does a value of the property not close. Only lenient reading looks: strict reading has looked before.
+fn unclosed(s: &[u8], k: usize, lenient: bool) -> bool
+    ensures { λ r. ⌜ UnclosedIs lenient (valuesAt (now (s .entry)) k) r ⌝ }
+{
+    if !lenient {
+        return false;
+    }
+    match lexer::values_end(s, k) {
+        Close::At(_) => false,
+        Close::Open => true,
+    }
+}
+
+// The place behind the slice in which so many trees are open.
+fn skip_slice(s: &[u8], from: usize, opened: usize) -> usize
+    requires { ⌜ (length (now s) ≤ textLimit) × (from ≤ length (now s)) × (opened ≤ depthLimit) ⌝ }
+    ensures { λ r. ⌜ BehindIs (now (s .entry)) from opened r ⌝ }
+{
+    let mut at = from;
+    let mut depth = opened;
+    loop {
+        match lexer::next_token(s, at) {
+            Step::Start(i) => {
+                depth += 1;
+                at = i + 1;
+            }
+            Step::End(i) => {
+                if depth <= 1 {
+                    return i + 1;
+                }
+                depth -= 1;
+                at = i + 1;
+            }
+            Step::Node(i) => {
+                at = i + 1;
+            }
+            Step::Property(_, _, e) => {
+                at = e;
+            }
+            Step::Refused(_, _) => return at,
+            Step::Done => return at,
+        }
+    }
+}
+
+// The tree whose slice ends before `at`. Without any node strict reading refuses it, lenient reading makes an empty root.
+fn finish(lenient: bool, base: usize, w: State, at: usize, nodes: &mut [u32]) -> Walked
+    requires { ⌜ Small w ⌝ }
+    ensures { λ r. ⌜ RootIs lenient base w at (now (nodes .entry)) r (now (nodes .exit)) ⌝ }
+{
+    let n = w.nodes;
+    let p = w.props;
+    let v = w.vals;
+    if n != base {
+        return Walked::Tree(at, n, p, v);
+    }
+    if !lenient {
+        return Walked::Refused(Reason::UnexpectedEndOfData);
+    }
+    tables::put5(nodes, n * 5, NONE, NONE, NONE, p as u32, 0);
+    Walked::Tree(at, n + 1, p, v)
+}
+
+// The tree stops before a token: strict reading refuses it, lenient reading keeps its nodes and skips the rest of the slice.
+fn stop(s: &[u8], lenient: bool, base: usize, w: State, reason: Reason, nodes: &mut [u32]) -> Walked
+    requires { ⌜ Small w × (length (now s) ≤ textLimit) × (w .at ≤ length (now s)) ⌝ }
+    ensures { λ r. ⌜ StopIs lenient (now (s .entry)) base w reason (now (nodes .entry)) r (now (nodes .exit)) ⌝ }
+{
+    if !lenient {
+        return Walked::Refused(reason);
+    }
+    let at = skip_slice(s, w.at, w.depth);
+    finish(true, base, w, at, nodes)
+}
+
+// The tree of the slice that starts at a place, as rows from `base`, `p0` and `v0` on. Links are left none.
+pub fn walk_tree(s: &[u8], from: usize, lenient: bool, convert: bool, base: usize, p0: usize, v0: usize, nodes: &mut [u32], props: &mut [u32], vals: &mut [u32]) -> Walked
+    requires { ⌜ Ready (opts lenient convert) (now s) from base p0 v0 ⌝ }
+    ensures { λ r. ⌜ WalkIs (opts lenient convert) (now (s .entry)) from base p0 v0 (now (nodes .entry)) (now (props .entry)) (now (vals .entry)) (now (nodes .exit)) (now (props .exit)) (now (vals .exit)) r ⌝ }
+{
+    let mut stack = [0u32; 1024];
+    let mut w = begin(from, base, p0, v0);
+    loop {
+        match lexer::next_head(s, w.at) {
+            Head::Start(i) => {
+                if !may_open(&stack, w.depth, base, w.nodes) {
+                    return stop(s, lenient, base, w, Reason::UnexpectedGameTreeStart, nodes);
+                }
+                w = start(w, i, &mut stack);
+            }
+            Head::End(i) => {
+                if w.depth == 0 {
+                    return stop(s, lenient, base, w, Reason::UnexpectedGameTreeEnd, nodes);
+                }
+                if w.depth == 1 {
+                    return finish(lenient, base, w, i + 1, nodes);
+                }
+                w = end(w, i, &stack);
+            }
+            Head::Node(i) => {
+                w = node(w, i, nodes);
+            }
+            Head::Name(i, k) => {
+                if unclosed(s, k, lenient) {
+                    return finish(lenient, base, w, w.at, nodes);
+                }
+                match property(s, lenient, convert, w, i, k, nodes, props, vals) {
+                    Turn::On(x) => w = x,
+                    Turn::Stop(reason) => return stop(s, lenient, base, w, reason, nodes),
+                }
+            }
+            Head::Refused(_, _) => return finish(lenient, base, w, w.at, nodes),
+            Head::Done => return finish(lenient, base, w, w.at, nodes),
+        }
+    }
+}
+
+fn begin(at: usize, nodes: usize, props: usize, vals: usize) -> State
+    ensures { λ r. ⌜ r ≡ begun at nodes props vals ⌝ }
+{
+    State {
+        at: at,
+        depth: 0,
+        cur: NONE,
+        nodes: nodes,
+        props: props,
+        vals: vals,
+        first: props,
+        follows: false,
+        drops: false,
+    }
+}
