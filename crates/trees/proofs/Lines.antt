@@ -70,7 +70,7 @@ line-prop {base} {n} {ns} {cur} {st} ps x = record { fine = x .fine; inside = x 
     same z (y ∷ st) h = (h .0, h .1, h .2, same y st (h .3))
 
 held-node : (base n : ℕ) (ns : List Node) (cur : ℕ) → base ≤ n → In n cur → (ps : List Prop) (x : ℕ) (st : List ℕ) → (x ≡ cur) ⊎ (fuller base n x ≡ true)
-  → Held base n ns x st → (z : ℕ) → Held base (suc n) (record { parent = cur; props = ps } ∷ ns) z st
+    → Held base n ns x st → (z : ℕ) → Held base (suc n) (record { parent = cur; props = ps } ∷ ns) z st
 held-node base n ns cur hb hc ps x [] o h z = tt
 held-node base n ns cur hb hc ps x (y ∷ st) o h z = go (up o (h .2)) (λ w. held-node base n ns cur hb hc ps y st w (h .3) y)
   where
@@ -80,7 +80,7 @@ held-node base n ns cur hb hc ps x (y ∷ st) o h z = go (up o (h .2)) (λ w. he
     up o (inr f) = inr f
 
     go : (y ≡ cur) ⊎ (fuller base n y ≡ true) → ((y ≡ cur) ⊎ (fuller base n y ≡ true) → Held base (suc n) (record { parent = cur; props = ps } ∷ ns) y st)
-      → Held base (suc n) (record { parent = cur; props = ps } ∷ ns) z (y ∷ st)
+        → Held base (suc n) (record { parent = cur; props = ps } ∷ ns) z (y ∷ st)
     go (inl e) k =
         let f : fuller base (suc n) y ≡ true = fuller-cur base n y hb (h .1) in
         (ap (λ (b : Bool). b || children y ns) (eq-eqb cur y (sym e)) ∙ sym f, in-more n y (h .1), inr f, k (inl e))
@@ -89,7 +89,7 @@ held-node base n ns cur hb hc ps x (y ∷ st) o h z = go (up o (h .2)) (λ w. he
         (or-true (eqb cur y) (h .0 ∙ e) ∙ sym f, in-more n y (h .1), inr f, k (inr e))
 
 pub line-node : {base : ℕ} {ns : List Node} {cur : ℕ} {st : List ℕ} → base + length ns < none → Line base ns cur st
-  → Line base (record { parent = cur; props = [] } ∷ ns) (base + length ns) st
+    → Line base (record { parent = cur; props = [] } ∷ ns) (base + length ns) st
 line-node {base} {ns} {cur} {st} lt x =
     let n : ℕ = base + length ns in
     let e : base + suc (length ns) ≡ suc (base + length ns) = omega arith in
@@ -97,12 +97,12 @@ line-node {base} {ns} {cur} {st} lt x =
     let fr : children (base + length ns) ns ≡ false = x .fresh (base + length ns) (omega arith) (λ q. omega arith) in
     record {
       fine = ap (λ (b : Bool). b || children (base + length ns) ns) ne ∙ fr
-        ∙ sym (ap (λ (b : Bool). pick b (ltb base (base + suc (length ns))) (ltb (base + length ns + 1) (base + suc (length ns)))) (ne-eqb (base + length ns) none (λ q. omega arith))
-        ∙ le-ltb (base + length ns + 1) (base + suc (length ns)) (omega arith));
+          ∙ sym (ap (λ (b : Bool). pick b (ltb base (base + suc (length ns))) (ltb (base + length ns + 1) (base + suc (length ns)))) (ne-eqb (base + length ns) none (λ q. omega arith))
+          ∙ le-ltb (base + length ns + 1) (base + suc (length ns)) (omega arith));
       inside = inr (omega arith);
       held = subst (λ (m : ℕ). Held base m (record { parent = cur; props = [] } ∷ ns) (base + length ns) st) (sym e)
-        (held-node base (base + length ns) ns cur (omega arith) (x .inside) [] cur st (inl refl) (x .held) (base + length ns));
-      fresh = λ y h k. ap (λ (b : Bool). b || children y ns) (ne-eqb cur y (apart y h k (x .inside))) ∙ x .fresh y (omega arith) k
+          (held-node base (base + length ns) ns cur (omega arith) (x .inside) [] cur st (inl refl) (x .held) (base + length ns));
+      fresh = λ y h k. ap (λ (b : Bool). b || children y ns) (ne-eqb cur y (apart y h k (x .inside))) ∙ x .fresh y (omega arith) k;
     }
   where
     off : In (base + length ns) cur → cur ≡ base + length ns → ⊥

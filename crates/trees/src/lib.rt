@@ -3,8 +3,8 @@ use lexer::Close;
 use lexer::Head;
 use lexer::Step;
 use lexer::ValueStep;
-use tables::Reason;
 use tables::NONE;
+use tables::Reason;
 ghost use mathlib.Core.Path.{_≡_};
 ghost use mathlib.Core.Bool.{true, _||_};
 ghost use mathlib.Core.List.{[], _∷_};
@@ -146,7 +146,15 @@ fn take_values(s: &[u8], from: usize, v0: usize, vals: &mut [u32]) -> Taken
 }
 
 // The property at `i`, whose first `[` is at `k`: its values' rows, its own, and the count of its node.
-fn add(s: &[u8], mut w: State, i: usize, k: usize, nodes: &mut [u32], props: &mut [u32], vals: &mut [u32]) -> State
+fn add(
+    s: &[u8],
+    mut w: State,
+    i: usize,
+    k: usize,
+    nodes: &mut [u32],
+    props: &mut [u32],
+    vals: &mut [u32],
+) -> State
     requires { ⌜ Small w × (length (now s) ≤ textLimit) × (i ≤ k) × (k ≤ length (now s)) × (0 < w .nodes) × (w .first ≤ w .props) × Closes (now s) k ⌝ }
     ensures { λ r. ⌜ AddIs (now (s .entry)) w i k (now (nodes .entry)) (now (props .entry)) (now (vals .entry)) r (now (nodes .exit)) (now (props .exit)) (now (vals .exit)) ⌝ }
 {
@@ -208,7 +216,17 @@ fn named(s: &[u8], from: usize, to: usize, convert: bool) -> bool
 }
 
 // A property that closes: it is added, dropped, or stops the tree.
-fn property(s: &[u8], lenient: bool, convert: bool, w: State, i: usize, k: usize, nodes: &mut [u32], props: &mut [u32], vals: &mut [u32]) -> Turn
+fn property(
+    s: &[u8],
+    lenient: bool,
+    convert: bool,
+    w: State,
+    i: usize,
+    k: usize,
+    nodes: &mut [u32],
+    props: &mut [u32],
+    vals: &mut [u32],
+) -> Turn
     requires { ⌜ Small w × (length (now s) ≤ textLimit) × (i ≤ k) × (k ≤ length (now s)) × (w .follows ≡ true → (0 < w .nodes) × (w .first ≤ w .props)) × Closes (now s) k ⌝ }
     ensures { λ r. ⌜ TurnIs lenient convert (now (s .entry)) w i k (now (nodes .entry)) (now (props .entry)) (now (vals .entry)) r (now (nodes .exit)) (now (props .exit)) (now (vals .exit)) ⌝ }
 {
@@ -303,7 +321,18 @@ fn stop(s: &[u8], lenient: bool, base: usize, w: State, reason: Reason, nodes: &
 }
 
 // The tree of the slice that starts at a place, as rows from `base`, `p0` and `v0` on. Links are left none.
-pub fn walk_tree(s: &[u8], from: usize, lenient: bool, convert: bool, base: usize, p0: usize, v0: usize, nodes: &mut [u32], props: &mut [u32], vals: &mut [u32]) -> Walked
+pub fn walk_tree(
+    s: &[u8],
+    from: usize,
+    lenient: bool,
+    convert: bool,
+    base: usize,
+    p0: usize,
+    v0: usize,
+    nodes: &mut [u32],
+    props: &mut [u32],
+    vals: &mut [u32],
+) -> Walked
     requires { ⌜ Ready (opts lenient convert) (now s) from base p0 v0 ⌝ }
     ensures { λ r. ⌜ WalkIs (opts lenient convert) (now (s .entry)) from base p0 v0 (now (nodes .entry)) (now (props .entry)) (now (vals .entry)) (now (nodes .exit)) (now (props .exit)) (now (vals .exit)) r ⌝ }
 {

@@ -1,3 +1,5 @@
 pub mod Decimal
+pub mod Display
 pub mod Read
+pub mod Showing
 pub mod Wrote

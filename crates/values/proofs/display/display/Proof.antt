@@ -1,0 +1,35 @@
+-- `display::display` meets its contract. Assumes nothing.
+use native.Mathlib.Omega.{arith}
+use borrow.Author.Needs.{needs}
+use Rattle.values.specs.Display.{shown}
+use Rattle.values.specs.Read.{readValue}
+use Rattle.values.proofs.Displays.{display-refused, display-done}
+use Rattle.values.proofs.display.display.Statement.{statement}
+use Rattle.values.proofs.display.display.Tie as tie
+
+returns : tie.Need-returns
+returns c =
+    let args = c .before .before .before .before .before .before .before .args in
+    let put-shown = c .before .before .before .put-shown in
+    display-refused (shown (args .kind) (readValue (args .raw .now))) (args .out .now) (put-shown .ensures) (c .if1 .taken)
+
+returns-2 : tie.Need-returns-2
+returns-2 c =
+    let args = c .before .before .before .before .before .before .before .before .before .before .before .args in
+    let good = c .before .before .before .before .before .before .before .before .before .before .before .good in
+    let put-shown = c .before .before .before .before .before .before .before .put-shown in
+    let if1 = c .before .before .before .before .if1 in
+    display-done (shown (args .kind) (readValue (args .raw .now))) (args .out .now) (put-shown .ensures) (if1 .left) (omega (arith, good)) (c .before .before .put-shown2 .ensures)
+
+pub display-spec : {M : Type 1} → statement M
+display-spec =
+    tie.close
+    (tie.spec
+    (λ c. search needs)
+    (λ c. search needs)
+    (λ c κs. search needs)
+    (λ c. search needs)
+    returns
+    (λ c κs. search needs)
+    (λ c. search needs)
+    returns-2)
