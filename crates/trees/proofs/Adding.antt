@@ -1,5 +1,5 @@
 -- A turn of the walk at a property: added, dropped, or the tree stops. Assumes nothing.
-use Prim.Native.Nat.{ℕ, suc, _+_, _-_, _*_, _≤_, _<_}
+use Prim.Native.Nat.{ℕ, _+_, _≤_, _<_}
 use mathlib.Core.Path.{_≡_, refl, sym, ap, _∙_, subst, subst⁻¹}
 use mathlib.Core.Bool.{Bool, true, false, _||_}
 use mathlib.Core.List.{List, [], _∷_, _++_, reverse, reverse-cons}
@@ -7,7 +7,7 @@ use native.Mathlib.Omega.{arith}
 use lib.ListN.{length}
 use lib.Seq.{slice}
 use Rattle.lists.specs.Pick.{pick}
-use Rattle.lexer.specs.Token.{Prop, Tok, prop, Lexed, lexed, lexAt}
+use Rattle.lexer.specs.Token.{prop, lexed, lexAt}
 use Rattle.lexer.specs.Scan.{valuesAt}
 use Rattle.lexer.specs.Step.{valsAt, propAt, headAt}
 use Rattle.lexer.specs.declared.Close.{Close}
@@ -23,12 +23,13 @@ use Rattle.parser.specs.Slice.{sliceFrom}
 use Rattle.trees.specs.Walks.{opts, Shallow, walkOf, Stored}
 use Rattle.trees.specs.Turns.{stackOf, gateOf, added, dropped, Closes, AddIs, SkippedIs, KeptIs, GateIs, TurnIs}
 use Rattle.trees.specs.declared.State.{State}
+use Rattle.trees.specs.declared.Turn.{Turn}
 use Rattle.trees.specs.declared.Turn.the-variants.{On, Stop}
 use Rattle.trees.proofs.Stored.{stored-prop}
 use Rattle.trees.proofs.Lines.{Line, line-prop}
 use Rattle.trees.proofs.Behind.{skipping-prop}
 use Rattle.trees.proofs.Meets.{step-meets, step-lies, name-next}
-use Rattle.trees.proofs.Turned.{gate-takes, gate-skips}
+use Rattle.trees.proofs.Turned.{gate-takes, gate-skips, turn-ends}
 use Rattle.trees.proofs.Walking.{Walking, Last, onto, shallow-onto, refuse-stays}
 
 -- tables that are kept
@@ -143,9 +144,9 @@ module _ {len con : Bool} {u : List ℕ} {from base p0 v0 : ℕ} {t₀ q₀ w₀
       by true n ns = refl
       by false n ns = refl
 
-  pub walking-property : {y : State} {t′ q′ w′ : List ℕ} → TurnIs len con u st i k t q w (On y) t′ q′ w′ → Walking (opts len con) u from base p0 v0 t₀ q₀ w₀ t′ q′ w′ a y
+  pub walking-property : {r : Turn} {t′ q′ w′ : List ℕ} → TurnIs len con u st i k t q w r t′ q′ w′ → {y : State} → r ≡ On y → Walking (opts len con) u from base p0 v0 t₀ q₀ w₀ t′ q′ w′ a y
   unfolding TurnIs
-  walking-property {y} {t′} {q′} {w′} = go (st .follows) (st .drops) (con || uppers (slice i k u)) len refl refl refl refl
+  walking-property {r} {t′} {q′} {w′} z {y} e = go (st .follows) (st .drops) (con || uppers (slice i k u)) len refl refl refl refl (subst (λ (r : Turn). TurnIs len con u st i k t q w r t′ q′ w′) e z)
     where
       W : Type 0
       W = Walking (opts len con) u from base p0 v0 t₀ q₀ w₀ t′ q′ w′ a y
@@ -161,6 +162,12 @@ module _ {len con : Bool} {u : List ℕ} {from base p0 v0 : ℕ} {t₀ q₀ w₀
           dropped-on z (walking-drop (z .0 .ends) ef
           (not-taken (z .0 .ends) ef ed eo ∙ ap (λ (c : Bool). Behind (z .0 .ends) (pick c (walk (st .cur) (stackOf a (st .depth)) skips (x .ns)) (stopped InvalidFF4Property))) el))
       go true false false false ef ed eo el z = absurd z
+
+  -- and it moves on
+  pub property-moves : {r : Turn} (t′ q′ w′ : List ℕ) → TurnIs len con u st i k t q w r t′ q′ w′ → {y : State} → r ≡ On y → (st .at < y .at) × (y .at ≤ length u)
+  property-moves t′ q′ w′ z {y} e =
+      let b = lies (turn-ends len con u st i k t q w t′ q′ w′ y (subst (λ (r : Turn). TurnIs len con u st i k t q w r t′ q′ w′) e z)) in
+      (omega arith, b .4)
 
   pub property-stops : Closes u k → (r : Reason) (t₁ q₁ w₁ t′ q′ w′ : List ℕ) → TurnIs len con u st i k t₁ q₁ w₁ (Stop r) t′ q′ w′ → walkOf (opts len con) base (lexAt u from .toks) ≡ refuse len r (x .ns)
   unfolding TurnIs

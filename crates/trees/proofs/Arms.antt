@@ -1,5 +1,5 @@
 -- A turn of the walk at a start, an end, a node. Assumes nothing.
-use Prim.Native.Nat.{ℕ, zero, suc, _+_, _-_, _*_, _≤_, _<_}
+use Prim.Native.Nat.{ℕ, suc, _+_, _-_, _*_, _≤_, _<_}
 use mathlib.Core.Path.{_≡_, refl, sym, ap, _∙_, subst, subst⁻¹}
 use mathlib.Core.Bool.{Bool, true, false, false≢true}
 use mathlib.Core.List.{List, [], _∷_, reverse, reverse-cons}
@@ -17,7 +17,7 @@ use Rattle.tables.specs.declared.Reason.the-variants.{UnexpectedGameTreeStart, 
 use Rattle.parser.specs.Walk.{Opts, Walk, walk, shut, takes, refuse, closes, walked}
 use Rattle.parser.specs.Slice.{sliceFrom}
 use Rattle.trees.specs.Walks.{Shallow, walkOf, Stored}
-use Rattle.trees.specs.Turns.{stackOf, mayOpen, gateOf, started, ended, noded}
+use Rattle.trees.specs.Turns.{stackOf, mayOpen, shutAt, ended, noded}
 use Rattle.trees.specs.declared.State.{State}
 use Rattle.trees.proofs.Stored.{stored-node}
 use Rattle.trees.proofs.Stacks.{stack-none, stack-push, stack-pop}
@@ -53,7 +53,7 @@ module _ {op : Opts} {u : List ℕ} {from base p0 v0 : ℕ} {t₀ q₀ w₀ t q 
     pub start-fits : st .depth < depthLimit
     start-fits = below .0
 
-    pub walking-start : b ≡ true → {a′ : List ℕ} → a′ ≡ set a (st .depth) (st .cur) → {y : State} → y ≡ started st i → Walking op u from base p0 v0 t₀ q₀ w₀ t q w a′ y
+    pub walking-start : b ≡ true → {a′ : List ℕ} → a′ ≡ set a (st .depth) (st .cur) → {y : State} → y ≡ shutAt st (i + 1) (st .depth + 1) → Walking op u from base p0 v0 t₀ q₀ w₀ t q w a′ y
     walking-start f {a′} ea ey =
         let ar = x .array in
         let b = head-lies u (st .at) g in

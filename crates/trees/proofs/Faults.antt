@@ -3,12 +3,10 @@ use Prim.Native.Nat.{ℕ}
 use mathlib.Core.Path.{_≡_, refl, sym, ap, _∙_, subst}
 use mathlib.Core.Bool.{Bool, true, false}
 use mathlib.Core.List.{List, []}
-use native.Mathlib.Omega.{arith}
-use Rattle.lexer.specs.Token.{End, done, broken, Lexed, lexAt}
+use Rattle.lexer.specs.Token.{done, broken, Lexed, lexAt}
 use Rattle.lexer.specs.Scan.{valuesAt}
 use Rattle.lexer.specs.Step.{headAt}
 use Rattle.lexer.specs.declared.Fault.the-variants.{UnexpectedEndOfPropertyValue}
-use Rattle.lexer.specs.declared.Close.the-variants.{Open}
 use Rattle.lexer.specs.declared.Head.the-variants.{Name}
 use Rattle.lexer.proofs.Bounds.{never}
 use Rattle.trees.specs.Walks.{opts}

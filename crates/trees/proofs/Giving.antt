@@ -1,8 +1,8 @@
 -- What the walk gives back: a tree, its empty root, or a refusal. Assumes nothing.
-use Prim.Native.Nat.{ℕ, zero, suc, _+_, _*_, _≤_, _<_}
+use Prim.Native.Nat.{ℕ, zero, suc, _+_, _*_, _<_}
 use mathlib.Core.Path.{_≡_, refl, sym, ap, _∙_, subst, subst⁻¹}
 use mathlib.Core.Bool.{Bool, true, false}
-use mathlib.Core.List.{List, [], _∷_, _++_, reverse}
+use mathlib.Core.List.{List, [], _∷_, reverse}
 use native.Mathlib.Omega.{arith}
 use lib.ListN.{length, length-reverse}
 use lib.Dec.{eqb}
@@ -17,10 +17,11 @@ use Rattle.tables.specs.declared.Reason.{Reason}
 use Rattle.tables.specs.declared.Reason.the-variants.{UnexpectedEndOfData}
 use Rattle.parser.specs.Walk.{Opts, Gate, Walk, walk, refuse, walked}
 use Rattle.parser.specs.Slice.{sliceFrom}
-use Rattle.parser.specs.Read.{Growing, growing, failing, rooted, grown}
+use Rattle.parser.specs.Read.{growing, rooted, grown}
 use Rattle.trees.specs.Walks.{opts, walkOf, Stored, TreeIs, WalkIs}
 use Rattle.trees.specs.Turns.{Closes, TurnIs, BehindIs, RootBy, RootIs, StopIs}
 use Rattle.trees.specs.declared.State.{State}
+use Rattle.trees.specs.declared.Turn.{Turn}
 use Rattle.trees.specs.declared.Turn.the-variants.{Stop}
 use Rattle.trees.specs.declared.Walked.{Walked}
 use Rattle.trees.specs.declared.Walked.the-variants.{Tree as tree, Refused as refused}
@@ -149,8 +150,9 @@ module _ {op : Opts} {u : List ℕ} {from base p0 v0 : ℕ} {t₀ q₀ w₀ t q 
 
 -- a property stops the tree
 pub gives-property : {len con : Bool} {u : List ℕ} {from base p0 v0 : ℕ} {t₀ q₀ w₀ t q w a : List ℕ} {st : State} → Walking (opts len con) u from base p0 v0 t₀ q₀ w₀ t q w a st
-    → (i k : ℕ) → headAt u (st .at) ≡ Name i k → Closes u k → (reason : Reason) (t′ q′ w′ : List ℕ) → TurnIs len con u st i k t q w (Stop reason) t′ q′ w′
+    → (i k : ℕ) → headAt u (st .at) ≡ Name i k → Closes u k → {y : Turn} (t′ q′ w′ : List ℕ) → TurnIs len con u st i k t q w y t′ q′ w′ → {reason : Reason} → y ≡ Stop reason
     → (r : Walked) (t″ : List ℕ) → StopIs len u base st reason t′ r t″ → WalkIs (opts len con) u from base p0 v0 t₀ q₀ w₀ t″ q′ w′ r
-gives-property {len} {con} {u} {t = t} {q = q} {w = w} {st = st} x i k g c reason t′ q′ w′ z r t″ s =
-    let y = walking-kept x (turn-kept len con u st i k t q w t′ q′ w′ reason z) in
-    gives-stop y reason (property-stops y i k g c reason t q w t′ q′ w′ z) r t″ s
+gives-property {len} {con} {u} {t = t} {q = q} {w = w} {st = st} x i k g c t′ q′ w′ z {reason} e r t″ s =
+    let z′ = subst (λ (y : Turn). TurnIs len con u st i k t q w y t′ q′ w′) e z in
+    let x′ = walking-kept x (turn-kept len con u st i k t q w t′ q′ w′ reason z′) in
+    gives-stop x′ reason (property-stops x′ i k g c reason t q w t′ q′ w′ z′) r t″ s

@@ -1,5 +1,5 @@
 -- When the list of an open node is empty: node p on the stack has children exactly where node p + 1 exists. Assumes nothing.
-use Prim.Native.Nat.{ℕ, zero, suc, _+_, _-_, _*_, _≤_, _<_}
+use Prim.Native.Nat.{ℕ, suc, _+_, _≤_, _<_}
 use mathlib.Core.Path.{_≡_, refl, sym, ap, _∙_, subst}
 use mathlib.Core.Logic.{_⊎_, inl, inr}
 use mathlib.Core.Bool.{Bool, true, false, _||_}
@@ -13,7 +13,7 @@ use Rattle.lexer.specs.Token.{Prop}
 use Rattle.tables.specs.Numbers.{none}
 use Rattle.tables.specs.Record.{Node}
 use Rattle.tables.specs.declared.Reason.the-variants.{UnexpectedGameTreeStart}
-use Rattle.parser.specs.Walk.{children, Walk, walk, shut, refuse, opens}
+use Rattle.parser.specs.Walk.{children, walk, shut, refuse, opens}
 use Rattle.trees.specs.Turns.{fuller, mayOpen}
 
 abbrev In : ℕ → ℕ → Type 0

@@ -1,6 +1,6 @@
 -- A property, by the tests that the code makes. Assumes nothing.
 use Prim.Native.Nat.{ℕ}
-use mathlib.Core.Path.{_≡_, refl, ap, _∙_, subst, subst⁻¹}
+use mathlib.Core.Path.{_≡_, refl, ap, _∙_, subst⁻¹}
 use mathlib.Core.Bool.{Bool, true, false, _||_}
 use mathlib.Core.List.{List}
 use lib.Seq.{slice}
@@ -21,10 +21,6 @@ pub gate-skips : (st : State) → st .follows ≡ true → st .drops ≡ true �
 gate-skips st f d = ap (λ (z : Bool). gateOf z (st .drops)) f ∙ ap (gateOf true) d
 
 module _ (len con : Bool) (u : List ℕ) (st : State) (i k : ℕ) (t q w t′ q′ w′ : List ℕ) where
-  -- as a `match` tells it
-  pub turn-as : {r s : Turn} → TurnIs len con u st i k t q w r t′ q′ w′ → r ≡ s → TurnIs len con u st i k t q w s t′ q′ w′
-  turn-as z e = subst (λ (y : Turn). TurnIs len con u st i k t q w y t′ q′ w′) e z
-
   pub turn-shut : st .follows ≡ false → KeptIs t q w t′ q′ w′ → TurnIs len con u st i k t q w (Stop UnexpectedProperty) t′ q′ w′
   unfolding TurnIs
   turn-shut f z = subst⁻¹ (λ (z : Bool). GateIs (gateOf z (st .drops)) (con || uppers (slice i k u)) len u st i k t q w (Stop UnexpectedProperty) t′ q′ w′) f (refl, z)

@@ -1,28 +1,23 @@
 -- The walk over the tokens of a slice: what holds between two tokens, and a start, an end, a node. Assumes nothing.
-use Prim.Native.Nat.{ℕ, zero, suc, _+_, _-_, _*_, _≤_, _<_}
-use mathlib.Core.Path.{_≡_, refl, sym, ap, _∙_, subst, subst⁻¹}
+use Prim.Native.Nat.{ℕ, suc, _+_, _≤_, _<_}
+use mathlib.Core.Path.{_≡_, refl, ap, _∙_, subst, subst⁻¹}
 use mathlib.Core.Bool.{Bool, true, false, false≢true}
-use mathlib.Core.List.{List, [], _∷_, _++_, reverse, reverse-cons}
+use mathlib.Core.List.{List, [], _∷_, reverse, reverse-cons}
 use native.Mathlib.Omega.{arith}
-use native.Mathlib.Numerals.{add-one}
-use lib.ListN.{length, getD, set, length-append, length-set, length-reverse}
-use Rattle.lists.specs.Pick.{pick}
-use Rattle.lists.specs.Put.{PutIs}
-use Rattle.lexer.specs.Token.{Prop, Tok, start, end, node, Lexed, lexed, lexAt}
-use Rattle.tables.specs.Numbers.{none, depthLimit}
+use lib.ListN.{length, length-append, length-reverse}
+use Rattle.lexer.specs.Token.{Tok, start, end, node, Lexed, lexAt}
+use Rattle.tables.specs.Numbers.{depthLimit}
 use Rattle.tables.specs.Record.{Node, allProps}
 use Rattle.tables.specs.declared.Reason.{Reason}
-use Rattle.tables.specs.declared.Reason.the-variants.{UnexpectedGameTreeStart, UnexpectedGameTreeEnd}
-use Rattle.parser.specs.Walk.{Opts, Walk, walk, shut, takes, refuse, opens, closes, walked}
+use Rattle.parser.specs.Walk.{Opts, Walk, walk, refuse, walked}
 use Rattle.parser.specs.Slice.{sliceFrom}
 use Rattle.trees.specs.Walks.{Shallow, walkOf, Ready, Stored}
-use Rattle.trees.specs.Turns.{Small, stackOf, mayOpen, gateOf, begun, started, ended, noded}
+use Rattle.trees.specs.Turns.{Small, stackOf, gateOf, begun}
 use Rattle.trees.specs.declared.State.{State}
 use Rattle.trees.proofs.Flats.{props-append}
-use Rattle.trees.proofs.Stored.{stored-none, stored-node}
-use Rattle.trees.proofs.Stacks.{stack-none, stack-push, stack-pop}
-use Rattle.trees.proofs.Lines.{Line, line-first, line-open, line-shut, line-node, line-may}
-use Rattle.trees.proofs.Behind.{slice-last, slice-end, shallow-end, Skipping, skipping-first, skipping-start, skipping-end, skipping-node}
+use Rattle.trees.proofs.Stored.{stored-none}
+use Rattle.trees.proofs.Lines.{Line, line-first}
+use Rattle.trees.proofs.Behind.{Skipping, skipping-first}
 
 -- the nodes so far (last first), and the first property of the last of them
 pub record Last (ns : List Node) (p0 first : ℕ) : Type 0 where

@@ -8,12 +8,12 @@ use lib.Dec.{eqb, ltb}
 use lib.Seq.{slice}
 use Rattle.lists.specs.Pick.{pick}
 use Rattle.lists.specs.Put.{PutIs}
-use Rattle.lexer.specs.Token.{Lexed, lexAt}
+use Rattle.lexer.specs.Token.{lexAt}
 use Rattle.lexer.specs.Scan.{valuesAt}
 use Rattle.lexer.specs.Step.{valsAt}
 use Rattle.lexer.specs.declared.Close.{Close}
 use Rattle.lexer.specs.declared.Close.the-variants.{At, Open}
-use Rattle.tables.specs.Numbers.{textLimit, depthLimit, none}
+use Rattle.tables.specs.Numbers.{depthLimit, none}
 use Rattle.tables.specs.Rows.{valRows}
 use Rattle.tables.specs.Flat.{flatVals}
 use Rattle.tables.specs.declared.Reason.{Reason}
@@ -60,13 +60,24 @@ mayOpen base n (x ∷ st) = fuller base n x
 abbrev pub begun : (at n p v : ℕ) → State
 begun at n p v = record { at = at; depth = 0; cur = none; nodes = n; props = p; vals = v; first = p; follows = false; drops = false }
 
--- a start at i
-abbrev pub started : State → ℕ → State
-started st i = record { at = i + 1; depth = st .depth + 1; cur = st .cur; nodes = st .nodes; props = st .props; vals = st .vals; first = st .first; follows = false; drops = st .drops }
+-- behind a start or an end
+abbrev pub shutAt : State → (at depth : ℕ) → State
+shutAt st at depth = record { at = at; depth = depth; cur = st .cur; nodes = st .nodes; props = st .props; vals = st .vals; first = st .first; follows = false; drops = st .drops }
 
--- an end at i
+-- behind an end at i that leaves a tree open
 abbrev pub ended : State → ℕ → List ℕ → State
-ended st i a = record { at = i + 1; depth = st .depth - 1; cur = getD a (st .depth - 1) 0; nodes = st .nodes; props = st .props; vals = st .vals; first = st .first; follows = false; drops = st .drops }
+ended st i a =
+    record {
+      at = i + 1;
+      depth = st .depth - 1;
+      cur = getD a (st .depth - 1) 0;
+      nodes = st .nodes;
+      props = st .props;
+      vals = st .vals;
+      first = st .first;
+      follows = false;
+      drops = st .drops;
+    }
 
 -- a node at i
 abbrev pub noded : State → ℕ → State

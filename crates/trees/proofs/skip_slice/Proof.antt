@@ -1,7 +1,8 @@
+-- `trees::skip_slice` meets its contract. Assumes nothing.
 use denote.Ref.{now}
 use Prim.Native.Nat.{_-_}
 use lib.ListN.{length}
-use mathlib.Core.Path.{_≡_, sym, ap, _∙_}
+use mathlib.Core.Path.{sym, ap, _∙_}
 use native.Mathlib.Omega.{arith}
 use Rattle.lexer.specs.Token.{Lexed}
 use Rattle.trees.proofs.Meets.{step-meets, step-lies}
@@ -9,9 +10,6 @@ use Rattle.trees.proofs.Behind.{Skipping, skipping-first, skipping-star
 use borrow.Author.Needs.{needs}
 use Rattle.trees.proofs.skip_slice.Statement.{statement}
 use Rattle.trees.proofs.skip_slice.Tie as tie
-use Rattle.trees.proofs.skip_slice.Reads as reads
-use Rattle.trees.proofs.skip_slice.Lts as lts
-use Rattle.lexer.proofs.next_token.Reads as next-token-reads
 
 abbrev Inv-loop : tie.InvT-loop
 Inv-loop s from opened at₀ depth₀ at depth = Skipping s from opened at depth
@@ -19,103 +17,54 @@ Inv-loop s from opened at₀ depth₀ at depth = Skipping s from opened at depth
 abbrev μ-loop : tie.MeasureT-loop
 μ-loop s from opened at₀ depth₀ at depth = length s - at
 
--- src/lib.rt:250:5
 loop-holds : tie.Need-loop-holds Inv-loop μ-loop
 loop-holds c = skipping-first _ _ _ (c .before .pre .1)
 
--- src/lib.rt:251:15
-next-token-requires : tie.Need-next-token-requires Inv-loop μ-loop
-next-token-requires c κs = search needs
-
--- src/lib.rt:252:25
-enum-known-i : tie.Need-enum-known-i Inv-loop μ-loop
-enum-known-i c = search needs
-
--- src/lib.rt:253:17
 add-depth : tie.Need-add-depth Inv-loop μ-loop
 add-depth c = let x = c .before .before .before .before .loop .inv in let p = c .before .before .before .before .before .before .pre in omega (arith, x .deep, x .inside)
 
--- src/lib.rt:254:22
 add-at : tie.Need-add-at Inv-loop μ-loop
 add-at c = omega (arith, (step-lies (now (c .before .before .before .before .before .before .args .s)) (c .before .before .before .before .loop .at) (sym (c .before .before .before .next-token .ensures) ∙ c .before .i .given .1)))
 
--- src/lib.rt:250:5
 loop-less : tie.Need-loop-less Inv-loop μ-loop
 loop-less c = omega (arith, (step-lies (now (c .before .before .before .before .before .before .args .s)) (c .before .before .before .before .loop .at) (sym (c .before .before .before .next-token .ensures) ∙ c .before .i .given .1)))
 
--- src/lib.rt:250:5
 loop-again : tie.Need-loop-again Inv-loop μ-loop
 loop-again c = skipping-start (c .before .before .before .before .loop .inv) ((step-lies (now (c .before .before .before .before .before .before .args .s)) (c .before .before .before .before .loop .at) (sym (c .before .before .before .next-token .ensures) ∙ c .before .i .given .1)) .0) ((step-lies (now (c .before .before .before .before .before .before .args .s)) (c .before .before .before .before .loop .at) (sym (c .before .before .before .next-token .ensures) ∙ c .before .i .given .1)) .1) (step-meets (now (c .before .before .before .before .before .before .args .s)) (c .before .before .before .before .loop .at) (sym (c .before .before .before .next-token .ensures) ∙ c .before .i .given .1))
 
--- src/lib.rt:256:23
-enum-known-i-2 : tie.Need-enum-known-i-2 Inv-loop μ-loop
-enum-known-i-2 c = search needs
-
--- src/lib.rt:258:28
 add-result : tie.Need-add-result Inv-loop μ-loop
 add-result c = omega (arith, (step-lies (now (c .before .before .before .before .before .before .before .args .s)) (c .before .before .before .before .before .loop .at) (sym (c .before .before .before .before .next-token .ensures) ∙ c .before .before .i2 .given .1)))
 
--- src/lib.rt:258:21
 returns : tie.Need-returns Inv-loop μ-loop
 returns c = skipping-last (c .before .before .before .before .before .loop .inv) ((step-lies (now (c .before .before .before .before .before .before .before .args .s)) (c .before .before .before .before .before .loop .at) (sym (c .before .before .before .before .next-token .ensures) ∙ c .before .before .i2 .given .1)) .0) ((step-lies (now (c .before .before .before .before .before .before .before .args .s)) (c .before .before .before .before .before .loop .at) (sym (c .before .before .before .before .next-token .ensures) ∙ c .before .before .i2 .given .1)) .1) (step-meets (now (c .before .before .before .before .before .before .before .args .s)) (c .before .before .before .before .before .loop .at) (sym (c .before .before .before .before .next-token .ensures) ∙ c .before .before .i2 .given .1)) (c .if1 .taken)
 
--- src/lib.rt:260:17
-sub-depth : tie.Need-sub-depth Inv-loop μ-loop
-sub-depth c = search needs
-
--- src/lib.rt:261:22
 add-at-2 : tie.Need-add-at-2 Inv-loop μ-loop
 add-at-2 c = omega (arith, (step-lies (now (c .before .before .before .before .before .before .before .args .s)) (c .before .before .before .before .before .loop .at) (sym (c .before .before .before .before .next-token .ensures) ∙ c .before .before .i2 .given .1)))
 
--- src/lib.rt:250:5
 loop-less-2 : tie.Need-loop-less-2 Inv-loop μ-loop
 loop-less-2 c = omega (arith, (step-lies (now (c .before .before .before .before .before .before .before .args .s)) (c .before .before .before .before .before .loop .at) (sym (c .before .before .before .before .next-token .ensures) ∙ c .before .before .i2 .given .1)))
 
--- src/lib.rt:250:5
 loop-again-2 : tie.Need-loop-again-2 Inv-loop μ-loop
 loop-again-2 c = skipping-end (c .before .before .before .before .before .loop .inv) ((step-lies (now (c .before .before .before .before .before .before .before .args .s)) (c .before .before .before .before .before .loop .at) (sym (c .before .before .before .before .next-token .ensures) ∙ c .before .before .i2 .given .1)) .0) ((step-lies (now (c .before .before .before .before .before .before .before .args .s)) (c .before .before .before .before .before .loop .at) (sym (c .before .before .before .before .next-token .ensures) ∙ c .before .before .i2 .given .1)) .1) (step-meets (now (c .before .before .before .before .before .before .before .args .s)) (c .before .before .before .before .before .loop .at) (sym (c .before .before .before .before .next-token .ensures) ∙ c .before .before .i2 .given .1)) (c .if1 .left)
 
--- src/lib.rt:263:24
-enum-known-i-3 : tie.Need-enum-known-i-3 Inv-loop μ-loop
-enum-known-i-3 c = search needs
-
--- src/lib.rt:264:22
 add-at-3 : tie.Need-add-at-3 Inv-loop μ-loop
 add-at-3 c = omega (arith, (step-lies (now (c .before .before .before .before .before .before .args .s)) (c .before .before .before .before .loop .at) (sym (c .before .before .before .next-token .ensures) ∙ c .before .i3 .given .1)))
 
--- src/lib.rt:250:5
 loop-less-3 : tie.Need-loop-less-3 Inv-loop μ-loop
 loop-less-3 c = omega (arith, (step-lies (now (c .before .before .before .before .before .before .args .s)) (c .before .before .before .before .loop .at) (sym (c .before .before .before .next-token .ensures) ∙ c .before .i3 .given .1)))
 
--- src/lib.rt:250:5
 loop-again-3 : tie.Need-loop-again-3 Inv-loop μ-loop
 loop-again-3 c = skipping-node (c .before .before .before .before .loop .inv) ((step-lies (now (c .before .before .before .before .before .before .args .s)) (c .before .before .before .before .loop .at) (sym (c .before .before .before .next-token .ensures) ∙ c .before .i3 .given .1)) .0) ((step-lies (now (c .before .before .before .before .before .before .args .s)) (c .before .before .before .before .loop .at) (sym (c .before .before .before .next-token .ensures) ∙ c .before .i3 .given .1)) .1) (step-meets (now (c .before .before .before .before .before .before .args .s)) (c .before .before .before .before .loop .at) (sym (c .before .before .before .next-token .ensures) ∙ c .before .i3 .given .1))
 
--- src/lib.rt:266:34
-enum-known-e : tie.Need-enum-known-e Inv-loop μ-loop
-enum-known-e c = search needs
-
--- src/lib.rt:250:5
 loop-less-4 : tie.Need-loop-less-4 Inv-loop μ-loop
 loop-less-4 c = omega (arith, (step-lies (now (c .before .before .before .before .before .before .args .s)) (c .before .before .before .before .loop .at) (sym (c .before .before .before .next-token .ensures) ∙ c .before .e .given .1)))
 
--- src/lib.rt:250:5
 loop-again-4 : tie.Need-loop-again-4 Inv-loop μ-loop
 loop-again-4 c = skipping-prop (c .before .before .before .before .loop .inv) (omega (arith, (step-lies (now (c .before .before .before .before .before .before .args .s)) (c .before .before .before .before .loop .at) (sym (c .before .before .before .next-token .ensures) ∙ c .before .e .given .1)))) ((step-lies (now (c .before .before .before .before .before .before .args .s)) (c .before .before .before .before .loop .at) (sym (c .before .before .before .next-token .ensures) ∙ c .before .e .given .1)) .4) (step-meets (now (c .before .before .before .before .before .before .args .s)) (c .before .before .before .before .loop .at) (sym (c .before .before .before .next-token .ensures) ∙ c .before .e .given .1))
 
--- src/lib.rt:269:36
-enum-told : tie.Need-enum-told Inv-loop μ-loop
-enum-told c = search needs
-
--- src/lib.rt:269:36
 returns-2 : tie.Need-returns-2 Inv-loop μ-loop
 returns-2 c = skipping-over (c .before .before .before .loop .inv) (ap (λ (z : Lexed). z .toks) (step-meets (now (c .before .before .before .before .before .args .s)) (c .before .before .before .loop .at) (sym (c .before .before .next-token .ensures) ∙ c .enum-told .given .1)))
 
--- src/lib.rt:270:27
-enum-told-2 : tie.Need-enum-told-2 Inv-loop μ-loop
-enum-told-2 c = search needs
-
--- src/lib.rt:270:27
 returns-3 : tie.Need-returns-3 Inv-loop μ-loop
 returns-3 c = skipping-over (c .before .before .before .loop .inv) (ap (λ (z : Lexed). z .toks) (step-meets (now (c .before .before .before .before .before .args .s)) (c .before .before .before .loop .at) (sym (c .before .before .next-token .ensures) ∙ c .enum-told2 .given .1)))
 
@@ -126,27 +75,27 @@ skip-slice-spec =
     Inv-loop
     μ-loop
     loop-holds
-    next-token-requires
-    enum-known-i
+    (λ c κs. search needs)
+    (λ c. search needs)
     add-depth
     add-at
     loop-less
     loop-again
-    enum-known-i-2
+    (λ c. search needs)
     add-result
     returns
-    sub-depth
+    (λ c. search needs)
     add-at-2
     loop-less-2
     loop-again-2
-    enum-known-i-3
+    (λ c. search needs)
     add-at-3
     loop-less-3
     loop-again-3
-    enum-known-e
+    (λ c. search needs)
     loop-less-4
     loop-again-4
-    enum-told
+    (λ c. search needs)
     returns-2
-    enum-told-2
+    (λ c. search needs)
     returns-3)
