@@ -1,6 +1,7 @@
-//! Names the crate sgf-parse's private lexer, and links the library.
+//! Compiles the crate sgf-parse from its own folder, names its private lexer, and links the library.
 use std::env;
 use std::path::{Path, PathBuf};
+use std::process::Command;
 
 /// The folder that an environment variable names, or the default, seen from this project's folder.
 fn folder(variable: &str, default: &str) -> PathBuf {
@@ -9,12 +10,22 @@ fn folder(variable: &str, default: &str) -> PathBuf {
     here.join(env::var_os(variable).unwrap_or_else(|| default.into()))
 }
 
-/// Names the crate's private lexer, which is taken in by its path.
-fn name_lexer(source: &Path) {
-    let lexer = source.join("src/lexer.rs");
-    assert!(lexer.exists(), "no sgf-parse in {}: set SGF_PARSE_SRC", source.display());
-    println!("cargo:rerun-if-changed={}", lexer.display());
-    println!("cargo:rustc-env=SGF_LEXER={}", lexer.display());
+/// Puts libsgf_parse.rlib where `extern crate sgf_parse` finds it.
+fn compile_oracle(source: &Path) {
+    let root = source.join("src/lib.rs");
+    assert!(root.exists(), "no sgf-parse in {}: set SGF_PARSE_SRC", source.display());
+    println!("cargo:rerun-if-changed={}", source.display());
+    println!("cargo:rustc-env=SGF_LEXER={}", source.join("src/lexer.rs").display());
+    let out = env::var("OUT_DIR").unwrap();
+    let status = Command::new(env::var_os("RUSTC").unwrap())
+        .args(["--crate-name", "sgf_parse", "--crate-type", "rlib", "--edition", "2021"])
+        .args(["-C", "opt-level=3", "--cap-lints", "allow", "--out-dir", &out])
+        .arg(&root)
+        .status()
+        .expect("rustc does not run");
+    assert!(status.success(), "sgf-parse does not compile");
+    println!("cargo:rustc-link-search=dependency={out}");
+    println!("cargo:rustc-link-search=crate={out}");
 }
 
 /// Links libsgf.a; with SGF_STAND_IN set the plain implementation takes its place, which tests this program alone.
@@ -33,6 +44,6 @@ fn link_library(dir: &Path) {
 
 fn main() {
     println!("cargo:rerun-if-changed=build.rs");
-    name_lexer(&folder("SGF_PARSE_SRC", "../../shared/docs/src"));
+    compile_oracle(&folder("SGF_PARSE_SRC", "../../shared/docs/src"));
     link_library(&folder("SGF_LIB_DIR", "../target/staticlib"));
 }

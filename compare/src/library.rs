@@ -42,14 +42,35 @@ pub struct Value {
     pub next: usize,
 }
 
+/// The answer of a reading.
+#[repr(C)]
+#[derive(Debug, Clone, Copy, PartialEq, Eq)]
+pub struct Reading {
+    pub number: u32,
+    pub reserved: u32,
+    pub place: usize,
+    pub trees: usize,
+    pub nodes: usize,
+    pub properties: usize,
+    pub values: usize,
+}
+
+/// Bit 0 of a reading's options.
+pub const LENIENT: u32 = 1;
+/// Bit 1 of a reading's options: conversion off.
+pub const KEEP_IDENTIFIERS: u32 = 2;
+
+/// Lent tables: trees, nodes, properties, values, with 2, 5, 4 and 2 numbers a row.
+pub type Tables<'a> = [&'a mut [u32]; 4];
+
 #[cfg(stand_in)]
-pub use crate::stand_in::{next_value, token, trim, NAME};
+pub use crate::stand_in::{next_value, read, token, trim, NAME};
 #[cfg(not(stand_in))]
-pub use linked::{next_value, token, trim, NAME};
+pub use linked::{next_value, read, token, trim, NAME};
 
 #[cfg(not(stand_in))]
 mod linked {
-    use super::{Token, Trimmed, Value};
+    use super::{Reading, Tables, Token, Trimmed, Value};
 
     pub const NAME: &str = "libsgf.a";
 
@@ -57,6 +78,19 @@ mod linked {
         fn sgf_trim(text: *const u8, len: usize) -> Trimmed;
         fn sgf_token(text: *const u8, len: usize, at: usize) -> Token;
         fn sgf_next_value(text: *const u8, len: usize, at: usize) -> Value;
+        fn sgf_read(
+            text: *const u8,
+            len: usize,
+            options: u32,
+            trees: *mut u32,
+            trees_len: usize,
+            nodes: *mut u32,
+            nodes_len: usize,
+            properties: *mut u32,
+            properties_len: usize,
+            values: *mut u32,
+            values_len: usize,
+        ) -> Reading;
     }
 
     pub fn trim(text: &[u8]) -> Trimmed {
@@ -72,5 +106,25 @@ mod linked {
     pub fn next_value(text: &[u8], at: usize) -> Value {
         // The slice is valid for the call.
         unsafe { sgf_next_value(text.as_ptr(), text.len(), at) }
+    }
+
+    pub fn read(text: &[u8], options: u32, tables: Tables) -> Reading {
+        let [trees, nodes, properties, values] = tables;
+        // The slices are valid for the call, and those lent to be written do not overlap.
+        unsafe {
+            sgf_read(
+                text.as_ptr(),
+                text.len(),
+                options,
+                trees.as_mut_ptr(),
+                trees.len(),
+                nodes.as_mut_ptr(),
+                nodes.len(),
+                properties.as_mut_ptr(),
+                properties.len(),
+                values.as_mut_ptr(),
+                values.len(),
+            )
+        }
     }
 }

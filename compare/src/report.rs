@@ -1,12 +1,14 @@
 //! Counts of texts compared, and the smallest text on which a comparison differs.
 use std::fmt::Debug;
-use std::time::Instant;
+use std::time::{Duration, Instant};
 
 /// A comparison of one text; the error says what differs.
 pub type Comparison = fn(&[u8]) -> Result<(), String>;
 
 /// Differences after which no further one is made smaller.
 const SHRUNK: u64 = 20;
+/// Time for making one text smaller.
+const PATIENCE: Duration = Duration::from_secs(2);
 
 /// What came of comparing texts of one subject.
 pub struct Report {
@@ -48,19 +50,20 @@ impl Report {
     pub fn close(self) -> bool {
         println!("{}: {} texts compared, {} differences", self.subject, self.texts, self.differences);
         if let Some(text) = &self.smallest {
-            println!("  smallest text ({} bytes): {}", text.len(), text.escape_ascii());
-            println!("  {}", (self.compare)(text).unwrap_err());
+            println!("  smallest text ({} bytes): {:.200}", text.len(), text.escape_ascii().to_string());
+            println!("  {:.1000}", (self.compare)(text).unwrap_err());
         }
         self.differences == 0
     }
 }
 
-/// The text with parts left out as long as the comparison still differs.
+/// The text with parts left out as long as the comparison still differs and there is time.
 fn shrink(compare: Comparison, text: &[u8]) -> Vec<u8> {
+    let begun = Instant::now();
     let mut small = text.to_vec();
     let mut part = small.len().next_power_of_two();
-    while part > 0 {
-        match without_part(compare, &small, part) {
+    while part > 0 && begun.elapsed() < PATIENCE {
+        match without_part(compare, &small, part, begun) {
             Some(smaller) => small = smaller,
             None => part /= 2,
         }
@@ -69,9 +72,10 @@ fn shrink(compare: Comparison, text: &[u8]) -> Vec<u8> {
 }
 
 /// The first text without `part` bytes on which the comparison differs.
-fn without_part(compare: Comparison, text: &[u8], part: usize) -> Option<Vec<u8>> {
+fn without_part(compare: Comparison, text: &[u8], part: usize, begun: Instant) -> Option<Vec<u8>> {
     (0..text.len())
         .step_by(part)
+        .take_while(|_| begun.elapsed() < PATIENCE)
         .map(|at| [&text[..at], &text[(at + part).min(text.len())..]].concat())
         .find(|smaller| compare(smaller).is_err())
 }

@@ -1,6 +1,6 @@
 //! The plain implementation behind the library's interface, so that this program can be tested without the library.
 use crate::library::*;
-use crate::plain;
+use crate::{plain, plain_reader};
 
 pub const NAME: &str = "the stand-in, NOT libsgf.a";
 
@@ -33,4 +33,26 @@ pub fn next_value(text: &[u8], at: usize) -> Value {
         Ok(Some(((from, to), next))) => Value { kind: VALUE, from, to, next },
         Err(()) => Value { kind: UNCLOSED, from: at, to: at, next: at },
     }
+}
+
+fn refusal(number: u32, place: usize) -> Reading {
+    Reading { number, reserved: 0, place, trees: 0, nodes: 0, properties: 0, values: 0 }
+}
+
+pub fn read(text: &[u8], options: u32, tables: Tables) -> Reading {
+    let options = plain_reader::Options { lenient: options & LENIENT != 0, convert: options & KEEP_IDENTIFIERS == 0 };
+    let record = match plain_reader::read(text, options) {
+        Ok(record) => record,
+        Err(refused) => return refusal(refused.number, refused.place),
+    };
+    let columns = [record.trees.concat(), record.nodes.concat(), record.properties.concat(), record.values.concat()];
+    if columns.iter().zip(&tables).any(|(column, table)| column.len() > table.len()) {
+        return refusal(14, 0);
+    }
+    for (column, table) in columns.iter().zip(tables) {
+        table[..column.len()].copy_from_slice(column);
+    }
+    let (trees, nodes) = (record.trees.len(), record.nodes.len());
+    let (properties, values) = (record.properties.len(), record.values.len());
+    Reading { number: 0, reserved: 0, place: 0, trees, nodes, properties, values }
 }

@@ -9,6 +9,12 @@ pub type Visitor<'a> = &'a mut dyn FnMut(&[u8]);
 /// Every special byte of the token rules, a letter, and the parts of U+0085 (white space) and U+00A9 (not).
 pub const TOKEN_BYTES: &[&[u8]] = &[b"(", b")", b";", b"[", b"]", b"\\", b" ", b"\n", b"\x0B", b"A", b"\xC2", b"\x85", b"\xA9"];
 
+/// Bytes that the splitting and tree rules tell apart.
+pub const TREE_BYTES: &[&[u8]] = &[b"(", b")", b";", b"[", b"]", b"\\", b"A", b"a"];
+
+/// Words that the splitting and tree rules tell apart.
+pub const WORDS: &[&[u8]] = &[b"(", b")", b";", b"A[]", b"a[x]", b"GM[1]", b"GM[2]", b"GM[x]", b"GM[1][2]"];
+
 /// All sequences of up to `longest` words.
 pub fn sequences(words: &[&[u8]], longest: usize, visit: Visitor) {
     for length in 0..=longest {

@@ -1,5 +1,6 @@
 -- Answers shown as numbers, as the C header says them.
-use Prim.Native.Nat.{ℕ, _+_}
+use Prim.Native.Nat.{ℕ, _+_, _/_, _%_}
+use lib.Dec.{eqb}
 use mathlib.Core.Path.{_≡_}
 use Rattle.utf8.specs.declared.Trimmed.{Trimmed}
 use Rattle.utf8.specs.declared.Trimmed.the-variants.{NotUtf8, Blank, Kept}
@@ -8,6 +9,12 @@ use Rattle.lexer.specs.declared.Step.{Step}
 use Rattle.lexer.specs.declared.Step.the-variants.{Start, End, Node, Property, Refused, Done}
 use Rattle.lexer.specs.declared.ValueStep.{ValueStep}
 use Rattle.lexer.specs.declared.ValueStep.the-variants.{Value, NoMore, Unclosed}
+use Rattle.tables.specs.Numbers.{numberOf as numberFor}
+use Rattle.tables.specs.declared.Reading.{Reading}
+use Rattle.tables.specs.declared.Reading.the-variants.{Accepted, Refused as Refuses}
+use Rattle.parser.specs.Walk.{Opts}
+use Rattle.parser.specs.Read.{Answer}
+use Rattle.reader.specs.Lent.{Lent, answers, leaves}
 
 -- four numbers at once
 abbrev Four : (a b c d n p f l : ℕ) → Type 0
@@ -33,3 +40,17 @@ abbrev pub ValueIs : (at : ℕ) → ValueStep → (k f t n : ℕ) → Type 0
 ValueIs at (Value a e x) k f t n = Four 1 a e x k f t n
 ValueIs at NoMore k f t n = Four 0 at at at k f t n
 ValueIs at Unclosed k f t n = Four 2 at at at k f t n
+
+-- number, place, and the used rows of each table
+abbrev pub ReadingIs : Reading → (number place trees nodes properties values : ℕ) → Type 0
+ReadingIs (Accepted c) n p t d q v = (n ≡ 0) × (p ≡ 0) × (t ≡ c .trees) × (d ≡ c .nodes) × (q ≡ c .properties) × (v ≡ c .values)
+ReadingIs (Refuses r s) n p t d q v = (n ≡ numberFor r) × (p ≡ s) × (t ≡ 0) × (d ≡ 0) × (q ≡ 0) × (v ≡ 0)
+
+-- the lowest bit: lenient; the next: identifiers are kept as they are
+abbrev pub optionsOf : ℕ → Opts
+optionsOf o = record { lenient = eqb (o % 2) 1; convert = eqb (o / 2 % 2) 0 }
+
+-- a reading, shown as numbers, and the lent tables after it
+pub record ReadShown (a : Answer) (before after : Lent) (number place trees nodes properties values : ℕ) : Type 0 where
+  pub shown : ReadingIs (answers a before) number place trees nodes properties values
+  pub tables : after ≡ leaves a before

@@ -1,12 +1,18 @@
 // The exported library: one C function an operation. Each only calls a proved operation and shows its answer as numbers; include/sgf.h says what a caller sees.
 use lexer::Step;
 use lexer::ValueStep;
+use tables::Counts;
+use tables::Reading;
+use tables::Reason;
 use utf8::Trimmed;
 ghost use mathlib.Core.Path.{_≡_};
 ghost use Rattle.lexer.specs.Scan.{valueAt};
 ghost use Rattle.lexer.specs.Step.{nextAt};
 ghost use Rattle.utf8.specs.Trim.{trimmed};
-ghost use Rattle.sgf.specs.Shown.{TrimIs, TokenIs, ValueIs};
+ghost use Rattle.tables.specs.declared.Reading.the-variants.{Accepted, Refused};
+ghost use Rattle.parser.specs.Read.{read};
+ghost use Rattle.reader.specs.Lent.{lent};
+ghost use Rattle.sgf.specs.Shown.{TrimIs, TokenIs, ValueIs, ReadingIs, optionsOf, ReadShown};
 
 // Number 0 and what trimming keeps; or number 2 and the start of the first bad sequence.
 #[repr(C)]
@@ -132,5 +138,65 @@ pub extern "C" fn sgf_next_value(text: &[u8], at: usize) -> SgfValue
             to: at,
             next: at,
         },
+    }
+}
+
+// Number 0 and the counts of used rows; or the number of a refusal and its place, the counts 0.
+#[repr(C)]
+pub struct SgfReading {
+    pub number: u32,
+    pub reserved: u32,
+    pub place: usize,
+    pub trees: usize,
+    pub nodes: usize,
+    pub properties: usize,
+    pub values: usize,
+}
+
+fn accepted(c: Counts) -> SgfReading
+    ensures { λ r. ⌜ ReadingIs (Accepted c) (r .number) (r .place) (r .trees) (r .nodes) (r .properties) (r .values) ⌝ }
+{
+    SgfReading {
+        number: 0,
+        reserved: 0,
+        place: 0,
+        trees: c.trees,
+        nodes: c.nodes,
+        properties: c.properties,
+        values: c.values,
+    }
+}
+
+fn refused(reason: Reason, place: usize) -> SgfReading
+    ensures { λ r. ⌜ ReadingIs (Refused reason place) (r .number) (r .place) (r .trees) (r .nodes) (r .properties) (r .values) ⌝ }
+{
+    SgfReading {
+        number: tables::number(reason),
+        reserved: 0,
+        place: place,
+        trees: 0,
+        nodes: 0,
+        properties: 0,
+        values: 0,
+    }
+}
+
+// Reads a text into the lent tables. Options: 1 lenient, 2 identifiers kept as they are (no conversion), 3 both; further bits mean nothing.
+#[no_mangle]
+pub extern "C" fn sgf_read(
+    text: &[u8],
+    options: u32,
+    trees: &mut [u32],
+    nodes: &mut [u32],
+    properties: &mut [u32],
+    values: &mut [u32],
+) -> SgfReading
+    ensures { λ r. ⌜ ReadShown (read (optionsOf options) (now (text .entry))) (lent (now (trees .entry)) (now (nodes .entry)) (now (properties .entry)) (now (values .entry))) (lent (now (trees .exit)) (now (nodes .exit)) (now (properties .exit)) (now (values .exit))) (r .number) (r .place) (r .trees) (r .nodes) (r .properties) (r .values) ⌝ }
+{
+    let lenient = options % 2 == 1;
+    let convert = options / 2 % 2 == 0;
+    match reader::read(text, lenient, convert, trees, nodes, properties, values) {
+        Reading::Accepted(c) => accepted(c),
+        Reading::Refused(reason, place) => refused(reason, place),
     }
 }

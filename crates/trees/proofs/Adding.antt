@@ -19,8 +19,8 @@ use Rattle.tables.specs.Record.{Node}
 use Rattle.tables.specs.declared.Reason.{Reason}
 use Rattle.tables.specs.declared.Reason.the-variants.{UnexpectedProperty, InvalidFF4Property}
 use Rattle.parser.specs.Walk.{Opts, Gate, Walk, walk, stopped, takes, skips, refuse, adds, gated, uppers, walked}
-use Rattle.parser.specs.Slice.{sliceFrom}
-use Rattle.trees.specs.Walks.{opts, Shallow, walkOf, Stored}
+use Rattle.parser.specs.Slice.{sliceFrom, Shallow}
+use Rattle.trees.specs.Walks.{opts, walkOf, Stored}
 use Rattle.trees.specs.Turns.{stackOf, gateOf, added, dropped, Closes, AddIs, SkippedIs, KeptIs, GateIs, TurnIs}
 use Rattle.trees.specs.declared.State.{State}
 use Rattle.trees.specs.declared.Turn.{Turn}

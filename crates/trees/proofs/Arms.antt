@@ -15,8 +15,8 @@ use Rattle.tables.specs.Numbers.{none, depthLimit}
 use Rattle.tables.specs.Record.{Node as Noded}
 use Rattle.tables.specs.declared.Reason.the-variants.{UnexpectedGameTreeStart, UnexpectedGameTreeEnd}
 use Rattle.parser.specs.Walk.{Opts, Walk, walk, shut, takes, refuse, closes, walked}
-use Rattle.parser.specs.Slice.{sliceFrom}
-use Rattle.trees.specs.Walks.{Shallow, walkOf, Stored}
+use Rattle.parser.specs.Slice.{sliceFrom, Shallow}
+use Rattle.trees.specs.Walks.{walkOf, Stored}
 use Rattle.trees.specs.Turns.{stackOf, mayOpen, shutAt, ended, noded}
 use Rattle.trees.specs.declared.State.{State}
 use Rattle.trees.proofs.Stored.{stored-node}

@@ -6,8 +6,7 @@ use native.Mathlib.Omega.{arith}
 use native.Mathlib.Numerals.{add-one}
 use lib.ListN.{length}
 use Rattle.lexer.specs.Token.{Prop, Tok, start, end, node, prop, Lexed, lexed, lexAt}
-use Rattle.parser.specs.Slice.{sliceFrom, restFrom}
-use Rattle.trees.specs.Walks.{Shallow}
+use Rattle.parser.specs.Slice.{sliceFrom, restFrom, Shallow}
 use Rattle.trees.specs.Turns.{BehindIs}
 
 -- ---- an end

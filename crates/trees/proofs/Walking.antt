@@ -10,8 +10,8 @@ use Rattle.tables.specs.Numbers.{depthLimit}
 use Rattle.tables.specs.Record.{Node, allProps}
 use Rattle.tables.specs.declared.Reason.{Reason}
 use Rattle.parser.specs.Walk.{Opts, Walk, walk, refuse, walked}
-use Rattle.parser.specs.Slice.{sliceFrom}
-use Rattle.trees.specs.Walks.{Shallow, walkOf, Ready, Stored}
+use Rattle.parser.specs.Slice.{sliceFrom, Shallow}
+use Rattle.trees.specs.Walks.{walkOf, Ready, Stored}
 use Rattle.trees.specs.Turns.{Small, stackOf, gateOf, begun}
 use Rattle.trees.specs.declared.State.{State}
 use Rattle.trees.proofs.Flats.{props-append}

@@ -1,18 +1,18 @@
 -- The tree of one slice, read from the tokens from a place on.
-use Prim.Native.Nat.{ℕ, zero, suc, _+_, _*_, _≤_, _<_}
+use Prim.Native.Nat.{ℕ, _+_, _*_, _≤_, _<_}
 use mathlib.Core.Path.{_≡_}
 use mathlib.Core.Bool.{Bool, false}
 use mathlib.Core.List.{List, [], _∷_}
 use lib.ListN.{length}
 use Rattle.lists.specs.Put.{PutIs}
-use Rattle.lexer.specs.Token.{Tok, start, end, node, prop, done, lexAt}
-use Rattle.tables.specs.Numbers.{textLimit, depthLimit, none}
+use Rattle.lexer.specs.Token.{Tok, done, lexAt}
+use Rattle.tables.specs.Numbers.{textLimit, none}
 use Rattle.tables.specs.Record.{Node, Tree, allProps, allVals}
 use Rattle.tables.specs.Rows.{propRows, valRows}
 use Rattle.tables.specs.Flat.{flatNodes, flatProps, flatVals}
 use Rattle.parser.specs.Walk.{Opts, Walk, walk, shut, walked}
 use Rattle.parser.specs.Read.{growing, failing, grown}
-use Rattle.parser.specs.Slice.{sliceFrom, restFrom}
+use Rattle.parser.specs.Slice.{sliceFrom, restFrom, Shallow}
 use Rattle.trees.specs.Flat.{bareRows}
 use Rattle.trees.specs.declared.Walked.{Walked}
 use Rattle.trees.specs.declared.Walked.the-variants.{Tree as tree, Refused as refused}
@@ -20,15 +20,6 @@ use Rattle.trees.specs.declared.Walked.the-variants.{Tree as tree, Refus
 -- the options as the code has them
 abbrev pub opts : Bool → Bool → Opts
 opts len con = record { lenient = len; convert = con }
-
--- no token of a slice brings the depth d above the limit
-unfoldable pub Shallow : ℕ → List Tok → Type 0
-Shallow d [] = Unit {0}
-Shallow d (start o ∷ ts) = (d < depthLimit) × Shallow (suc d) ts
-Shallow zero (end o ∷ ts) = Shallow zero ts
-Shallow (suc d) (end o ∷ ts) = Shallow d ts
-Shallow d (node o ∷ ts) = Shallow d ts
-Shallow d (prop p e ∷ ts) = Shallow d ts
 
 -- the walk of the first slice of the tokens
 unfoldable pub walkOf : Opts → (base : ℕ) → List Tok → Walk

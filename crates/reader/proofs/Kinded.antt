@@ -1,0 +1,68 @@
+-- A slice by its game type, as the option takes it. Assumes nothing.
+use Prim.Native.Nat.{ℕ}
+use mathlib.Core.Path.{_≡_, refl, sym, ap, _∙_}
+use mathlib.Core.Bool.{Bool, true, false}
+use mathlib.Core.List.{List, [], _∷_}
+use native.Mathlib.Omega.{arith}
+use Rattle.lexer.specs.Token.{Tok}
+use Rattle.tables.specs.Numbers.{none}
+use Rattle.tables.specs.Record.{Tree}
+use Rattle.tables.specs.declared.Reason.{Reason}
+use Rattle.parser.specs.Walk.{Opts, walk, shut, walked}
+use Rattle.parser.specs.Kind.{Kind, is, unkind}
+use Rattle.parser.specs.Read.{Growing, failing, grown, kinded, growAll}
+use Rattle.trees.specs.Walks.{opts}
+use Rattle.reader.specs.Slices.{leniently}
+use Rattle.reader.specs.Game.{typeOf}
+use Rattle.reader.specs.declared.game.GameType.{GameType}
+use Rattle.reader.specs.declared.game.GameType.the-variants.{Is, Refused}
+
+abbrev never : {X : Type 0} → _≡_ {A = ℕ} 0 1 → X
+never z = absurd (omega arith)
+
+-- ---- what lenient reading makes of a refusal
+
+module _ (x : Kind) {g : GameType} (e : g ≡ typeOf x) where
+  pub type-is : (len : Bool) (k : ℕ) → g ≡ Is k → Is k ≡ typeOf (leniently len x)
+  type-is len k q = go len x (sym q ∙ e)
+    where
+      go : (l : Bool) (y : Kind) → Is k ≡ typeOf y → Is k ≡ typeOf (leniently l y)
+      go true (is j) w = w
+      go true (unkind r) w = never (cc)
+      go false y w = w
+
+  pub type-go : (len : Bool) (r : Reason) → g ≡ Refused r → len ≡ true → Is 0 ≡ typeOf (leniently len x)
+  type-go len r q t = go x (sym q ∙ e) ∙ ap (λ (l : Bool). typeOf (leniently l x)) (sym t)
+    where
+      go : (y : Kind) → Refused r ≡ typeOf y → Is 0 ≡ typeOf (leniently true y)
+      go (is j) w = never (cc)
+      go (unkind s) w = refl
+
+  pub type-refused : (len : Bool) (r : Reason) → g ≡ Refused r → len ≡ false → Refused r ≡ typeOf (leniently len x)
+  type-refused len r q t = sym q ∙ e ∙ ap (λ (l : Bool). typeOf (leniently l x)) (sym t)
+
+-- ---- a slice
+
+-- a tree that is refused stays refused
+pub fails : (op : Opts) (r : Reason) (ss : List (List Tok)) → growAll op (failing r) ss ≡ failing r
+fails op r [] = refl
+fails op r (s ∷ ss) = fails op r ss
+
+module _ (len con : Bool) (base : ℕ) (s : List Tok) (ts : List Tree) where
+  pub kinded-is : (x : Kind) (k : ℕ) → Is k ≡ typeOf (leniently len x) → kinded (opts len con) base x s ts ≡ grown len base k (walked (opts len con) base (walk none [] shut []) s) ts
+  kinded-is x k e = go len x e
+    where
+      go : (l : Bool) (x : Kind) → Is k ≡ typeOf (leniently l x) → kinded (opts l con) base x s ts ≡ grown l base k (walked (opts l con) base (walk none [] shut []) s) ts
+      go true (is j) e = let z : j ≡ k = cc in ap (λ (y : ℕ). grown true base y (walked (opts true con) base (walk none [] shut []) s) ts) z
+      go true (unkind r) e = let z : 0 ≡ k = cc in ap (λ (y : ℕ). grown true base y (walked (opts true con) base (walk none [] shut []) s) ts) z
+      go false (is j) e = let z : j ≡ k = cc in ap (λ (y : ℕ). grown false base y (walked (opts false con) base (walk none [] shut []) s) ts) z
+      go false (unkind r) e = never (cc)
+
+  pub kinded-refused : (x : Kind) (r : Reason) → Refused r ≡ typeOf (leniently len x) → kinded (opts len con) base x s ts ≡ failing r
+  kinded-refused x r e = go len x e
+    where
+      go : (l : Bool) (x : Kind) → Refused r ≡ typeOf (leniently l x) → kinded (opts l con) base x s ts ≡ failing r
+      go true (is j) e = never (cc)
+      go true (unkind q) e = never (cc)
+      go false (is j) e = never (cc)
+      go false (unkind q) e = let z : q ≡ r = cc in ap failing z

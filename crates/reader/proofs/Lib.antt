@@ -1,0 +1,13 @@
+pub mod GameValues
+pub mod Gather
+pub mod Kinded
+pub mod Linked
+pub mod Nexts
+pub mod Parents
+pub mod Plants
+pub mod Rooms
+pub mod Surveyed
+pub mod Texts
+pub mod Variants
+pub mod Whole
+pub mod Unique

@@ -1,0 +1,91 @@
+-- The node table with its links is the definition's rows. Assumes nothing.
+use Prim.Native.Nat.{ℕ, suc, _+_, _-_, _*_, _≤_, _<_}
+use mathlib.Core.Path.{_≡_, sym, ap, _∙_}
+use mathlib.Core.Bool.{Bool}
+use mathlib.Core.Logic.{inl, inr}
+use mathlib.Core.List.{List, [], _∷_, _++_}
+use native.Mathlib.Omega.{arith}
+use lib.Dec.{eqb}
+use borrow.Author.Tests.{eq-eqb, ne-eqb, lt-ltb, le-ltb}
+use lib.ListN.{length, drop, getD, length-drop}
+use lib.Seq.{getD-drop, ext-getD}
+use Rattle.lists.specs.Pick.{pick}
+use Rattle.lists.specs.All.{All}
+use Rattle.tables.specs.Numbers.{none}
+use Rattle.tables.specs.Record.{Node}
+use Rattle.tables.specs.Rows.{next, parents, nodeRows}
+use Rattle.tables.specs.Flat.{flatNodes}
+use Rattle.tables.specs.Links.{parentAt, childAt, least, LinkedFrom}
+use Rattle.trees.specs.Flat.{bareRows}
+use Rattle.reader.proofs.Parents.{Below}
+use Rattle.reader.proofs.Nexts.{next-least, next-skip, cell, five, bare-next, bare-parent, parents-length}
+
+module _ (all : List Node) (t₀ t rest : List ℕ) (few : length all ≤ none) (b : drop 0 t₀ ≡ flatNodes (bareRows 0 all) ++ rest) (L : LinkedFrom (length all) t₀ t 0) where
+  abbrev N : ℕ
+  N = length all
+
+  parent-is : (j : ℕ) → j < N → parentAt t₀ j ≡ getD (parents all) j 0
+  parent-is j h = let e : 0 + j ≡ j = omega arith in ap (parentAt t₀) (sym e) ∙ bare-parent t₀ rest 0 0 j all b h .0
+
+  no-child : (j : ℕ) → j < N → childAt t₀ j ≡ none
+  no-child j h = let e : 0 + j ≡ j = omega arith in ap (childAt t₀) (sym e) ∙ bare-parent t₀ rest 0 0 j all b h .1
+
+  first-is : (i : ℕ) → i < N → childAt t i ≡ next i 0 0 (parents all)
+  first-is i h =
+      let e : N - 0 ≡ N = omega arith in
+      L .first i h
+      ∙ ap (least t₀ i 0) (e ∙ sym (parents-length all))
+      ∙ sym (next-least t₀ i (no-child i h) 0 0 (parents all) (omega arith)
+      (λ j l. let z : 0 + j ≡ j = omega arith in ap (parentAt t₀) z ∙ parent-is j (omega (arith, parents-length all))))
+
+  after-is : (p i : ℕ) → p < N → i < N → least t₀ p (suc i) (N - suc i) ≡ next p (suc i) 0 (parents all)
+  after-is p i hp hi =
+      let z : 0 + suc i ≡ suc i = omega arith in
+      let l : length (drop (suc i) (parents all)) ≡ N - suc i = length-drop (suc i) (parents all) ∙ ap (λ (m : ℕ). m - suc i) (parents-length all) in
+      ap (least t₀ p (suc i)) (sym l)
+      ∙ sym (next-least t₀ p (no-child p hp) (suc i) (suc i) (drop (suc i) (parents all)) (omega arith)
+      (λ j m. parent-is (suc i + j) (omega arith) ∙ sym (getD-drop (suc i) (parents all) j 0)))
+      ∙ sym (ap (λ (m : ℕ). next p m 0 (parents all)) (sym z) ∙ next-skip p (suc i) 0 (parents all) ∙ ap (λ (m : ℕ). next p m m (drop (suc i) (parents all))) z)
+
+  sibling-is : (i : ℕ) → i < N → (x : Node) → parentAt t₀ i ≡ x .parent → Below N x
+      → getD t (i * 5 + 2) 0 ≡ pick (eqb (x .parent) none) none (next (x .parent) (suc i) 0 (parents all))
+  sibling-is i h x e (inl q) =
+      L .next i (omega arith) h
+      ∙ ap (λ (z : Bool). pick z (least t₀ (parentAt t₀ i) (suc i) (N - suc i)) none) (le-ltb (parentAt t₀ i) N (omega arith))
+      ∙ ap (λ (z : Bool). pick z none (next (x .parent) (suc i) 0 (parents all))) (sym (eq-eqb (x .parent) none q))
+  sibling-is i h x e (inr q) =
+      L .next i (omega arith) h
+      ∙ ap (λ (z : Bool). pick z (least t₀ (parentAt t₀ i) (suc i) (N - suc i)) none) (lt-ltb (parentAt t₀ i) N (omega arith))
+      ∙ ap (λ (z : ℕ). least t₀ z (suc i) (N - suc i)) e
+      ∙ after-is (x .parent) i q h
+      ∙ ap (λ (z : Bool). pick z none (next (x .parent) (suc i) 0 (parents all))) (sym (ne-eqb (x .parent) none (λ z. omega arith)))
+
+  -- the cells that are no links
+  kept-is : (k c : ℕ) → (c ≡ 1 → ⊥) → (c ≡ 2 → ⊥) → c < 5 → (d : List ℕ) → drop (k * 5) t₀ ≡ d → getD t (k * 5 + c) 0 ≡ getD d c 0
+  kept-is k c h1 h2 h5 d e = L .kept (k * 5 + c) (λ r h. ((λ q. h1 (omega arith)), (λ q. h2 (omega arith)))) ∙ cell t₀ (k * 5) c d e
+
+  past-is : (k : ℕ) → k ≡ N → drop (k * 5) t₀ ≡ rest → drop (k * 5) t ≡ rest
+  past-is k e q =
+      ext-getD 0 (drop (k * 5) t) (drop (k * 5) t₀) (length-drop (k * 5) t ∙ ap (λ (z : ℕ). z - k * 5) (L .len) ∙ sym (length-drop (k * 5) t₀))
+      (λ i h. getD-drop (k * 5) t i 0 ∙ L .kept (k * 5 + i) (λ r l. ((λ z. omega arith), (λ z. omega arith))) ∙ sym (getD-drop (k * 5) t₀ i 0))
+      ∙ q
+
+  rows-from : (es : List Node) (k f : ℕ) → drop (k * 5) t₀ ≡ flatNodes (bareRows f es) ++ rest → k + length es ≡ N → All (Below N) es
+      → drop (k * 5) t ≡ flatNodes (nodeRows (parents all) k f es) ++ rest
+  rows-from [] k f e h a = past-is k (omega arith) e
+  rows-from (n ∷ ns) k f e h a =
+      let s : suc k * 5 ≡ k * 5 + 5 = omega arith in
+      let o : k * 5 + 0 ≡ k * 5 = omega arith in
+      let room : k * 5 + 5 ≤ length t = omega (arith, ap length e, length-drop (k * 5) t₀, L .len) in
+      let hk : k < N = omega arith in
+      let c0 : getD t (k * 5) 0 ≡ n .parent = ap (λ (z : ℕ). getD t z 0) (sym o) ∙ kept-is k 0 (λ z. omega arith) (λ z. omega arith) (omega arith) _ e in
+      let p0 : parentAt t₀ k ≡ n .parent = ap (λ (z : ℕ). getD t₀ z 0) (sym o) ∙ cell t₀ (k * 5) 0 _ e in
+      let c3 : getD t (k * 5 + 3) 0 ≡ f = kept-is k 3 (λ z. omega arith) (λ z. omega arith) (omega arith) _ e in
+      let c4 : getD t (k * 5 + 4) 0 ≡ length (n .props) = kept-is k 4 (λ z. omega arith) (λ z. omega arith) (omega arith) _ e in
+      five t (k * 5) room
+      ∙ rw (c0, first-is k hk, sibling-is k hk n p0 (a .0), c3, c4, ← s)
+      (ap (λ (z : List ℕ). n .parent ∷ next k 0 0 (parents all) ∷ pick (eqb (n .parent) none) none (next (n .parent) (suc k) 0 (parents all)) ∷ f ∷ length (n .props) ∷ z)
+      (rows-from ns (suc k) (f + length (n .props)) (bare-next t₀ rest k f n ns e) (omega arith) (a .1)))
+
+  pub linked-rows : All (Below N) all → t ≡ flatNodes (nodeRows (parents all) 0 0 all) ++ rest
+  linked-rows a = rows-from all 0 0 b (omega arith) a

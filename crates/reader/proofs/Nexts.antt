@@ -1,0 +1,98 @@
+-- The first of the nodes with a parent, as the tables are searched and as the definition says; and rows of five without links. Assumes nothing.
+use Prim.Native.Nat.{ℕ, zero, suc, _+_, _*_, _≤_, _<_}
+use mathlib.Core.Path.{_≡_, refl, sym, ap, _∙_}
+use mathlib.Core.Bool.{Bool, true, false, _&&_}
+use mathlib.Core.List.{List, [], _∷_, _++_}
+use native.Mathlib.Omega.{arith}
+use lib.Dec.{eqb, leb}
+use borrow.Author.Tests.{eq-eqb, ne-eqb, eqb-true, eqb-false, le-leb, lt-leb}
+use lib.ListN.{length, drop, getD}
+use lib.Seq.{drop-cons, drop-drop, getD-drop}
+use Rattle.lists.specs.Pick.{pick}
+use Rattle.lists.proofs.Places.{drop-next}
+use Rattle.tables.specs.Numbers.{none}
+use Rattle.tables.specs.Record.{Node}
+use Rattle.tables.specs.Rows.{next, parents}
+use Rattle.tables.specs.Flat.{flatNodes}
+use Rattle.tables.specs.Links.{parentAt, childAt, least}
+use Rattle.trees.specs.Flat.{bareRows}
+
+-- ---- the first of the nodes with a parent
+
+eqb-sym : (a b : ℕ) → eqb a b ≡ eqb b a
+eqb-sym a b = go (eqb a b) refl
+  where
+    go : (x : Bool) → eqb a b ≡ x → eqb a b ≡ eqb b a
+    go true e = e ∙ sym (eq-eqb b a (sym (eqb-true a b e)))
+    go false e = e ∙ sym (ne-eqb b a (λ q. eqb-false a b e (sym q)))
+
+and-true : (b : Bool) → (b && true) ≡ b
+and-true true = refl
+and-true false = refl
+
+and-false : (b : Bool) → (b && false) ≡ false
+and-false true = refl
+and-false false = refl
+
+module _ (t : List ℕ) (p : ℕ) (empty : childAt t p ≡ none) where
+  pub next-least : (lo k : ℕ) (ps : List ℕ) → lo ≤ k → ((j : ℕ) → j < length ps → parentAt t (k + j) ≡ getD ps j 0) → next p lo k ps ≡ least t p k (length ps)
+  unfolding least
+  next-least lo k [] h f = sym empty
+  next-least lo k (q ∷ qs) h f =
+      let e : k + 0 ≡ k = omega arith in
+      let eq : parentAt t k ≡ q = ap (parentAt t) (sym e) ∙ f 0 (omega arith) in
+      let b : (eqb p q && leb lo k) ≡ eqb (parentAt t k) p =
+      ap (λ (z : Bool). eqb p q && z) (le-leb lo k h) ∙ and-true (eqb p q) ∙ eqb-sym p q ∙ ap (λ (z : ℕ). eqb z p) (sym eq) in
+      ap (λ (z : Bool). pick z k (next p lo (suc k) qs)) b
+      ∙ ap (pick (eqb (parentAt t k) p) k)
+      (next-least lo (suc k) qs (omega arith) (λ j l. let s : suc k + j ≡ k + suc j = omega arith in ap (parentAt t) s ∙ f (suc j) (omega arith)))
+
+-- the numbers below lo are passed over
+pub next-skip : (p d k : ℕ) (ps : List ℕ) → next p (k + d) k ps ≡ next p (k + d) (k + d) (drop d ps)
+next-skip p zero k ps = let e : k ≡ k + 0 = omega arith in ap (λ (z : ℕ). next p (k + 0) z ps) e
+next-skip p (suc d) k [] = refl
+next-skip p (suc d) k (q ∷ qs) =
+    let e : k + suc d ≡ suc k + d = omega arith in
+    ap (λ (z : Bool). pick z k (next p (k + suc d) (suc k) qs)) (ap (λ (z : Bool). eqb p q && z) (lt-leb (k + suc d) k (omega arith)) ∙ and-false (eqb p q))
+    ∙ ap (λ (z : ℕ). next p z (suc k) qs) e
+    ∙ next-skip p d (suc k) qs
+    ∙ ap (λ (z : ℕ). next p z z (drop d qs)) (sym e)
+
+-- ---- rows of five
+
+pub cell : (t : List ℕ) (o c : ℕ) (d : List ℕ) → drop o t ≡ d → getD t (o + c) 0 ≡ getD d c 0
+cell t o c d e = sym (getD-drop o t c 0) ∙ ap (λ (z : List ℕ). getD z c 0) e
+
+pub five : (t : List ℕ) (o : ℕ) → o + 5 ≤ length t → drop o t ≡ getD t o 0 ∷ getD t (o + 1) 0 ∷ getD t (o + 2) 0 ∷ getD t (o + 3) 0 ∷ getD t (o + 4) 0 ∷ drop (o + 5) t
+five t o h =
+    drop-next t o (omega arith)
+    ∙ ap (λ (z : List ℕ). getD t o 0 ∷ z) (one 1 (omega arith)
+    ∙ ap (λ (z : List ℕ). getD t (o + 1) 0 ∷ z) (one 2 (omega arith)
+    ∙ ap (λ (z : List ℕ). getD t (o + 2) 0 ∷ z) (one 3 (omega arith)
+    ∙ ap (λ (z : List ℕ). getD t (o + 3) 0 ∷ z) (one 4 (omega arith)))))
+  where
+    one : (c : ℕ) → o + c < length t → drop (o + c) t ≡ getD t (o + c) 0 ∷ drop (o + suc c) t
+    one c l = let e : suc (o + c) ≡ o + suc c = omega arith in drop-cons t (o + c) 0 l ∙ ap (λ (z : ℕ). getD t (o + c) 0 ∷ drop z t) e
+
+-- the rows without links that stand from row k on
+module _ (t : List ℕ) (rest : List ℕ) where
+  abbrev pub Bare : ℕ → ℕ → List Node → Type 0
+  Bare k f es = drop (k * 5) t ≡ flatNodes (bareRows f es) ++ rest
+
+  pub bare-next : (k f : ℕ) (n : Node) (ns : List Node) → Bare k f (n ∷ ns) → Bare (suc k) (f + length (n .props)) ns
+  bare-next k f n ns e = let s : suc k * 5 ≡ k * 5 + 5 = omega arith in ap (λ (z : ℕ). drop z t) s ∙ sym (drop-drop 5 (k * 5) t) ∙ ap (drop 5) e
+
+  pub bare-parent : (k f j : ℕ) (es : List Node) → Bare k f es → j < length es → (parentAt t (k + j) ≡ getD (parents es) j 0) × (childAt t (k + j) ≡ none)
+  bare-parent k f j [] e h = absurd (omega arith)
+  bare-parent k f zero (n ∷ ns) e h =
+      let s : (k + 0) * 5 ≡ k * 5 + 0 = omega arith in
+      let s1 : (k + 0) * 5 + 1 ≡ k * 5 + 1 = omega arith in
+      (ap (λ (z : ℕ). getD t z 0) s ∙ cell t (k * 5) 0 _ e, ap (λ (z : ℕ). getD t z 0) s1 ∙ cell t (k * 5) 1 _ e)
+  bare-parent k f (suc j) (n ∷ ns) e h =
+      let s : k + suc j ≡ suc k + j = omega arith in
+      let w = bare-parent (suc k) (f + length (n .props)) j ns (bare-next k f n ns e) (omega arith) in
+      (ap (parentAt t) s ∙ w .0, ap (childAt t) s ∙ w .1)
+
+pub parents-length : (es : List Node) → length (parents es) ≡ length es
+parents-length [] = refl
+parents-length (n ∷ ns) = ap suc (parents-length ns)

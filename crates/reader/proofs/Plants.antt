@@ -1,0 +1,167 @@
+-- The trees of the slices, one slice at a time. Assumes nothing.
+use Prim.Native.Nat.{ℕ, suc, _+_, _-_, _*_, _≤_, _<_}
+use mathlib.Core.Path.{_≡_, refl, sym, ap, _∙_, subst, subst⁻¹}
+use mathlib.Core.Bool.{Bool, true, false}
+use mathlib.Core.List.{List, [], _∷_, _++_, append-assoc, append-nil, reverse, reverse-cons, reverse-reverse}
+use native.Mathlib.Omega.{arith}
+use lib.ListN.{length, length-append, length-reverse}
+use Rattle.lists.specs.All.{All}
+use Rattle.lists.specs.Put.{PutIs}
+use Rattle.lists.proofs.Put.{put-none, put-more}
+use Rattle.lexer.specs.Token.{Tok, Lexed, lexAt}
+use Rattle.tables.specs.Record.{Node, Tree, allNodes}
+use Rattle.tables.specs.Rows.{treeRows}
+use Rattle.tables.specs.Flat.{flatTrees}
+use Rattle.tables.specs.declared.Reason.{Reason}
+use Rattle.parser.specs.Walk.{Opts}
+use Rattle.parser.specs.Kind.{kind}
+use Rattle.parser.specs.Slice.{sliceFrom, restFrom, cut, Shallow}
+use Rattle.parser.specs.Read.{Growing, growing, failing, grown, kinded, growAll}
+use Rattle.trees.specs.Walks.{opts, walkOf, Ready, Stored, TreeIs, WalkIs}
+use Rattle.trees.specs.declared.Walked.{Walked}
+use Rattle.trees.specs.declared.Walked.the-variants.{Tree as tree, Refused as refusedWalk}
+use Rattle.trees.proofs.Between.{Between, between-ready, between-next}
+use Rattle.trees.proofs.Stored.{stored-none, stored-both}
+use Rattle.reader.specs.Lent.{Lent, lent}
+use Rattle.reader.specs.Slices.{leniently, readOf, SlicesReady, GrownIs}
+use Rattle.reader.specs.Game.{typeOf}
+use Rattle.reader.proofs.Kinded.{fails, kinded-is, kinded-refused}
+use Rattle.reader.specs.declared.game.GameType.{GameType}
+use Rattle.reader.specs.declared.game.GameType.the-variants.{Is, Refused}
+
+tree-append : (xs ys : List Tree) → flatTrees (treeRows (xs ++ ys)) ≡ flatTrees (treeRows xs) ++ flatTrees (treeRows ys)
+tree-append [] ys = refl
+tree-append (x ∷ xs) ys = ap (λ (z : List ℕ). x .root ∷ x .kind ∷ z) (tree-append xs ys)
+
+pub tree-length : (xs : List Tree) → length (flatTrees (treeRows xs)) ≡ length xs * 2
+tree-length [] = refl
+tree-length (x ∷ xs) = let h = tree-length xs in omega arith
+
+nodes-append : (xs ys : List Tree) → allNodes (xs ++ ys) ≡ allNodes xs ++ allNodes ys
+nodes-append [] ys = refl
+nodes-append (x ∷ xs) ys = ap (λ (z : List Node). x .nodes ++ z) (nodes-append xs ys) ∙ sym (append-assoc (x .nodes) (allNodes xs) (allNodes ys))
+
+-- ---- k slices are read, n nodes, p properties and v values
+
+pub record Planting (op : Opts) (u : List ℕ) (l : List Tok) (count : ℕ) (before after : Lent) (at n p v k : ℕ) : Type 0 where
+  pub ts : List Tree
+  pub made : length ts ≡ k
+  pub below : k ≤ count
+  pub same : readOf op count l ≡ growAll op (growing n ts) (cut (count - k) (lexAt u at .toks))
+  pub trees : PutIs (before .trees) 0 (flatTrees (treeRows (reverse ts))) (after .trees)
+  pub rows : Stored 0 0 0 (allNodes (reverse ts)) (before .nodes) (before .props) (before .vals) (after .nodes) (after .props) (after .vals) n p v
+  pub ready : Between op u at k n p v (count - k)
+
+pub plant-first : {op : Opts} {u : List ℕ} {from count : ℕ} (b : Lent) → SlicesReady op u from count → Planting op u (lexAt u from .toks) count b b from 0 0 0 0
+unfolding readOf
+plant-first {op} {u} {from} {count} b x =
+    let e : count - 0 ≡ count = omega arith in
+    let f = x .few in
+    record {
+      ts = [];
+      made = refl;
+      below = omega arith;
+      same = ap (λ (z : ℕ). growAll op (growing 0 []) (cut z (lexAt u from .toks))) (sym e);
+      trees = put-none (b .trees) 0;
+      rows = stored-none 0 0 0 (b .nodes) (b .props) (b .vals);
+      ready = record {
+        short = x .short;
+        inside = x .inside;
+        trees = omega arith;
+        nodes = omega arith;
+        props = omega arith;
+        vals = omega arith;
+        shallow = subst⁻¹ (λ (z : ℕ). All (Shallow 0) (cut z (lexAt u from .toks))) e (x .shallow);
+        calm = x .calm;
+      };
+    }
+
+module _ {len con : Bool} {u : List ℕ} {l : List Tok} {count : ℕ} {before after : Lent} {at n p v k : ℕ}
+    (x : Planting (opts len con) u l count before after at n p v k) where
+  abbrev op : Opts
+  op = opts len con
+
+  abbrev toks : List Tok
+  toks = lexAt u at .toks
+
+  pub plant-keeps : (length (after .trees) ≡ length (before .trees)) × (length (after .nodes) ≡ length (before .nodes)) × (length (after .props) ≡ length (before .props)) × (length (after .vals) ≡ length (before .vals))
+  plant-keeps = (x .trees .len, x .rows .tnodes .len, x .rows .tprops .len, x .rows .tvals .len)
+
+  pub plant-end : count ≤ k → GrownIs (readOf op count l) count before after n p v
+  unfolding cut
+  plant-end h =
+      let b = x .below in
+      let e : count - k ≡ 0 = omega arith in
+      let f : k ≡ count = omega arith in
+      let r = x .ready in
+      record {
+        ts = reverse (x .ts);
+        grown = x .same ∙ ap (λ (z : ℕ). growAll op (growing n (x .ts)) (cut z toks)) e ∙ ap (growing n) (sym (reverse-reverse (x .ts)));
+        count-is = length-reverse (x .ts) ∙ x .made ∙ f;
+        few = omega arith;
+        ttrees = x .trees;
+        stored = x .rows;
+      }
+
+  module _ (h : k < count) where
+    left : count - k ≡ suc (count - (k + 1))
+    left = omega arith
+
+    pub plant-between : Between op u at k n p v (suc (count - (k + 1)))
+    plant-between = subst (Between op u at k n p v) left (x .ready)
+
+    pub plant-ready : Ready op u at n p v
+    plant-ready = between-ready plant-between
+
+    turn : readOf op count l ≡ growAll op (kinded op n (kind (sliceFrom 0 toks)) (sliceFrom 0 toks) (x .ts)) (cut (count - (k + 1)) (restFrom 0 toks))
+    unfolding cut
+    turn = x .same ∙ ap (λ (z : ℕ). growAll op (growing n (x .ts)) (cut z toks)) left
+
+    pub plant-no : {r : Reason} {g : GameType} → g ≡ typeOf (leniently len (kind (sliceFrom 0 toks))) → g ≡ Refused r → readOf op count l ≡ failing r
+    plant-no {r} e q =
+        turn
+        ∙ ap (λ (j : Growing). growAll op j (cut (count - (k + 1)) (restFrom 0 toks))) (kinded-refused len con n (sliceFrom 0 toks) (x .ts) (kind (sliceFrom 0 toks)) r (sym q ∙ e))
+        ∙ fails op r (cut (count - (k + 1)) (restFrom 0 toks))
+
+    module _ {g : GameType} {j : ℕ} (e : g ≡ typeOf (leniently len (kind (sliceFrom 0 toks)))) (q : g ≡ Is j) where
+      turned : readOf op count l ≡ growAll op (grown len n j (walkOf op n toks) (x .ts)) (cut (count - (k + 1)) (restFrom 0 toks))
+      unfolding walkOf
+      turned = turn ∙ ap (λ (y : Growing). growAll op y (cut (count - (k + 1)) (restFrom 0 toks))) (kinded-is len con n (sliceFrom 0 toks) (x .ts) (kind (sliceFrom 0 toks)) j (sym q ∙ e))
+
+      pub plant-stop : {r : Reason} → ((i : ℕ) (ts : List Tree) → grown len n i (walkOf op n toks) ts ≡ failing r) → readOf op count l ≡ failing r
+      plant-stop {r} f = turned ∙ ap (λ (y : Growing). growAll op y (cut (count - (k + 1)) (restFrom 0 toks))) (f j (x .ts)) ∙ fails op r (cut (count - (k + 1)) (restFrom 0 toks))
+
+      pub plant-more : {t q w r : List ℕ} {at′ n′ p′ v′ : ℕ} → TreeIs op u at n p v (after .nodes) (after .props) (after .vals) t q w at′ n′ p′ v′ → PutIs (after .trees) (k * 2) (n ∷ j ∷ []) r
+          → Planting op u l count before (lent r t q w) at′ n′ p′ v′ (k + 1)
+      plant-more {t} {q} {w} {r} {at′} {n′} {p′} {v′} y pt =
+          let m = x .made in
+          let rn = y .stored .nodes in
+          let lr : length (reverse (x .ts)) ≡ length (x .ts) = length-reverse (x .ts) in
+          let sk : suc k ≡ k + 1 = omega arith in
+          record {
+            ts = record { root = n; kind = j; nodes = y .es } ∷ x .ts;
+            made = omega arith;
+            below = omega arith;
+            same =
+                turned
+                ∙ ap (λ (z : Growing). growAll op z (cut (count - (k + 1)) (restFrom 0 toks))) (y .tree j (x .ts) ∙ ap (λ (z : ℕ). growing z (record { root = n; kind = j; nodes = y .es } ∷ x .ts)) (sym rn))
+                ∙ ap (λ (z : List Tok). growAll op (growing n′ (record { root = n; kind = j; nodes = y .es } ∷ x .ts)) (cut (count - (k + 1)) z)) (y .rest);
+            trees =
+                subst⁻¹ (λ (z : List Tree). PutIs (before .trees) 0 (flatTrees (treeRows z)) r) (reverse-cons (record { root = n; kind = j; nodes = y .es }) (x .ts))
+                (subst⁻¹ (λ (z : List ℕ). PutIs (before .trees) 0 z r) (tree-append (reverse (x .ts)) (record { root = n; kind = j; nodes = y .es } ∷ []))
+                (put-more (x .trees) pt (omega (arith, tree-length (reverse (x .ts))))));
+            rows =
+                subst⁻¹ (λ (z : List Tree). Stored 0 0 0 (allNodes z) (before .nodes) (before .props) (before .vals) t q w n′ p′ v′) (reverse-cons (record { root = n; kind = j; nodes = y .es }) (x .ts))
+                (subst⁻¹ (λ (z : List Node). Stored 0 0 0 z (before .nodes) (before .props) (before .vals) t q w n′ p′ v′)
+                (nodes-append (reverse (x .ts)) (record { root = n; kind = j; nodes = y .es } ∷ []) ∙ ap (λ (z : List Node). allNodes (reverse (x .ts)) ++ z) (append-nil (y .es)))
+                (stored-both (allNodes (reverse (x .ts))) (y .es) (x .rows) (y .stored)));
+            ready = subst (λ (z : ℕ). Between op u at′ z n′ p′ v′ (count - (k + 1))) sk (between-next plant-between y);
+          }
+
+-- what a walk gave
+module _ (op : Opts) (u : List ℕ) (from base p0 v0 : ℕ) (t₀ q₀ w₀ t q w : List ℕ) {x : Walked} (y : WalkIs op u from base p0 v0 t₀ q₀ w₀ t q w x) where
+  pub walk-tree-as : {at n p v : ℕ} → x ≡ tree at n p v → TreeIs op u from base p0 v0 t₀ q₀ w₀ t q w at n p v
+  walk-tree-as e = subst (WalkIs op u from base p0 v0 t₀ q₀ w₀ t q w) e y
+
+  pub walk-refused-as : {r : Reason} → x ≡ refusedWalk r → (k : ℕ) (ts : List Tree) → grown (op .lenient) base k (walkOf op base (lexAt u from .toks)) ts ≡ failing r
+  walk-refused-as e = subst (WalkIs op u from base p0 v0 t₀ q₀ w₀ t q w) e y .1

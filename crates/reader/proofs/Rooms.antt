@@ -1,0 +1,65 @@
+-- How many rows there are, and what the room test says. Assumes nothing.
+use Prim.Native.Nat.{ℕ, suc, _+_, _*_, _/_, _≤_}
+use mathlib.Core.Path.{_≡_, refl, ap}
+use mathlib.Core.Bool.{Bool, true, false, _&&_}
+use mathlib.Core.List.{List, [], _∷_}
+use native.Mathlib.Omega.{arith}
+use lib.ListN.{length}
+use lib.Dec.{leb}
+use borrow.Author.Tests.{leb-true}
+use Rattle.lexer.specs.Token.{Val, Prop}
+use Rattle.tables.specs.Record.{Node, Tree}
+use Rattle.tables.specs.Rows.{treeRows, NodeRow, nodeRows, propRows, valRows}
+use Rattle.tables.specs.Flat.{flatNodes}
+use Rattle.tables.specs.declared.Counts.{Counts}
+use Rattle.reader.specs.Lent.{Lent, roomFor}
+
+pub tree-count : (ts : List Tree) → length (treeRows ts) ≡ length ts
+tree-count [] = refl
+tree-count (t ∷ ts) = ap suc (tree-count ts)
+
+pub node-count : (ps : List ℕ) (k f : ℕ) (ns : List Node) → length (nodeRows ps k f ns) ≡ length ns
+node-count ps k f [] = refl
+node-count ps k f (n ∷ ns) = ap suc (node-count ps (suc k) (f + length (n .props)) ns)
+
+pub prop-count : (f : ℕ) (ps : List Prop) → length (propRows f ps) ≡ length ps
+prop-count f [] = refl
+prop-count f (p ∷ ps) = ap suc (prop-count (f + length (p .vals)) ps)
+
+pub val-count : (vs : List Val) → length (valRows vs) ≡ length vs
+val-count [] = refl
+val-count (v ∷ vs) = ap suc (val-count vs)
+
+pub flat-nodes : (rs : List NodeRow) → length (flatNodes rs) ≡ length rs * 5
+flat-nodes [] = refl
+flat-nodes (r ∷ rs) = let h = flat-nodes rs in omega arith
+
+and-left : (a b : Bool) → (a && b) ≡ true → a ≡ true
+and-left true b e = refl
+and-left false b e = e
+
+and-right : (a b : Bool) → (a && b) ≡ true → b ≡ true
+and-right true b e = e
+and-right false b e = let z : _≡_ {A = ℕ} 0 1 = cc in absurd (omega arith)
+
+-- so many rows are lent
+pub record Room (c : Counts) (l : Lent) : Type 0 where
+  pub trees : c .trees ≤ length (l .trees) / 2
+  pub nodes : c .nodes ≤ length (l .nodes) / 5
+  pub props : c .properties ≤ length (l .props) / 4
+  pub vals : c .values ≤ length (l .vals) / 2
+
+pub room-true : (c : Counts) (l : Lent) → roomFor c (length (l .trees)) (length (l .nodes)) (length (l .props)) (length (l .vals)) ≡ true → Room c l
+room-true c l e =
+    let a1 = leb (c .trees) (length (l .trees) / 2) in
+    let a2 = leb (c .nodes) (length (l .nodes) / 5) in
+    let a3 = leb (c .properties) (length (l .props) / 4) in
+    let a4 = leb (c .values) (length (l .vals) / 2) in
+    let e3 = and-left (a1 && a2 && a3) a4 e in
+    let e2 = and-left (a1 && a2) a3 e3 in
+    record {
+      trees = leb-true _ _ (and-left a1 a2 e2);
+      nodes = leb-true _ _ (and-right a1 a2 e2);
+      props = leb-true _ _ (and-right (a1 && a2) a3 e3);
+      vals = leb-true _ _ (and-right (a1 && a2 && a3) a4 e);
+    }

@@ -1,0 +1,111 @@
+-- From what the first pass finds to the definition's answer. Assumes nothing.
+use Prim.Native.Nat.{ℕ, _+_, _≤_}
+use mathlib.Core.Path.{_≡_, refl, sym, ap, _∙_, subst⁻¹}
+use mathlib.Core.Bool.{Bool, true, false}
+use mathlib.Core.List.{List, [], _∷_}
+use native.Mathlib.Omega.{arith}
+use lib.ListN.{length}
+use Rattle.lexer.specs.Token.{Tok, End, done, broken, Lexed, lexAt}
+use Rattle.tables.specs.Numbers.{textLimit}
+use Rattle.tables.specs.declared.Reason.{Reason}
+use Rattle.tables.specs.declared.Reading.{Reading}
+use Rattle.tables.specs.declared.Reading.the-variants.{Refused as refusedReading}
+use Rattle.parser.specs.Split.{Slices, no, slices, slicesOf}
+use Rattle.parser.specs.Slice.{sliceFrom, restFrom, cut, Shallow}
+use Rattle.parser.specs.Survey.{foundAs, counted, strictly, surveyOf}
+use Rattle.parser.specs.declared.Survey.{Survey}
+use Rattle.parser.specs.declared.Survey.the-variants.{Refused, Slices as found, Empty}
+use Rattle.parser.specs.Read.{Answer, refused, growing, growAll, answer, planted, parsed, lexing}
+use Rattle.parser.proofs.Slices.{slices-cut}
+use Rattle.parser.proofs.Tokens.{tokens-few}
+use Rattle.trees.specs.Walks.{opts}
+use Rattle.reader.specs.Lent.{Lent, ReadIs}
+use Rattle.reader.specs.Slices.{readOf, SlicesReady}
+
+abbrev never : {X : Type 0} → _≡_ {A = ℕ} 0 1 → X
+never z = absurd (omega arith)
+
+-- the answer of the tokens from a place on
+abbrev pub tokensAnswer : Bool → Bool → Lexed → Answer
+tokensAnswer len con l = lexing (opts len con) len (l .end) (l .toks)
+
+pub read-as : {A B : Answer} → A ≡ B → {b a : Lent} {r : Reading} → ReadIs B b a r → ReadIs A b a r
+read-as {A} {B} e {b} {a} {r} x = subst⁻¹ (λ (z : Answer). ReadIs z b a r) e x
+
+-- no fault, where reading is strict
+abbrev Calm : Bool → Lexed → Type 0
+Calm len l = len ≡ false → l .end ≡ done
+
+calm-parsed : (len con : Bool) (l : Lexed) → Calm len l → tokensAnswer len con l ≡ parsed (opts len con) (l .toks)
+calm-parsed true con l c = refl
+calm-parsed false con l c = ap (λ (e : End). lexing (opts false con) false e (l .toks)) (c refl)
+
+-- what is found is found in the slices
+survey-of : (len : Bool) (l : Lexed) {x : Survey} → ((r : Reason) (p : ℕ) → x ≡ Refused r p → ⊥) → surveyOf len l ≡ x → Calm len l × (counted (slicesOf len (l .toks)) ≡ x)
+survey-of true l h e = ((λ z. never (cc)), e)
+survey-of false l {x} h e = go (l .end) refl e
+  where
+    go : (d : End) → l .end ≡ d → strictly d (slicesOf false (l .toks)) ≡ x → Calm false l × (counted (slicesOf false (l .toks)) ≡ x)
+    go done q w = ((λ z. q), w)
+    go (broken f s) q w = absurd (h _ _ (sym w))
+
+counted-empty : (s : Slices) → counted s ≡ Empty → s ≡ slices ([] ∷ [])
+counted-empty (no r) e = never (cc)
+counted-empty (slices []) e = never (cc)
+counted-empty (slices ([] ∷ [])) e = refl
+counted-empty (slices ((t ∷ ts) ∷ [])) e = never (cc)
+counted-empty (slices (s ∷ u ∷ ss)) e = never (cc)
+
+counted-refused : (s : Slices) (r : Reason) (p : ℕ) → counted s ≡ Refused r p → (s ≡ no r) × (p ≡ 0)
+counted-refused (no q) r p e = let a : q ≡ r = cc in let b : 0 ≡ p = cc in (ap no a, sym b)
+counted-refused (slices []) r p e = never (cc)
+counted-refused (slices ([] ∷ [])) r p e = never (cc)
+counted-refused (slices ((t ∷ ts) ∷ [])) r p e = never (cc)
+counted-refused (slices (s ∷ u ∷ ss)) r p e = never (cc)
+
+-- ---- refused
+
+answer-refused : (len con : Bool) (l : Lexed) (r : Reason) (p : ℕ) → surveyOf len l ≡ Refused r p → tokensAnswer len con l ≡ refused r p
+answer-refused true con l r p e = let w = counted-refused (slicesOf true (l .toks)) r p e in ap (planted (opts true con)) (w .0) ∙ ap (refused r) (sym (w .1))
+answer-refused false con l r p e = go (l .end) e
+  where
+    go : (d : End) → strictly d (slicesOf false (l .toks)) ≡ Refused r p → lexing (opts false con) false d (l .toks) ≡ refused r p
+    go done w = let v = counted-refused (slicesOf false (l .toks)) r p w in ap (planted (opts false con)) (v .0) ∙ ap (refused r) (sym (v .1))
+    go (broken f s) w = cc
+
+module _ (len con : Bool) (u : List ℕ) (from : ℕ) {x : Survey} (e : x ≡ surveyOf len (lexAt u from)) where
+  abbrev L : Lexed
+  L = lexAt u from
+
+  pub tokens-refused : {r : Reason} {p : ℕ} → x ≡ Refused r p → (b : Lent) → ReadIs (tokensAnswer len con L) b b (refusedReading r p)
+  tokens-refused {r} {p} q b =
+      let w = answer-refused len con L r p (sym e ∙ q) in
+      rw w (record { answer = refl; tables = refl })
+
+  -- ---- so many slices
+
+  module _ {k : ℕ} (q : x ≡ found k) where
+    found-in : Calm len L × (counted (slicesOf len (L .toks)) ≡ found k)
+    found-in = survey-of len L (λ r p z. never (cc)) (sym e ∙ q)
+
+    pub slices-answer : tokensAnswer len con L ≡ answer (readOf (opts len con) k (L .toks))
+    unfolding readOf
+    slices-answer = calm-parsed len con L (found-in .0) ∙ ap (planted (opts len con)) (slices-cut len (L .toks) k (found-in .1) .are)
+
+    pub slices-ready : length u ≤ textLimit → from ≤ length u → SlicesReady (opts len con) u from k
+    slices-ready h i =
+        let s = slices-cut len (L .toks) k (found-in .1) in
+        let f = s .few in
+        record { short = h; inside = i; few = omega (arith, tokens-few u from); shallow = s .shallow; calm = found-in .0 }
+
+  -- ---- none: the empty text has the empty slice
+
+  pub empty-answer : x ≡ Empty → tokensAnswer len con L ≡ answer (readOf (opts len con) 1 (lexAt [] 0 .toks))
+  unfolding readOf cut sliceFrom restFrom lexAt
+  empty-answer q =
+      let w = survey-of len L (λ r p z. never (cc)) (sym e ∙ q) in
+      calm-parsed len con L (w .0) ∙ ap (planted (opts len con)) (counted-empty (slicesOf len (L .toks)) (w .1))
+
+pub empty-ready : (len con : Bool) → SlicesReady (opts len con) [] 0 1
+unfolding cut sliceFrom restFrom Shallow lexAt
+empty-ready len con = record { short = omega arith; inside = omega arith; few = omega arith; shallow = (tt, tt); calm = λ z. refl }

@@ -1,0 +1,80 @@
+-- From the whole text to its tokens: the limit, UTF-8, trimming. Assumes nothing.
+use Prim.Native.Nat.{ℕ, _≤_, _<_}
+use mathlib.Core.Path.{_≡_, refl, sym, ap, _∙_}
+use mathlib.Core.Bool.{Bool}
+use mathlib.Core.List.{List, []}
+use native.Mathlib.Omega.{arith}
+use lib.ListN.{length, take, drop}
+use lib.Seq.{length-take-le}
+use lib.Dec.{ltb}
+use borrow.Author.Tests.{lt-ltb, le-ltb}
+use Rattle.lists.specs.Pick.{pick}
+use Rattle.utf8.specs.Text.{Utf, whole, part, bad, blank, inked, utfs}
+use Rattle.utf8.specs.Trim.{shown, trimmed}
+use Rattle.utf8.specs.declared.Trimmed.{Trimmed}
+use Rattle.utf8.specs.declared.Trimmed.the-variants.{NotUtf8, Blank, Kept}
+use Rattle.utf8.proofs.Extent.{trim-bounds}
+use Rattle.lexer.specs.Token.{St, between, emits, ends, finish, Lexed, lexed, lexFrom, lexAt}
+use Rattle.tables.specs.Numbers.{textLimit}
+use Rattle.tables.specs.declared.Reason.the-variants.{TextTooLong, NotUtf8 as notUtf8}
+use Rattle.tables.specs.declared.Reading.the-variants.{Refused}
+use Rattle.parser.specs.Walk.{Opts}
+use Rattle.parser.specs.Read.{Answer, refused, lexing, decoded, read}
+use Rattle.trees.specs.Walks.{opts}
+use Rattle.reader.specs.Lent.{Lent, ReadIs}
+use Rattle.reader.proofs.Surveyed.{tokensAnswer}
+
+abbrev never : {X : Type 0} → _≡_ {A = ℕ} 0 1 → X
+never z = absurd (omega arith)
+
+-- the tokens of what trimming keeps are those from a place of the text's front part on
+lex-prefix : (t : List ℕ) (f l : ℕ) → l ≤ length t → lexFrom f l (drop f (take l t)) ≡ lexAt (take l t) f
+unfolding lexAt
+lex-prefix t f l h = ap (λ (z : ℕ). lexed (emits between f (drop f (take l t))) (finish (ends between f (drop f (take l t))) z)) (sym (length-take-le l t h))
+
+module _ (op : Opts) (t : List ℕ) where
+  shown-bad : (u : Utf) (p : ℕ) → shown u ≡ NotUtf8 p → decoded op u t ≡ refused notUtf8 p
+  shown-bad (whole blank) p e = never (cc)
+  shown-bad (whole (inked f l)) p e = never (cc)
+  shown-bad (part k s n r c) p e = let z : s ≡ p = cc in ap (refused notUtf8) z
+  shown-bad (bad q) p e = let z : q ≡ p = cc in ap (refused notUtf8) z
+
+  shown-blank : (u : Utf) → shown u ≡ Blank → u ≡ whole blank
+  shown-blank (whole blank) e = refl
+  shown-blank (whole (inked f l)) e = never (cc)
+  shown-blank (part k s n r c) e = never (cc)
+  shown-blank (bad q) e = never (cc)
+
+  shown-kept : (u : Utf) (f l : ℕ) → shown u ≡ Kept f l → u ≡ whole (inked f l)
+  shown-kept (whole blank) f l e = never (cc)
+  shown-kept (whole (inked a b)) f l e = let x : a ≡ f = cc in let y : b ≡ l = cc in rw (x, y)
+  shown-kept (part k s n r c) f l e = never (cc)
+  shown-kept (bad q) f l e = never (cc)
+
+  pub text-long : textLimit < length t → (b : Lent) → ReadIs (read op t) b b (Refused TextTooLong 0)
+  text-long h b = rw (lt-ltb textLimit (length t) h) (record { answer = refl; tables = refl })
+
+  text-short : length t ≤ textLimit → read op t ≡ decoded op (utfs (whole blank) 0 t) t
+  text-short h = ap (λ (z : Bool). pick z (refused TextTooLong 0) (decoded op (utfs (whole blank) 0 t) t)) (le-ltb textLimit (length t) h)
+
+module _ (len con : Bool) (t : List ℕ) (h : length t ≤ textLimit) {x : Trimmed} (e : x ≡ trimmed t) where
+  pub text-bad : {p : ℕ} → x ≡ NotUtf8 p → (b : Lent) → ReadIs (read (opts len con) t) b b (Refused notUtf8 p)
+  unfolding trimmed
+  text-bad {p} q b =
+      let w : read (opts len con) t ≡ refused notUtf8 p = text-short (opts len con) t h ∙ shown-bad (opts len con) t (utfs (whole blank) 0 t) p (sym e ∙ q) in
+      rw w (record { answer = refl; tables = refl })
+
+  pub text-blank : x ≡ Blank → read (opts len con) t ≡ tokensAnswer len con (lexAt [] 0)
+  unfolding trimmed lexAt
+  text-blank q = text-short (opts len con) t h ∙ ap (λ (u : Utf). decoded (opts len con) u t) (shown-blank (opts len con) t (utfs (whole blank) 0 t) (sym e ∙ q))
+
+  pub text-kept : {f l : ℕ} → x ≡ Kept f l → read (opts len con) t ≡ tokensAnswer len con (lexAt (take l t) f)
+  unfolding trimmed
+  text-kept {f} {l} q =
+      text-short (opts len con) t h
+      ∙ ap (λ (u : Utf). decoded (opts len con) u t) (shown-kept (opts len con) t (utfs (whole blank) 0 t) f l (sym e ∙ q))
+      ∙ ap (tokensAnswer len con) (lex-prefix t f l (trim-bounds t f l (sym e ∙ q) .1))
+
+  -- the front part, and the place in it
+  pub kept-within : {f l : ℕ} → x ≡ Kept f l → (f < l) × (l ≤ length t)
+  kept-within {f} {l} q = trim-bounds t f l (sym e ∙ q)

@@ -1,0 +1,145 @@
+-- The reading put together: the dry run, the room, the run that writes, the links. Assumes nothing.
+use Prim.Native.Nat.{ℕ, _+_, _*_, _≤_}
+use mathlib.Core.Path.{_≡_, refl, sym, ap, ap₂, _∙_, subst, subst⁻¹}
+use mathlib.Core.Bool.{Bool, true, false}
+use mathlib.Core.List.{List, [], _∷_, _++_, reverse, reverse-reverse}
+use native.Mathlib.Omega.{arith}
+use lib.ListN.{length, drop}
+use Rattle.lists.specs.All.{All}
+use Rattle.lists.proofs.Put.{put-all}
+use Rattle.lexer.specs.Token.{Tok}
+use Rattle.tables.specs.Numbers.{none}
+use Rattle.tables.specs.Record.{Node, Tree, allNodes, allProps, allVals}
+use Rattle.tables.specs.Rows.{treeRows, nodeRows, parents, propRows, valRows, Tables, tables}
+use Rattle.tables.specs.Flat.{flatTrees, flatNodes, flatProps, flatVals}
+use Rattle.tables.specs.Links.{HasRows, LinkedFrom, LinksIs}
+use Rattle.tables.specs.declared.Counts.{Counts}
+use Rattle.tables.specs.declared.Reading.the-variants.{Accepted, Refused}
+use Rattle.tables.specs.declared.Reason.{Reason}
+use Rattle.tables.specs.declared.Reason.the-variants.{NoRoom}
+use Rattle.parser.specs.Walk.{Opts}
+use Rattle.parser.specs.Slice.{cut}
+use Rattle.parser.specs.Read.{Answer, accepted, Growing, growing, failing, growAll, answer}
+use Rattle.trees.specs.Flat.{bareRows}
+use Rattle.trees.proofs.Flats.{val-length, prop-length, node-length}
+use Rattle.reader.specs.Lent.{Lent, lent, countsOf, roomFor, roomy, over, stored, ReadIs}
+use Rattle.reader.specs.Slices.{readOf, GrownIs, TreesIs}
+use Rattle.reader.specs.declared.slices.Total.{Total}
+use Rattle.reader.specs.declared.slices.Total.the-variants.{Rows, Refused as refusedTotal}
+use Rattle.reader.proofs.Parents.{Below, parents-below}
+use Rattle.reader.proofs.Linked.{linked-rows}
+use Rattle.reader.proofs.Plants.{tree-length}
+use Rattle.reader.proofs.Rooms.{tree-count, node-count, prop-count, val-count, flat-nodes, Room, room-true}
+
+-- the tables after a run on empty parts
+pub dry-kept : (l t : List ℕ) → length l ≡ 0 → l ++ drop 0 t ≡ t
+dry-kept [] t e = refl
+dry-kept (y ∷ l) t e = absurd (omega arith)
+
+pub lent-same : {r t q w r1 t1 q1 w1 : List ℕ} → r1 ≡ r → t1 ≡ t → q1 ≡ q → w1 ≡ w → lent r1 t1 q1 w1 ≡ lent r t q w
+lent-same er et eq ew = rw (er, et, eq, ew)
+
+-- ---- refused
+
+pub read-refused : {X : Growing} {r : Reason} → X ≡ failing r → {b a : Lent} → a ≡ b → ReadIs (answer X) b a (Refused r 0)
+read-refused {X} {r} e {b} {a} q = subst⁻¹ (λ (z : Growing). ReadIs (answer z) b a (Refused r 0)) e (record { answer = refl; tables = q })
+
+-- ---- the trees put
+
+module _ (es : List Node) (n : ℕ) (e : n ≡ length es) (few : n ≤ none) (below : All (Below n) es) (t : List ℕ) {t1 t2 : List ℕ} (put : t1 ≡ over (flatNodes (bareRows 0 es)) t) (room : HasRows n t1) (links : LinksIs n t1 t2) where
+  nodes-linked : t2 ≡ over (flatNodes (nodeRows (parents es) 0 0 es)) t
+  nodes-linked =
+      let l : length (flatNodes (bareRows 0 es)) ≡ length (flatNodes (nodeRows (parents es) 0 0 es)) =
+      node-length 0 es ∙ ap (λ (z : ℕ). z * 5) (sym (node-count (parents es) 0 0 es)) ∙ sym (flat-nodes (nodeRows (parents es) 0 0 es)) in
+      linked-rows es t1 t2 (drop (length (flatNodes (bareRows 0 es))) t) (omega arith) put
+      (subst (λ (z : ℕ). LinkedFrom z t1 t2 0) e (links .made room)) (subst (λ (z : ℕ). All (Below z) es) e below)
+      ∙ ap (λ (z : ℕ). flatNodes (nodeRows (parents es) 0 0 es) ++ drop z t) l
+
+-- ---- accepted
+
+module _ {X : Growing} {count n p v : ℕ} {b₀ a₀ : Lent} (G : GrownIs X count b₀ a₀ n p v) where
+  abbrev counts : Counts
+  counts = record { trees = count; nodes = n; properties = p; values = v }
+
+  counts-are : countsOf (tables (G .ts)) ≡ counts
+  counts-are =
+      let e1 : length (treeRows (G .ts)) ≡ count = tree-count (G .ts) ∙ G .count-is in
+      let e2 : length (nodeRows (parents (allNodes (G .ts))) 0 0 (allNodes (G .ts))) ≡ n = omega (arith, node-count (parents (allNodes (G .ts))) 0 0 (allNodes (G .ts)), G .stored .nodes) in
+      let e3 : length (propRows 0 (allProps (allNodes (G .ts)))) ≡ p = omega (arith, prop-count 0 (allProps (allNodes (G .ts))), G .stored .props) in
+      let e4 : length (valRows (allVals (allProps (allNodes (G .ts))))) ≡ v = omega (arith, val-count (allVals (allProps (allNodes (G .ts)))), G .stored .vals) in
+      rw (e1, e2, e3, e4)
+
+  answer-is : answer X ≡ accepted (G .ts)
+  answer-is = ap answer (G .grown) ∙ ap accepted (reverse-reverse (G .ts))
+
+module _ {X : Growing} {count n p v : ℕ} {b₀ a₀ : Lent} (G : GrownIs X count b₀ a₀ n p v) {b a : Lent} (q : a ≡ b)
+    {t : Bool} (e : t ≡ roomFor (counts G) (length (a .trees)) (length (a .nodes)) (length (a .props)) (length (a .vals))) where
+  room-is : roomy (tables (G .ts)) b ≡ t
+  room-is =
+      ap (λ (c : Counts). roomFor c (length (b .trees)) (length (b .nodes)) (length (b .props)) (length (b .vals))) (counts-are G)
+      ∙ ap (λ (l : Lent). roomFor (counts G) (length (l .trees)) (length (l .nodes)) (length (l .props)) (length (l .vals))) (sym q)
+      ∙ sym e
+
+  pub read-no-room : t ≡ false → ReadIs (answer X) b a (Refused NoRoom 0)
+  read-no-room f =
+      subst⁻¹ (λ (z : Answer). ReadIs z b a (Refused NoRoom 0)) (answer-is G) (record { answer = rw (room-is, f); tables = q ∙ rw (room-is, f) })
+
+  -- the run that writes, and the links
+  module _ (f : t ≡ true) {A : Lent} {n′ p′ v′ : ℕ} (Y : GrownIs X count a A n′ p′ v′) (op : Opts) (l : List Tok) (ex : X ≡ readOf op count l) {t2 : List ℕ} (links : LinksIs n (A .nodes) t2) where
+    grown-same : growing n′ (reverse (Y .ts)) ≡ growing n (reverse (G .ts))
+    grown-same = sym (Y .grown) ∙ G .grown
+
+    nodes-same : n′ ≡ n
+    nodes-same = let z = grown-same in cc
+
+    trees-same : Y .ts ≡ G .ts
+    trees-same = let z = grown-same in let w : reverse (Y .ts) ≡ reverse (G .ts) = cc in sym (reverse-reverse (Y .ts)) ∙ ap reverse w ∙ reverse-reverse (G .ts)
+
+    counts-same : counts Y ≡ counts G
+    counts-same = sym (counts-are Y) ∙ ap (λ (z : List Tree). countsOf (tables z)) trees-same ∙ counts-are G
+
+    filled : lent (A .trees) t2 (A .props) (A .vals) ≡ stored (tables (Y .ts)) a
+    unfolding readOf
+    filled =
+        let R : Room (counts Y) a = subst⁻¹ (λ (c : Counts). Room c a) counts-same (room-true (counts G) a (sym e ∙ f)) in
+        let rt = R .trees in
+        let rn = R .nodes in
+        let rp = R .props in
+        let rv = R .vals in
+        let es : List Node = allNodes (Y .ts) in
+        let yn = Y .stored .nodes in
+        let yp = Y .stored .props in
+        let yv = Y .stored .vals in
+        let yc = Y .count-is in
+        let fe = Y .few in
+        let ns = nodes-same in
+        let ln = Y .stored .tnodes .len in
+        let b1 : All (Below n) (allNodes (Y .ts)) = subst (λ (z : ℕ). All (Below z) (allNodes (Y .ts))) nodes-same (parents-below op (cut count l) n′ (Y .ts) (sym ex ∙ Y .grown)) in
+        lent-same
+        (put-all (Y .ttrees) (omega (arith, tree-length (Y .ts))))
+        (nodes-linked (allNodes (Y .ts)) n (omega arith) (omega arith) b1 (a .nodes) (put-all (Y .stored .tnodes) (omega (arith, node-length 0 (allNodes (Y .ts))))) (omega arith, omega arith) links)
+        (put-all (Y .stored .tprops) (omega (arith, prop-length 0 (allProps (allNodes (Y .ts))))))
+        (put-all (Y .stored .tvals) (omega (arith, val-length (allVals (allProps (allNodes (Y .ts)))))))
+
+    read-filled : ReadIs (answer X) b (lent (A .trees) t2 (A .props) (A .vals)) (Accepted (counts G))
+    read-filled =
+        subst⁻¹ (λ (z : Answer). ReadIs z b (lent (A .trees) t2 (A .props) (A .vals)) (Accepted (counts G))) (answer-is G)
+        (record {
+          answer = rw (room-is, f) (ap Accepted (sym (counts-are G)));
+          tables = rw (room-is, f) (filled ∙ ap₂ (λ (z : List Tree) (y : Lent). stored (tables z) y) trees-same q);
+        })
+
+  -- the second run does not refuse where the first did not
+  pub read-accepted : t ≡ true → (A : Lent) (x : Total) → TreesIs X count a A x → (op : Opts) (l : List Tok) → X ≡ readOf op count l → (t2 : List ℕ) → LinksIs n (A .nodes) t2
+      → ReadIs (answer X) b (lent (A .trees) t2 (A .props) (A .vals)) (Accepted (counts G))
+  read-accepted f A (Rows n′ p′ v′) Y op l ex t2 links = read-filled f Y op l ex links
+  read-accepted f A (refusedTotal r) Y op l ex t2 links =
+      let w : failing r ≡ growing n (reverse (G .ts)) = sym Y ∙ G .grown in let z : _≡_ {A = ℕ} 0 1 = cc in absurd (omega arith)
+
+-- what a run gave
+module _ (X : Growing) (count : ℕ) (b a : Lent) {x : Total} (y : TreesIs X count b a x) where
+  pub total-rows : {n p v : ℕ} → x ≡ Rows n p v → GrownIs X count b a n p v
+  total-rows e = subst (TreesIs X count b a) e y
+
+  pub total-refused : {r : Reason} → x ≡ refusedTotal r → X ≡ failing r
+  total-refused e = subst (TreesIs X count b a) e y

@@ -1,0 +1,58 @@
+-- A reading: what is answered, and what the lent tables hold after it.
+use Prim.Native.Nat.{ℕ, _/_}
+use mathlib.Core.Path.{_≡_}
+use mathlib.Core.Bool.{Bool, _&&_}
+use mathlib.Core.List.{List, _++_}
+use lib.Dec.{leb}
+use lib.ListN.{length, drop}
+use Rattle.lists.specs.Pick.{pick}
+use Rattle.tables.specs.Rows.{Tables, tables}
+use Rattle.tables.specs.Flat.{flatTrees, flatNodes, flatProps, flatVals}
+use Rattle.tables.specs.declared.Counts.{Counts}
+use Rattle.tables.specs.declared.Reading.{Reading}
+use Rattle.tables.specs.declared.Reading.the-variants.{Accepted, Refused}
+use Rattle.tables.specs.declared.Reason.the-variants.{NoRoom}
+use Rattle.parser.specs.Read.{Answer, refused, accepted}
+
+-- the numbers of the four lent tables
+pub record Lent : Type 0 where
+  pub trees : List ℕ
+  pub nodes : List ℕ
+  pub props : List ℕ
+  pub vals : List ℕ
+
+abbrev pub lent : (trees nodes props vals : List ℕ) → Lent
+lent r t q w = record { trees = r; nodes = t; props = q; vals = w }
+
+-- how many rows there are of each kind
+abbrev pub countsOf : Tables → Counts
+countsOf t = record { trees = length (t .trees); nodes = length (t .nodes); properties = length (t .props); values = length (t .vals) }
+
+-- so many rows are lent: numbers divided by the stride
+abbrev pub roomFor : Counts → (trees nodes props vals : ℕ) → Bool
+roomFor c r t q w = leb (c .trees) (r / 2) && leb (c .nodes) (t / 5) && leb (c .properties) (q / 4) && leb (c .values) (w / 2)
+
+abbrev pub roomy : Tables → Lent → Bool
+roomy t l = roomFor (countsOf t) (length (l .trees)) (length (l .nodes)) (length (l .props)) (length (l .vals))
+
+-- rows, and behind them what was lent
+abbrev pub over : List ℕ → List ℕ → List ℕ
+over rows t = rows ++ drop (length rows) t
+
+abbrev pub stored : Tables → Lent → Lent
+stored t l = lent (over (flatTrees (t .trees)) (l .trees)) (over (flatNodes (t .nodes)) (l .nodes)) (over (flatProps (t .props)) (l .props)) (over (flatVals (t .vals)) (l .vals))
+
+-- what is answered: the last reason to refuse is that there is no room
+abbrev pub answers : Answer → Lent → Reading
+answers (refused r p) l = Refused r p
+answers (accepted ts) l = pick (roomy (tables ts) l) (Accepted (countsOf (tables ts))) (Refused NoRoom 0)
+
+-- the lent tables after it: a refusal leaves every number
+abbrev pub leaves : Answer → Lent → Lent
+leaves (refused r p) l = l
+leaves (accepted ts) l = pick (roomy (tables ts) l) (stored (tables ts) l) l
+
+-- both
+pub record ReadIs (a : Answer) (before after : Lent) (r : Reading) : Type 0 where
+  pub answer : r ≡ answers a before
+  pub tables : after ≡ leaves a before

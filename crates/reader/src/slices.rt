@@ -1,0 +1,158 @@
+// The trees of all slices, into the tables: a dry run, the room, the run that writes, the links.
+ghost use mathlib.Core.Path.{_≡_};
+ghost use Rattle.lexer.specs.Token.{lexAt};
+ghost use Rattle.parser.specs.Kind.{kind};
+ghost use Rattle.parser.specs.Read.{answer};
+ghost use Rattle.parser.specs.Slice.{sliceFrom};
+ghost use Rattle.trees.specs.Walks.{opts};
+ghost use Rattle.reader.specs.Game.{typeOf};
+ghost use Rattle.reader.specs.Lent.{lent, roomFor, ReadIs};
+ghost use Rattle.reader.specs.Slices.{leniently, readOf, SlicesReady, TreesIs};
+use crate::game::GameType;
+use tables::Counts;
+use tables::Reading;
+use tables::Reason;
+use trees::Walked;
+
+// The numbers of rows (nodes, properties, values); or why there are no trees.
+pub enum Total {
+    Rows(usize, usize, usize),
+    Refused(Reason),
+}
+
+// The game type of the slice at a place; lenient reading turns a refusal into Go.
+fn type_or_go(s: &[u8], at: usize, lenient: bool) -> GameType
+    ensures { λ r. ⌜ r ≡ typeOf (leniently lenient (kind (sliceFrom 0 (lexAt (now (s .entry)) at .toks)))) ⌝ }
+{
+    match crate::game::game_type(s, at) {
+        GameType::Is(kind) => GameType::Is(kind),
+        GameType::Refused(reason) => {
+            if lenient {
+                return GameType::Is(0);
+            }
+            GameType::Refused(reason)
+        }
+    }
+}
+
+// The trees of `count` slices from a place on, into the tables where they have room.
+fn read_trees(
+    s: &[u8],
+    from: usize,
+    count: usize,
+    lenient: bool,
+    convert: bool,
+    trees: &mut [u32],
+    nodes: &mut [u32],
+    properties: &mut [u32],
+    values: &mut [u32],
+) -> Total
+    requires { ⌜ SlicesReady (opts lenient convert) (now s) from count ⌝ }
+    ensures { λ r. ⌜ TreesIs (readOf (opts lenient convert) count (lexAt (now (s .entry)) from .toks)) count (lent (now (trees .entry)) (now (nodes .entry)) (now (properties .entry)) (now (values .entry))) (lent (now (trees .exit)) (now (nodes .exit)) (now (properties .exit)) (now (values .exit))) r ⌝ }
+{
+    let mut at = from;
+    let mut n: usize = 0;
+    let mut p: usize = 0;
+    let mut v: usize = 0;
+    let mut k: usize = 0;
+    while k < count {
+        match type_or_go(s, at, lenient) {
+            GameType::Refused(reason) => return Total::Refused(reason),
+            GameType::Is(kind) => {
+                match trees::walk_tree(
+                    s,
+                    at,
+                    lenient,
+                    convert,
+                    n,
+                    p,
+                    v,
+                    nodes,
+                    properties,
+                    values,
+                ) {
+                    Walked::Refused(reason) => return Total::Refused(reason),
+                    Walked::Tree(next, node, property, value) => {
+                        tables::put2(trees, k * tables::TREE_STRIDE, n as u32, kind);
+                        at = next;
+                        n = node;
+                        p = property;
+                        v = value;
+                        k += 1;
+                    }
+                }
+            }
+        }
+    }
+    Total::Rows(n, p, v)
+}
+
+// Are so many rows lent: numbers divided by the stride.
+fn has_room(counts: Counts, trees: usize, nodes: usize, properties: usize, values: usize) -> bool
+    ensures { λ r. ⌜ r ≡ roomFor counts trees nodes properties values ⌝ }
+{
+    (counts.trees <= trees / tables::TREE_STRIDE)
+        & (counts.nodes <= nodes / tables::NODE_STRIDE)
+        & (counts.properties <= properties / tables::PROPERTY_STRIDE)
+        & (counts.values <= values / tables::VALUE_STRIDE)
+}
+
+// The trees of `count` slices from a place on. The first run is on empty parts, so that a refusal has written nothing.
+pub fn read_slices(
+    s: &[u8],
+    from: usize,
+    count: usize,
+    lenient: bool,
+    convert: bool,
+    trees: &mut [u32],
+    nodes: &mut [u32],
+    properties: &mut [u32],
+    values: &mut [u32],
+) -> Reading
+    requires { ⌜ SlicesReady (opts lenient convert) (now s) from count ⌝ }
+    ensures { λ r. ⌜ ReadIs (answer (readOf (opts lenient convert) count (lexAt (now (s .entry)) from .toks))) (lent (now (trees .entry)) (now (nodes .entry)) (now (properties .entry)) (now (values .entry))) (lent (now (trees .exit)) (now (nodes .exit)) (now (properties .exit)) (now (values .exit))) r ⌝ }
+{
+    match read_trees(
+        s,
+        from,
+        count,
+        lenient,
+        convert,
+        &mut trees[..0],
+        &mut nodes[..0],
+        &mut properties[..0],
+        &mut values[..0],
+    ) {
+        Total::Refused(reason) => Reading::Refused(reason, 0),
+        Total::Rows(n, p, v) => {
+            let counts = Counts {
+                trees: count,
+                nodes: n,
+                properties: p,
+                values: v,
+            };
+            if !has_room(
+                counts,
+                trees.len(),
+                nodes.len(),
+                properties.len(),
+                values.len(),
+            ) {
+                return Reading::Refused(Reason::NoRoom, 0);
+            }
+            read_trees(
+                s,
+                from,
+                count,
+                lenient,
+                convert,
+                trees,
+                nodes,
+                properties,
+                values,
+            );
+            tables::link_nodes(nodes, n);
+            Reading::Accepted(counts)
+        }
+    }
+}
