@@ -1,8 +1,9 @@
 -- Marks added to marks: none, one place, one more, a row and a rectangle. Assumes nothing.
 use Prim.Native.Nat.{ℕ, _+_, _*_, _/_, _%_, _≤_, _<_}
 use mathlib.Core.Path.{_≡_, refl, sym, ap, _∙_}
-use mathlib.Core.Bool.{Bool, true, false, _&&_, _||_, and-false, or-assoc, and-or-distrib-left, and-or-distrib-right}
+use mathlib.Core.Bool.{Bool, true, false, _&&_, _||_, and-false, or-false, or-assoc, and-or-distrib-left, and-or-distrib-right}
 use mathlib.Core.List.{List}
+use native.Mathlib.Nat.{le-refl}
 use native.Mathlib.Omega.{arith}
 use lib.Dec.{leb, ltb, eqb}
 use lib.ListN.{length, getD, set, length-set}
@@ -62,7 +63,7 @@ ranged-more a b n h = go (eqb n b) refl
     go false e = ap (λ t. leb a n && t) (next (ltb n b) refl (eqb-false n b e))
 
 -- a place by its coordinates
-pub place-is : (x y i : ℕ) → y < 52 → eqb (52 * x + y) i ≡ (eqb (i / 52) x && eqb (i % 52) y)
+place-is : (x y i : ℕ) → y < 52 → eqb (52 * x + y) i ≡ (eqb (i / 52) x && eqb (i % 52) y)
 place-is x y i h = go (eqb (52 * x + y) i) refl
   where
     apart : (p q : Bool) → eqb (i / 52) x ≡ p → eqb (i % 52) y ≡ q → (52 * x + y ≡ i → ⊥) → false ≡ (p && q)
@@ -86,6 +87,10 @@ row-more x from y h l i =
     ∙ sym (and-or-distrib-left (eqb (i / 52) x) (eqb (i % 52) y) (ranged from y (i % 52)))
     ∙ ap (λ t. t && (eqb (i % 52) y || ranged from y (i % 52))) (sym (ranged-one x (i / 52)))
     ∙ ap (λ t. ranged x (x + 1) (i / 52) && t) (ranged-more from y (i % 52) h)
+
+-- one place
+pub cell-is : (x y : ℕ) → y < 52 → (i : ℕ) → inRect x (x + 1) y (y + 1) i ≡ eqb (52 * x + y) i
+cell-is x y h i = sym (row-more x y y (le-refl y) h i) ∙ ap (λ t. eqb (52 * x + y) i || t) (row-none x y i) ∙ or-false (eqb (52 * x + y) i)
 
 pub rect-none : (x y y2 i : ℕ) → inRect x x y y2 i ≡ false
 unfolding inRect

@@ -2,7 +2,12 @@ pub mod Adding
 pub mod Areas
 pub mod Choosing
 pub mod Identifiers
+pub mod Keeps
+pub mod Letters
+pub mod Listed
 pub mod Marked
+pub mod ReadBack
 pub mod Sets
+pub mod Shapes
 pub mod Valued
 pub mod Unique

@@ -18,12 +18,12 @@ use Rattle.go.specs.declared.value.GoValue.{GoValue}
 use Rattle.go.specs.declared.value.Value.the-variants.{Invalid, Points}
 use Rattle.go.proofs.Valued.{values-next, values-end}
 
-marks-length : (f : ℕ → Bool) (i n : ℕ) → length (marksFrom f i n) ≡ n
+pub marks-length : (f : ℕ → Bool) (i n : ℕ) → length (marksFrom f i n) ≡ n
 unfolding marksFrom
 marks-length f i zero = refl
 marks-length f i (suc n) = ap suc (marks-length f (suc i) n)
 
-marks-at : (f : ℕ → Bool) (i n k : ℕ) → k < n → getD (marksFrom f i n) k false ≡ f (i + k)
+pub marks-at : (f : ℕ → Bool) (i n k : ℕ) → k < n → getD (marksFrom f i n) k false ≡ f (i + k)
 unfolding marksFrom
 marks-at f i zero k h = absurd (omega arith)
 marks-at f i (suc n) zero h = let e : i ≡ i + 0 = omega arith in ap f e
@@ -78,3 +78,11 @@ module _ {vs rest r : List (List ℕ)} {v w : List ℕ} {m : List Bool} (g : Gat
             ∙ sym (or-assoc (getD m i false) (here i) (inSome (areasOf r) i))
             ∙ ap (λ t. t || inSome (areasOf r) i) (or-comm (getD m i false) (here i) ∙ sym (a .at i));
       }
+
+pub marks-all : (f : ℕ → Bool) → length (marksOf f) ≡ 2704
+unfolding marksOf
+marks-all f = marks-length f 0 2704
+
+pub marks-place : (f : ℕ → Bool) (i : ℕ) → i < 2704 → getD (marksOf f) i false ≡ f i
+unfolding marksOf
+marks-place f i h = let e : 0 + i ≡ i = omega arith in marks-at f 0 2704 i h ∙ ap f e

@@ -1,5 +1,6 @@
 pub mod Area
 pub mod Identifier
 pub mod Marks
+pub mod Normal
 pub mod Rows
 pub mod Value

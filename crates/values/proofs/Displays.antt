@@ -1,11 +1,13 @@
 -- What is shown, byte by byte into the output, and the answer. Assumes nothing.
 use Prim.Native.Nat.{ℕ, _-_, _^_, _≤_, _<_, min}
 use mathlib.Core.Path.{_≡_, refl, sym, ap, _∙_, subst}
+use mathlib.Core.Bool.{Bool, true, false}
 use mathlib.Core.List.{List, [], _∷_, _++_, append-assoc, append-nil}
 use native.Mathlib.Nat.{le-refl}
 use native.Mathlib.Omega.{arith}
+use lib.Dec.{leb}
 use lib.ListN.{length, drop}
-use borrow.Author.Tests.{le-leb, lt-leb}
+use borrow.Author.Tests.{le-leb, lt-leb, leb-true, leb-false}
 use Rattle.values.specs.Read.{readValue}
 use Rattle.values.specs.Display.{formatText, oneLine, shown, displayed, displayedIn}
 use Rattle.values.specs.Showing.{Shows}
@@ -48,25 +50,27 @@ module _ (kind : Kind) (raw : List ℕ) {out₀ out : List ℕ} {at to : ℕ} (d
   pub display-end : Shows (shown kind) raw at End → Wrote (shown kind (readValue raw)) out₀ 0 out to
   display-end st = wrote-is (sym (d .is ∙ ap (λ z. d .done ++ z) st ∙ append-nil (d .done))) (d .wrote)
 
--- a text that was measured on an empty part
-module _ (w out : List ℕ) {e : List ℕ} {need : ℕ} (m : Wrote w [] 0 e need) where
-  display-kept : e ++ out ≡ out
-  display-kept = ap (λ z. z ++ out) (m .bytes ∙ sets-out [] 0 w (le-refl 0))
+module _ (w out : List ℕ) (b : length out < 2 ^ 63) where
+  -- a text that was measured on an empty part
+  pub room-measured : {e : List ℕ} {need : ℕ} → Wrote w [] 0 e need → (leb need (length (e ++ out)) ≡ leb (length w) (length out)) × (e ++ out ≡ out)
+  room-measured {e} {need} m = (ap (λ (z : List ℕ). leb need (length z)) kept ∙ go (leb (length w) (length out)) refl, kept)
+    where
+      kept : e ++ out ≡ out
+      kept = ap (λ z. z ++ out) (m .bytes ∙ sets-out [] 0 w (le-refl 0))
 
-  pub display-refused : length (e ++ out) < need → (NoRoom ≡ displayed w out) × (e ++ out ≡ displayedIn w out)
-  unfolding displayed displayedIn
-  display-refused h =
-      let l : length (e ++ out) ≡ length out = ap length display-kept in
-      let p = m .place in
-      let s : length out < length w = omega arith in
-      (rw (lt-leb (length w) (length out) s), rw (lt-leb (length w) (length out) s) display-kept)
+      go : (t : Bool) → leb (length w) (length out) ≡ t → leb need (length out) ≡ t
+      go true q = le-leb need (length out) (omega (arith, m .place, leb-true (length w) (length out) q))
+      go false q = lt-leb need (length out) (omega (arith, m .place, leb-false (length w) (length out) q))
 
-  pub display-done : {out′ : List ℕ} {r : ℕ} → need ≤ length (e ++ out) → length out < 2 ^ 63 → Wrote w (e ++ out) 0 out′ r → (Length r ≡ displayed w out) × (out′ ≡ displayedIn w out)
-  unfolding displayed displayedIn
-  display-done {out′} {r} h b x =
-      let l : length (e ++ out) ≡ length out = ap length display-kept in
-      let p = m .place in
-      let q = x .place in
-      let s : length w ≤ length out = omega arith in
-      let n : r ≡ length w = omega arith in
-      (rw (le-leb (length w) (length out) s) (ap Length n), rw (le-leb (length w) (length out) s) (wrote-all (subst (λ z. Wrote w z 0 out′ r) display-kept x) s))
+  module _ {r : Bool} {out1 : List ℕ} (e : r ≡ leb (length w) (length out)) (k : out1 ≡ out) where
+    pub display-refused : r ≡ false → (NoRoom ≡ displayed w out) × (out1 ≡ displayedIn w out)
+    unfolding displayed displayedIn
+    display-refused t = (rw (sym e ∙ t), rw (sym e ∙ t) k)
+
+    pub display-done : {out2 : List ℕ} {n : ℕ} → r ≡ true → Wrote w out1 0 out2 n → (Length n ≡ displayed w out) × (out2 ≡ displayedIn w out)
+    unfolding displayed displayedIn
+    display-done {out2} {n} t x =
+        let s = leb-true (length w) (length out) (sym e ∙ t) in
+        let p = x .place in
+        let q : n ≡ length w = omega arith in
+        (rw (sym e ∙ t) (ap Length q), rw (sym e ∙ t) (wrote-all (subst (λ z. Wrote w z 0 out2 n) k x) s))

@@ -2,6 +2,7 @@
 ghost use mathlib.Core.Path.{_≡_};
 ghost use mathlib.Core.List.{List};
 ghost use Prim.Native.Nat.{ℕ, _≤_, _<_};
+ghost use lib.Dec.{leb};
 ghost use lib.ListN.{length, drop, getD};
 ghost use Rattle.values.specs.Read.{readValue};
 ghost use Rattle.values.specs.Display.{blank1, blank2, blank3, formatText, oneLine, shown, displayed, displayedIn};
@@ -199,13 +200,24 @@ fn put_shown(kind: Kind, raw: &[u8], out: &mut [u8]) -> usize
     }
 }
 
+// Whether the output has room for what a raw value shows, which is never longer than the value.
+fn has_room(kind: Kind, raw: &[u8], out: &mut [u8]) -> bool
+    ensures { λ r. ⌜ r ≡ leb (length (shown kind (readValue (now (raw .entry))))) (length (now (out .entry))) ⌝ }
+    ensures { λ _. ⌜ now (out .exit) ≡ now (out .entry) ⌝ }
+{
+    if raw.len() <= out.len() {
+        return true;
+    }
+    let need = put_shown(kind, raw, &mut out[..0]);
+    need <= out.len()
+}
+
 // Displays a raw value in the output, or changes nothing where it has no room for all of it.
 pub fn display(kind: Kind, raw: &[u8], out: &mut [u8]) -> Displayed
     ensures { λ r. ⌜ r ≡ displayed (shown kind (readValue (now (raw .entry)))) (now (out .entry)) ⌝ }
     ensures { λ _. ⌜ now (out .exit) ≡ displayedIn (shown kind (readValue (now (raw .entry)))) (now (out .entry)) ⌝ }
 {
-    let need = put_shown(kind, raw, &mut out[..0]);
-    if out.len() < need {
+    if !has_room(kind, raw, out) {
         return Displayed::NoRoom;
     }
     let length = put_shown(kind, raw, out);

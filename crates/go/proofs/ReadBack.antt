@@ -1,0 +1,108 @@
+-- Reading back: the normal form of values has their Go value, and is its own normal form. Assumes nothing.
+use Prim.Native.Nat.{ℕ, _-_, _^_}
+use mathlib.Core.Path.{_≡_, refl, sym, ap, _∙_, subst}
+use mathlib.Core.Bool.{Bool, true, false}
+use mathlib.Core.List.{List, [], _∷_}
+use native.Mathlib.Omega.{arith}
+use lib.Dec.{eqb}
+use borrow.Author.Tests.{le-leb, ne-eqb}
+use Rattle.lists.specs.Pick.{pick}
+use Rattle.values.specs.Read.{readFrom}
+use Rattle.values.proofs.RoundTrip.{decimal-back}
+use Rattle.go.specs.Area.{moveOf}
+use Rattle.go.specs.Marks.{allGood, inSome, marksOf}
+use Rattle.go.specs.Normal.{written, normal}
+use Rattle.go.specs.Value.{shapeOf, handicapOf, noMarks, unmarked, areasOf, pointsOf, valueBy, goValue}
+use Rattle.go.specs.declared.value.GoValue.{GoValue}
+use Rattle.go.specs.declared.value.Shape.{Shape}
+use Rattle.go.specs.declared.value.Shape.the-variants.{OneMove, OneNumber, ManyPoints, Unread}
+use Rattle.go.specs.declared.value.Value.{Value}
+use Rattle.go.specs.declared.value.Value.the-variants.{Other, Invalid, Pass, Move, Handicap, Points}
+use Rattle.go.proofs.Letters.{move-back}
+use Rattle.go.proofs.Listed.{points-back}
+use Rattle.go.proofs.Marked.{marks-all}
+use Rattle.go.proofs.Shapes.{Moved, Numbered, moves, numbers, moves-moved, numbers-numbered, points-valid, points-invalid}
+
+-- ---- each shape reads back
+
+moves-back : (v : Value) (ms : List Bool) (vs : List (List ℕ)) → moves vs ≡ v → Moved v → moves (written v ms vs) ≡ v
+unfolding written readFrom moveOf
+moves-back Other ms vs e h = e
+moves-back Invalid ms vs e h = e
+moves-back Pass ms vs e h = refl
+moves-back (Move x y) ms vs e h = move-back x y (omega (arith, h)) (omega (arith, h))
+moves-back (Handicap n) ms vs e h = absurd h
+moves-back Points ms vs e h = absurd h
+
+numbers-back : (v : Value) (ms : List Bool) (vs : List (List ℕ)) → numbers vs ≡ v → Numbered v → numbers (written v ms vs) ≡ v
+unfolding written handicapOf
+numbers-back Other ms vs e h = e
+numbers-back Invalid ms vs e h = e
+numbers-back Pass ms vs e h = absurd h
+numbers-back (Move x y) ms vs e h = absurd h
+numbers-back (Handicap n) ms vs e h = ap handicapOf (decimal-back (2 ^ 63 - 1) n (h .1) (omega (arith, h))) ∙ rw (le-leb 2 n (h .0))
+numbers-back Points ms vs e h = absurd h
+
+set-back : (vs : List (List ℕ)) → pointsOf (written (pointsOf vs .value) (pointsOf vs .marks) vs) ≡ pointsOf vs
+unfolding written
+set-back vs = go (allGood (areasOf vs)) refl
+  where
+    Back : GoValue → Type 0
+    Back g = pointsOf (written (g .value) (g .marks) vs) ≡ g
+
+    go : (t : Bool) → allGood (areasOf vs) ≡ t → Back (pointsOf vs)
+    go true e = subst Back (sym (points-valid vs e)) (points-back (marksOf (inSome (areasOf vs))) (marks-all (inSome (areasOf vs))))
+    go false e = subst Back (sym (points-invalid vs e)) (points-invalid vs e)
+
+shape-back : (s : Shape) (vs : List (List ℕ)) → valueBy s (written (valueBy s vs .value) (valueBy s vs .marks) vs) ≡ valueBy s vs
+unfolding valueBy
+shape-back OneMove vs = ap unmarked (moves-back (moves vs) noMarks vs refl (moves-moved vs))
+shape-back OneNumber vs = ap unmarked (numbers-back (numbers vs) noMarks vs refl (numbers-numbered vs))
+shape-back ManyPoints vs = set-back vs
+shape-back Unread vs = refl
+
+-- ---- every property
+
+module _ (kind : ℕ) (identifier : List ℕ) where
+  pub normal-value : (vs : List (List ℕ)) → goValue kind identifier (normal kind identifier vs) ≡ goValue kind identifier vs
+  unfolding goValue normal written
+  normal-value vs = go (eqb kind 0)
+    where
+      go : (t : Bool)
+          → (let g = pick t (valueBy (shapeOf identifier) vs) (unmarked Other) in pick t (valueBy (shapeOf identifier) (written (g .value) (g .marks) vs)) (unmarked Other) ≡ g)
+      go true = shape-back (shapeOf identifier) vs
+      go false = refl
+
+  written-twice : (v : Value) (ms : List Bool) (vs : List (List ℕ)) → written v ms (written v ms vs) ≡ written v ms vs
+  unfolding written
+  written-twice Other ms vs = refl
+  written-twice Invalid ms vs = refl
+  written-twice Pass ms vs = refl
+  written-twice (Move x y) ms vs = refl
+  written-twice (Handicap n) ms vs = refl
+  written-twice Points ms vs = refl
+
+  pub normal-twice : (vs : List (List ℕ)) → normal kind identifier (normal kind identifier vs) ≡ normal kind identifier vs
+  unfolding normal
+  normal-twice vs =
+      let g : GoValue = goValue kind identifier vs in
+      ap (λ (h : GoValue). written (h .value) (h .marks) (normal kind identifier vs)) (normal-value vs) ∙ written-twice (g .value) (g .marks) vs
+
+  -- a property that is not read keeps its raw values
+  pub normal-other : (vs : List (List ℕ)) → shapeOf identifier ≡ Unread → normal kind identifier vs ≡ vs
+  unfolding normal goValue valueBy written
+  normal-other vs e = go (eqb kind 0)
+    where
+      go : (t : Bool) → (let g = pick t (valueBy (shapeOf identifier) vs) (unmarked Other) in written (g .value) (g .marks) vs ≡ vs)
+      go true = ap (λ (s : Shape). written (valueBy s vs .value) (valueBy s vs .marks) vs) e
+      go false = refl
+
+  -- so does one of an unknown game
+  pub normal-unknown : (vs : List (List ℕ)) → (kind ≡ 0 → ⊥) → normal kind identifier vs ≡ vs
+  unfolding normal goValue written
+  normal-unknown vs h = rw (ne-eqb kind 0 h)
+
+-- and the game type
+pub normal-game : (kind : ℕ) (vs : List (List ℕ)) → normal kind (0x47 ∷ 0x4d ∷ []) vs ≡ vs
+unfolding shapeOf
+normal-game kind vs = normal-other kind (0x47 ∷ 0x4d ∷ []) vs refl
