@@ -1,0 +1,10 @@
+pub mod Written
+pub mod Grow
+pub mod Regrow
+pub mod Nested
+pub mod Sizes
+pub mod RootProps
+pub mod ReadBack
+pub mod Sounding
+pub mod Normal
+pub mod BetterBack

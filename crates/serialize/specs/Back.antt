@@ -1,0 +1,76 @@
+-- Reading back: what is asked of a text and its trees, and what a strict reading of the writing gives.
+use Prim.Native.Nat.{ℕ}
+use mathlib.Core.Path.{_≡_}
+use mathlib.Core.Bool.{Bool, true, false}
+use mathlib.Core.List.{List, [], _∷_, map}
+use Rattle.lists.specs.All.{All}
+use Rattle.utf8.specs.Text.{Utf, whole, part, bad, blank, utfs}
+use Rattle.lexer.specs.Token.{Prop, Tok, start, end, node, prop}
+use Rattle.lexer.specs.Move.{moveProp, moveTok}
+use Rattle.tables.specs.Record.{Node, Tree}
+use Rattle.tables.specs.Move.{moveNode, moveTree}
+use Rattle.parser.specs.Split.{Slices, no, slices, slicesOf}
+use Rattle.parser.specs.Walk.{uppers}
+use Rattle.parser.specs.Read.{accepted, lex, read}
+use Rattle.edit.specs.Run.{strictly}
+use Rattle.serialize.specs.Write.{writeTrees}
+
+-- not empty
+abbrev pub some : List ℕ → Bool
+some [] = false
+some (b ∷ bs) = true
+
+-- an identifier of uppercase letters only, and not empty
+abbrev pub Named : Prop → Type 0
+Named p = (some (p .name) ≡ true) × (uppers (p .name) ≡ true)
+
+-- the tokens begin with `(`
+abbrev pub Begins : List Tok → Type 0
+Begins [] = ⊥
+Begins (start o ∷ ts) = Unit {0}
+Begins (end o ∷ ts) = ⊥
+Begins (node o ∷ ts) = ⊥
+Begins (prop p e ∷ ts) = ⊥
+
+-- each slice begins with `(`
+abbrev pub BeginsAll : Slices → Type 0
+BeginsAll (no n) = Unit {0}
+BeginsAll (slices ss) = All Begins ss
+
+-- the tokens of a text that is UTF-8
+abbrev pub toksOf : Utf → List ℕ → List Tok
+toksOf (whole k) t = lex k t .toks
+toksOf (part k s n r c) t = []
+toksOf (bad p) t = []
+
+-- the slices of a text
+abbrev pub slicesIn : List ℕ → Slices
+slicesIn t = slicesOf false (toksOf (utfs (whole blank) 0 t) t)
+
+-- places aside: every place is 0
+abbrev pub Z : ℕ → ℕ
+Z n = 0
+
+-- bytes as they are
+abbrev pub K : ℕ → List ℕ → List ℕ
+K n r = r
+
+-- places aside, of a property, a token, a node, a tree
+abbrev pub zProp : Prop → Prop
+zProp = moveProp Z Z K
+
+abbrev pub zTok : Tok → Tok
+zTok = moveTok Z Z K
+
+abbrev pub zNode : Node → Node
+zNode = moveNode Z Z K
+
+abbrev pub zTree : Tree → Tree
+zTree = moveTree Z Z K
+
+-- a strict reading of the writing is accepted with trees that are the same but for places, and writing them gives the same bytes
+pub record Back (c : Bool) (ts : List Tree) : Type 0 where
+  pub again : List Tree
+  pub accepts : read (strictly c) (writeTrees ts) ≡ accepted again
+  pub alike : map zTree again ≡ map zTree ts
+  pub bytes : writeTrees again ≡ writeTrees ts

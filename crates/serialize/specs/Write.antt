@@ -1,0 +1,82 @@
+-- Writing: a walk over the nodes, in order, with the open nodes on a path; values as they are raw.
+use Prim.Native.Nat.{ℕ, suc}
+use mathlib.Core.Bool.{Bool, true, false, _||_, _&&_}
+use mathlib.Core.List.{List, [], _∷_, _++_}
+use lib.ListN.{length}
+use lib.Dec.{leb, eqb}
+use Rattle.lists.specs.Pick.{pick}
+use Rattle.lexer.specs.Token.{Val, Prop}
+use Rattle.tables.specs.Numbers.{none}
+use Rattle.tables.specs.Record.{Node, Tree}
+use Rattle.tables.specs.Rows.{parents}
+
+-- an open node: its number, and whether it stands in brackets
+pub record Open : Type 0 where
+  pub num : ℕ
+  pub brk : Bool
+
+-- the read identifier: the uppercase letters of the raw one
+abbrev pub letters : List ℕ → List ℕ
+letters [] = []
+letters (b ∷ bs) = let r = letters bs in pick (leb 0x41 b && leb b 0x5a) (b ∷ r) r
+
+-- the values in their brackets
+abbrev pub boxed : List Val → List ℕ
+boxed [] = []
+boxed (v ∷ vs) = 0x5b ∷ (v .raw ++ (0x5d ∷ boxed vs))
+
+-- read identifiers and values
+abbrev pub writeProps : List Prop → List ℕ
+writeProps [] = []
+writeProps (p ∷ ps) = letters (p .name) ++ (boxed (p .vals) ++ writeProps ps)
+
+-- how many of the parents are p
+abbrev pub times : ℕ → List ℕ → ℕ
+times p [] = 0
+times p (q ∷ qs) = let r = times p qs in pick (eqb q p) (suc r) r
+
+-- a node stands in brackets where it has a sibling; p is its parent, ps all parents of the tree
+abbrev pub bracketed : List ℕ → ℕ → Bool
+bracketed ps p = leb 2 (times p ps)
+
+-- an end for a node that stands in brackets
+abbrev pub shuts : Bool → List ℕ → List ℕ
+shuts true r = 0x29 ∷ r
+shuts false r = r
+
+-- the ends before a node whose parent is p
+abbrev pub ends : ℕ → List Open → List ℕ
+ends p [] = []
+ends p (x ∷ xs) = let r = shuts (x .brk) (ends p xs) in pick (eqb (x .num) p) [] r
+
+-- the path that is left then
+abbrev pub left : ℕ → List Open → List Open
+left p [] = []
+left p (x ∷ xs) = let r = left p xs in pick (eqb (x .num) p) (x ∷ xs) r
+
+-- a start for such a node
+abbrev pub opened : Bool → List ℕ → List ℕ
+opened true r = 0x28 ∷ r
+opened false r = r
+
+-- the nodes from number k on: ends, perhaps a start, `;`, properties; at last all ends
+abbrev pub writeNodes : (ps : List ℕ) (k : ℕ) → List Open → List Node → List ℕ
+writeNodes ps k path [] = ends none path
+writeNodes ps k path (n ∷ ns) =
+    ends (n .parent) path
+    ++ opened (bracketed ps (n .parent))
+    (0x3b ∷ (writeProps (n .props) ++ writeNodes ps (suc k) (record { num = k; brk = bracketed ps (n .parent) } ∷ left (n .parent) path) ns))
+
+-- each tree is `(`, its root, `)`
+abbrev pub writeTree : Tree → List ℕ
+writeTree t = 0x28 ∷ (writeNodes (parents (t .nodes)) (t .root) [] (t .nodes) ++ (0x29 ∷ []))
+
+-- all trees
+abbrev pub writeTrees : List Tree → List ℕ
+writeTrees [] = []
+writeTrees (t ∷ ts) = writeTree t ++ writeTrees ts
+
+-- an identifier reads as empty
+abbrev pub nameless : List Prop → Bool
+nameless [] = false
+nameless (p ∷ ps) = leb (length (letters (p .name))) 0 || nameless ps

@@ -1,0 +1,1 @@
+// Writing: its definition (specs/), and that strict reading of a writing gives the record again (proofs/). No code yet.
