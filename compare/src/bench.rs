@@ -4,8 +4,9 @@ use crate::rng::Rng;
 use std::hint::black_box;
 use std::time::{Duration, Instant};
 
-/// Time spent on each measurement.
-const SPENT: Duration = Duration::from_millis(400);
+/// Time spent on each text, and the fewest rounds.
+const SPENT: Duration = Duration::from_millis(1500);
+const ROUNDS: usize = 9;
 
 /// A game's text of about `length` bytes: moves with now and then a comment, a label or a variation.
 fn game(length: usize) -> String {
@@ -34,33 +35,19 @@ fn comments() -> String {
     format!("(;GM[1]{nodes})")
 }
 
-/// The least time that one run takes, over as many as fit into the time to be spent.
-fn least(mut run: impl FnMut() -> Duration) -> f64 {
-    let begun = Instant::now();
-    let mut least = run();
-    while begun.elapsed() < SPENT {
-        least = least.min(run());
-    }
-    least.as_secs_f64() * 1e9
+/// The least time of three runs in a row: a reader that is in use has its memory at hand. Dropping the answer is not counted.
+fn timed<T>(mut run: impl FnMut() -> T) -> Duration {
+    let one = |_| {
+        let begun = Instant::now();
+        let answer = black_box(run());
+        let spent = begun.elapsed();
+        drop(answer);
+        spent
+    };
+    [0, 1, 2].map(one).into_iter().min().unwrap()
 }
 
-/// The time of one run.
-fn timed<T>(run: impl FnOnce() -> T) -> (Duration, T) {
-    let begun = Instant::now();
-    let answer = black_box(run());
-    (begun.elapsed(), answer)
-}
-
-/// Nanoseconds of trimming.
-fn trim_time(text: &str) -> f64 {
-    least(|| timed(|| library::trim(black_box(text.as_bytes()))).0)
-}
-
-/// Nanoseconds of a walk over the tokens.
-fn token_time(text: &str) -> f64 {
-    least(|| timed(|| walk(black_box(text.as_bytes()))).0)
-}
-
+/// The tokens of a text, one by one.
 fn walk(text: &[u8]) -> usize {
     let mut token = library::token(text, 0);
     while token.kind != library::DONE {
@@ -69,36 +56,43 @@ fn walk(text: &[u8]) -> usize {
     token.to
 }
 
-/// Nanoseconds of a strict reading.
-fn read_time(text: &str) -> f64 {
-    let rows = text.len() + 1;
-    let mut tables = [2, 5, 4, 2].map(|stride| vec![0u32; rows * stride]);
-    least(|| {
-        let [trees, nodes, properties, values] = &mut tables;
-        let (spent, reading) = timed(|| library::read(black_box(text.as_bytes()), 0, [trees, nodes, properties, values]));
-        assert_eq!(reading.number, 0);
-        spent
-    })
+/// The times of trimming, of a walk over the tokens, of a strict reading, and of the crate.
+fn round(text: &str, tables: &mut [Vec<u32>; 4]) -> [Duration; 4] {
+    let bytes = black_box(text.as_bytes());
+    let [trees, nodes, properties, values] = tables;
+    [
+        timed(|| library::trim(bytes)),
+        timed(|| walk(bytes)),
+        timed(|| library::read(bytes, 0, [trees, nodes, properties, values])),
+        timed(|| sgf_parse::parse(black_box(text))),
+    ]
 }
 
-/// Nanoseconds that the crate takes; dropping its trees is not counted.
-fn crate_time(text: &str) -> f64 {
-    least(|| {
-        let (spent, trees) = timed(|| sgf_parse::parse(black_box(text)));
-        assert!(trees.is_ok());
-        spent
-    })
+/// The least of each time over rounds that take turns, so that a busy machine is busy for all.
+fn least(text: &str) -> [Duration; 4] {
+    let rows = text.len() + 1;
+    let mut tables = [2, 5, 4, 2].map(|stride| vec![0u32; rows * stride]);
+    assert!(sgf_parse::parse(text).is_ok(), "a text to be read");
+    let begun = Instant::now();
+    let mut least = [Duration::MAX; 4];
+    let mut rounds = 0;
+    while rounds < ROUNDS || begun.elapsed() < SPENT {
+        let times = round(text, &mut tables);
+        least = [0, 1, 2, 3].map(|k| least[k].min(times[k]));
+        rounds += 1;
+    }
+    least
 }
 
 fn row(name: &str, text: &str) {
-    let times = [trim_time(text), token_time(text), read_time(text), crate_time(text)];
-    let columns: String = times.iter().map(|time| format!("{:>11.3}", time / text.len() as f64)).collect();
+    let times = least(text).map(|time| time.as_secs_f64() * 1e9 / text.len() as f64);
+    let columns: String = times.iter().map(|time| format!("{time:>11.3}")).collect();
     println!("{name:<24}{:>9}{columns}{:>9.1}", text.len(), times[3] / times[2]);
 }
 
 /// Prints the table.
 pub fn run() {
-    println!("{}; ns per byte, least of all runs; the ratio is sgf-parse to reading", library::NAME);
+    println!("{}; ns per byte, least of all rounds; the ratio is sgf-parse to reading", library::NAME);
     println!("{:<24}{:>9}{:>11}{:>11}{:>11}{:>11}{:>9}", "text", "bytes", "trimming", "tokens", "reading", "sgf-parse", "ratio");
     row("game", &game(200_000));
     row("long comments", &comments());

@@ -62,11 +62,12 @@ struct Answer {
     cells: Columns,
 }
 
+/// A call with the two bits of the options; the further bits mean nothing, and vary with the text.
 fn call(text: &[u8], bits: u32, lent: [usize; 4]) -> Answer {
     let mut cells = lent.map(|length| (0..length + GUARD).map(canary).collect::<Vec<u32>>());
     let [trees, nodes, properties, values] = &mut cells;
     let tables = [&mut trees[..lent[0]], &mut nodes[..lent[1]], &mut properties[..lent[2]], &mut values[..lent[3]]];
-    let reading = library::read(text, bits, tables);
+    let reading = library::read(text, bits | (text.len() as u32) << 2, tables);
     Answer { reading, cells }
 }
 
