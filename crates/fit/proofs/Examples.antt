@@ -1,0 +1,104 @@
+-- Tables of `(;C[ab];B[cd])` fit it, and with one cell or count changed they do not; its values are accessed. By computation. Assumes nothing.
+use Prim.Native.Nat.{ℕ}
+use mathlib.Core.Bool.{Bool, true, false, _||_}
+use mathlib.Core.List.{List, [], _∷_, map}
+use mathlib.Core.Path.{_≡_, refl}
+use lib.ListN.{set}
+use Rattle.utf8.specs.Text.{white}
+use Rattle.utf8.specs.Trim.{trimmed}
+use Rattle.tables.specs.Numbers.{none}
+use Rattle.tables.specs.declared.Counts.{Counts}
+use Rattle.fit.specs.Access.{accessed, accessNumber, rawValue}
+use Rattle.fit.specs.Each.{each, sum, tabulate}
+use Rattle.fit.specs.Fit.{fitText, Fit}
+use Rattle.fit.specs.Nodes.{orphans, upward, onPath, firstUnder, nodesFit}
+use Rattle.fit.specs.Ranges.{rangesFit}
+use Rattle.fit.specs.Spans.{spans, ascending, plainName, spansFit}
+
+abbrev text : List ℕ
+text = 0x28 ∷ 0x3b ∷ 0x43 ∷ 0x5b ∷ 0x61 ∷ 0x62 ∷ 0x5d ∷ 0x3b ∷ 0x42 ∷ 0x5b ∷ 0x63 ∷ 0x64 ∷ 0x5d ∷ 0x29 ∷ []
+
+abbrev tr : List ℕ
+tr = 0 ∷ 0 ∷ []
+
+abbrev nd : List ℕ
+nd = none ∷ 1 ∷ none ∷ 0 ∷ 1 ∷ 0 ∷ none ∷ none ∷ 1 ∷ 1 ∷ []
+
+abbrev pr : List ℕ
+pr = 2 ∷ 3 ∷ 0 ∷ 1 ∷ 8 ∷ 9 ∷ 1 ∷ 1 ∷ []
+
+abbrev vl : List ℕ
+vl = 4 ∷ 6 ∷ 10 ∷ 12 ∷ []
+
+abbrev counts : (trees nodes properties values : ℕ) → Counts
+counts a b c d = record { trees = a; nodes = b; properties = c; values = d }
+
+abbrev fitting : (tr nd pr vl : List ℕ) → Bool
+fitting tr nd pr vl = Fit text 14 (counts 1 2 2 2) tr nd pr vl
+
+abbrev counted : ℕ → Counts → Bool
+counted used c = Fit text used c tr nd pr vl
+
+abbrev any : List Bool → Bool
+any [] = false
+any (b ∷ bs) = b || any bs
+
+pub unchanged : fitting tr nd pr vl ≡ true
+unfolding trimmed white each sum tabulate orphans upward onPath firstUnder nodesFit rangesFit spans ascending plainName spansFit fitText Fit
+unchanged = refl
+
+pub changed : any (
+    fitting (set tr 0 1) nd pr vl
+    ∷ fitting (set tr 1 2) nd pr vl
+    ∷ fitting tr (set nd 0 0) pr vl
+    ∷ fitting tr (set nd 0 1) pr vl
+    ∷ fitting tr (set nd 1 none) pr vl
+    ∷ fitting tr (set nd 1 0) pr vl
+    ∷ fitting tr (set nd 2 1) pr vl
+    ∷ fitting tr (set nd 3 1) pr vl
+    ∷ fitting tr (set nd 4 2) pr vl
+    ∷ fitting tr (set nd 5 none) pr vl
+    ∷ fitting tr (set nd 5 1) pr vl
+    ∷ fitting tr (set nd 6 1) pr vl
+    ∷ fitting tr (set nd 7 0) pr vl
+    ∷ fitting tr (set nd 8 0) pr vl
+    ∷ fitting tr (set nd 9 2) pr vl
+    ∷ fitting tr (set nd 9 0) pr vl
+    ∷ fitting tr nd (set pr 0 4) vl
+    ∷ fitting tr nd (set pr 1 4) vl
+    ∷ fitting tr nd (set pr 1 1) vl
+    ∷ fitting tr nd (set pr 2 1) vl
+    ∷ fitting tr nd (set pr 3 0) vl
+    ∷ fitting tr nd (set pr 3 2) vl
+    ∷ fitting tr nd (set pr 4 6) vl
+    ∷ fitting tr nd (set pr 5 10) vl
+    ∷ fitting tr nd (set pr 6 0) vl
+    ∷ fitting tr nd (set pr 7 0) vl
+    ∷ fitting tr nd pr (set vl 0 5)
+    ∷ fitting tr nd pr (set vl 0 3)
+    ∷ fitting tr nd pr (set vl 1 5)
+    ∷ fitting tr nd pr (set vl 1 7)
+    ∷ fitting tr nd pr (set vl 2 11)
+    ∷ fitting tr nd pr (set vl 3 13)
+    ∷ fitting tr nd pr (set vl 3 14)
+    ∷ counted 15 (counts 1 2 2 2)
+    ∷ counted 12 (counts 1 2 2 2)
+    ∷ counted 14 (counts 0 2 2 2)
+    ∷ counted 14 (counts 2 2 2 2)
+    ∷ counted 14 (counts 1 3 2 2)
+    ∷ counted 14 (counts 1 2 1 2)
+    ∷ counted 14 (counts 1 2 2 1)
+    ∷ []
+    ) ≡ false
+unfolding trimmed white each sum tabulate orphans upward onPath firstUnder nodesFit rangesFit spans ascending plainName spansFit fitText Fit
+changed = refl
+
+-- values 0, 1 and 2; and value 2 where the tables don't fit
+pub values-accessed : map (λ (k : ℕ). rawValue text 14 (counts 1 2 2 2) tr nd pr vl k) (0 ∷ 1 ∷ 2 ∷ []) ≡ (0x61 ∷ 0x62 ∷ []) ∷ (0x63 ∷ 0x64 ∷ []) ∷ [] ∷ []
+unfolding trimmed white each sum tabulate orphans upward onPath firstUnder nodesFit rangesFit spans ascending plainName spansFit fitText Fit accessed
+values-accessed = refl
+
+pub numbers-given : accessNumber (accessed text 14 (counts 1 2 2 2) tr nd pr vl 1) ∷ accessNumber (accessed text 14 (counts 1 2 2 2) tr nd pr vl 2) ∷ accessNumber (accessed text 13 (counts 1 2 2 2) tr (set nd 2 0) pr vl 2) ∷ []
+    ≡ 0 ∷ 16 ∷ 19 ∷ []
+unfolding trimmed white each sum tabulate orphans upward onPath firstUnder nodesFit rangesFit spans ascending plainName spansFit fitText Fit accessed
+numbers-given = refl

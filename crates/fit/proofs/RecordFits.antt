@@ -1,0 +1,76 @@
+-- Lent tables that have a record's rows: what of fitting follows for any record. Assumes nothing.
+use Prim.Native.Nat.{ℕ, zero, suc, _+_}
+use mathlib.Core.Bool.{true}
+use mathlib.Core.List.{List, [], _∷_}
+use mathlib.Core.Path.{_≡_, refl, sym, ap, _∙_}
+use lib.ListN.{length}
+use Rattle.lexer.specs.Token.{Val, Prop}
+use Rattle.tables.specs.Record.{Node, Tree, allNodes, allProps, allVals}
+use Rattle.tables.specs.Rows.{Tables, tables, parents, nodeRows, propRows, valRows}
+use Rattle.tables.specs.declared.Counts.{Counts}
+use Rattle.fit.specs.Columns.{firstPropAt, propCountAt, firstValAt, valCountAt}
+use Rattle.fit.specs.Each.{each, tabulate}
+use Rattle.fit.specs.Nodes.{childRight, siblingRight}
+use Rattle.fit.specs.Ranges.{gapless}
+use Rattle.fit.specs.Record.{nodeRow, propRow, rowsOf, countsOf}
+use Rattle.fit.proofs.RecordLinks.{children-fit, siblings-fit}
+use Rattle.fit.proofs.RecordRanges.{node-ranges-fit, prop-ranges-fit}
+
+-- ---- counts
+
+tabulate-length : {A : Type 0} (f : ℕ → A) (k m : ℕ) → length (tabulate f k m) ≡ m
+unfolding tabulate
+tabulate-length f k zero = refl
+tabulate-length f k (suc m) = ap suc (tabulate-length f (suc k) m)
+
+pub counts-of-rows : (c : Counts) (tr nd pr vl : List ℕ) → countsOf (rowsOf c tr nd pr vl) ≡ c
+counts-of-rows c tr nd pr vl = simp tabulate-length
+
+node-rows-length : (qs : List ℕ) (k f : ℕ) (ns : List Node) → length (nodeRows qs k f ns) ≡ length ns
+node-rows-length qs k f [] = refl
+node-rows-length qs k f (n ∷ ns) = ap suc (node-rows-length qs (suc k) (f + length (n .props)) ns)
+
+prop-rows-length : (f : ℕ) (ps : List Prop) → length (propRows f ps) ≡ length ps
+prop-rows-length f [] = refl
+prop-rows-length f (p ∷ ps) = ap suc (prop-rows-length (f + length (p .vals)) ps)
+
+val-rows-length : (vs : List Val) → length (valRows vs) ≡ length vs
+val-rows-length [] = refl
+val-rows-length (v ∷ vs) = ap suc (val-rows-length vs)
+
+module _ (c : Counts) (tr nd pr vl : List ℕ) (ts : List Tree) (h : rowsOf c tr nd pr vl ≡ tables ts) where
+  abbrev ns : List Node
+  ns = allNodes ts
+
+  abbrev ps : List Prop
+  ps = allProps (allNodes ts)
+
+  counted : c ≡ countsOf (tables ts)
+  counted = sym (counts-of-rows c tr nd pr vl) ∙ ap countsOf h
+
+  pub nodes-counted : c .nodes ≡ length ns
+  nodes-counted = ap (λ (z : Counts). z .nodes) counted ∙ node-rows-length (parents ns) 0 0 ns
+
+  pub properties-counted : c .properties ≡ length ps
+  properties-counted = ap (λ (z : Counts). z .properties) counted ∙ prop-rows-length 0 ps
+
+  pub values-counted : c .values ≡ length (allVals ps)
+  values-counted = ap (λ (z : Counts). z .values) counted ∙ val-rows-length (allVals ps)
+
+  node-rows : tabulate (nodeRow nd) 0 (length ns) ≡ nodeRows (parents ns) 0 0 ns
+  node-rows = rw (← nodes-counted) (ap (λ (z : Tables). z .nodes) h)
+
+  prop-rows : tabulate (propRow pr) 0 (length ps) ≡ propRows 0 ps
+  prop-rows = rw (← properties-counted) (ap (λ (z : Tables). z .props) h)
+
+  pub record-children : each (c .nodes) (childRight nd (c .nodes)) ≡ true
+  record-children = rw nodes-counted (children-fit nd ns node-rows)
+
+  pub record-siblings : each (c .nodes) (siblingRight nd (c .nodes)) ≡ true
+  record-siblings = rw nodes-counted (siblings-fit nd ns node-rows)
+
+  pub record-properties : gapless (firstPropAt nd) (propCountAt nd) (c .nodes) (c .properties) ≡ true
+  record-properties = rw (nodes-counted, properties-counted) (node-ranges-fit nd (parents ns) ns node-rows)
+
+  pub record-values : gapless (firstValAt pr) (valCountAt pr) (c .properties) (c .values) ≡ true
+  record-values = rw (properties-counted, values-counted) (prop-ranges-fit pr ps prop-rows)

@@ -1,0 +1,92 @@
+-- Lent tables that have a record's rows: first children and next siblings fit. Assumes nothing.
+use Prim.Native.Nat.{ℕ, suc, _+_, _-_, _≤_, _<_}
+use mathlib.Core.Bool.{Bool, true, _&&_, and-true, and-false}
+use mathlib.Core.List.{List, [], _∷_, head-eq-of-cons-eq, tail-eq-of-cons-eq}
+use mathlib.Core.Path.{_≡_, refl, sym, ap, ap₂, _∙_, subst}
+use native.Mathlib.Omega.{arith}
+use lib.Dec.{eqb, leb}
+use lib.ListN.{length}
+use borrow.Author.Tests.{eq-eqb, ne-eqb, le-leb, lt-leb}
+use Rattle.lists.specs.Pick.{pick}
+use Rattle.tables.specs.Numbers.{none}
+use Rattle.tables.specs.Record.{Node}
+use Rattle.tables.specs.Rows.{NodeRow, next, parents, nodeRows}
+use Rattle.fit.specs.Columns.{parentAt, childAt, siblingAt}
+use Rattle.fit.specs.Each.{each, tabulate}
+use Rattle.fit.specs.Nodes.{firstUnder, nextOf, childRight, siblingRight}
+use Rattle.fit.specs.Record.{nodeRow}
+use Rattle.fit.proofs.Cases.{same-or}
+use Rattle.fit.proofs.Each.{each-all}
+
+eqb-sym : (a b : ℕ) → eqb a b ≡ eqb b a
+eqb-sym a b = same-or a b (λ e. eq-eqb a b e ∙ sym (eq-eqb b a (sym e))) (λ e. ne-eqb a b e ∙ sym (ne-eqb b a (λ z. e (sym z))))
+
+-- the table has these parents from k on
+abbrev Tells : List ℕ → ℕ → List ℕ → Type 0
+Tells nd k [] = Unit {0}
+Tells nd k (q ∷ qs) = (parentAt nd k ≡ q) × Tells nd (suc k) qs
+
+-- ---- the first node under p, over the table and over the parents
+
+module _ (nd : List ℕ) (p lo : ℕ) where
+  next-at : (k : ℕ) (qs : List ℕ) → lo ≤ k → Tells nd k qs → next p lo k qs ≡ firstUnder nd p k (length qs)
+  unfolding firstUnder
+  next-at k [] l h = refl
+  next-at k (q ∷ qs) l h =
+      let e : (eqb p q && leb lo k) ≡ eqb (parentAt nd k) p = rw (le-leb lo k l, h .0) (and-true (eqb p q) ∙ eqb-sym p q) in
+      ap₂ (λ (b : Bool) (r : ℕ). pick b k r) e (next-at (suc k) qs (omega arith) (h .1))
+
+  next-from : (j : ℕ) (qs : List ℕ) → j ≤ lo → lo ≤ j + length qs → Tells nd j qs → next p lo j qs ≡ firstUnder nd p lo (j + length qs - lo)
+  unfolding firstUnder
+  next-from j [] a b h = let e : j + 0 - lo ≡ 0 = omega arith in ap (firstUnder nd p lo) (sym e)
+  next-from j (q ∷ qs) a b h =
+      same-or j lo
+      (λ z.
+      let e : length (q ∷ qs) ≡ j + suc (length qs) - lo = omega arith in
+      next-at j (q ∷ qs) (omega arith) h ∙ ap₂ (λ (x y : ℕ). firstUnder nd p x y) z e)
+      (λ z.
+      let e : suc j + length qs - lo ≡ j + suc (length qs) - lo = omega arith in
+      rw (lt-leb lo j (omega arith), and-false (eqb p q)) (next-from (suc j) qs (omega arith) (omega arith) (h .1) ∙ ap (firstUnder nd p lo) e))
+
+-- ---- the links in the rows
+
+abbrev Linked : List ℕ → List ℕ → ℕ → Type 0
+Linked nd qs i = (childAt nd i ≡ next i 0 0 qs) × (siblingAt nd i ≡ pick (eqb (parentAt nd i) none) none (next (parentAt nd i) (suc i) 0 qs))
+
+links : (nd qs : List ℕ) (f b : ℕ) (ns : List Node) → tabulate (nodeRow nd) b (length ns) ≡ nodeRows qs b f ns
+    → Tells nd b (parents ns) × ((i : ℕ) → b ≤ i → i < b + length ns → Linked nd qs i)
+unfolding tabulate
+links nd qs f b [] e = (tt, (λ i a c. absurd (omega arith)))
+links nd qs f b (n ∷ ns) e =
+    let row = head-eq-of-cons-eq e in
+    let p : parentAt nd b ≡ n .parent = ap (λ (z : NodeRow). z .parent) row in
+    let c : childAt nd b ≡ next b 0 0 qs = ap (λ (z : NodeRow). z .child) row in
+    let s : siblingAt nd b ≡ pick (eqb (parentAt nd b) none) none (next (parentAt nd b) (suc b) 0 qs) =
+    ap (λ (z : NodeRow). z .sibling) row ∙ ap (λ (z : ℕ). pick (eqb z none) none (next z (suc b) 0 qs)) (sym p) in
+    let r = links nd qs (f + length (n .props)) (suc b) ns (tail-eq-of-cons-eq e) in
+    ((p, r .0), (λ i a d. same-or i b (λ w. subst (Linked nd qs) (sym w) (c, s)) (λ w. r .1 i (omega arith) (omega arith))))
+
+parents-length : (ns : List Node) → length (parents ns) ≡ length ns
+parents-length [] = refl
+parents-length (n ∷ ns) = ap suc (parents-length ns)
+
+module _ (nd : List ℕ) (ns : List Node) (rows : tabulate (nodeRow nd) 0 (length ns) ≡ nodeRows (parents ns) 0 0 ns) where
+  all-links : Tells nd 0 (parents ns) × ((i : ℕ) → 0 ≤ i → i < 0 + length ns → Linked nd (parents ns) i)
+  all-links = links nd (parents ns) 0 0 ns rows
+
+  pub children-fit : each (length ns) (childRight nd (length ns)) ≡ true
+  children-fit =
+      each-all (childRight nd (length ns)) (length ns)
+      (λ i l. eq-eqb (childAt nd i) (firstUnder nd i 0 (length ns))
+      (all-links .1 i (omega arith) (omega arith) .0 ∙ next-at nd i 0 0 (parents ns) (omega arith) (all-links .0) ∙ ap (firstUnder nd i 0) (parents-length ns)))
+
+  pub siblings-fit : each (length ns) (siblingRight nd (length ns)) ≡ true
+  siblings-fit =
+      each-all (siblingRight nd (length ns)) (length ns)
+      (λ i l.
+      let n = parents-length ns in
+      let e : 0 + length (parents ns) - suc i ≡ length ns - suc i = omega arith in
+      eq-eqb (siblingAt nd i) (nextOf nd (length ns) i)
+      (all-links .1 i (omega arith) (omega arith) .1
+      ∙ ap (λ (z : ℕ). pick (eqb (parentAt nd i) none) none z)
+      (next-from nd (parentAt nd i) (suc i) 0 (parents ns) (omega arith) (omega arith) (all-links .0) ∙ ap (firstUnder nd (parentAt nd i) (suc i)) e)))

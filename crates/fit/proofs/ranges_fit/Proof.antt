@@ -1,0 +1,14 @@
+-- `fit::ranges_fit` meets its contract. Assumes nothing.
+use borrow.Author.Needs.{needs}
+use Rattle.fit.specs.Ranges.{rangesFit}
+use Rattle.fit.proofs.ranges_fit.Statement.{statement}
+use Rattle.fit.proofs.ranges_fit.Tie as tie
+
+returns : tie.Need-returns
+unfolding rangesFit
+returns c = cc
+
+pub ranges-fit-spec : {M : Type 1} → statement M
+ranges-fit-spec =
+    tie.close
+    (tie.spec (λ c κs. search needs) (λ c κs. search needs) (λ c κs. search needs) returns)

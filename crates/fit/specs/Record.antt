@@ -1,0 +1,63 @@
+-- The record that tables over a text denote: names and raw values are parts of the text.
+use Prim.Native.Nat.{ℕ, _-_}
+use mathlib.Core.List.{List, [], _∷_, map}
+use lib.ListN.{length, take, drop}
+use lib.Seq.{slice}
+use Rattle.lexer.specs.Token.{Val, Prop}
+use Rattle.tables.specs.Record.{Node, Tree}
+use Rattle.tables.specs.Rows.{TreeRow, NodeRow, PropRow, ValRow, Tables}
+use Rattle.tables.specs.declared.Counts.{Counts}
+use Rattle.fit.specs.Columns.{rootAt, kindAt, parentAt, childAt, siblingAt, firstPropAt, propCountAt, nameFromAt, nameToAt, firstValAt, valCountAt, valFromAt, valToAt}
+use Rattle.fit.specs.Each.{tabulate}
+
+-- row k of the tree table
+abbrev pub treeRow : List ℕ → ℕ → TreeRow
+treeRow tr k = record { root = rootAt tr k; kind = kindAt tr k }
+
+-- of the node table
+abbrev pub nodeRow : List ℕ → ℕ → NodeRow
+nodeRow nd k = record { parent = parentAt nd k; child = childAt nd k; sibling = siblingAt nd k; first = firstPropAt nd k; count = propCountAt nd k }
+
+-- of the property table
+abbrev pub propRow : List ℕ → ℕ → PropRow
+propRow pr k = record { from = nameFromAt pr k; to = nameToAt pr k; first = firstValAt pr k; count = valCountAt pr k }
+
+-- of the value table
+abbrev pub valRow : List ℕ → ℕ → ValRow
+valRow vl k = record { from = valFromAt vl k; to = valToAt vl k }
+
+-- the rows that lent tables of these counts have
+abbrev pub rowsOf : Counts → (tr nd pr vl : List ℕ) → Tables
+rowsOf c tr nd pr vl =
+    record {
+      trees = tabulate (treeRow tr) 0 (c .trees);
+      nodes = tabulate (nodeRow nd) 0 (c .nodes);
+      props = tabulate (propRow pr) 0 (c .properties);
+      vals = tabulate (valRow vl) 0 (c .values);
+    }
+
+-- how many rows there are of each kind
+abbrev pub countsOf : Tables → Counts
+countsOf T = record { trees = length (T .trees); nodes = length (T .nodes); properties = length (T .props); values = length (T .vals) }
+
+-- a value of the text
+abbrev pub valOf : List ℕ → ValRow → Val
+valOf t r = record { from = r .from; to = r .to; raw = slice (r .from) (r .to) t }
+
+-- a property has `count` of the values from `first` on
+abbrev pub propOf : List ℕ → List Val → PropRow → Prop
+propOf t vs r = record { from = r .from; to = r .to; name = slice (r .from) (r .to) t; vals = take (r .count) (drop (r .first) vs) }
+
+-- a node has `count` of the properties from `first` on
+abbrev pub nodeOf : List Prop → NodeRow → Node
+nodeOf ps r = record { parent = r .parent; props = take (r .count) (drop (r .first) ps) }
+
+-- a tree has the nodes from its root up to the next root
+abbrev pub treesOf : List Node → List TreeRow → List Tree
+treesOf ns [] = []
+treesOf ns (r ∷ []) = record { root = r .root; kind = r .kind; nodes = drop (r .root) ns } ∷ []
+treesOf ns (r ∷ s ∷ rs) = record { root = r .root; kind = r .kind; nodes = take (s .root - r .root) (drop (r .root) ns) } ∷ treesOf ns (s ∷ rs)
+
+-- the trees that rows denote
+abbrev pub recordOf : List ℕ → Tables → List Tree
+recordOf t T = treesOf (map (nodeOf (map (propOf t (map (valOf t) (T .vals))) (T .props))) (T .nodes)) (T .trees)
