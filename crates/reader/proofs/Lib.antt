@@ -5,9 +5,11 @@ pub mod Linked
 pub mod Nexts
 pub mod Parents
 pub mod Plants
+pub mod Reasons
 pub mod Rooms
 pub mod Surveyed
 pub mod Texts
+pub mod Theorems
+pub mod Unique
 pub mod Variants
 pub mod Whole
-pub mod Unique
