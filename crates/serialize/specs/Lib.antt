@@ -1,2 +1,3 @@
-pub mod Back
+pub mod Form
+pub mod Walk
 pub mod Write

@@ -1,1 +1,7 @@
-// Writing: its definition (specs/), and that strict reading of a writing gives the record again (proofs/). No code yet.
+// The writer: a record in memory as text, points in one fixed order.
+
+// A writing: its number of bytes, or why it is refused.
+pub enum Written {
+    Wrote(usize),
+    Refused(tables::Reason),
+}

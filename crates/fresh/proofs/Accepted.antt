@@ -6,7 +6,7 @@ use mathlib.Core.Bool.{Bool, true, false}
 use mathlib.Core.List.{List, List·Memᴰ}
 use lib.Dec.{ltb}
 use lib.ListN.{length, take, drop}
-use Rattle.edit.specs.Run.{strictly}
+use Rattle.fresh.specs.Run.{strictly}
 use Rattle.lexer.proofs.Inside.{OfVals}
 use Rattle.lexer.proofs.Invariant.{keep-rest}
 use Rattle.lexer.proofs.Starting.{Each, each-from, each-value}

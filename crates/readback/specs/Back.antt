@@ -12,8 +12,8 @@ use Rattle.tables.specs.Move.{moveNode, moveTree}
 use Rattle.parser.specs.Split.{Slices, no, slices, slicesOf}
 use Rattle.parser.specs.Walk.{uppers}
 use Rattle.parser.specs.Read.{accepted, lex, read}
-use Rattle.edit.specs.Run.{strictly}
+use Rattle.fresh.specs.Run.{strictly}
 use Rattle.serialize.specs.Write.{writeTrees}
 
 -- not empty
 abbrev pub some : List ℕ → Bool

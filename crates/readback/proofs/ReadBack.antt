@@ -8,8 +8,8 @@ use lib.Dec.{leb, ltb, eqb}
 use lib.ListN.{length, length-append}
 use lib.Seq.{take-length}
 use borrow.Author.Tests.{le-ltb, le-leb}
-use Rattle.edit.proofs.Reread.{in-textLimit}
-use Rattle.edit.specs.Run.{strictly}
+use Rattle.fresh.proofs.Reread.{in-textLimit}
+use Rattle.fresh.specs.Run.{strictly}
 use Rattle.lexer.proofs.Invariant.{OfTok}
 use Rattle.lexer.specs.Move.{moveVal}
 use Rattle.lexer.specs.Token.{End, Lexed, Prop, Tok, Val, done, end, lexFrom, node, prop, start}
@@ -19,9 +19,9 @@ use Rattle.parser.proofs.Moved.{GmStays, move-tokens, moveAnswer}
 use Rattle.parser.specs.Read.{Answer, accepted, decoded, lexing, planted, read, refused}
 use Rattle.parser.specs.Split.{sliced, split, splitting}
 use Rattle.parser.specs.Walk.{uppers}
-use Rattle.serialize.proofs.Regrow.{Few, SoundTrees, deepest, planted-written}
-use Rattle.serialize.proofs.Written.{Plain, PlainNode, PlainTree, both, letters-same, lex-written, range, tokTrees}
+use Rattle.readback.proofs.Regrow.{Few, SoundTrees, deepest, planted-written}
+use Rattle.readback.proofs.Written.{Plain, PlainNode, PlainTree, both, letters-same, lex-written, range, tokTrees}
 use Rattle.serialize.specs.Write.{Open, boxed, bracketed, ends, left, letters, opened, shuts, writeNodes, writeProps, writeTree, writeTrees}
 use Rattle.tables.proofs.Moved.{parents-move}
 use Rattle.tables.specs.Numbers.{none, textLimit}
 use Rattle.tables.specs.Record.{Node, Tree}
@@ -29,7 +29,7 @@ use Rattle.tables.specs.Rows.{parents}
 use Rattle.utf8.proofs.Like.{like-utfs, like-whole}
 use Rattle.utf8.proofs.Steps.{place, place-is, utfs-append}
 use Rattle.utf8.specs.Text.{Ink, Utf, blank, inked, mark, utf, utfs, white, whole, within}
-use Rattle.serialize.specs.Back.{some, Z, K, zProp, zTok, zNode, zTree, Back}
+use Rattle.readback.specs.Back.{some, Z, K, zProp, zTok, zNode, zTree, Back}
 
 -- ---- the writing is valid, and trimming takes nothing away
 

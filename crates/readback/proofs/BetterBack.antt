@@ -9,8 +9,8 @@ use lib.Dec.{ltb}
 use lib.ListN.{length, length-map, length-reverseAux}
 use lib.Seq.{take-length}
 use borrow.Author.Tests.{le-ltb, ltb-true, ltb-false}
-use Rattle.edit.proofs.Reread.{in-textLimit}
-use Rattle.edit.specs.Run.{strictly}
+use Rattle.fresh.proofs.Reread.{in-textLimit}
+use Rattle.fresh.specs.Run.{strictly}
 use Rattle.lexer.specs.Token.{End, Lexed, Prop, Tok, lexFrom}
 use Rattle.lists.specs.All.{All}
 use Rattle.lists.specs.Pick.{pick}
@@ -18,17 +18,17 @@ use Rattle.parser.proofs.Lift.{OfTree}
 use Rattle.parser.proofs.Moved.{move-tokens, moveAnswer}
 use Rattle.parser.specs.Read.{Answer, accepted, decoded, growing, lexing, planted, read, refused}
 use Rattle.parser.specs.Split.{Splitting, no, sliced, slices, split, splitting}
-use Rattle.serialize.proofs.Normal.{normNode, normTree}
-use Rattle.serialize.proofs.ReadBack.{Form, gm-same, read-back-again, written-ink, zero-trees}
-use Rattle.serialize.proofs.Regrow.{deepest, filled-any, split-trees}
-use Rattle.serialize.proofs.Sounding.{writable}
-use Rattle.serialize.proofs.Written.{Plain, PlainNode, PlainTree, lex-written, tokTree, tokTrees}
+use Rattle.readback.proofs.Normal.{normNode, normTree}
+use Rattle.readback.proofs.ReadBack.{Form, gm-same, read-back-again, written-ink, zero-trees}
+use Rattle.readback.proofs.Regrow.{deepest, filled-any, split-trees}
+use Rattle.readback.proofs.Sounding.{writable}
+use Rattle.readback.proofs.Written.{Plain, PlainNode, PlainTree, lex-written, tokTree, tokTrees}
 use Rattle.serialize.specs.Write.{writeTrees}
 use Rattle.tables.specs.Numbers.{depthLimit, textLimit}
 use Rattle.tables.specs.Record.{Node, Tree}
 use Rattle.tables.specs.declared.Reason.the-variants.{TooDeep}
 use Rattle.utf8.specs.Text.{Utf, blank, utfs, whole}
-use Rattle.serialize.specs.Back.{Named, BeginsAll, slicesIn, Z, K, zProp, zNode, zTree, Back}
+use Rattle.readback.specs.Back.{Named, BeginsAll, slicesIn, Z, K, zProp, zNode, zTree, Back}
 
 -- the answer for a writing is the answer for its tokens, places aside
 read-tokens : (c : Bool) (ts : List Tree) → Form ts → length (writeTrees ts) ≤ textLimit

@@ -8,8 +8,8 @@ use mathlib.Core.List.{List, [], _∷_, reverse, reverseAux, append-nil}
 use lib.Dec.{ltb}
 use lib.ListN.{length, length-reverse, length-drop, length-take, take, drop}
 use borrow.Author.Tests.{lt-leb, ne-eqb, ltb-false}
-use Rattle.edit.proofs.Accepted.{Accepted, accepted-is}
-use Rattle.edit.specs.Run.{strictly}
+use Rattle.fresh.proofs.Accepted.{Accepted, accepted-is}
+use Rattle.fresh.specs.Run.{strictly}
 use Rattle.lexer.proofs.Proper.{HasProper, Proper, proper-tokens}
 use Rattle.lexer.specs.Token.{Prop, Tok, Val, end, lexFrom, node, prop, start}
 use Rattle.lists.proofs.All.{all-map}
@@ -20,21 +20,21 @@ use Rattle.parser.specs.Kind.{GM, Kind, is, kind, kindProps, named, props, unki
 use Rattle.parser.specs.Read.{Answer, Growing, accepted, answer, decoded, failing, growAll, growing, grown, grows, kinded, planted, read, refused, rooted}
 use Rattle.parser.specs.Split.{Slices, Splitting, filled, no, over, sliced, slices, split, splitting, wrong}
 use Rattle.parser.specs.Walk.{Walk, halted, shut, stopped, walk, walked}
-use Rattle.serialize.proofs.Grow.{Good, opening}
-use Rattle.serialize.proofs.Nested.{Closes, DescP, FInv, GoodR, OkSlices, SliceOk, desc-left, good-nodes, good-tail, ok-tokens, on-less, pathR, w-slice}
-use Rattle.serialize.proofs.ReadBack.{Form, Valid, ValidNode, ValidProp, ValidTree, read-back-again}
-use Rattle.serialize.proofs.Regrow.{Few, SoundNodes, SoundTrees, deepest, reverse-reverseAux}
-use Rattle.serialize.proofs.RootProps.{RootIs, root-slice, rootProps}
-use Rattle.serialize.proofs.Sizes.{AtMost, Within, few-slices, few-tokens, most-walked, total}
-use Rattle.serialize.proofs.Written.{Plain, PlainNode, PlainTree, Shut, tokTrees}
+use Rattle.readback.proofs.Grow.{Good, opening}
+use Rattle.readback.proofs.Nested.{Closes, DescP, FInv, GoodR, OkSlices, SliceOk, desc-left, good-nodes, good-tail, ok-tokens, on-less, pathR, w-slice}
+use Rattle.readback.proofs.ReadBack.{Form, Valid, ValidNode, ValidProp, ValidTree, read-back-again}
+use Rattle.readback.proofs.Regrow.{Few, SoundNodes, SoundTrees, deepest, reverse-reverseAux}
+use Rattle.readback.proofs.RootProps.{RootIs, root-slice, rootProps}
+use Rattle.readback.proofs.Sizes.{AtMost, Within, few-slices, few-tokens, most-walked, total}
+use Rattle.readback.proofs.Written.{Plain, PlainNode, PlainTree, Shut, tokTrees}
 use Rattle.serialize.specs.Write.{bracketed, times, writeTrees}
 use Rattle.tables.specs.Numbers.{depthLimit, none, textLimit}
 use Rattle.tables.specs.Record.{Node, Tree}
 use Rattle.tables.specs.Rows.{parents}
 use Rattle.tables.specs.declared.Reason.{Reason}
 use Rattle.tables.specs.declared.Reason.the-variants.{TextTooLong, TooDeep, UnexpectedEndOfData}
 use Rattle.utf8.specs.Text.{Utf, blank, inked, part, utfs, whole}
-use Rattle.serialize.specs.Back.{some, Named, Begins, BeginsAll, toksOf, slicesIn, Back}
+use Rattle.readback.specs.Back.{some, Named, Begins, BeginsAll, toksOf, slicesIn, Back}
 
 -- ---- nodes
 

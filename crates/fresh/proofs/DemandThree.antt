@@ -23,9 +23,9 @@ use Rattle.tables.proofs.Moved.{tables-move}
 use Rattle.parser.specs.Kind.{GM}
 use Rattle.parser.specs.Read.{accepted, read}
 use Rattle.parser.proofs.Denoted.{read-denotes}
 use Rattle.edit.specs.Edit.{ownerRow, ownerName, spanAt, pasted, shifted, Outcome, gives, outcome, edit}
-use Rattle.edit.specs.Run.{strictly, Held, Order, after, run, Fresh}
-use Rattle.edit.proofs.Numbered.{noVal, ownerOf, valueOf, newText, newTrees, edit-number}
+use Rattle.fresh.specs.Run.{strictly, Held, Order, after, run, Fresh}
+use Rattle.fresh.proofs.Numbered.{noVal, ownerOf, valueOf, newText, newTrees, edit-number}
 
 -- ---- rows and trees
 

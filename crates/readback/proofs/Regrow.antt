@@ -7,7 +7,7 @@ use mathlib.Core.List.{List, [], _∷_, _++_, map, reverse, reverseAux, append-a
 use lib.Dec.{ltb, eqb}
 use lib.ListN.{length, length-map, length-reverseAux}
 use borrow.Author.Tests.{le-ltb, ne-eqb}
-use Rattle.edit.specs.Run.{strictly}
+use Rattle.fresh.specs.Run.{strictly}
 use Rattle.lexer.specs.Token.{Prop, Tok, Val, end, node, prop, start}
 use Rattle.lists.specs.All.{All}
 use Rattle.lists.specs.Pick.{pick}
@@ -16,14 +16,14 @@ use Rattle.parser.specs.Kind.{GM, Kind, is, kind, kindProps, named, props}
 use Rattle.parser.specs.Read.{Growing, accepted, answer, growAll, growing, grown, grows, kinded, planted, rooted}
 use Rattle.parser.specs.Split.{Splitting, deep, filled, no, over, sliced, slices, split, splits, splitting, wrong}
 use Rattle.parser.specs.Walk.{Gate, Walk, shut, takes, walk, walked}
-use Rattle.serialize.proofs.Grow.{Good, node-run, opening, stk, walk-nodes, walked-append}
-use Rattle.serialize.proofs.Written.{PlainNode, tokEnds, tokNodes, tokOpened, tokProps, tokShuts, tokTree, tokTrees}
+use Rattle.readback.proofs.Grow.{Good, node-run, opening, stk, walk-nodes, walked-append}
+use Rattle.readback.proofs.Written.{PlainNode, tokEnds, tokNodes, tokOpened, tokProps, tokShuts, tokTree, tokTrees}
 use Rattle.serialize.specs.Write.{Open, bracketed, left}
 use Rattle.tables.specs.Numbers.{depthLimit, none}
 use Rattle.tables.specs.Record.{Node, Tree}
 use Rattle.tables.specs.Rows.{parents}
 use Rattle.tables.specs.declared.Reason.the-variants.{TooDeep}
-use Rattle.serialize.specs.Back.{Z, K, zProp, zNode, zTree}
+use Rattle.readback.specs.Back.{Z, K, zProp, zNode, zTree}
 
 abbrev rootOf : List Prop → Node
 rootOf qs = record { parent = none; props = qs }

@@ -4,12 +4,12 @@ use Prim.Native.Nat.{ℕ, _+_}
 use mathlib.Core.Bool.{Bool, true, false, _||_}
 use mathlib.Core.List.{List, [], _∷_, _++_, append-assoc, append-nil}
 use lib.ListN.{length, drop}
-use Rattle.edit.specs.Run.{strictly}
+use Rattle.fresh.specs.Run.{strictly}
 use Rattle.lexer.specs.Token.{Prop, Tok, end, node, prop, start}
 use Rattle.lists.specs.Pick.{pick}
 use Rattle.parser.specs.Kind.{props}
 use Rattle.parser.specs.Walk.{Gate, Walk, adds, children, halted, shut, skips, stopped, takes, uppers, walk, walked}
-use Rattle.serialize.proofs.Nested.{Closes}
+use Rattle.readback.proofs.Nested.{Closes}
 use Rattle.tables.specs.Numbers.{none}
 use Rattle.tables.specs.Record.{Node}
 use Rattle.tables.specs.declared.Reason.{Reason}

@@ -14,14 +14,14 @@ use Rattle.lexer.specs.Token.{Out, Prop, St, Tok, Val, after, between, done, em
 use Rattle.lists.specs.All.{All}
 use Rattle.lists.specs.Pick.{pick}
 use Rattle.parser.specs.Walk.{uppers}
 use Rattle.serialize.specs.Write.{Open, boxed, bracketed, left, letters, opened, writeNodes, writeProps, writeTree, writeTrees}
 use Rattle.tables.specs.Numbers.{none}
 use Rattle.tables.specs.Record.{Node, Tree}
 use Rattle.tables.specs.Rows.{parents}
 use Rattle.utf8.proofs.Steps.{place}
 use Rattle.utf8.specs.Text.{within}
 use Rattle.serialize.specs.Write as Write
-use Rattle.serialize.specs.Back.{some, Z, K, zProp, zTok}
+use Rattle.readback.specs.Back.{some, Z, K, zProp, zTok}
 
 -- what is pending in a state between tokens
 abbrev pub Ready : St → Type 0

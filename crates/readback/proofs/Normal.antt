@@ -10,15 +10,15 @@ use Rattle.lists.specs.All.{All}
 use Rattle.parser.specs.Kind.{GM, is, kindProps, named}
 use Rattle.parser.specs.Read.{growing}
 use Rattle.parser.specs.Split.{split, splitting}
-use Rattle.serialize.proofs.Grow.{Good, opening}
-use Rattle.serialize.proofs.ReadBack.{Form, ValidNode, ValidProp, ValidTree, read-back-again}
-use Rattle.serialize.proofs.Regrow.{Few, SoundNodes, SoundTrees, deepest}
-use Rattle.serialize.proofs.Written.{Plain, PlainNode, PlainTree, tokTrees}
+use Rattle.readback.proofs.Grow.{Good, opening}
+use Rattle.readback.proofs.ReadBack.{Form, ValidNode, ValidProp, ValidTree, read-back-again}
+use Rattle.readback.proofs.Regrow.{Few, SoundNodes, SoundTrees, deepest}
+use Rattle.readback.proofs.Written.{Plain, PlainNode, PlainTree, tokTrees}
 use Rattle.serialize.specs.Write.{Open, bracketed, left, writeTrees}
 use Rattle.tables.specs.Numbers.{none, textLimit}
 use Rattle.tables.specs.Record.{Node, Tree}
 use Rattle.tables.specs.Rows.{parents}
-use Rattle.serialize.specs.Back.{some, K, Back}
+use Rattle.readback.specs.Back.{some, K, Back}
 
 module _ (φ : ℕ → Prop → Prop) where
   abbrev pub normNode : ℕ → Node → Node

@@ -7,10 +7,10 @@ use mathlib.Core.List.{List, [], _∷_, _++_, map, append-assoc, List·Memᴰ}
 use lib.Dec.{ltb}
 use lib.ListN.{length, take, drop, length-append, take-append-drop}
 use borrow.Author.Tests.{le-ltb}
-use Rattle.edit.proofs.Accepted.{Accepted, accepted-is}
-use Rattle.edit.proofs.Found.{Found, at-pre, bounds, ends-in, found, trimmed-parts}
+use Rattle.fresh.proofs.Accepted.{Accepted, accepted-is}
+use Rattle.fresh.proofs.Found.{Found, at-pre, bounds, ends-in, found, trimmed-parts}
 use Rattle.edit.specs.Edit.{edit, gives}
-use Rattle.edit.specs.Run.{strictly}
+use Rattle.fresh.specs.Run.{strictly}
 use Rattle.lexer.proofs.Inside.{OfVals, Only}
 use Rattle.lexer.proofs.Invariant.{OfTok}
 use Rattle.lexer.proofs.Kept.{Kept, kept}

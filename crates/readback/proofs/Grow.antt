@@ -8,17 +8,17 @@ use mathlib.Core.List.{List, [], _∷_, _++_, map, reverseAux, append-assoc, app
 use lib.Dec.{eqb}
 use lib.ListN.{length}
 use borrow.Author.Tests.{le-leb, eq-eqb, ne-eqb}
-use Rattle.edit.specs.Run.{strictly}
+use Rattle.fresh.specs.Run.{strictly}
 use Rattle.lexer.specs.Token.{Prop, Tok, node, prop, start}
 use Rattle.lists.specs.All.{All}
 use Rattle.lists.specs.Pick.{pick}
 use Rattle.parser.specs.Walk.{Gate, Opts, Walk, children, opens, shut, takes, walk, walked, walks}
-use Rattle.serialize.proofs.Written.{Plain, PlainNode, tokEnds, tokNodes, tokOpened, tokProps, tokShuts}
+use Rattle.readback.proofs.Written.{Plain, PlainNode, tokEnds, tokNodes, tokOpened, tokProps, tokShuts}
 use Rattle.serialize.specs.Write.{Open, bracketed, left, times}
 use Rattle.tables.specs.Numbers.{none}
 use Rattle.tables.specs.Record.{Node}
 use Rattle.tables.specs.Rows.{parents}
-use Rattle.serialize.specs.Back.{zProp, zNode}
+use Rattle.readback.specs.Back.{zProp, zNode}
 
 pub walked-append : (op : Opts) (base : ℕ) (w : Walk) (xs ys : List Tok) → walked op base w (xs ++ ys) ≡ walked op base (walked op base w xs) ys
 walked-append op base w [] ys = refl

@@ -6,7 +6,7 @@ use mathlib.Core.Bool.{Bool, true, false, _||_}
 use mathlib.Core.List.{List, [], _∷_, reverse, reverseAux}
 use lib.Dec.{ltb, eqb}
 use lib.ListN.{length, length-append, length-reverse}
-use Rattle.edit.specs.Run.{strictly}
+use Rattle.fresh.specs.Run.{strictly}
 use Rattle.lexer.specs.Token.{Out, Prop, St, Tok, after, afters, begins, between, emits, end, ends, fault, finish, ident, lexFrom, node, prop, space, start, step, value}
 use Rattle.lists.specs.Pick.{pick}
 use Rattle.parser.specs.Split.{Slices, Splitting, ended, filled, no, over, sliced, slices, split, splits, splitting, wrong}

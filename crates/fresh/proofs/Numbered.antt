@@ -20,9 +20,9 @@ use Rattle.tables.specs.Record.{Tree, allNodes, allProps, allVals}
 use Rattle.tables.specs.Move.{moveTree}
 use Rattle.parser.specs.Kind.{GM}
 use Rattle.parser.specs.Read.{accepted, read}
-use Rattle.edit.specs.Run.{strictly}
-use Rattle.edit.proofs.Accepted.{Accepted, accepted-is, on-trees, Between, all-between}
-use Rattle.edit.proofs.Reread.{edit-reads}
+use Rattle.fresh.specs.Run.{strictly}
+use Rattle.fresh.proofs.Accepted.{Accepted, accepted-is, on-trees, Between, all-between}
+use Rattle.fresh.proofs.Reread.{edit-reads}
 
 abbrev pub noVal : Val
 noVal = record { from = 0; to = 0; raw = [] }

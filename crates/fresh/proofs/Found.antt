@@ -7,8 +7,8 @@ use mathlib.Core.Bool.{Bool, true, false}
 use mathlib.Core.List.{List, [], _∷_, _++_, List·Memᴰ, tail-eq-of-cons-eq, head-eq-of-cons-eq}
 use lib.ListN.{length, take, drop, length-take, length-drop}
 use lib.Seq.{take-append-add, drop-append-le}
-use Rattle.edit.proofs.Accepted.{Between, all-between, on-trees}
-use Rattle.edit.specs.Run.{strictly}
+use Rattle.fresh.proofs.Accepted.{Between, all-between, on-trees}
+use Rattle.fresh.specs.Run.{strictly}
 use Rattle.lexer.proofs.Inside.{Inside, NotAt, OfVals, Only, inside, vals-map}
 use Rattle.lexer.proofs.Starting.{last}
 use Rattle.lexer.specs.Closed.{closedFrom}

@@ -1,0 +1,73 @@
+-- What is written: the form of the values, the writing of a record, and the writer's answer.
+use Prim.Native.Nat.{ℕ}
+use mathlib.Core.Path.{_≡_}
+use mathlib.Core.Bool.{Bool, true, false, _||_}
+use mathlib.Core.List.{List, [], _∷_, _++_, map}
+use lib.Dec.{ltb}
+use lib.ListN.{length, drop, take}
+use Rattle.lexer.specs.Token.{Val, Prop}
+use Rattle.values.specs.Read.{readIdentifier}
+use Rattle.go.specs.Normal.{normal}
+use Rattle.tables.specs.Numbers.{numberOf}
+use Rattle.tables.specs.Record.{Node, Tree, allNodes, allProps}
+use Rattle.tables.specs.declared.Counts.{Counts}
+use Rattle.tables.specs.declared.Reason.the-variants.{NoRoom, EmptyIdentifier, NotFitting}
+use Rattle.fit.specs.Fit.{Fit}
+use Rattle.fit.specs.Record.{rowsOf, recordOf}
+use Rattle.serialize.specs.Write.{writeTrees, nameless}
+use Rattle.serialize.specs.declared.Written.{Written}
+use Rattle.serialize.specs.declared.Written.the-variants.{Wrote, Refused}
+
+-- the raw bytes of a value
+abbrev pub rawOf : Val → List ℕ
+rawOf v = v .raw
+
+-- a value with these bytes that stands in no text yet
+abbrev pub placeless : List ℕ → Val
+placeless r = record { from = 0; to = 0; raw = r }
+
+-- a property of a tree with game type k: its values in their normal form
+abbrev pub formProp : (k : ℕ) → Prop → Prop
+formProp k p = record { from = p .from; to = p .to; name = p .name; vals = map placeless (normal k (readIdentifier (p .name)) (map rawOf (p .vals))) }
+
+-- a node
+abbrev pub formNode : (k : ℕ) → Node → Node
+formNode k n = record { parent = n .parent; props = map (formProp k) (n .props) }
+
+-- a tree
+abbrev pub formTree : Tree → Tree
+formTree t = record { root = t .root; kind = t .kind; nodes = map (formNode (t .kind)) (t .nodes) }
+
+-- the writing of a record
+abbrev pub writing : List Tree → List ℕ
+writing ts = writeTrees (map formTree ts)
+
+-- do the tables fit; does an identifier of any tree read as empty; is the writing w longer than the bytes lent
+abbrev pub answer : Bool → Bool → Bool → (w : List ℕ) → Written
+answer false named short w = Refused NotFitting
+answer true true short w = Refused EmptyIdentifier
+answer true false true w = Refused NoRoom
+answer true false false w = Wrote (length w)
+
+-- of trees
+abbrev pub answerFor : Bool → (room : ℕ) → List Tree → Written
+answerFor fits room ts = answer fits (nameless (allProps (allNodes ts))) (ltb room (length (writing ts))) (writing ts)
+
+-- of a text with its tables
+abbrev pub written : List ℕ → ℕ → Counts → (tr nd pr vl : List ℕ) → (room : ℕ) → Written
+written t used c tr nd pr vl room = answerFor (Fit t used c tr nd pr vl) room (recordOf (take used t) (rowsOf c tr nd pr vl))
+
+-- the lent bytes then: the writing and what was behind it; a refusal changes none
+abbrev pub output : Written → (w out : List ℕ) → List ℕ
+output (Wrote n) w out = w ++ drop n out
+output (Refused r) w out = out
+
+-- the number given back
+abbrev pub writtenNumber : Written → ℕ
+writtenNumber (Wrote n) = 0
+writtenNumber (Refused r) = numberOf r
+
+-- the writer's answer and the lent bytes
+pub record WriteIs (t : List ℕ) (used : ℕ) (c : Counts) (tr nd pr vl out out′ : List ℕ) (r : Written) : Type 0 where
+  pub is : r ≡ written t used c tr nd pr vl (length out)
+  pub bytes : out′ ≡ output r (writing (recordOf (take used t) (rowsOf c tr nd pr vl))) out

@@ -1,0 +1,77 @@
+-- The writing as the code walks: node by node along the links, where a tree is a node in brackets without parent.
+use Prim.Native.Nat.{ℕ, zero, suc, _+_, _-_}
+use mathlib.Core.Bool.{Bool, _||_, not}
+use mathlib.Core.List.{List, [], _∷_, _++_}
+use lib.Dec.{eqb}
+use lib.Seq.{slice}
+use Rattle.lists.specs.Pick.{pick}
+use Rattle.values.specs.Read.{readIdentifier}
+use Rattle.go.specs.Normal.{normal}
+use Rattle.go.specs.Rows.{valuesAt}
+use Rattle.tables.specs.Numbers.{none}
+use Rattle.fit.specs.Columns.{kindAt, parentAt, childAt, siblingAt, firstPropAt, propCountAt, nameFromAt, nameToAt, firstValAt, valCountAt}
+
+-- the texts of 0, 1, .. below m, one after another
+unfoldable pub texts : (ℕ → List ℕ) → ℕ → List ℕ
+texts f zero = []
+texts f (suc m) = texts f m ++ f m
+
+-- how many of the first k nodes have no parent
+unfoldable pub rootsBelow : List ℕ → ℕ → ℕ
+rootsBelow nd zero = 0
+rootsBelow nd (suc k) = let r = rootsBelow nd k in pick (eqb (parentAt nd k) none) (suc r) r
+
+-- the game type of node k's tree
+abbrev pub kindOver : (tr nd : List ℕ) → ℕ → ℕ
+kindOver tr nd k = kindAt tr (rootsBelow nd (suc k) - 1)
+
+-- values in their brackets
+unfoldable pub boxes : List (List ℕ) → List ℕ
+boxes [] = []
+boxes (v ∷ vs) = 0x5b ∷ (v ++ (0x5d ∷ boxes vs))
+
+-- the read identifier of property p
+abbrev pub nameAt : (t pr : List ℕ) → ℕ → List ℕ
+nameAt t pr p = readIdentifier (slice (nameFromAt pr p) (nameToAt pr p) t)
+
+-- its values, in their normal form
+unfoldable pub valuesText : (t pr vl : List ℕ) → (kind p : ℕ) → List ℕ
+valuesText t pr vl kind p = boxes (normal kind (nameAt t pr p) (valuesAt t vl (firstValAt pr p) (valCountAt pr p)))
+
+-- property p
+unfoldable pub propText : (t pr vl : List ℕ) → (kind p : ℕ) → List ℕ
+propText t pr vl kind p = nameAt t pr p ++ valuesText t pr vl kind p
+
+-- the properties of node k
+unfoldable pub propsText : (t nd pr vl : List ℕ) → (kind k : ℕ) → List ℕ
+propsText t nd pr vl kind k = texts (λ i. propText t pr vl kind (firstPropAt nd k + i)) (propCountAt nd k)
+
+-- a node stands in brackets where it is a root, is not the first child, or has a next sibling
+abbrev pub inBrackets : List ℕ → ℕ → Bool
+inBrackets nd k = eqb (parentAt nd k) none || (not (eqb (childAt nd (parentAt nd k)) k) || not (eqb (siblingAt nd k) none))
+
+-- its end
+abbrev pub shut : List ℕ → ℕ → List ℕ
+shut nd k = pick (inBrackets nd k) (0x29 ∷ []) []
+
+-- its start
+abbrev pub begun : List ℕ → ℕ → List ℕ
+begun nd k = pick (inBrackets nd k) (0x28 ∷ []) []
+
+-- the ends of node j and of those above it that are below p, at most f of them
+unfoldable pub climbs : List ℕ → (f j p : ℕ) → List ℕ
+climbs nd zero j p = shut nd j
+climbs nd (suc f) j p = shut nd j ++ pick (eqb (parentAt nd j) p) [] (climbs nd f (parentAt nd j) p)
+
+-- the ends between node k - 1 and a node whose parent is p; none: all ends
+unfoldable pub endsBefore : List ℕ → (k p : ℕ) → List ℕ
+endsBefore nd zero p = []
+endsBefore nd (suc k) p = pick (eqb k p) [] (climbs nd k k p)
+
+-- node k
+unfoldable pub nodeText : (t tr nd pr vl : List ℕ) → ℕ → List ℕ
+nodeText t tr nd pr vl k = endsBefore nd k (parentAt nd k) ++ (begun nd k ++ (0x3b ∷ propsText t nd pr vl (kindOver tr nd k) k))
+
+-- n nodes
+unfoldable pub linked : (t tr nd pr vl : List ℕ) → (n : ℕ) → List ℕ
+linked t tr nd pr vl n = texts (nodeText t tr nd pr vl) n ++ endsBefore nd n none
