@@ -1,0 +1,6 @@
+pub mod Answers
+pub mod Goes
+pub mod Kind
+pub mod Shows
+pub mod Unique
+pub mod Values

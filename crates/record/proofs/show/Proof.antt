@@ -1,0 +1,17 @@
+-- `record::show` meets its contract. Assumes nothing.
+use Rattle.record.specs.Ask.{shownFor}
+use mathlib.Core.Path.{sym, ap, _∙_}
+use borrow.Author.Needs.{needs}
+use Rattle.record.proofs.show.Statement.{statement}
+use Rattle.record.proofs.show.Tie as tie
+
+returns : tie.Need-returns
+returns c = (ap shownFor (sym (c .before .n .given .1) ∙ c .before .before .before .before .before .display .ensures .0), c .before .before .before .before .before .display .ensures .1)
+
+returns-2 : tie.Need-returns-2
+returns-2 c = (ap shownFor (sym (c .enum-told .given .1) ∙ c .before .before .before .before .display .ensures .0), c .before .before .before .before .display .ensures .1)
+
+pub show-spec : {M : Type 1} → statement M
+show-spec =
+    tie.close
+    (tie.spec (λ c κs. search needs) (λ c. search needs) (λ c. search needs) (λ c. search needs) returns (λ c. search needs) returns-2)

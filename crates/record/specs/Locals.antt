@@ -1,0 +1,29 @@
+-- What the steps of a question promise each other.
+use Prim.Native.Nat.{ℕ, zero, suc, _/_, _<_, _≤_}
+use mathlib.Core.List.{List}
+use lib.Dec.{ltb}
+use lib.ListN.{length}
+use lib.Seq.{slice}
+use Rattle.lists.specs.Pick.{pick}
+use Rattle.fit.specs.Columns.{rootAt, kindAt, firstPropAt, nameFromAt, nameToAt}
+
+-- there are m trees, at least one, and each root is a row
+pub record Rooted (m : ℕ) (tr nd : List ℕ) : Type 0 where
+  pub some : 0 < m
+  pub rows : m ≤ length tr / 2
+  pub roots : (r : ℕ) → r < m → rootAt tr r < length nd / 5
+
+-- of tree r and the m behind it: the game type of the last whose root's first property is not behind p
+unfoldable pub kindFrom : (tr nd : List ℕ) → (p r m : ℕ) → ℕ
+kindFrom tr nd p r zero = kindAt tr r
+kindFrom tr nd p r (suc m) = pick (ltb p (firstPropAt nd (rootAt tr (suc r)))) (kindAt tr r) (kindFrom tr nd p (suc r) m)
+
+-- property p is a row, and its identifier lies in the text
+pub record Named (p : ℕ) (t pr : List ℕ) : Type 0 where
+  pub row : p < length pr / 4
+  pub rises : nameFromAt pr p ≤ nameToAt pr p
+  pub inside : nameToAt pr p ≤ length t
+
+-- its identifier
+abbrev pub nameAt : (t pr : List ℕ) → ℕ → List ℕ
+nameAt t pr p = slice (nameFromAt pr p) (nameToAt pr p) t
