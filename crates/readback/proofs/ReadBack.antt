@@ -21,7 +21,7 @@ use Rattle.parser.specs.Split.{sliced, split, splitting}
 use Rattle.parser.specs.Walk.{uppers}
 use Rattle.readback.proofs.Regrow.{Few, SoundTrees, deepest, planted-written}
 use Rattle.readback.proofs.Written.{Plain, PlainNode, PlainTree, both, letters-same, lex-written, range, tokTrees}
-use Rattle.serialize.specs.Write.{Open, boxed, bracketed, ends, left, letters, opened, shuts, writeNodes, writeProps, writeTree, writeTrees}
+use Rattle.serialize.specs.Write.{Open, boxed, bracketed, ends, left, opened, shuts, writeNodes, writeProps, writeTree, writeTrees}
 use Rattle.tables.proofs.Moved.{parents-move}
 use Rattle.tables.specs.Numbers.{none, textLimit}
 use Rattle.tables.specs.Record.{Node, Tree}
@@ -29,6 +29,7 @@ use Rattle.tables.specs.Rows.{parents}
 use Rattle.utf8.proofs.Like.{like-utfs, like-whole}
 use Rattle.utf8.proofs.Steps.{place, place-is, utfs-append}
 use Rattle.utf8.specs.Text.{Ink, Utf, blank, inked, mark, utf, utfs, white, whole, within}
+use Rattle.values.specs.Read.{readIdentifier}
 use Rattle.readback.specs.Back.{some, Z, K, zProp, zTok, zNode, zTree, Back}
 
 -- ---- the writing is valid, and trimming takes nothing away
@@ -89,7 +90,7 @@ fine-boxed (v ∷ vs) h =
 fine-props : (ps : List Prop) → All Plain ps → All ValidProp ps → Fine (writeProps ps)
 fine-props [] pl h = fine-nil
 fine-props (p ∷ ps) pl h =
-    fine-append (letters (p .name)) (boxed (p .vals) ++ writeProps ps)
+    fine-append (readIdentifier (p .name)) (boxed (p .vals) ++ writeProps ps)
     (subst Fine (sym (letters-same (p .name) (pl .0 .upper-case))) (fine-upper (p .name) (pl .0 .upper-case)))
     (fine-append (boxed (p .vals)) (writeProps ps) (fine-boxed (p .vals) (h .0)) (fine-props ps (pl .1) (h .1)))
 
@@ -218,7 +219,7 @@ zero-boxed (v ∷ vs) = ap (λ (z : List ℕ). 0x5b ∷ (v .raw ++ (0x5d ∷ z))
 
 zero-props : (ps : List Prop) → writeProps (map zProp ps) ≡ writeProps ps
 zero-props [] = refl
-zero-props (p ∷ ps) = ap₂ (λ (y z : List ℕ). letters (p .name) ++ (y ++ z)) (zero-boxed (p .vals)) (zero-props ps)
+zero-props (p ∷ ps) = ap₂ (λ (y z : List ℕ). readIdentifier (p .name) ++ (y ++ z)) (zero-boxed (p .vals)) (zero-props ps)
 
 zero-nodes : (ps : List ℕ) (k : ℕ) (path : List Open) (ns : List Node) → writeNodes ps k path (map zNode ns) ≡ writeNodes ps k path ns
 zero-nodes ps k path [] = refl

@@ -14,12 +14,13 @@ use Rattle.lexer.specs.Token.{Out, Prop, St, Tok, Val, after, between, done, em
 use Rattle.lists.specs.All.{All}
 use Rattle.lists.specs.Pick.{pick}
 use Rattle.parser.specs.Walk.{uppers}
-use Rattle.serialize.specs.Write.{Open, boxed, bracketed, left, letters, opened, writeNodes, writeProps, writeTree, writeTrees}
+use Rattle.serialize.specs.Write.{Open, boxed, bracketed, left, opened, writeNodes, writeProps, writeTree, writeTrees}
 use Rattle.tables.specs.Numbers.{none}
 use Rattle.tables.specs.Record.{Node, Tree}
 use Rattle.tables.specs.Rows.{parents}
 use Rattle.utf8.proofs.Steps.{place}
 use Rattle.utf8.specs.Text.{within}
+use Rattle.values.specs.Read.{readIdentifier}
 use Rattle.serialize.specs.Write as Write
 use Rattle.readback.specs.Back.{some, Z, K, zProp, zTok}
 
@@ -174,7 +175,8 @@ pub record Plain (p : Prop) : Type 0 where
   pub valued : 0 < length (p .vals)
   pub shut : All Shut (p .vals)
 
-pub letters-same : (w : List ℕ) → uppers w ≡ true → letters w ≡ w
+pub letters-same : (w : List ℕ) → uppers w ≡ true → readIdentifier w ≡ w
+unfolding readIdentifier
 letters-same [] h = refl
 letters-same (b ∷ bs) h = let k = both (within 0x41 0x5a b) (uppers bs) h in rw (k .0, letters-same bs (k .1))
 
@@ -219,7 +221,7 @@ reads-parts (b ∷ bs) (v ∷ vs) n u l h = λ S o r.
       ap₂ (λ (y z : List Tok). y ++ z) (x .1) (ap pend (x .2) ∙ ap (λ (z : Prop). prop z 0 ∷ []) (x .3)),
     )
 
-pub reads-prop : (p : Prop) → Plain p → Reads (letters (p .name) ++ boxed (p .vals)) (prop (zProp p) 0 ∷ [])
+pub reads-prop : (p : Prop) → Plain p → Reads (readIdentifier (p .name) ++ boxed (p .vals)) (prop (zProp p) 0 ∷ [])
 reads-prop p h =
     subst (λ (z : List ℕ). Reads (z ++ boxed (p .vals)) (prop (zProp p) 0 ∷ [])) (sym (letters-same (p .name) (h .upper-case)))
     (reads-parts (p .name) (p .vals) (h .named) (h .upper-case) (h .valued) (h .shut))
@@ -233,8 +235,8 @@ tokProps (p ∷ ps) = prop (zProp p) 0 ∷ tokProps ps
 pub reads-props : (ps : List Prop) → All Plain ps → Reads (writeProps ps) (tokProps ps)
 reads-props [] h = reads-nil
 reads-props (p ∷ ps) h =
-    subst (λ (z : List ℕ). Reads z (tokProps (p ∷ ps))) (append-assoc (letters (p .name)) (boxed (p .vals)) (writeProps ps))
-    (reads-append (letters (p .name) ++ boxed (p .vals)) (writeProps ps) (prop (zProp p) 0 ∷ []) (tokProps ps) (reads-prop p (h .0)) (reads-props ps (h .1)))
+    subst (λ (z : List ℕ). Reads z (tokProps (p ∷ ps))) (append-assoc (readIdentifier (p .name)) (boxed (p .vals)) (writeProps ps))
+    (reads-append (readIdentifier (p .name) ++ boxed (p .vals)) (writeProps ps) (prop (zProp p) 0 ∷ []) (tokProps ps) (reads-prop p (h .0)) (reads-props ps (h .1)))
 
 abbrev pub tokShuts : Bool → List Tok → List Tok
 tokShuts true r = end 0 ∷ r

@@ -2,7 +2,8 @@
 use Prim.Native.Nat.{ℕ, zero, suc, _+_, _-_}
 use mathlib.Core.Bool.{Bool, _||_, not}
 use mathlib.Core.List.{List, [], _∷_, _++_}
-use lib.Dec.{eqb}
+use lib.Dec.{leb, eqb}
+use lib.ListN.{length}
 use lib.Seq.{slice}
 use Rattle.lists.specs.Pick.{pick}
 use Rattle.values.specs.Read.{readIdentifier}
@@ -10,6 +11,7 @@ use Rattle.go.specs.Normal.{normal}
 use Rattle.go.specs.Rows.{valuesAt}
 use Rattle.tables.specs.Numbers.{none}
 use Rattle.fit.specs.Columns.{kindAt, parentAt, childAt, siblingAt, firstPropAt, propCountAt, nameFromAt, nameToAt, firstValAt, valCountAt}
+use Rattle.fit.specs.Each.{each}
 
 -- the texts of 0, 1, .. below m, one after another
 unfoldable pub texts : (ℕ → List ℕ) → ℕ → List ℕ
@@ -33,6 +35,10 @@ boxes (v ∷ vs) = 0x5b ∷ (v ++ (0x5d ∷ boxes vs))
 -- the read identifier of property p
 abbrev pub nameAt : (t pr : List ℕ) → ℕ → List ℕ
 nameAt t pr p = readIdentifier (slice (nameFromAt pr p) (nameToAt pr p) t)
+
+-- the read identifiers of m properties are not empty
+unfoldable pub namesGood : (t pr : List ℕ) → ℕ → Bool
+namesGood t pr m = each m (λ p. not (leb (length (nameAt t pr p)) 0))
 
 -- its values, in their normal form
 unfoldable pub valuesText : (t pr vl : List ℕ) → (kind p : ℕ) → List ℕ
