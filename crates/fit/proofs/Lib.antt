@@ -7,12 +7,14 @@ pub mod Examples
 pub mod Lists
 pub mod Lying
 pub mod Parents
+pub mod Parts
 pub mod Path
 pub mod Ranges
 pub mod RecordFits
 pub mod RecordLinks
 pub mod RecordRanges
 pub mod Recorded
+pub mod RootRows
 pub mod Roots
 pub mod Rows
 pub mod Rule

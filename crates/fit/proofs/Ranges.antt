@@ -18,7 +18,7 @@ module _ (first count : ℕ → ℕ) where
   sum-far zero k = let e : k + 0 ≡ k = omega arith in rw e (omega arith)
   sum-far (suc d) k = let e : k + suc d ≡ suc (k + d) = omega arith in let r = sum-far d k in rw e (omega arith)
 
-  sum-up : (k n : ℕ) → k ≤ n → sum count k ≤ sum count n
+  pub sum-up : (k n : ℕ) → k ≤ n → sum count k ≤ sum count n
   sum-up k n h = let e : k + (n - k) ≡ n = omega arith in subst (λ (z : ℕ). sum count k ≤ sum count z) e (sum-far (n - k) k)
 
   pub sum-next : (k : ℕ) → sum count (k + 1) ≡ sum count k + count k
