@@ -1,6 +1,7 @@
 pub mod Ascents
 pub mod Cases
 pub mod Children
+pub mod Clauses
 pub mod Climbs
 pub mod Each
 pub mod Examples

@@ -1,0 +1,79 @@
+-- The clauses of the fitting rule, each by its name, of tables that fit. Assumes nothing.
+use Prim.Native.Nat.{ℕ, _≤_, _<_}
+use mathlib.Core.Bool.{Bool, true, _&&_}
+use mathlib.Core.List.{List}
+use mathlib.Core.Path.{_≡_}
+use lib.Dec.{leb}
+use lib.ListN.{length, take}
+use borrow.Author.Tests.{leb-true}
+use Rattle.tables.specs.Numbers.{textLimit}
+use Rattle.tables.specs.declared.Counts.{Counts}
+use Rattle.fit.specs.Columns.{firstPropAt, propCountAt, nameFromAt, nameToAt, firstValAt, valCountAt, valFromAt, valToAt}
+use Rattle.fit.specs.Each.{each}
+use Rattle.fit.specs.Fit.{lentFor, validUtf8, fitText, Fit}
+use Rattle.fit.specs.Locals.{Held}
+use Rattle.fit.specs.Nodes.{rootsRight, parentRight, childRight, siblingRight, kindRight, nodesFit}
+use Rattle.fit.specs.Ranges.{gapless, hasValue, rangesFit}
+use Rattle.fit.specs.Spans.{spans, ascending, nameRight, valueRight, spansFit}
+use Rattle.fit.proofs.Cases.{and-left, and-right}
+use Rattle.fit.proofs.Lying.{names-lie, values-lie}
+use Rattle.fit.proofs.Whole.{fit-lent}
+
+-- of the used text t
+pub record Clauses (t : List ℕ) (c : Counts) (tr nd pr vl : List ℕ) : Type 0 where
+  pub held : Held c tr nd pr vl
+  pub short : length t ≤ textLimit
+  pub utf8 : validUtf8 t ≡ true
+  pub roots : rootsRight (c .trees) (c .nodes) tr nd ≡ true
+  pub parents : each (c .nodes) (parentRight nd) ≡ true
+  pub children : each (c .nodes) (childRight nd (c .nodes)) ≡ true
+  pub siblings : each (c .nodes) (siblingRight nd (c .nodes)) ≡ true
+  pub kinds : each (c .trees) (kindRight tr) ≡ true
+  pub node-ranges : gapless (firstPropAt nd) (propCountAt nd) (c .nodes) (c .properties) ≡ true
+  pub prop-ranges : gapless (firstValAt pr) (valCountAt pr) (c .properties) (c .values) ≡ true
+  pub have-values : each (c .properties) (hasValue pr) ≡ true
+  pub ascend : ascending (length t) 0 (spans pr vl 0 (c .properties)) ≡ true
+  pub names : each (c .properties) (nameRight t pr) ≡ true
+  pub values : each (c .values) (valueRight t vl) ≡ true
+
+five : (p q r s u : Bool) → (p && q && r && s && u) ≡ true → (p ≡ true) × (q ≡ true) × (r ≡ true) × (s ≡ true) × (u ≡ true)
+five p q r s u h =
+    let h4 = and-left (p && q && r && s) u h in
+    let h3 = and-left (p && q && r) s h4 in
+    let h2 = and-left (p && q) r h3 in
+    (and-left p q h2, and-right p q h2, and-right (p && q) r h3, and-right (p && q && r) s h4, and-right (p && q && r && s) u h)
+
+three : (p q r : Bool) → (p && q && r) ≡ true → (p ≡ true) × (q ≡ true) × (r ≡ true)
+three p q r h = let h2 = and-left (p && q) r h in (and-left p q h2, and-right p q h2, and-right (p && q) r h)
+
+pub fit-clauses : (t : List ℕ) (used : ℕ) (c : Counts) (tr nd pr vl : List ℕ) → Fit t used c tr nd pr vl ≡ true → Clauses (take used t) c tr nd pr vl
+unfolding Fit fitText nodesFit rangesFit spansFit
+fit-clauses t used c tr nd pr vl h =
+    let u : List ℕ = take used t in
+    let x = five (leb (length u) textLimit) (validUtf8 u) (nodesFit c tr nd) (rangesFit c nd pr) (spansFit u c pr vl) (and-right (lentFor t used c tr nd pr vl) (fitText u c tr nd pr vl) h) in
+    let n = five (rootsRight (c .trees) (c .nodes) tr nd) (each (c .nodes) (parentRight nd)) (each (c .nodes) (childRight nd (c .nodes))) (each (c .nodes) (siblingRight nd (c .nodes))) (each (c .trees) (kindRight tr)) (x .2) in
+    let r = three (gapless (firstPropAt nd) (propCountAt nd) (c .nodes) (c .properties)) (gapless (firstValAt pr) (valCountAt pr) (c .properties) (c .values)) (each (c .properties) (hasValue pr)) (x .3) in
+    let s = three (ascending (length u) 0 (spans pr vl 0 (c .properties))) (each (c .properties) (nameRight u pr)) (each (c .values) (valueRight u vl)) (x .4) in
+    record {
+      held = fit-lent t used c tr nd pr vl h .1;
+      short = leb-true (length u) textLimit (x .0);
+      utf8 = x .1;
+      roots = n .0;
+      parents = n .1;
+      children = n .2;
+      siblings = n .3;
+      kinds = n .4;
+      node-ranges = r .0;
+      prop-ranges = r .1;
+      have-values = r .2;
+      ascend = s .0;
+      names = s .1;
+      values = s .2;
+    }
+
+module _ {t : List ℕ} {c : Counts} {tr nd pr vl : List ℕ} (f : Clauses t c tr nd pr vl) where
+  pub name-in : (p : ℕ) → p < c .properties → (nameFromAt pr p ≤ nameToAt pr p) × (nameToAt pr p ≤ length t)
+  name-in = names-lie pr vl (length t) (c .properties) (f .ascend)
+
+  pub value-in : (v : ℕ) → v < c .values → (valFromAt vl v ≤ valToAt vl v) × (valToAt vl v ≤ length t)
+  value-in = values-lie pr vl (length t) (c .properties) (f .ascend) (c .values) (f .prop-ranges)
