@@ -16,8 +16,9 @@ use Rattle.lists.specs.Pick.{pick}
 use Rattle.parser.proofs.Moved.{move-tokens, moveAnswer}
 use Rattle.parser.specs.Read.{Answer, accepted, decoded, lexing, planted, read, refused}
 use Rattle.parser.specs.Split.{Splitting, no, sliced, slices, split, splitting}
-use Rattle.readback.proofs.ReadBack.{Back, Form, gm-same, read-back-again, written-ink}
-use Rattle.readback.proofs.Regrow.{deepest, filled-any, split-trees}
+use Rattle.readback.proofs.ReadBack.{Back, Form, gm-same, read-back-again}
+use Rattle.readback.proofs.Inked.{written-ink}
+use Rattle.readback.proofs.Resplit.{deepest, filled-any, split-trees}
 use Rattle.readback.proofs.Written.{lex-written, tokTree, tokTrees}
 use Rattle.serialize.specs.Write.{writeTrees}
 use Rattle.tables.specs.Numbers.{depthLimit, textLimit}

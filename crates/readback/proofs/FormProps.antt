@@ -17,8 +17,8 @@ use Rattle.lists.specs.All.{All}
 use Rattle.lists.specs.Pick.{pick}
 use Rattle.lists.specs.Same.{same}
 use Rattle.parser.specs.Kind.{GM, kindProps, kindVals, named}
-use Rattle.readback.proofs.ReadBack.{ValidProp}
-use Rattle.readback.proofs.Written.{Plain}
+use Rattle.readback.proofs.Inked.{ValidProp}
+use Rattle.readback.proofs.WrittenProps.{Plain}
 use Rattle.readback.specs.Back.{Z, K, zProp}
 use Rattle.serialize.specs.Form.{rawOf, placeless, formProp}
 use Rattle.utf8.specs.Text.{Ink, blank, mark, utfs, white, whole}

@@ -7,9 +7,12 @@ use Rattle.lexer.specs.Token.{Prop}
 use Rattle.lists.specs.All.{All}
 use Rattle.readback.proofs.FormProps.{form-plain, form-valid, form-kinds}
 use Rattle.readback.proofs.Grow.{Good, opening}
-use Rattle.readback.proofs.ReadBack.{Form, ValidNode, ValidProp, ValidTree}
-use Rattle.readback.proofs.Regrow.{Few, SoundNodes, SoundTrees}
-use Rattle.readback.proofs.Written.{Plain, PlainNode, PlainTree}
+use Rattle.readback.proofs.ReadBack.{Form}
+use Rattle.readback.proofs.Inked.{ValidNode, ValidProp, ValidTree}
+use Rattle.readback.proofs.Resplit.{Few}
+use Rattle.readback.proofs.Regrow.{SoundNodes, SoundTrees}
+use Rattle.readback.proofs.WrittenProps.{Plain}
+use Rattle.readback.proofs.Written.{PlainNode, PlainTree}
 use Rattle.serialize.specs.Form.{formProp, formNode, formTree}
 use Rattle.serialize.specs.Write.{Open, bracketed, left}
 use Rattle.tables.specs.Numbers.{none}
