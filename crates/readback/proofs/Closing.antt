@@ -1,8 +1,8 @@
 -- Slices: the depth falls to 0 at the last token, and not before. Assumes nothing.
 use mathlib.Core.Path.{_≡_, refl, sym, subst}
 use mathlib.Core.Logic.{_⊎_, inl, inr}
-use Prim.Native.Nat.{ℕ, zero, suc, _+_}
-use mathlib.Core.Bool.{Bool, true, false, not}
+use Prim.Native.Nat.{ℕ, zero, suc}
+use mathlib.Core.Bool.{Bool, true, false}
 use mathlib.Core.List.{List, [], _∷_, reverse, reverseAux}
 use lib.Dec.{ltb}
 use Rattle.lexer.specs.Token.{Tok, end, node, prop, start}

@@ -8,7 +8,7 @@ use mathlib.Core.List.{List, [], _∷_, _++_, map, reverseAux, append-assoc, app
 use lib.Dec.{eqb}
 use borrow.Author.Tests.{le-leb, eq-eqb, ne-eqb}
 use Rattle.fresh.specs.Run.{strictly}
-use Rattle.lexer.specs.Token.{Prop, Tok, node, prop, start}
+use Rattle.lexer.specs.Token.{Prop, Tok, prop, start}
 use Rattle.lists.specs.All.{All}
 use Rattle.lists.specs.Pick.{pick}
 use Rattle.parser.specs.Walk.{Gate, Opts, Walk, children, opens, shut, takes, walk, walked, walks}

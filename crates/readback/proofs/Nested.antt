@@ -11,7 +11,6 @@ use borrow.Author.Tests.{eq-eqb, ne-eqb}
 use Rattle.fresh.specs.Run.{strictly}
 use Rattle.lexer.specs.Token.{Prop, Tok, end, node, prop, start}
 use Rattle.lists.specs.Pick.{pick}
-use Rattle.parser.specs.Split.{over}
 use Rattle.parser.specs.Walk.{Gate, Walk, adds, children, closes, gated, halted, opens, shut, skips, stopped, takes, uppers, walk, walked}
 use Rattle.tables.specs.Numbers.{none}
 use Rattle.tables.specs.Record.{Node}

@@ -18,7 +18,6 @@ use Rattle.serialize.specs.Write.{Open, bracketed, left}
 use Rattle.tables.specs.Numbers.{none}
 use Rattle.tables.specs.Record.{Node, Tree}
 use Rattle.tables.specs.Rows.{parents}
-use Rattle.readback.specs.Back.{some}
 
 plain-map : (k : ℕ) (ps : List Prop) → All Plain ps → All Plain (map (formProp k) ps)
 plain-map k [] h = tt

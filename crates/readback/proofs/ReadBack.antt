@@ -25,7 +25,7 @@ use Rattle.tables.proofs.Moved.{parents-move}
 use Rattle.tables.specs.Numbers.{textLimit}
 use Rattle.tables.specs.Record.{Node, Tree}
 use Rattle.tables.specs.Rows.{parents}
-use Rattle.utf8.specs.Text.{Utf, blank, utfs, whole, within}
+use Rattle.utf8.specs.Text.{Utf, blank, utfs, whole}
 use Rattle.values.specs.Read.{readIdentifier}
 use Rattle.readback.specs.Back.{some, Z, K, zProp, zTok, zNode, zTree}
 use Rattle.readback.proofs.Inked.{ValidTree, written-ink}

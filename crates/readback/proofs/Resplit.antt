@@ -11,7 +11,6 @@ use Rattle.fresh.specs.Run.{strictly}
 use Rattle.lexer.specs.Token.{Prop, Tok, end, node, prop, start}
 use Rattle.lists.specs.All.{All}
 use Rattle.lists.specs.Pick.{pick}
-use Rattle.parser.specs.Kind.{is, props}
 use Rattle.parser.specs.Read.{accepted, answer, growAll, growing, planted}
 use Rattle.parser.specs.Split.{Splitting, deep, filled, no, over, sliced, slices, split, splits, splitting, wrong}
 use Rattle.readback.proofs.Grow.{opening}

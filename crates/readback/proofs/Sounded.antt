@@ -12,7 +12,6 @@ use Rattle.lexer.specs.Token.{Prop, Tok, end, node, prop, start}
 use Rattle.lists.specs.All.{All}
 use Rattle.parser.specs.Kind.{GM, Kind, is, kind, kindProps, named, props, unkind}
 use Rattle.parser.specs.Read.{Growing, failing, growAll, growing, grown, grows, kinded, rooted}
-use Rattle.parser.specs.Split.{no, slices}
 use Rattle.parser.specs.Walk.{Walk, halted, shut, stopped, walk, walked}
 use Rattle.readback.proofs.Grow.{Good, opening}
 use Rattle.readback.proofs.Closing.{Closes, SliceOk}

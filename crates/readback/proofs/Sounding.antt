@@ -15,10 +15,8 @@ use Rattle.lists.proofs.All.{all-map}
 use Rattle.lists.specs.All.{All}
 use Rattle.lists.specs.Pick.{pick}
 use Rattle.parser.proofs.Lift.{OfAnswer, OfNode, OfTree, of-tokens}
-use Rattle.parser.specs.Kind.{kind, named, props}
 use Rattle.parser.specs.Read.{Answer, Growing, accepted, answer, decoded, failing, growAll, growing, planted, read, refused}
 use Rattle.parser.specs.Split.{Slices, Splitting, filled, no, over, sliced, slices, split, splitting, wrong}
-use Rattle.parser.specs.Walk.{shut}
 use Rattle.readback.proofs.Closing.{OkSlices, SliceOk, ok-tokens}
 use Rattle.readback.proofs.ReadBack.{Form}
 use Rattle.readback.proofs.Inked.{Valid, ValidNode, ValidProp, ValidTree}
@@ -32,7 +30,7 @@ use Rattle.tables.specs.Record.{Node, Tree}
 use Rattle.tables.specs.declared.Reason.{Reason}
 use Rattle.tables.specs.declared.Reason.the-variants.{TextTooLong, TooDeep}
 use Rattle.utf8.specs.Text.{Utf, blank, inked, utfs, whole}
-use Rattle.readback.specs.Back.{some, Named, Begins, BeginsAll, toksOf, slicesIn}
+use Rattle.readback.specs.Back.{Named, Begins, BeginsAll, toksOf, slicesIn}
 use Rattle.readback.proofs.Sounded.{PreNodes, PreTrees, back-again, all-trees}
 
 abbrev Some : Slices → Type 0
