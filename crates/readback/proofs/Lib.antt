@@ -9,6 +9,7 @@ pub mod Inked
 pub mod Kept
 pub mod Nested
 pub mod Normal
+pub mod Opening
 pub mod Pieces
 pub mod ReadBack
 pub mod Regrow

@@ -26,7 +26,7 @@ use Rattle.tables.specs.Record.{Node, Tree}
 use Rattle.tables.specs.Rows.{parents}
 use Rattle.tables.specs.declared.Reason.{Reason}
 use Rattle.tables.specs.declared.Reason.the-variants.{UnexpectedEndOfData}
-use Rattle.readback.specs.Back.{Begins}
+use Rattle.readback.proofs.Opening.{Leads}
 
 -- ---- nodes
 
@@ -149,7 +149,7 @@ grown-more c base n s ss us vs n1 vs1 p q l k =
     let r = k (base + length (t .nodes)) t (omega (arith, p .small)) q2 in
     (t ∷ r .0, r .1, (p .root-is, p .pre, r .2), ap suc (r .3))
 
-pub all-trees : (c : Bool) (base : ℕ) (ss : List (List Tok)) (us : List Tree) (n : ℕ) (vs : List Tree) → All Begins ss → All SliceOk ss → base + total ss ≤ none
+pub all-trees : (c : Bool) (base : ℕ) (ss : List (List Tok)) (us : List Tree) (n : ℕ) (vs : List Tree) → All Leads ss → All SliceOk ss → base + total ss ≤ none
     → growAll (strictly c) (growing base us) ss ≡ growing n vs → Grown base ss us vs
 all-trees c base [] us n vs b k l h = let e : us ≡ vs = cc in ([], sym e, tt, refl)
 all-trees c base ([] ∷ ss) us n vs b k l h = absurd (b .0)

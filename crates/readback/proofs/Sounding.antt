@@ -18,6 +18,7 @@ use Rattle.parser.proofs.Lift.{OfAnswer, OfNode, OfTree, of-tokens}
 use Rattle.parser.specs.Read.{Answer, Growing, accepted, answer, decoded, failing, growAll, growing, planted, read, refused}
 use Rattle.parser.specs.Split.{Slices, Splitting, filled, no, over, sliced, slices, split, splitting, wrong}
 use Rattle.readback.proofs.Closing.{OkSlices, SliceOk, ok-tokens}
+use Rattle.readback.proofs.Opening.{Leads, leads-all}
 use Rattle.readback.proofs.ReadBack.{Form}
 use Rattle.readback.proofs.Inked.{Valid, ValidNode, ValidProp, ValidTree}
 use Rattle.readback.proofs.Resplit.{Few}
@@ -30,7 +31,7 @@ use Rattle.tables.specs.Record.{Node, Tree}
 use Rattle.tables.specs.declared.Reason.{Reason}
 use Rattle.tables.specs.declared.Reason.the-variants.{TextTooLong, TooDeep}
 use Rattle.utf8.specs.Text.{Utf, blank, inked, utfs, whole}
-use Rattle.readback.specs.Back.{Named, Begins, BeginsAll, toksOf, slicesIn}
+use Rattle.readback.specs.Back.{Named, BeginsAll, Each, toksOf}
 use Rattle.readback.proofs.Sounded.{PreNodes, PreTrees, back-again, all-trees}
 
 abbrev Some : Slices → Type 0
@@ -55,7 +56,7 @@ not-accepted : {A : Type 0} (n : Reason) (p : ℕ) (ts : List Tree) → refused 
 not-accepted n p ts e = let z : _≡_ {A = ℕ} 0 1 = cc in absurd (omega arith)
 
 pre-answer : (c : Bool) (ss : List (List Tok)) (r : Growing) (ts : List Tree) → growAll (strictly c) (growing 0 []) ss ≡ r → answer r ≡ accepted ts
-    → All Begins ss → All SliceOk ss → total ss ≤ none → PreTrees 0 ts × (length ts ≡ length ss)
+    → All Leads ss → All SliceOk ss → total ss ≤ none → PreTrees 0 ts × (length ts ≡ length ss)
 pre-answer c ss (growing n vs) ts e h b k l =
     let g = all-trees c 0 ss [] n vs b k (omega arith) e in
     let h2 : accepted (reverse vs) ≡ accepted ts = h in
@@ -64,7 +65,7 @@ pre-answer c ss (growing n vs) ts e h b k l =
     (subst (PreTrees 0) w (g .2), sym (ap length w) ∙ g .3)
 pre-answer c ss (failing j) ts e h b k l = not-accepted j 0 ts h
 
-pre-planted : (c : Bool) (x : Slices) (ts : List Tree) → planted (strictly c) x ≡ accepted ts → BeginsAll x → OkSlices x → Within none x → Some x
+pre-planted : (c : Bool) (x : Slices) (ts : List Tree) → planted (strictly c) x ≡ accepted ts → Each Leads x → OkSlices x → Within none x → Some x
     → PreTrees 0 ts × (0 < length ts)
 pre-planted c (no n) ts h b k l m = not-accepted n 0 ts h
 pre-planted c (slices ss) ts h b k l m =
@@ -125,7 +126,7 @@ within-up n m (no k) l h = tt
 within-up n m (slices ss) l h = omega arith
 
 -- what strict reading accepts, with trees that begin with `(` and upper case identifiers, can be written and read back, limits aside
-pub writable : (c : Bool) (t : List ℕ) (ts : List Tree) → read (strictly c) t ≡ accepted ts → BeginsAll (slicesIn t) → All (OfTree Named) ts
+pub writable : (c : Bool) (t : List ℕ) (ts : List Tree) → read (strictly c) t ≡ accepted ts → BeginsAll t → All (OfTree Named) ts
     → Form ts
 writable c t ts h b nm = go (accepted-is c t ts h)
   where
@@ -136,8 +137,8 @@ writable c t ts h b nm = go (accepted-is c t ts h)
     go A =
         let bs : List ℕ = drop (A .f0) (take (A .l) t) in
         let xs : List Tok = lexFrom (A .f0) (A .l) bs .toks in
-        let bg : BeginsAll (sliced false (split false (splitting 0 0 [] []) xs)) =
-        subst (λ (u : Utf). BeginsAll (sliced false (split false (splitting 0 0 [] []) (toksOf u t)))) (A .valid) b in
+        let bg : Each Leads (sliced false (split false (splitting 0 0 [] []) xs)) =
+        subst (λ (u : Utf). Each Leads (sliced false (split false (splitting 0 0 [] []) (toksOf u t)))) (A .valid) (leads-all t b) in
         let wi : Within none (sliced false (split false (splitting 0 0 [] []) xs)) =
         within-up (length xs) none (sliced false (split false (splitting 0 0 [] []) xs))
         (omega (arith, long, few-tokens (A .f0) (A .l) bs, length-drop (A .f0) (take (A .l) t), length-take (A .l) t)) (few-slices xs) in

@@ -16,7 +16,7 @@ use Rattle.readback.proofs.Kept.{same-trees, same-tree-rows, same-node-
 use Rattle.readback.proofs.Normal.{normal-form}
 use Rattle.readback.proofs.ReadBack.{Back}
 use Rattle.readback.proofs.Sounding.{writable}
-use Rattle.readback.specs.Back.{Named, BeginsAll, slicesIn}
+use Rattle.readback.specs.Back.{Named, BeginsAll}
 use Rattle.readback.specs.Same.{ReadsBack}
 use Rattle.serialize.specs.Form.{formTree, writing}
 use Rattle.tables.specs.Numbers.{textLimit}
@@ -33,7 +33,7 @@ named-trees (t ∷ ts) h = (all-left (OfNode Named) (t .nodes) (allNodes ts) h, 
 
 -- a text that is strictly accepted, conversion on or off, whose trees each begin with `(` and whose raw identifiers are non-empty and uppercase:
 -- its writing, if within the text limit, is too deep or is read back, conversion on or off
-pub reads-back : (c d : Bool) (t : List ℕ) (ts : List Tree) → read (strictly c) t ≡ accepted ts → BeginsAll (slicesIn t) → All Named (allProps (allNodes ts))
+pub reads-back : (c d : Bool) (t : List ℕ) (ts : List Tree) → read (strictly c) t ≡ accepted ts → BeginsAll t → All Named (allProps (allNodes ts))
     → length (writing ts) ≤ textLimit → (read (strictly d) (writing ts) ≡ refused TooDeep 0) ⊎ ReadsBack d ts
 reads-back c d t ts h b nm s =
     go (back-or-nine d (map formTree ts) (normal-form ts (writable c t ts h b (named-trees ts (named-nodes (allNodes ts) nm)))) s)
