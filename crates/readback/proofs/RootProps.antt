@@ -9,7 +9,7 @@ use Rattle.lexer.specs.Token.{Prop, Tok, end, node, prop, start}
 use Rattle.lists.specs.Pick.{pick}
 use Rattle.parser.specs.Kind.{props}
 use Rattle.parser.specs.Walk.{Gate, Walk, adds, children, halted, shut, skips, stopped, takes, uppers, walk, walked}
-use Rattle.readback.proofs.Nested.{Closes}
+use Rattle.readback.proofs.Closing.{Closes}
 use Rattle.tables.specs.Numbers.{none}
 use Rattle.tables.specs.Record.{Node}
 use Rattle.tables.specs.declared.Reason.{Reason}
@@ -47,10 +47,6 @@ module _ (c : Bool) (base : ℕ) where
   no-due skips (n ∷ ds) t ts e = refl
   no-due takes (n ∷ []) t ts e = e
   no-due takes (n ∷ m ∷ ds) t ts e = refl
-
-  shut-due : (ds : List Node) (ts : List Tok) → due shut ds ts ≡ []
-  shut-due [] ts = refl
-  shut-due (n ∷ ds) ts = refl
 
   moved-on : (g g2 : Gate) (ds ds2 : List Node) (t : Tok) (ts : List Tok) (w : Walk) → props (t ∷ ts) ≡ [] → rootProps ds2 ≡ rootProps ds → due g2 ds2 ts ≡ []
       → RootIs (rootProps ds2 ++ due g2 ds2 ts) w → RootIs (rootProps ds ++ due g ds (t ∷ ts)) w

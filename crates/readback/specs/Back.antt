@@ -1,8 +1,9 @@
--- Reading back: what is asked of a text and its trees, and what a strict reading of the writing gives.
+-- Reading back: what is asked of a text and its trees; and trees places aside.
 use Prim.Native.Nat.{ℕ}
 use mathlib.Core.Path.{_≡_}
 use mathlib.Core.Bool.{Bool, true, false}
-use mathlib.Core.List.{List, [], _∷_, map}
+use mathlib.Core.List.{List, [], _∷_}
+use lib.ListN.{getD}
 use Rattle.lists.specs.All.{All}
 use Rattle.utf8.specs.Text.{Utf, whole, part, bad, blank, utfs}
 use Rattle.lexer.specs.Token.{Prop, Tok, start, end, node, prop}
@@ -11,9 +12,7 @@ use Rattle.tables.specs.Record.{Node, Tree}
 use Rattle.tables.specs.Move.{moveNode, moveTree}
 use Rattle.parser.specs.Split.{Slices, no, slices, slicesOf}
 use Rattle.parser.specs.Walk.{uppers}
-use Rattle.parser.specs.Read.{accepted, lex, read}
-use Rattle.fresh.specs.Run.{strictly}
-use Rattle.serialize.specs.Write.{writeTrees}
+use Rattle.parser.specs.Read.{lex}
 
 -- not empty
 abbrev pub some : List ℕ → Bool
@@ -24,19 +23,6 @@ some (b ∷ bs) = true
 abbrev pub Named : Prop → Type 0
 Named p = (some (p .name) ≡ true) × (uppers (p .name) ≡ true)
 
--- the tokens begin with `(`
-abbrev pub Begins : List Tok → Type 0
-Begins [] = ⊥
-Begins (start o ∷ ts) = Unit {0}
-Begins (end o ∷ ts) = ⊥
-Begins (node o ∷ ts) = ⊥
-Begins (prop p e ∷ ts) = ⊥
-
--- each slice begins with `(`
-abbrev pub BeginsAll : Slices → Type 0
-BeginsAll (no n) = Unit {0}
-BeginsAll (slices ss) = All Begins ss
-
 -- the tokens of a text that is UTF-8
 abbrev pub toksOf : Utf → List ℕ → List Tok
 toksOf (whole k) t = lex k t .toks
@@ -46,6 +32,27 @@ toksOf (bad p) t = []
 -- the slices of a text
 abbrev pub slicesIn : List ℕ → Slices
 slicesIn t = slicesOf false (toksOf (utfs (whole blank) 0 t) t)
+
+-- where a token stands
+abbrev pub placeOf : Tok → ℕ
+placeOf (start o) = o
+placeOf (end o) = o
+placeOf (node o) = o
+placeOf (prop p e) = p .from
+
+-- the byte at the first of a tree's tokens is `(`
+abbrev pub Begins : List ℕ → List Tok → Type 0
+Begins t [] = ⊥
+Begins t (x ∷ xs) = getD t (placeOf x) 0 ≡ 0x28
+
+-- of each slice
+abbrev pub Each : (List Tok → Type 0) → Slices → Type 0
+Each P (no r) = Unit {0}
+Each P (slices ss) = All P ss
+
+-- each tree of a text begins with `(`
+abbrev pub BeginsAll : List ℕ → Type 0
+BeginsAll t = Each (Begins t) (slicesIn t)
 
 -- places aside: every place is 0
 abbrev pub Z : ℕ → ℕ
@@ -67,10 +74,3 @@ zNode = moveNode Z Z K
 
 abbrev pub zTree : Tree → Tree
 zTree = moveTree Z Z K
-
--- a strict reading of the writing is accepted with trees that are the same but for places, and writing them gives the same bytes
-pub record Back (c : Bool) (ts : List Tree) : Type 0 where
-  pub again : List Tree
-  pub accepts : read (strictly c) (writeTrees ts) ≡ accepted again
-  pub alike : map zTree again ≡ map zTree ts
-  pub bytes : writeTrees again ≡ writeTrees ts

@@ -1,1 +1,3 @@
 pub mod Back
+pub mod Needed
+pub mod Same

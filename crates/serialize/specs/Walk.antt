@@ -2,13 +2,15 @@
 use Prim.Native.Nat.{ℕ, zero, suc, _+_, _-_}
 use mathlib.Core.Bool.{Bool, _||_, not}
 use mathlib.Core.List.{List, [], _∷_, _++_}
-use lib.Dec.{eqb}
+use lib.Dec.{ltb, eqb}
+use lib.ListN.{length}
 use lib.Seq.{slice}
 use Rattle.lists.specs.Pick.{pick}
 use Rattle.values.specs.Read.{readIdentifier}
 use Rattle.go.specs.Normal.{normal}
 use Rattle.go.specs.Rows.{valuesAt}
 use Rattle.tables.specs.Numbers.{none}
+use Rattle.fit.specs.Each.{each}
 use Rattle.fit.specs.Columns.{kindAt, parentAt, childAt, siblingAt, firstPropAt, propCountAt, nameFromAt, nameToAt, firstValAt, valCountAt}
 
 -- the texts of 0, 1, .. below m, one after another
@@ -68,10 +70,22 @@ unfoldable pub endsBefore : List ℕ → (k p : ℕ) → List ℕ
 endsBefore nd zero p = []
 endsBefore nd (suc k) p = pick (eqb k p) [] (climbs nd k k p)
 
+-- node k of a tree with this game type
+unfoldable pub nodeBy : (t nd pr vl : List ℕ) → (kind k : ℕ) → List ℕ
+nodeBy t nd pr vl kind k = endsBefore nd k (parentAt nd k) ++ (begun nd k ++ (0x3b ∷ propsText t nd pr vl kind k))
+
 -- node k
-unfoldable pub nodeText : (t tr nd pr vl : List ℕ) → ℕ → List ℕ
-nodeText t tr nd pr vl k = endsBefore nd k (parentAt nd k) ++ (begun nd k ++ (0x3b ∷ propsText t nd pr vl (kindOver tr nd k) k))
+abbrev pub nodeText : (t tr nd pr vl : List ℕ) → ℕ → List ℕ
+nodeText t tr nd pr vl k = nodeBy t nd pr vl (kindOver tr nd k) k
 
 -- n nodes
 unfoldable pub linked : (t tr nd pr vl : List ℕ) → (n : ℕ) → List ℕ
 linked t tr nd pr vl n = texts (nodeText t tr nd pr vl) n ++ endsBefore nd n none
+
+-- property p has a name
+abbrev pub named : (t pr : List ℕ) → ℕ → Bool
+named t pr p = ltb 0 (length (nameAt t pr p))
+
+-- so has each of m properties
+unfoldable pub namesGood : (t pr : List ℕ) → ℕ → Bool
+namesGood t pr m = each m (named t pr)

@@ -1,6 +1,6 @@
 -- Writing: a walk over the nodes, in order, with the open nodes on a path; values as they are raw.
 use Prim.Native.Nat.{ℕ, suc}
-use mathlib.Core.Bool.{Bool, true, false, _||_, _&&_}
+use mathlib.Core.Bool.{Bool, true, false, _||_}
 use mathlib.Core.List.{List, [], _∷_, _++_}
 use lib.ListN.{length}
 use lib.Dec.{leb, eqb}
@@ -9,16 +9,12 @@ use Rattle.lexer.specs.Token.{Val, Prop}
 use Rattle.tables.specs.Numbers.{none}
 use Rattle.tables.specs.Record.{Node, Tree}
 use Rattle.tables.specs.Rows.{parents}
+use Rattle.values.specs.Read.{readIdentifier}
 
 -- an open node: its number, and whether it stands in brackets
 pub record Open : Type 0 where
   pub num : ℕ
   pub brk : Bool
-
--- the read identifier: the uppercase letters of the raw one
-abbrev pub letters : List ℕ → List ℕ
-letters [] = []
-letters (b ∷ bs) = let r = letters bs in pick (leb 0x41 b && leb b 0x5a) (b ∷ r) r
 
 -- the values in their brackets
 abbrev pub boxed : List Val → List ℕ
@@ -28,7 +24,7 @@ boxed (v ∷ vs) = 0x5b ∷ (v .raw ++ (0x5d ∷ boxed vs))
 -- read identifiers and values
 abbrev pub writeProps : List Prop → List ℕ
 writeProps [] = []
-writeProps (p ∷ ps) = letters (p .name) ++ (boxed (p .vals) ++ writeProps ps)
+writeProps (p ∷ ps) = readIdentifier (p .name) ++ (boxed (p .vals) ++ writeProps ps)
 
 -- how many of the parents are p
 abbrev pub times : ℕ → List ℕ → ℕ
@@ -79,4 +75,4 @@ writeTrees (t ∷ ts) = writeTree t ++ writeTrees ts
 -- an identifier reads as empty
 abbrev pub nameless : List Prop → Bool
 nameless [] = false
-nameless (p ∷ ps) = leb (length (letters (p .name))) 0 || nameless ps
+nameless (p ∷ ps) = leb (length (readIdentifier (p .name))) 0 || nameless ps

@@ -1,0 +1,112 @@
+-- Rows of what is written, and of texts that show why reading back asks what it asks: one table each, one statement each.
+use mathlib.Core.Path.{_≡_, refl}
+use Prim.Native.Nat.{ℕ}
+use Prim.Native.String.{String}
+use mathlib.Core.Bool.{true}
+use mathlib.Core.List.{List, [], _∷_, map}
+use Rattle.utf8.specs.Text.{white}
+use Rattle.lexer.specs.Token.{space}
+use Rattle.values.specs.Read.{readFrom, readIdentifier}
+use Rattle.values.specs.Decimal.{decimalOf, digitsFrom, digitOf}
+use Rattle.go.specs.Area.{areaOf, cornered, letterOf, letter}
+use Rattle.go.specs.Marks.{marksOf, marksFrom, inRect}
+use Rattle.go.specs.Normal.{normal, written, pointsFrom}
+use Rattle.go.specs.Value.{shapeOf, valueBy, goValue, pointsOf}
+use Rattle.tables.specs.Numbers.{numberOf}
+use Rattle.tables.specs.Record.{Tree}
+use Rattle.parser.specs.Examples.{bytes, strict}
+use Rattle.parser.specs.Read.{Answer, refused, accepted, read}
+use Rattle.serialize.specs.Form.{writing, answerFor, output, writtenNumber}
+
+-- what a reading says: why it is refused, or the game types of the trees
+pub data Says : Type 0 where
+  number : ℕ → Says
+  types : List ℕ → Says
+
+abbrev kindOf : Tree → ℕ
+kindOf t = t .kind
+
+-- an answer shown
+abbrev pub shown : Answer → Says
+shown (refused r p) = number (numberOf r)
+shown (accepted ts) = types (map kindOf ts)
+
+-- what is written for an answer
+abbrev pub writes : Answer → List ℕ
+writes (refused r p) = []
+writes (accepted ts) = writing ts
+
+-- a text, what a reading of it says, what is written, and what a reading of that says
+pub record Row : Type 0 where
+  pub text : String
+  pub first : Says
+  pub writing : String
+  pub second : Says
+
+abbrev row : String → Says → String → Says → Row
+row t a w b = record { text = t; first = a; writing = w; second = b }
+
+-- a tree that does not begin with `(`; an identifier with another letter, twice; an identifier with a space
+abbrev pub needed : List Row
+needed =
+    row ";GM[2](;)" (types (0 ∷ [])) "(;GM[2];)" (types (1 ∷ []))
+    ∷ row "(;GaM[2])" (types (0 ∷ [])) "(;GM[2])" (types (1 ∷ []))
+    ∷ row "(;GM[1]GaM[2])" (types (0 ∷ [])) "(;GM[1]GM[2])" (number 11)
+    ∷ row "(;GM [2])" (types (0 ∷ [])) "(;GM[2])" (types (1 ∷ []))
+    ∷ []
+
+-- what is shown of a text
+pub record Shown : Type 0 where
+  pub first : Says
+  pub writing : List ℕ
+  pub second : Says
+
+abbrev right : List Row → List Shown
+right [] = []
+right (r ∷ rs) = let a = read strict (bytes (r .text)) in record { first = shown a; writing = writes a; second = shown (read strict (writes a)) } ∷ right rs
+
+abbrev wanted : List Row → List Shown
+wanted [] = []
+wanted (r ∷ rs) = record { first = r .first; writing = bytes (r .writing); second = r .second } ∷ wanted rs
+
+pub needed-right : right needed ≡ wanted needed
+unfolding white space readFrom readIdentifier decimalOf digitsFrom digitOf normal written goValue shapeOf valueBy
+needed-right = refl
+
+-- a text, the writer's number, and what it writes where 100 bytes are lent
+pub record WriteRow : Type 0 where
+  pub text : String
+  pub number : ℕ
+  pub writing : String
+
+abbrev writeRow : String → ℕ → String → WriteRow
+writeRow t n w = record { text = t; number = n; writing = w }
+
+-- P4, P9, and the paper's writing program
+abbrev pub writings : List WriteRow
+writings =
+    writeRow "(;[x])" 15 ""
+    ∷ writeRow "(;(;);)" 0 "(;(;)(;))"
+    ∷ writeRow "(;AB[bb:cc]TB[ba][aa]C[a:b\\]c])" 0 "(;AB[bb][bc][cb][cc]TB[aa][ba]C[a:b\\]c])"
+    ∷ []
+
+-- what is shown of a writing
+pub record WriteShown : Type 0 where
+  pub number : ℕ
+  pub writing : List ℕ
+
+abbrev writer : Answer → WriteShown
+writer (refused r p) = record { number = numberOf r; writing = [] }
+writer (accepted ts) = let a = answerFor true 100 ts in record { number = writtenNumber a; writing = output a (writing ts) [] }
+
+abbrev writesRight : List WriteRow → List WriteShown
+writesRight [] = []
+writesRight (r ∷ rs) = writer (read strict (bytes (r .text))) ∷ writesRight rs
+
+abbrev writesWanted : List WriteRow → List WriteShown
+writesWanted [] = []
+writesWanted (r ∷ rs) = record { number = r .number; writing = bytes (r .writing) } ∷ writesWanted rs
+
+pub writings-right : writesRight writings ≡ writesWanted writings
+unfolding white space readFrom readIdentifier normal written goValue shapeOf valueBy pointsOf pointsFrom marksOf marksFrom inRect areaOf cornered letterOf letter
+writings-right = refl

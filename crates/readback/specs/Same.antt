@@ -1,0 +1,68 @@
+-- What reading back keeps: parents, roots, game types, identifiers, Go values and other raw values.
+use Prim.Native.Nat.{ℕ}
+use mathlib.Core.Path.{_≡_}
+use mathlib.Core.Bool.{Bool, true, false}
+use mathlib.Core.List.{List, [], _∷_, map}
+use Rattle.lexer.specs.Token.{Prop}
+use Rattle.values.specs.Read.{readIdentifier}
+use Rattle.go.specs.Normal.{normal}
+use Rattle.go.specs.Value.{goValue}
+use Rattle.go.specs.declared.value.GoValue.{GoValue}
+use Rattle.go.specs.declared.value.Value.{Value}
+use Rattle.go.specs.declared.value.Value.the-variants.{Other, Invalid, Pass, Move, Handicap, Points}
+use Rattle.tables.specs.Record.{Node, Tree}
+use Rattle.tables.specs.Rows.{tables}
+use Rattle.parser.specs.Read.{accepted, read}
+use Rattle.fresh.specs.Run.{strictly}
+use Rattle.serialize.specs.Form.{rawOf, writing}
+
+-- R holds of the elements of two lists one by one, and none is left over
+abbrev pub Pairs : {A : Type 0} → (A → A → Type 0) → List A → List A → Type 0
+Pairs R [] [] = Unit {0}
+Pairs R [] (y ∷ ys) = ⊥
+Pairs R (x ∷ xs) [] = ⊥
+Pairs R (x ∷ xs) (y ∷ ys) = R x y × Pairs R xs ys
+
+-- the raw values of a property
+abbrev pub rawsOf : Prop → List (List ℕ)
+rawsOf p = map rawOf (p .vals)
+
+-- the Go value of a property of a tree with game type k
+abbrev pub goOf : (k : ℕ) → Prop → GoValue
+goOf k p = goValue k (readIdentifier (p .name)) (rawsOf p)
+
+-- a valid move, handicap or set; any other value is written as it is raw
+abbrev pub valid : Value → Bool
+valid Other = false
+valid Invalid = false
+valid Pass = true
+valid (Move x y) = true
+valid (Handicap n) = true
+valid Points = true
+
+-- q is p read back: its values are the normal form of p's, so the Go value is the same, and so are raw values that are no valid Go value
+pub record SameProp (k : ℕ) (p q : Prop) : Type 0 where
+  pub name : q .name ≡ p .name
+  pub normals : rawsOf q ≡ normal k (readIdentifier (p .name)) (rawsOf p)
+  pub value : goOf k q ≡ goOf k p
+  pub raws : valid (goOf k p .value) ≡ false → rawsOf q ≡ rawsOf p
+
+-- a node of a tree with game type k
+pub record SameNode (k : ℕ) (n m : Node) : Type 0 where
+  pub parent : m .parent ≡ n .parent
+  pub props : Pairs (SameProp k) (n .props) (m .props)
+
+-- a tree
+pub record SameTree (t u : Tree) : Type 0 where
+  pub root : u .root ≡ t .root
+  pub kind : u .kind ≡ t .kind
+  pub nodes : Pairs (SameNode (t .kind)) (t .nodes) (u .nodes)
+
+-- a strict reading of the writing, d its conversion option: accepted with the same trees, the same tree and node rows; and writing these gives the same bytes
+pub record ReadsBack (d : Bool) (ts : List Tree) : Type 0 where
+  pub again : List Tree
+  pub accepts : read (strictly d) (writing ts) ≡ accepted again
+  pub same : Pairs SameTree ts again
+  pub tree-rows : tables again .trees ≡ tables ts .trees
+  pub node-rows : tables again .nodes ≡ tables ts .nodes
+  pub bytes : writing again ≡ writing ts

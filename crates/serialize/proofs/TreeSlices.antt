@@ -1,0 +1,119 @@
+-- The trees of tables that fit: each root begins a stretch of nodes that ends at the next root, and its tree's game type is theirs. Assumes nothing.
+use Prim.Native.Nat.{ℕ, zero, suc, _+_, _-_, _≤_, _<_}
+use mathlib.Core.List.{List}
+use mathlib.Core.Path.{_≡_, ap, _∙_, subst}
+use native.Mathlib.Omega.{arith}
+use borrow.Author.Tests.{eq-eqb, ne-eqb, eqb-true}
+use Rattle.tables.specs.Numbers.{none}
+use Rattle.tables.specs.declared.Counts.{Counts}
+use Rattle.fit.proofs.Cases.{same-or, below-or}
+use Rattle.fit.proofs.Clauses.{Clauses}
+use Rattle.fit.proofs.Each.{each-at}
+use Rattle.fit.proofs.RootRows.{root-in, root-rises, orphan-root, root-zero}
+use Rattle.fit.proofs.Rule.{rule-at}
+use Rattle.fit.specs.Columns.{rootAt, kindAt, parentAt, childAt, siblingAt}
+use Rattle.fit.specs.Locals.{Ruled}
+use Rattle.fit.specs.Nodes.{firstUnder, nextOf, childRight, siblingRight}
+use Rattle.serialize.specs.Walk.{rootsBelow, kindOver}
+use Rattle.serialize.proofs.TreeWalk.{Linking, Stretch}
+
+module _ {nd : List ℕ} {n a b : ℕ} (x : Stretch nd n a b) where
+  below-stretch : (d : ℕ) → a + suc d ≤ b → rootsBelow nd (a + suc d) ≡ suc (rootsBelow nd a)
+  unfolding rootsBelow
+  below-stretch zero h = let e : a + 1 ≡ suc a = omega arith in rw (e, eq-eqb (parentAt nd a) none (x .root))
+  below-stretch (suc d) h =
+      let e : a + suc (suc d) ≡ suc (a + suc d) = omega arith in
+      rw (e, ne-eqb (parentAt nd (a + suc d)) none (x .others (a + suc d) (omega arith) (omega arith))) (below-stretch d (omega arith))
+
+  pub below-in : (k : ℕ) → a ≤ k → k < b → rootsBelow nd (suc k) ≡ suc (rootsBelow nd a)
+  below-in k l u = let e : a + suc (k - a) ≡ suc k = omega arith in subst (λ (z : ℕ). rootsBelow nd z ≡ suc (rootsBelow nd a)) e (below-stretch (k - a) (omega arith))
+
+module _ {t : List ℕ} {c : Counts} {tr nd pr vl : List ℕ} (fit : Clauses t c tr nd pr vl) where
+  abbrev m : ℕ
+  m = c .trees
+
+  abbrev n : ℕ
+  n = c .nodes
+
+  abbrev R : ℕ → ℕ
+  R = rootAt tr
+
+  pub ruled : Ruled nd n
+  ruled = record { most = fit .held .few; rule = fit .parents }
+
+  pub linking : Linking nd n
+  linking =
+      record {
+        ruled = ruled;
+        child = λ k l. eqb-true (childAt nd k) (firstUnder nd k 0 n) (each-at (childRight nd n) n k (fit .children) l);
+        sibling = λ k l. eqb-true (siblingAt nd k) (nextOf nd n k) (each-at (siblingRight nd n) n k (fit .siblings) l);
+      }
+
+  roots-far : (d r : ℕ) → r + d < m → R r ≤ R (r + d)
+  roots-far zero r l = let e : r + 0 ≡ r = omega arith in rw e (omega arith)
+  roots-far (suc d) r l =
+      let e : r + suc d ≡ suc (r + d) = omega arith in
+      let f = root-rises tr nd m n (fit .roots) (r + d) (omega arith) in
+      let g = roots-far d r (omega arith) in
+      rw e (omega arith)
+
+  roots-up : (r s : ℕ) → r ≤ s → s < m → R r ≤ R s
+  roots-up r s h l = let e : r + (s - r) ≡ s = omega arith in subst (λ (z : ℕ). R r ≤ R z) e (roots-far (s - r) r (omega arith))
+
+  pub first-none : 0 < n → parentAt nd 0 ≡ none
+  first-none l = same-or (parentAt nd 0) none (λ e. e) (λ e. absurd (omega (arith, rule-at ruled 0 l e .0)))
+
+  pub first-root : 0 < m → R 0 ≡ 0
+  first-root l = root-zero tr nd m n (fit .roots) l (first-none (omega (arith, root-in tr nd m n (fit .roots) 0 l .0)))
+
+  pub no-trees : m ≡ 0 → n ≡ 0
+  no-trees e = below-or 0 n (λ l. absurd (omega (arith, orphan-root tr nd m n (fit .roots) 0 l (first-none l) .1))) (λ l. omega arith)
+
+  module _ (i : ℕ) where
+    -- a tree that another follows
+    pub stretch-next : suc i < m → Stretch nd n (R i) (R (suc i))
+    stretch-next l =
+        record {
+          root = root-in tr nd m n (fit .roots) i (omega arith) .1;
+          some = root-rises tr nd m n (fit .roots) i l;
+          inside = omega (arith, root-in tr nd m n (fit .roots) (suc i) l .0);
+          others = λ k u v e.
+              let w = root-in tr nd m n (fit .roots) (suc i) l .0 in
+              let o = orphan-root tr nd m n (fit .roots) k (omega arith) e in
+              let o1 = o .1 in
+              let o2 = o .2 in
+              below-or i (o .0)
+              (λ z. omega (arith, roots-up (suc i) (o .0) (omega arith) o1))
+              (λ z. omega (arith, roots-up (o .0) i z (omega arith)));
+          next = λ u. root-in tr nd m n (fit .roots) (suc i) l .1;
+        }
+
+    -- the last tree
+    pub stretch-last : suc i ≡ m → Stretch nd n (R i) n
+    stretch-last l =
+        record {
+          root = root-in tr nd m n (fit .roots) i (omega arith) .1;
+          some = root-in tr nd m n (fit .roots) i (omega arith) .0;
+          inside = omega arith;
+          others = λ k u v e.
+              let o = orphan-root tr nd m n (fit .roots) k v e in
+              let o1 = o .1 in
+              let o2 = o .2 in
+              omega (arith, roots-up (o .0) i (omega arith) (omega arith));
+          next = λ u. absurd (omega arith);
+        }
+
+  pub below-root : (i : ℕ) → i < m → rootsBelow nd (R i) ≡ i
+  unfolding rootsBelow
+  below-root zero l = ap (rootsBelow nd) (first-root l)
+  below-root (suc i) l =
+      let x = stretch-next i l in
+      let s = x .some in
+      let e : suc (R (suc i) - 1) ≡ R (suc i) = omega arith in
+      subst (λ (z : ℕ). rootsBelow nd z ≡ suc i) e (below-in x (R (suc i) - 1) (omega arith) (omega arith) ∙ ap suc (below-root i (omega arith)))
+
+  pub kind-here : {b : ℕ} (i : ℕ) → i < m → Stretch nd n (R i) b → (k : ℕ) → R i ≤ k → k < b → kindOver tr nd k ≡ kindAt tr i
+  kind-here i l x k u v =
+      let w : rootsBelow nd (suc k) ≡ suc i = below-in x k u v ∙ ap suc (below-root i l) in
+      let e : rootsBelow nd (suc k) - 1 ≡ i = omega arith in
+      ap (kindAt tr) e
