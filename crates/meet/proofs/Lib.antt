@@ -1,0 +1,4 @@
+pub mod Accepted
+pub mod Grown
+pub mod Recorded
+pub mod Weights
