@@ -1,6 +1,7 @@
 pub mod Accepted
 pub mod Firsts
 pub mod Grown
+pub mod Nodes
 pub mod Paths
 pub mod Recorded
 pub mod Sizes
