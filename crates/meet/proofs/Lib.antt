@@ -1,4 +1,6 @@
 pub mod Accepted
+pub mod Ascends
+pub mod Climbs
 pub mod Firsts
 pub mod Grown
 pub mod Nodes
