@@ -1,5 +1,6 @@
 pub mod Accepted
 pub mod Ascends
+pub mod Boxes
 pub mod Climbs
 pub mod Firsts
 pub mod Grown
@@ -7,5 +8,6 @@ pub mod Nodes
 pub mod Paths
 pub mod Recorded
 pub mod Sizes
+pub mod Thinned
 pub mod Walks
 pub mod Weights
