@@ -6,8 +6,10 @@ pub mod Firsts
 pub mod Grown
 pub mod Nodes
 pub mod Paths
+pub mod Properties
 pub mod Recorded
 pub mod Sizes
+pub mod Spans
 pub mod Thinned
 pub mod Walks
 pub mod Weights

@@ -87,7 +87,7 @@ grew-each op P f base (suc k) us (t ∷ ts) g b =
 
 -- ---- tokens and bytes
 
-lex-proper : (t : List ℕ) (k : Ink) → utfs (whole blank) 0 t ≡ whole k → All (OfTok HasProper) (lex k t .toks)
+pub lex-proper : (t : List ℕ) (k : Ink) → utfs (whole blank) 0 t ≡ whole k → All (OfTok HasProper) (lex k t .toks)
 lex-proper t blank h = tt
 lex-proper t (inked f l) h = proper-tokens t (inked f l) h f l
 
