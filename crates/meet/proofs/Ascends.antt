@@ -1,6 +1,6 @@
 -- The spans of a text's property tokens lie one after another, and identifiers are plain. Assumes nothing.
-use mathlib.Core.Path.{_≡_, refl, sym, ap, _∙_, subst}
-use Prim.Native.Nat.{ℕ, zero, suc, _+_, _≤_, _<_}
+use mathlib.Core.Path.{_≡_, refl}
+use Prim.Native.Nat.{ℕ, suc, _+_, _≤_, _<_}
 use native.Mathlib.Omega.{arith}
 use mathlib.Core.Bool.{Bool, true, false, not, _&&_}
 use mathlib.Core.List.{List, [], _∷_, _++_}
@@ -11,9 +11,9 @@ use Rattle.lists.specs.All.{All}
 use Rattle.lists.proofs.All.{all-append}
 use Rattle.lists.proofs.Tests.{and-both}
 use Rattle.utf8.proofs.Steps.{place}
-use Rattle.lexer.specs.Token.{Val, Prop, Tok, start, end, node, prop, St, between, ident, value, after, fault, Out, starts, begins, values, afters, step, space, emits, ends, finish, lexFrom}
+use Rattle.lexer.specs.Token.{Val, Prop, Tok, start, St, between, ident, value, after, fault, Out, starts, begins, values, afters, step, space, emits, ends, finish, lexFrom}
 use Rattle.lexer.proofs.Invariant.{OfTok}
-use Rattle.fit.specs.Spans.{Span, span, plainName}
+use Rattle.fit.specs.Spans.{span, plainName}
 use Rattle.meet.proofs.Climbs.{spansOfValues, spansOfProp, spansOf, propsOf, values-append, spans-append, props-append, Climb, climb-append, climb-up}
 
 abbrev pub Plain : Prop → Type 0

@@ -1,17 +1,17 @@
 -- In each tree of an accepted reading the first node has no parent and every other one has. Assumes nothing.
-use mathlib.Core.Path.{_≡_, refl, sym, ap, _∙_, subst}
-use Prim.Native.Nat.{ℕ, zero, suc, _+_, _≤_, _<_}
+use mathlib.Core.Path.{_≡_, refl, sym, ap}
+use Prim.Native.Nat.{ℕ, zero, suc, _+_, _≤_}
 use native.Mathlib.Omega.{arith}
-use mathlib.Core.Bool.{Bool, true, false, false≢true}
-use mathlib.Core.List.{List, [], _∷_, _++_, reverse, reverseAux}
-use lib.ListN.{length, length-append}
+use mathlib.Core.Bool.{false≢true}
+use mathlib.Core.List.{List, [], _∷_, _++_, reverseAux}
+use lib.ListN.{length}
 use Rattle.lists.specs.All.{All}
 use Rattle.lexer.specs.Token.{Prop, Tok, start, end, node, prop}
 use Rattle.tables.specs.Numbers.{none}
-use Rattle.tables.specs.Record.{Node, Tree, allNodes}
-use Rattle.parser.specs.Slice.{sliceFrom, restFrom}
-use Rattle.parser.specs.Walk.{Opts, Gate, shut}
-use Rattle.meet.proofs.Grown.{Grew, never, walkOf, inOrder}
+use Rattle.tables.specs.Record.{Node, Tree}
+use Rattle.parser.specs.Slice.{sliceFrom}
+use Rattle.parser.specs.Walk.{Opts, shut}
+use Rattle.meet.proofs.Grown.{never, walkOf, inOrder}
 use Rattle.meet.proofs.Accepted.{Reading}
 use Rattle.meet.proofs.Sizes.{each-tree}
 use Rattle.meet.proofs.Walks.{MayOpen, Kept, keep-walk}

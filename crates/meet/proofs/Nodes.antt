@@ -3,12 +3,11 @@ use mathlib.Core.Path.{_≡_, refl, sym, ap, ap₂, _∙_, subst}
 use Prim.Native.Nat.{ℕ, suc, _+_, _≤_, _<_}
 use native.Mathlib.Omega.{arith}
 use mathlib.Core.Bool.{true}
-use mathlib.Core.List.{List, [], _∷_, _++_, map, reverseAux, head-eq-of-cons-eq, tail-eq-of-cons-eq}
+use mathlib.Core.List.{List, [], _∷_, _++_, reverseAux, head-eq-of-cons-eq, tail-eq-of-cons-eq}
 use lib.ListN.{length, length-append, length-reverse}
 use borrow.Author.Tests.{eq-eqb, ne-eqb, le-leb}
 use Rattle.lists.specs.All.{All}
 use Rattle.lists.specs.Same.{same}
-use Rattle.lexer.specs.Token.{Tok}
 use Rattle.tables.specs.Numbers.{none}
 use Rattle.tables.specs.Record.{Node, Tree, allNodes}
 use Rattle.tables.specs.Rows.{TreeRow, NodeRow, treeRows, nodeRows, parents}

@@ -1,9 +1,9 @@
 -- The properties of an accepted reading: their spans ascend in the text, identifiers are plain, values stand in brackets and are closed. Assumes nothing.
-use mathlib.Core.Path.{_≡_, refl, sym, ap, _∙_, subst}
-use Prim.Native.Nat.{ℕ, _+_, _-_, _≤_, _<_}
+use mathlib.Core.Path.{_≡_, ap, subst}
+use Prim.Native.Nat.{ℕ, _-_}
 use native.Mathlib.Omega.{arith}
 use mathlib.Core.Bool.{true, false}
-use mathlib.Core.List.{List, [], _∷_, _++_}
+use mathlib.Core.List.{List, [], _∷_}
 use lib.ListN.{length, take, drop, getD, length-drop}
 use lib.Seq.{slice, length-take-le}
 use borrow.Author.Tests.{eq-eqb, lt-ltb}

@@ -1,6 +1,6 @@
 -- How many nodes an accepted reading has: fewer than the number that means none. Assumes nothing.
-use mathlib.Core.Path.{_≡_, refl, sym, ap, _∙_, subst}
-use mathlib.Core.Logic.{_⊎_, inl, inr}
+use mathlib.Core.Path.{_≡_, refl, sym, ap, subst}
+use mathlib.Core.Logic.{inl, inr}
 use Prim.Native.Nat.{ℕ, zero, suc, _+_, _≤_}
 use native.Mathlib.Omega.{arith}
 use mathlib.Core.List.{List, [], _∷_, _++_}
@@ -10,7 +10,7 @@ use Rattle.utf8.specs.Text.{Ink, blank, inked, whole, utfs}
 use Rattle.lexer.specs.Token.{Tok, start, end, node, prop}
 use Rattle.lexer.proofs.Invariant.{OfTok}
 use Rattle.lexer.proofs.Proper.{HasProper, proper-tokens}
-use Rattle.tables.specs.Numbers.{none, textLimit}
+use Rattle.tables.specs.Numbers.{none}
 use Rattle.tables.specs.Record.{Node, Tree, allNodes}
 use Rattle.parser.specs.Slice.{sliceFrom, restFrom}
 use Rattle.parser.specs.Walk.{Opts, shut}

@@ -1,25 +1,20 @@
 -- Lent tables that have the rows of an accepted reading: spans ascend, identifiers are plain, each property has a value, values stand in brackets and are closed. Assumes nothing.
 use mathlib.Core.Path.{_≡_, refl, sym, ap, ap₂, _∙_, subst}
-use Prim.Native.Nat.{ℕ, zero, suc, _+_, _-_, _≤_, _<_}
+use Prim.Native.Nat.{ℕ, suc, _+_, _≤_, _<_}
 use native.Mathlib.Omega.{arith}
-use mathlib.Core.Bool.{Bool, true}
+use mathlib.Core.Bool.{true}
 use mathlib.Core.List.{List, [], _∷_, _++_, head-eq-of-cons-eq, tail-eq-of-cons-eq}
-use lib.ListN.{length, take, drop, length-drop, getD}
-use lib.Seq.{slice, length-take-le}
-use borrow.Author.Tests.{eq-eqb, le-leb, lt-ltb}
+use lib.ListN.{length}
+use lib.Seq.{slice}
+use borrow.Author.Tests.{le-leb}
 use Rattle.lists.specs.All.{All}
-use Rattle.lists.proofs.All.{all-append, all-left, all-right, all-map}
-use Rattle.utf8.specs.Text.{Ink, blank, inked, whole, utfs}
-use Rattle.utf8.specs.Trim.{trimmed}
-use Rattle.utf8.proofs.Extent.{trim-bounds}
+use Rattle.lists.proofs.All.{all-map}
 use Rattle.lexer.specs.Closed.{closed}
-use Rattle.lexer.specs.Token.{Val, Prop, Tok, start, end, node, prop}
-use Rattle.lexer.proofs.Contents.{Stands, Denotes}
-use Rattle.lexer.proofs.Invariant.{OfTok}
-use Rattle.lexer.proofs.Proper.{Proper, HasProper}
+use Rattle.lexer.specs.Token.{Val, Prop}
+use Rattle.lexer.proofs.Proper.{HasProper}
 use Rattle.tables.specs.Record.{Tree, allNodes, allProps, allVals}
 use Rattle.tables.specs.Rows.{PropRow, ValRow, propRows, valRows}
-use Rattle.fit.specs.Columns.{nameFromAt, nameToAt, firstValAt, valCountAt, valFromAt, valToAt}
+use Rattle.fit.specs.Columns.{nameFromAt, nameToAt, valCountAt, valFromAt, valToAt}
 use Rattle.fit.specs.Each.{each, tabulate}
 use Rattle.fit.specs.Ranges.{hasValue}
 use Rattle.fit.specs.Record.{propRow, valRow}
@@ -27,13 +22,9 @@ use Rattle.fit.specs.Spans.{Span, span, valSpan, propSpans, spans, ascending, p
 use Rattle.fit.proofs.Cases.{same-or}
 use Rattle.fit.proofs.Each.{each-all}
 use Rattle.parser.specs.Walk.{Opts}
-use Rattle.parser.specs.Read.{lex}
-use Rattle.meet.proofs.Accepted.{Reading}
-use Rattle.meet.proofs.Ascends.{Plain, Ascend, tokens-ascend}
-use Rattle.meet.proofs.Boxes.{Boxed, AllBoxed, tokens-boxed}
-use Rattle.meet.proofs.Climbs.{spansOfValues, spansOfProp, spansOf, propsOf, spans-append, Climb, climb-thin, climb-ascends}
-use Rattle.meet.proofs.Sizes.{lex-proper}
-use Rattle.meet.proofs.Thinned.{Thins, reading-thin}
+use Rattle.parser.specs.Read.{accepted, read}
+use Rattle.meet.proofs.Properties.{props-ascend, props-proper, props-plain, values-boxed}
+use Rattle.meet.proofs.Climbs.{spansOfValues, spansOfProp, spansOf}
 
 -- ---- the rows and the record
 
@@ -79,3 +70,29 @@ value-each F vl b (v ∷ vs) e h i a l =
     let row = head-eq-of-cons-eq e in
     same-or i b (λ w. rw w (subst (λ (y : ValRow). F (y .from) (y .to)) (sym row) (h .0)))
     (λ w. value-each F vl (suc b) vs (tail-eq-of-cons-eq e) (h .1) i (omega arith) (omega arith))
+
+-- ---- of a reading
+
+module _ (op : Opts) (t : List ℕ) (ts : List Tree) (h : read op t ≡ accepted ts) (pr vl : List ℕ) where
+  abbrev ps : List Prop
+  ps = allProps (allNodes ts)
+
+  module _ (props : tabulate (propRow pr) 0 (length ps) ≡ propRows 0 ps) where
+    pub names-fit : each (length ps) (nameRight t pr) ≡ true
+    names-fit =
+        each-all (nameRight t pr) (length ps)
+        (λ i l. prop-each (λ a e n. plainName (slice a e t) ≡ true) pr 0 0 ps props (props-plain op t ts h) i (omega arith) (omega arith))
+
+    pub have-values : each (length ps) (hasValue pr) ≡ true
+    have-values =
+        let v = all-map HasProper (λ p. 1 ≤ length (p .vals)) (λ p g. g .0) ps (props-proper op t ts h) in
+        each-all (hasValue pr) (length ps) (λ i l. le-leb 1 (valCountAt pr i) (prop-each (λ a e n. 1 ≤ n) pr 0 0 ps props v i (omega arith) (omega arith)))
+
+    module _ (vals : tabulate (valRow vl) 0 (length (allVals ps)) ≡ valRows (allVals ps)) where
+      pub ascent-fits : ascending (length t) 0 (spans pr vl 0 (length ps)) ≡ true
+      ascent-fits = rw (prop-spans pr vl 0 0 ps props vals) (props-ascend op t ts h)
+
+  pub values-fit : tabulate (valRow vl) 0 (length (allVals ps)) ≡ valRows (allVals ps) → each (length (allVals ps)) (valueRight t vl) ≡ true
+  values-fit vals =
+      each-all (valueRight t vl) (length (allVals ps))
+      (λ i l. value-each (λ a e. boxed t a e ≡ true) vl 0 (allVals ps) vals (values-boxed op t ts h) i (omega arith) (omega arith))
