@@ -3,6 +3,7 @@ pub mod Ascends
 pub mod Boxes
 pub mod Climbs
 pub mod Firsts
+pub mod Fitting
 pub mod Grown
 pub mod Nodes
 pub mod Paths
