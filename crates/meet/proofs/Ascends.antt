@@ -22,7 +22,7 @@ Plain p = plainName (p .name) ≡ true
 plain-more : (w : List ℕ) (b : ℕ) → leb 0x80 b ≡ false → eqb b 0x5b ≡ false → plainName w ≡ true → plainName (w ++ (b ∷ [])) ≡ true
 unfolding plainName
 plain-more [] b h e p = rw (lt-ltb b 0x80 (leb-false 0x80 b h), e)
-plain-more (x ∷ xs) b h e p = 
+plain-more (x ∷ xs) b h e p =
     let q = and-both (ltb x 0x80) (not (eqb x 0x5b) && plainName xs) p in
     let r = and-both (not (eqb x 0x5b)) (plainName xs) (q .1) in
     rw (q .0, r .0) (plain-more xs b h e (r .1))

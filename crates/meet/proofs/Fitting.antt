@@ -1,22 +1,22 @@
 -- The tables of an accepted reading fit its text, strict or lenient, with conversion on or off. Assumes nothing.
-use mathlib.Core.Path.{_≡_, refl, sym, ap, _∙_, subst}
-use Prim.Native.Nat.{ℕ, zero, suc, _+_, _*_, _/_, _≤_}
+use mathlib.Core.Path.{_≡_, refl, sym, ap, _∙_}
+use Prim.Native.Nat.{ℕ, _/_, _≤_}
 use native.Mathlib.Omega.{arith}
-use mathlib.Core.Bool.{Bool, true}
+use mathlib.Core.Bool.{true}
 use mathlib.Core.List.{List, _++_}
 use lib.ListN.{length, take, length-append}
 use lib.Seq.{take-length}
 use borrow.Author.Tests.{le-leb}
-use Rattle.utf8.specs.Text.{Ink, blank, inked, Utf, whole, utfs}
+use Rattle.utf8.specs.Text.{Ink, blank, inked, Utf, whole}
 use Rattle.utf8.specs.Trim.{trimmed, shown}
-use Rattle.lexer.specs.Token.{Val, Prop}
+use Rattle.lexer.specs.Token.{Prop}
 use Rattle.tables.specs.Flat.{flatTrees, flatNodes, flatProps, flatVals}
 use Rattle.tables.specs.Numbers.{none, textLimit}
 use Rattle.tables.specs.Record.{Node, Tree, allNodes, allProps, allVals}
 use Rattle.tables.specs.Rows.{Tables, tables, parents, treeRows, nodeRows, propRows, valRows}
 use Rattle.tables.specs.declared.Counts.{Counts}
 use Rattle.fit.specs.Each.{tabulate}
-use Rattle.fit.specs.Fit.{lentFor, sound, validUtf8, fitText, Fit}
+use Rattle.fit.specs.Fit.{sound, validUtf8, fitText, Fit}
 use Rattle.fit.specs.Nodes.{nodesFit}
 use Rattle.fit.specs.Ranges.{rangesFit}
 use Rattle.fit.specs.Record.{treeRow, nodeRow, propRow, valRow, rowsOf, countsOf}
@@ -25,8 +25,8 @@ use Rattle.fit.proofs.RecordFits.{counts-of-rows, nodes-counted, properties-cou
 use Rattle.fit.proofs.Rows.{rows-of-flat}
 use Rattle.parser.specs.Walk.{Opts}
 use Rattle.parser.specs.Read.{accepted, read}
-use Rattle.reader.specs.Lent.{Lent, lent}
-use Rattle.reader.proofs.Rooms.{tree-count, node-count, prop-count, val-count, flat-nodes, Room}
+use Rattle.reader.specs.Lent.{lent}
+use Rattle.reader.proofs.Rooms.{tree-count, prop-count, val-count, flat-nodes, Room}
 use Rattle.reader.proofs.Plants.{tree-length}
 use Rattle.trees.proofs.Flats.{prop-length, val-length}
 use Rattle.meet.proofs.Accepted.{Reading, reading-is}
@@ -76,8 +76,15 @@ module _ (op : Opts) (t : List ℕ) (ts : List Tree) (h : read op t ≡ accepted
   nodes-fit : nodesFit c tr nd ≡ true
   unfolding nodesFit
   nodes-fit =
-      rw (record-children c tr nd pr vl ts rows, record-siblings c tr nd pr vl ts rows, trees-counted, nodes-are,
-      roots-fit r tr nd tree-rows node-rows, parents-fit r tr nd tree-rows node-rows, kinds-fit r tr nd tree-rows node-rows)
+      rw (
+        record-children c tr nd pr vl ts rows,
+        record-siblings c tr nd pr vl ts rows,
+        trees-counted,
+        nodes-are,
+        roots-fit r tr nd tree-rows node-rows,
+        parents-fit r tr nd tree-rows node-rows,
+        kinds-fit r tr nd tree-rows node-rows,
+      )
 
   ranges-fit : rangesFit c nd pr ≡ true
   unfolding rangesFit
@@ -103,9 +110,14 @@ pub rows-fit : (op : Opts) (buf : List ℕ) (used : ℕ) (ts : List Tree) → us
     → (c : Counts) (tr nd pr vl : List ℕ) → Room c (lent tr nd pr vl) → rowsOf c tr nd pr vl ≡ tables ts → Fit buf used c tr nd pr vl ≡ true
 unfolding Fit
 rows-fit op buf used ts b h c tr nd pr vl room rows =
-    rw (le-leb used (length buf) b, le-leb (c .trees) (length tr / 2) (room .trees), le-leb (c .nodes) (length nd / 5) (room .nodes),
-    le-leb (c .nodes) none (few op (take used buf) ts h c tr nd pr vl rows), le-leb (c .properties) (length pr / 4) (room .props),
-    le-leb (c .values) (length vl / 2) (room .vals)) (text-fits op (take used buf) ts h c tr nd pr vl rows)
+    rw (
+      le-leb used (length buf) b,
+      le-leb (c .trees) (length tr / 2) (room .trees),
+      le-leb (c .nodes) (length nd / 5) (room .nodes),
+      le-leb (c .nodes) none (few op (take used buf) ts h c tr nd pr vl rows),
+      le-leb (c .properties) (length pr / 4) (room .props),
+      le-leb (c .values) (length vl / 2) (room .vals),
+    ) (text-fits op (take used buf) ts h c tr nd pr vl rows)
 
 -- ---- the flat tables of the reading, whatever stands behind them
 

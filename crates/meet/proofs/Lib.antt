@@ -5,6 +5,7 @@ pub mod Climbs
 pub mod Firsts
 pub mod Fitting
 pub mod Grown
+pub mod Lent
 pub mod Nodes
 pub mod Paths
 pub mod Properties
