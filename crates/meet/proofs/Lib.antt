@@ -7,6 +7,7 @@ pub mod Fitting
 pub mod Grown
 pub mod Lent
 pub mod Nodes
+pub mod Parts
 pub mod Paths
 pub mod Properties
 pub mod Recorded
