@@ -2,6 +2,7 @@ pub mod Accepted
 pub mod Ascends
 pub mod Boxes
 pub mod Climbs
+pub mod Determined
 pub mod Firsts
 pub mod Fitting
 pub mod Grown
@@ -11,6 +12,7 @@ pub mod Parts
 pub mod Paths
 pub mod Properties
 pub mod Recorded
+pub mod Rooted
 pub mod Sizes
 pub mod Spans
 pub mod Thinned

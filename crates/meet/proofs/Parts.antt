@@ -1,6 +1,6 @@
 -- Ranges without gap cut a list into parts that joined are the list again; so rows that have such ranges are the rows of what they denote. Assumes nothing.
-use mathlib.Core.Path.{_≡_, refl, sym, ap, ap₂, _∙_, subst}
-use Prim.Native.Nat.{ℕ, zero, suc, _+_, _-_, _≤_, _<_}
+use mathlib.Core.Path.{_≡_, refl, sym, ap, ap₂, _∙_}
+use Prim.Native.Nat.{ℕ, zero, suc, _+_, _≤_, _<_}
 use native.Mathlib.Numerals.{add-one}
 use native.Mathlib.Omega.{arith}
 use mathlib.Core.Bool.{true}
@@ -16,7 +16,7 @@ use Rattle.tables.specs.Rows.{NodeRow, PropRow, ValRow, next, parents, nodeRows
 use Rattle.fit.specs.Columns.{parentAt, childAt, siblingAt, firstPropAt, propCountAt, nameFromAt, nameToAt, firstValAt, valCountAt}
 use Rattle.fit.specs.Each.{sum, tabulate}
 use Rattle.fit.specs.Ranges.{gapless}
-use Rattle.fit.specs.Record.{nodeRow, propRow, valRow, valOf, propOf, nodeOf}
+use Rattle.fit.specs.Record.{nodeRow, propRow, valOf, propOf, nodeOf}
 use Rattle.fit.proofs.Ranges.{sum-next, gapless-first, gapless-sum, gapless-in}
 
 module _ {A : Type 0} (xs : List A) (first count : ℕ → ℕ) (n : ℕ) (g : gapless first count n (length xs) ≡ true) where
