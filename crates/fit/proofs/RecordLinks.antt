@@ -22,21 +22,21 @@ eqb-sym : (a b : ℕ) → eqb a b ≡ eqb b a
 eqb-sym a b = same-or a b (λ e. eq-eqb a b e ∙ sym (eq-eqb b a (sym e))) (λ e. ne-eqb a b e ∙ sym (ne-eqb b a (λ z. e (sym z))))
 
 -- the table has these parents from k on
-abbrev Tells : List ℕ → ℕ → List ℕ → Type 0
+abbrev pub Tells : List ℕ → ℕ → List ℕ → Type 0
 Tells nd k [] = Unit {0}
 Tells nd k (q ∷ qs) = (parentAt nd k ≡ q) × Tells nd (suc k) qs
 
 -- ---- the first node under p, over the table and over the parents
 
 module _ (nd : List ℕ) (p lo : ℕ) where
-  next-at : (k : ℕ) (qs : List ℕ) → lo ≤ k → Tells nd k qs → next p lo k qs ≡ firstUnder nd p k (length qs)
+  pub next-at : (k : ℕ) (qs : List ℕ) → lo ≤ k → Tells nd k qs → next p lo k qs ≡ firstUnder nd p k (length qs)
   unfolding firstUnder
   next-at k [] l h = refl
   next-at k (q ∷ qs) l h =
       let e : (eqb p q && leb lo k) ≡ eqb (parentAt nd k) p = rw (le-leb lo k l, h .0) (and-true (eqb p q) ∙ eqb-sym p q) in
       ap₂ (λ (b : Bool) (r : ℕ). pick b k r) e (next-at (suc k) qs (omega arith) (h .1))
 
-  next-from : (j : ℕ) (qs : List ℕ) → j ≤ lo → lo ≤ j + length qs → Tells nd j qs → next p lo j qs ≡ firstUnder nd p lo (j + length qs - lo)
+  pub next-from : (j : ℕ) (qs : List ℕ) → j ≤ lo → lo ≤ j + length qs → Tells nd j qs → next p lo j qs ≡ firstUnder nd p lo (j + length qs - lo)
   unfolding firstUnder
   next-from j [] a b h = let e : j + 0 - lo ≡ 0 = omega arith in ap (firstUnder nd p lo) (sym e)
   next-from j (q ∷ qs) a b h =

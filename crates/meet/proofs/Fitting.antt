@@ -1,0 +1,145 @@
+-- The tables of an accepted reading fit its text, strict or lenient, with conversion on or off. Assumes nothing.
+use mathlib.Core.Path.{_≡_, refl, sym, ap, _∙_}
+use Prim.Native.Nat.{ℕ, _/_, _≤_}
+use native.Mathlib.Omega.{arith}
+use mathlib.Core.Bool.{true}
+use mathlib.Core.List.{List, _++_}
+use lib.ListN.{length, take, length-append}
+use lib.Seq.{take-length}
+use borrow.Author.Tests.{le-leb}
+use Rattle.utf8.specs.Text.{Ink, blank, inked, Utf, whole}
+use Rattle.utf8.specs.Trim.{trimmed, shown}
+use Rattle.lexer.specs.Token.{Prop}
+use Rattle.tables.specs.Flat.{flatTrees, flatNodes, flatProps, flatVals}
+use Rattle.tables.specs.Numbers.{none, textLimit}
+use Rattle.tables.specs.Record.{Node, Tree, allNodes, allProps, allVals}
+use Rattle.tables.specs.Rows.{Tables, tables, parents, treeRows, nodeRows, propRows, valRows}
+use Rattle.tables.specs.declared.Counts.{Counts}
+use Rattle.fit.specs.Each.{tabulate}
+use Rattle.fit.specs.Fit.{sound, validUtf8, fitText, Fit}
+use Rattle.fit.specs.Nodes.{nodesFit}
+use Rattle.fit.specs.Ranges.{rangesFit}
+use Rattle.fit.specs.Record.{treeRow, nodeRow, propRow, valRow, rowsOf, countsOf}
+use Rattle.fit.specs.Spans.{spansFit}
+use Rattle.fit.proofs.RecordFits.{counts-of-rows, nodes-counted, properties-counted, values-counted, record-children, record-siblings, record-properties, record-values}
+use Rattle.fit.proofs.Rows.{rows-of-flat}
+use Rattle.parser.specs.Walk.{Opts}
+use Rattle.parser.specs.Read.{accepted, read}
+use Rattle.reader.specs.Lent.{lent}
+use Rattle.reader.proofs.Rooms.{tree-count, prop-count, val-count, flat-nodes, Room}
+use Rattle.reader.proofs.Plants.{tree-length}
+use Rattle.trees.proofs.Flats.{prop-length, val-length}
+use Rattle.meet.proofs.Accepted.{Reading, reading-is}
+use Rattle.meet.proofs.Nodes.{roots-fit, parents-fit, kinds-fit}
+use Rattle.meet.proofs.Sizes.{nodes-most}
+use Rattle.meet.proofs.Spans.{names-fit, have-values, ascent-fits, values-fit}
+
+valid-ink : (k : Ink) → sound (shown (whole k)) ≡ true
+valid-ink blank = refl
+valid-ink (inked f l) = refl
+
+-- any tables that have the rows of the reading
+module _ (op : Opts) (t : List ℕ) (ts : List Tree) (h : read op t ≡ accepted ts) (c : Counts) (tr nd pr vl : List ℕ) (rows : rowsOf c tr nd pr vl ≡ tables ts) where
+  abbrev ns : List Node
+  ns = allNodes ts
+
+  abbrev ps : List Prop
+  ps = allProps (allNodes ts)
+
+  abbrev r : Reading op t ts
+  r = reading-is op t ts h
+
+  trees-counted : c .trees ≡ length ts
+  trees-counted = ap (λ (z : Counts). z .trees) (sym (counts-of-rows c tr nd pr vl) ∙ ap countsOf rows) ∙ tree-count ts
+
+  nodes-are : c .nodes ≡ length ns
+  nodes-are = nodes-counted c tr nd pr vl ts rows
+
+  props-are : c .properties ≡ length ps
+  props-are = properties-counted c tr nd pr vl ts rows
+
+  vals-are : c .values ≡ length (allVals ps)
+  vals-are = values-counted c tr nd pr vl ts rows
+
+  tree-rows : tabulate (treeRow tr) 0 (length ts) ≡ treeRows ts
+  tree-rows = rw (← trees-counted) (ap (λ (z : Tables). z .trees) rows)
+
+  node-rows : tabulate (nodeRow nd) 0 (length ns) ≡ nodeRows (parents ns) 0 0 ns
+  node-rows = rw (← nodes-are) (ap (λ (z : Tables). z .nodes) rows)
+
+  prop-rows : tabulate (propRow pr) 0 (length ps) ≡ propRows 0 ps
+  prop-rows = rw (← props-are) (ap (λ (z : Tables). z .props) rows)
+
+  val-rows : tabulate (valRow vl) 0 (length (allVals ps)) ≡ valRows (allVals ps)
+  val-rows = rw (← vals-are) (ap (λ (z : Tables). z .vals) rows)
+
+  nodes-fit : nodesFit c tr nd ≡ true
+  unfolding nodesFit
+  nodes-fit =
+      rw (
+        record-children c tr nd pr vl ts rows,
+        record-siblings c tr nd pr vl ts rows,
+        trees-counted,
+        nodes-are,
+        roots-fit r tr nd tree-rows node-rows,
+        parents-fit r tr nd tree-rows node-rows,
+        kinds-fit r tr nd tree-rows node-rows,
+      )
+
+  ranges-fit : rangesFit c nd pr ≡ true
+  unfolding rangesFit
+  ranges-fit = rw (record-properties c tr nd pr vl ts rows, record-values c tr nd pr vl ts rows, props-are, have-values op t ts h pr vl prop-rows)
+
+  spans-fit : spansFit t c pr vl ≡ true
+  unfolding spansFit
+  spans-fit = rw (props-are, vals-are, ascent-fits op t ts h pr vl prop-rows val-rows, names-fit op t ts h pr vl prop-rows, values-fit op t ts h pr vl val-rows)
+
+  valid : validUtf8 t ≡ true
+  unfolding trimmed
+  valid = ap (λ (u : Utf). sound (shown u)) (r .valid) ∙ valid-ink (r .ink)
+
+  text-fits : fitText t c tr nd pr vl ≡ true
+  unfolding fitText
+  text-fits = rw (le-leb (length t) textLimit (r .short), valid, nodes-fit, ranges-fit, spans-fit)
+
+  few : c .nodes ≤ none
+  few = rw nodes-are (nodes-most r)
+
+-- of the first `used` bytes of a buffer, where enough is lent
+pub rows-fit : (op : Opts) (buf : List ℕ) (used : ℕ) (ts : List Tree) → used ≤ length buf → read op (take used buf) ≡ accepted ts
+    → (c : Counts) (tr nd pr vl : List ℕ) → Room c (lent tr nd pr vl) → rowsOf c tr nd pr vl ≡ tables ts → Fit buf used c tr nd pr vl ≡ true
+unfolding Fit
+rows-fit op buf used ts b h c tr nd pr vl room rows =
+    rw (
+      le-leb used (length buf) b,
+      le-leb (c .trees) (length tr / 2) (room .trees),
+      le-leb (c .nodes) (length nd / 5) (room .nodes),
+      le-leb (c .nodes) none (few op (take used buf) ts h c tr nd pr vl rows),
+      le-leb (c .properties) (length pr / 4) (room .props),
+      le-leb (c .values) (length vl / 2) (room .vals),
+    ) (text-fits op (take used buf) ts h c tr nd pr vl rows)
+
+-- ---- the flat tables of the reading, whatever stands behind them
+
+flat-room : (ts : List Tree) (a b c d : List ℕ)
+    → Room (countsOf (tables ts)) (lent (flatTrees (tables ts .trees) ++ a) (flatNodes (tables ts .nodes) ++ b) (flatProps (tables ts .props) ++ c) (flatVals (tables ts .vals) ++ d))
+flat-room ts a b c d =
+    let T : Tables = tables ts in
+    record {
+      trees = omega (arith, length-append (flatTrees (T .trees)) a, tree-length ts, tree-count ts);
+      nodes = omega (arith, length-append (flatNodes (T .nodes)) b, flat-nodes (T .nodes));
+      props = omega (arith, length-append (flatProps (T .props)) c, prop-length 0 (allProps (allNodes ts)), prop-count 0 (allProps (allNodes ts)));
+      vals = omega (arith, length-append (flatVals (T .vals)) d, val-length (allVals (allProps (allNodes ts))), val-count (allVals (allProps (allNodes ts))));
+    }
+
+-- over a buffer
+pub buffer-fits : (op : Opts) (buf : List ℕ) (used : ℕ) (ts : List Tree) → used ≤ length buf → read op (take used buf) ≡ accepted ts → (a b c d : List ℕ)
+    → Fit buf used (countsOf (tables ts)) (flatTrees (tables ts .trees) ++ a) (flatNodes (tables ts .nodes) ++ b) (flatProps (tables ts .props) ++ c) (flatVals (tables ts .vals) ++ d) ≡ true
+buffer-fits op buf used ts l h a b c d =
+    rows-fit op buf used ts l h (countsOf (tables ts)) (flatTrees (tables ts .trees) ++ a) (flatNodes (tables ts .nodes) ++ b) (flatProps (tables ts .props) ++ c) (flatVals (tables ts .vals) ++ d)
+    (flat-room ts a b c d) (rows-of-flat (tables ts) a b c d)
+
+-- over a text that is used whole
+pub reading-fits : (op : Opts) (t : List ℕ) (ts : List Tree) → read op t ≡ accepted ts → (a b c d : List ℕ)
+    → Fit t (length t) (countsOf (tables ts)) (flatTrees (tables ts .trees) ++ a) (flatNodes (tables ts .nodes) ++ b) (flatProps (tables ts .props) ++ c) (flatVals (tables ts .vals) ++ d) ≡ true
+reading-fits op t ts h a b c d = buffer-fits op t (length t) ts (omega arith) (rw (take-length t) h) a b c d

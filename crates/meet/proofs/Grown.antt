@@ -1,0 +1,105 @@
+-- The trees of an accepted reading, strict or lenient: each grew from its slice, and its root is the number of its first node. Assumes nothing.
+use mathlib.Core.Path.{_≡_, refl, sym, ap, _∙_}
+use Prim.Native.Nat.{ℕ, zero, suc, _+_, _-_, _^_, _≤_}
+use native.Mathlib.Omega.{arith}
+use mathlib.Core.Bool.{Bool, true, false}
+use mathlib.Core.List.{List, [], _∷_, reverse, reverseAux}
+use lib.ListN.{length, length-reverse, drop}
+use Rattle.lists.specs.Same.{same}
+use Rattle.lists.proofs.Pick.{pick-elim}
+use Rattle.values.specs.Read.{readValue}
+use Rattle.values.specs.Decimal.{decimalOf}
+use Rattle.lexer.specs.Token.{Val, Prop, Tok}
+use Rattle.tables.specs.Numbers.{none}
+use Rattle.tables.specs.Record.{Node, Tree}
+use Rattle.parser.specs.Split.{slices}
+use Rattle.parser.specs.Slice.{sliceFrom, restFrom, cut}
+use Rattle.parser.specs.Kind.{Kind, is, unkind, kind, kindVals, kindProps, named, props, GM, numbered}
+use Rattle.parser.specs.Walk.{Opts, Walk, walk, halted, stopped, shut, walked}
+use Rattle.parser.specs.Read.{accepted, Growing, growing, failing, rooted, grown, kinded, growAll}
+use Rattle.reader.proofs.Kinded.{fails}
+
+-- the nodes of a walk, last first
+abbrev pub nodesOf : Walk → List Node
+nodesOf (walk cur st g ns) = ns
+nodesOf (halted ns) = ns
+nodesOf (stopped r) = []
+
+-- the nodes of a slice, last first
+abbrev pub walkOf : Opts → ℕ → List Tok → List Node
+walkOf op base s = nodesOf (walked op base (walk none [] shut []) s)
+
+-- nodes, last first, as a tree has them: without any, an empty root
+abbrev pub inOrder : List Node → List Node
+inOrder [] = record { parent = none; props = [] } ∷ []
+inOrder (n ∷ ns) = reverse (n ∷ ns)
+
+-- the trees of the first k slices of the tokens; base: the number of their first node
+abbrev pub Grew : Opts → (base k : ℕ) → List Tok → List Tree → Type 0
+Grew op base zero us [] = Unit {0}
+Grew op base zero us (t ∷ ts) = ⊥
+Grew op base (suc k) us [] = ⊥
+Grew op base (suc k) us (t ∷ ts) = (t .root ≡ base) × (t .kind ≤ 1) × (t .nodes ≡ inOrder (walkOf op base (sliceFrom 0 us))) × Grew op (base + length (t .nodes)) k (restFrom 0 us) ts
+
+-- ---- game types
+
+abbrev Small : Kind → Type 0
+Small (is k) = k ≤ 1
+Small (unkind r) = Unit {0}
+
+small-vals : (vs : List Val) → Small (kindVals vs)
+small-vals [] = tt
+small-vals (v ∷ []) =
+    pick-elim Small (numbered (decimalOf (2 ^ 31 - 1) (readValue (v .raw))))
+    (λ _. pick-elim (λ (k : ℕ). k ≤ 1) (same (readValue (v .raw)) (0x31 ∷ [])) (λ _. omega arith) (λ _. omega arith)) (λ _. tt)
+small-vals (v ∷ u ∷ vs) = tt
+
+small-props : (ps : List Prop) → Small (kindProps ps)
+small-props [] = omega arith
+small-props (p ∷ []) = small-vals (p .vals)
+small-props (p ∷ q ∷ ps) = tt
+
+-- ---- one tree
+
+-- nodes ns (last first) have become one more tree
+abbrev One : (base : ℕ) → List Node → List Tree → Growing → Type 0
+One base ns ts (growing n us) = (t : Tree) × (us ≡ t ∷ ts) × (n ≡ base + length (t .nodes)) × (t .root ≡ base) × (t .kind ≤ 1) × (t .nodes ≡ inOrder ns)
+One base ns ts (failing r) = Unit {0}
+
+one-rooted : (len : Bool) (base k : ℕ) (ns : List Node) (ts : List Tree) → k ≤ 1 → One base ns ts (rooted len base k ns ts)
+one-rooted len base k (n ∷ ns) ts h = (_, refl, ap (λ (z : ℕ). base + z) (sym (length-reverse (n ∷ ns))), refl, h, refl)
+one-rooted true base k [] ts h = (_, refl, omega arith, refl, h, refl)
+one-rooted false base k [] ts h = tt
+
+one-grown : (len : Bool) (base k : ℕ) (w : Walk) (ts : List Tree) → k ≤ 1 → One base (nodesOf w) ts (grown len base k w ts)
+one-grown len base k (walk cur st g ns) ts h = one-rooted len base k ns ts h
+one-grown len base k (halted ns) ts h = one-rooted len base k ns ts h
+one-grown len base k (stopped r) ts h = tt
+
+one-kinded : (op : Opts) (base : ℕ) (x : Kind) (s : List Tok) (ts : List Tree) → Small x → One base (walkOf op base s) ts (kinded op base x s ts)
+one-kinded op base (is k) s ts h = one-grown (op .lenient) base k (walked op base (walk none [] shut []) s) ts h
+one-kinded op base (unkind r) s ts h =
+    pick-elim (One base (walkOf op base s) ts) (op .lenient) (λ _. one-grown true base 0 (walked op base (walk none [] shut []) s) ts (omega arith)) (λ _. tt)
+
+-- ---- all trees
+
+pub never : {X : Type 0} → _≡_ {A = ℕ} 0 1 → X
+never z = absurd (omega arith)
+
+pub grow-all : (op : Opts) (k : ℕ) (us : List Tok) (base : ℕ) (acc : List Tree) (n : ℕ) (all : List Tree)
+    → growAll op (growing base acc) (cut k us) ≡ growing n all → (ts : List Tree) × (Grew op base k us ts) × (all ≡ reverseAux ts acc)
+unfolding cut
+grow-all op zero us base acc n all e = ([], tt, cc)
+grow-all op (suc k) us base acc n all e =
+    go (kinded op base (kind (sliceFrom 0 us)) (sliceFrom 0 us) acc)
+    (one-kinded op base (kind (sliceFrom 0 us)) (sliceFrom 0 us) acc (small-props (named GM (props (drop 2 (sliceFrom 0 us)))))) e (grow-all op k (restFrom 0 us))
+  where
+    go : (x : Growing) → One base (walkOf op base (sliceFrom 0 us)) acc x → growAll op x (cut k (restFrom 0 us)) ≡ growing n all
+        → ((b : ℕ) (a : List Tree) (n : ℕ) (all : List Tree) → growAll op (growing b a) (cut k (restFrom 0 us)) ≡ growing n all
+        → (ts : List Tree) × (Grew op b k (restFrom 0 us) ts) × (all ≡ reverseAux ts a))
+        → (ts : List Tree) × (Grew op base (suc k) us ts) × (all ≡ reverseAux ts acc)
+    go (growing m vs) (t, a, b, c, d, f) q more =
+        let z : growAll op (growing (base + length (t .nodes)) (t ∷ acc)) (cut k (restFrom 0 us)) ≡ growing n all = rw (← a, ← b) q in
+        let r = more (base + length (t .nodes)) (t ∷ acc) n all z in
+        (t ∷ r .0, (c, d, f, r .1), r .2)
+    go (failing r) h q more = never (let z : failing r ≡ growing n all = sym (fails op r (cut k (restFrom 0 us))) ∙ q in cc)
