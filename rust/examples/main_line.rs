@@ -1,5 +1,5 @@
 //! Reads a record from a file, prints the moves of its main line, corrects its first comment, and writes it.
-use ekimorepa::{Move, Record, escape, parse};
+use ekimorepa::{Move, Record, parse};
 use std::process::ExitCode;
 
 fn print_main_line(record: &Record) {
@@ -20,8 +20,8 @@ fn run(text: &[u8]) -> Result<String, ekimorepa::Error> {
     let comment = record.properties().find(|property| property.identifier() == "C");
     if let Some(value) = comment.map(|property| property.value()) {
         println!("comment: {}", value.text());
-        let corrected = value.read().replace("teh", "the");
-        record.set_value(value.number(), escape(&corrected))?;
+        let (number, corrected) = (value.number(), value.as_str().replace("teh", "the"));
+        record.set_value(number, corrected)?;
     }
     record.to_sgf()
 }
