@@ -176,6 +176,6 @@ pub fn compare(scale: &Scale, subject: Option<&str>) -> bool {
         ("writing", compare_writing),
         ("edits", compare_edits),
     ];
-    let wanted = subjects.iter().filter(|(name, _)| subject.is_none_or(|chosen| *name == chosen));
-    wanted.fold(true, |good, (_, run)| run(scale) & good)
+    let wanted: Vec<_> = subjects.iter().filter(|(name, _)| subject.is_none_or(|chosen| *name == chosen)).collect();
+    wanted.iter().fold(!wanted.is_empty(), |good, (_, run)| run(scale) & good)
 }
