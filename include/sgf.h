@@ -175,7 +175,8 @@ typedef struct {
 SgfGoValue sgf_go_value(SGF_RECORD, size_t p);
 
 /* The same of one property without the check, for callers whose tables are known to fit: the game type of its tree,
- * its raw identifier, and its values, `count` rows of the value table from row `first` on. The number is 0. */
+ * its raw identifier, and its values, `count` rows of the value table from row `first` on. The number is 0. Rows that
+ * do not fit do no harm: a row that is not there is an empty value, a span is cut at the end of the text. */
 SgfGoValue sgf_go_property(uint32_t game_type, const uint8_t *identifier, size_t identifier_len,
                            const uint8_t *text, size_t text_len, const uint32_t *values, size_t values_len,
                            size_t first, size_t count);

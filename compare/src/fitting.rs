@@ -1,7 +1,7 @@
 //! Damaged tables: the library's fitting check beside document 01's words, and what every operation answers where they do not fit.
 use crate::held::{self, Counts, Length, Span, STRIDES};
 use crate::plain_fit;
-use crate::plain_go::{shown, Go};
+use crate::plain_go::{self, shown, Go};
 use crate::report::{count, same};
 use crate::rng::Rng;
 use crate::whole::{Fenced, Whole};
@@ -101,6 +101,16 @@ fn damage_text(whole: &mut Whole, rng: &mut Rng) -> Result<(), String> {
     Ok(())
 }
 
+/// A Go value without the check, of rows that may be anything.
+fn unchecked(h: &held::Held, row: usize) -> Result<(), String> {
+    for (name, count) in [("B", 1), ("AB", 1), ("TW", 3), ("HA", 1), ("AE", 0)] {
+        let raw: Vec<&[u8]> = (0..count).map(|i| plain_go::row_value(h.text, h.tables[3], row.saturating_add(i))).collect();
+        let ours = held::go_property(0, name.as_bytes(), h.text, h.tables[3], row, count);
+        same("Go value of a row", ours == shown(plain_go::value(0, name.as_bytes(), &raw)), true)?;
+    }
+    Ok(())
+}
+
 /// Every operation answers 19 and leaves all memory.
 fn all_refuse(whole: &mut Whole) -> Result<(), String> {
     let before = whole.clone();
@@ -110,6 +120,9 @@ fn all_refuse(whole: &mut Whole) -> Result<(), String> {
     same("access", held::value(&h, 0), Span { number: 19, reserved: 0, from: 0, to: 0 })?;
     same("display", held::display(&h, 0, 0, out.lent_mut()), refused)?;
     same("writing", held::write(&h, out.lent_mut()), refused)?;
+    for row in [0, h.tables[3].len() / 4, h.tables[3].len() / 2, usize::MAX] {
+        unchecked(&h, row)?;
+    }
     let go = held::go_value(&h, 0);
     same("Go value", go == held::GoValue { number: 19, ..shown(Go::Other) }, true)?;
     let edit = held::edit(&mut whole.edited(), 0, b"x");

@@ -2,11 +2,13 @@
 extern crate sgf_parse;
 
 mod bench;
+mod bench_records;
 mod display;
 mod edits;
 mod examples;
 mod fitting;
 mod go_values;
+mod heap;
 mod held;
 mod library;
 mod limits;
@@ -52,6 +54,7 @@ fn run() -> bool {
         }
         Some("bench") => {
             bench::run();
+            bench_records::run();
             true
         }
         _ => {

@@ -80,6 +80,12 @@ fn points(values: &[Vec<u8>]) -> Option<BTreeSet<(u8, u8)>> {
     Some(set)
 }
 
+/// The raw value of a row of any table: cut at the end of the text, empty where its start is not before its end or there is no row.
+pub fn row_value<'a>(text: &'a [u8], values: &[u32], row: usize) -> &'a [u8] {
+    let span = values.chunks_exact(2).nth(row).map_or([0, 0], |span| [span[0] as usize, (span[1] as usize).min(text.len())]);
+    text.get(span[0]..span[1]).unwrap_or_default()
+}
+
 /// The letter of a coordinate.
 pub fn letter(coordinate: u8) -> u8 {
     if coordinate < 26 {

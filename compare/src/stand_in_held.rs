@@ -56,7 +56,7 @@ pub fn go_value(h: &Held, p: usize) -> GoValue {
 }
 
 pub fn go_property(game_type: u32, identifier: &[u8], text: &[u8], values: &[u32], first: usize, count: usize) -> GoValue {
-    let raw: Vec<&[u8]> = values[2 * first..].chunks_exact(2).take(count).map(|span| &text[span[0] as usize..span[1] as usize]).collect();
+    let raw: Vec<&[u8]> = (0..count).map(|i| plain_go::row_value(text, values, first.saturating_add(i))).collect();
     answer(0, plain_go::value(game_type, identifier, &raw))
 }
 
