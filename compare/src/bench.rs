@@ -1,6 +1,7 @@
 //! Speed of reading, beside sgf_parse::parse on the same texts in the same run.
 use crate::library;
 use crate::rng::Rng;
+use std::any::Any;
 use std::hint::black_box;
 use std::time::{Duration, Instant};
 
@@ -9,7 +10,7 @@ const SPENT: Duration = Duration::from_millis(1500);
 const ROUNDS: usize = 9;
 
 /// A game's text of about `length` bytes: moves with now and then a comment, a label or a variation.
-fn game(length: usize) -> String {
+pub fn game(length: usize) -> String {
     let mut rng = Rng::new(3);
     let mut text = String::from("(;GM[1]FF[4]CA[UTF-8]SZ[19]KM[6.5]PB[Black Player]PW[White Player]\n");
     while text.len() + 100 < length {
@@ -29,7 +30,7 @@ fn game(length: usize) -> String {
 }
 
 /// Nodes with a comment of 30,000 bytes each.
-fn comments() -> String {
+pub fn comments() -> String {
     let comment = "Black could also have played at the other side, but then White lives. ".repeat(429);
     let nodes = format!(";B[aa]C[{}]", &comment[..30_000]).repeat(30);
     format!("(;GM[1]{nodes})")
@@ -66,6 +67,23 @@ fn round(text: &str, tables: &mut [Vec<u32>; 4]) -> [Duration; 4] {
         timed(|| library::read(bytes, 0, [trees, nodes, properties, values])),
         timed(|| sgf_parse::parse(black_box(text))),
     ]
+}
+
+/// What a run has made and is dropped after it, not counted.
+pub type Made = Option<Box<dyn Any>>;
+
+/// The least time of each run over rounds that take turns, as long as there is time.
+pub fn in_turn<const N: usize>(mut runs: [&mut dyn FnMut() -> Made; N]) -> [Duration; N] {
+    let begun = Instant::now();
+    let mut least = [Duration::MAX; N];
+    let mut rounds = 0;
+    while rounds < ROUNDS || begun.elapsed() < SPENT {
+        for (run, least) in runs.iter_mut().zip(&mut least) {
+            *least = timed(&mut *run).min(*least);
+        }
+        rounds += 1;
+    }
+    least
 }
 
 /// The least of each time over rounds that take turns, so that a busy machine is busy for all.

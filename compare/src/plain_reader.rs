@@ -4,7 +4,7 @@ use crate::plain::{self, Property, Refusal, Token};
 /// No node.
 pub const NONE: u32 = u32::MAX;
 /// The longest text.
-const TEXT_LIMIT: usize = 1_048_576;
+pub const TEXT_LIMIT: usize = 1_048_576;
 /// The most trees that may be open.
 const DEPTH_LIMIT: usize = 1_024;
 

@@ -1,6 +1,15 @@
 //! Counts of texts compared, and the smallest text on which a comparison differs.
 use std::fmt::Debug;
+use std::sync::atomic::{AtomicU64, Ordering};
 use std::time::{Duration, Instant};
+
+/// Cases in the texts of the subject at hand.
+static CASES: AtomicU64 = AtomicU64::new(0);
+
+/// Counts cases of a text: values, calls, edits.
+pub fn count(cases: usize) {
+    CASES.fetch_add(cases as u64, Ordering::Relaxed);
+}
 
 /// A comparison of one text; the error says what differs.
 pub type Comparison = fn(&[u8]) -> Result<(), String>;
@@ -22,6 +31,7 @@ pub struct Report {
 
 impl Report {
     pub fn new(subject: &'static str, compare: Comparison) -> Self {
+        CASES.store(0, Ordering::Relaxed);
         Report { subject, compare, texts: 0, differences: 0, smallest: None, begun: Instant::now() }
     }
 
@@ -48,7 +58,12 @@ impl Report {
 
     /// Prints the summary; true if nothing differed.
     pub fn close(self) -> bool {
-        println!("{}: {} texts compared, {} differences", self.subject, self.texts, self.differences);
+        let cases = match CASES.load(Ordering::Relaxed) {
+            0 => String::new(),
+            cases => format!("{cases} cases in "),
+        };
+        let spent = self.begun.elapsed().as_secs_f32();
+        println!("{}: {cases}{} texts compared, {} differences ({spent:.1} s)", self.subject, self.texts, self.differences);
         if let Some(text) = &self.smallest {
             println!("  smallest text ({} bytes): {:.200}", text.len(), text.escape_ascii().to_string());
             println!("  {:.1000}", (self.compare)(text).unwrap_err());

@@ -1,0 +1,181 @@
+//! The subjects that are compared, each on its families of texts, and how many of them.
+use crate::report::Report;
+use crate::rng::Rng;
+use crate::{display, edits, examples, fitting, go_values, library, limits, reader, texts, tokens, value_texts, writing};
+
+/// How many texts of each family to compare.
+pub struct Scale {
+    token_bytes: usize,
+    placed_bytes: usize,
+    token_records: usize,
+    tree_bytes: usize,
+    words: usize,
+    tree_records: usize,
+    copies: usize,
+    real_copies: usize,
+    limits: limits::Choice,
+    pairs_step: usize,
+    shown_bytes: usize,
+    lists: usize,
+    written_records: usize,
+    damaged_records: usize,
+    edited_records: usize,
+    limits_step: usize,
+}
+
+pub const SHORT: Scale = Scale {
+    token_bytes: 6,
+    placed_bytes: 5,
+    token_records: 40_000,
+    tree_bytes: 6,
+    words: 5,
+    tree_records: 6_000,
+    copies: 9,
+    real_copies: 2,
+    limits: limits::Choice::Some,
+    pairs_step: 9,
+    shown_bytes: 5,
+    lists: 10_000,
+    written_records: 4_000,
+    damaged_records: 60,
+    edited_records: 1_500,
+    limits_step: 13,
+};
+
+pub const LONG: Scale = Scale {
+    token_bytes: 7,
+    placed_bytes: 6,
+    token_records: 400_000,
+    tree_bytes: 7,
+    words: 6,
+    tree_records: 100_000,
+    copies: 9,
+    real_copies: 30,
+    limits: limits::Choice::All,
+    pairs_step: 1,
+    shown_bytes: 7,
+    lists: 300_000,
+    written_records: 150_000,
+    damaged_records: 1_500,
+    edited_records: 30_000,
+    limits_step: 1,
+};
+
+/// Compares the families of texts that tokens and readings share.
+fn compare_shared(report: &mut Report, records: usize, copies: usize, real_copies: usize) {
+    texts::white(&mut |text| report.text(text));
+    report.group("white space");
+    texts::utf8_edges(&mut |text| report.text(text));
+    report.group("edges of UTF-8");
+    texts::made(1, records, copies, &mut |text| report.text(text));
+    report.group("made records and damaged copies");
+    let mut rng = Rng::new(2);
+    for text in texts::corpus() {
+        report.text(&text);
+        texts::damaged(&mut rng, &text, real_copies, &mut |copy| report.text(copy));
+    }
+    report.group("real records and damaged copies");
+}
+
+fn compare_tokens(scale: &Scale) -> bool {
+    let mut report = Report::new("tokens", tokens::compare);
+    texts::sequences(texts::TOKEN_BYTES, scale.token_bytes, &mut |text| report.text(text));
+    report.group("all short strings");
+    compare_shared(&mut report, scale.token_records, scale.copies, scale.real_copies);
+    report.close()
+}
+
+fn compare_places(scale: &Scale) -> bool {
+    let mut report = Report::new("places", tokens::compare_places);
+    texts::sequences(texts::TOKEN_BYTES, scale.placed_bytes, &mut |text| report.text(text));
+    report.close()
+}
+
+fn compare_reader(scale: &Scale) -> bool {
+    let mut report = Report::new("reader", reader::compare);
+    texts::sequences(texts::TREE_BYTES, scale.tree_bytes, &mut |text| report.text(text));
+    report.group("all short strings");
+    texts::sequences(texts::WORDS, scale.words, &mut |text| report.text(text));
+    report.group("all short sequences of words");
+    compare_shared(&mut report, scale.tree_records, scale.copies, scale.real_copies);
+    for text in limits::texts(scale.limits) {
+        report.text(&text);
+    }
+    report.group("limits");
+    report.close()
+}
+
+fn compare_go_values(scale: &Scale) -> bool {
+    let mut report = Report::new("Go values", go_values::compare);
+    value_texts::two_bytes(scale.pairs_step, &mut |text| report.text(text));
+    report.group("every two-byte value");
+    value_texts::rectangles(scale.pairs_step, &mut |text| report.text(text));
+    value_texts::decimals(&mut |text| report.text(text));
+    value_texts::lists(4, scale.lists, &mut |text| report.text(text));
+    report.group("rectangles, decimals, lists");
+    texts::corpus().iter().for_each(|text| report.text(text));
+    report.close()
+}
+
+fn compare_display(scale: &Scale) -> bool {
+    let mut report = Report::new("display", display::compare);
+    value_texts::shown(scale.shown_bytes, &mut |text| report.text(text));
+    report.group("all short values");
+    value_texts::shown_white(&mut |text| report.text(text));
+    texts::corpus().iter().for_each(|text| report.text(text));
+    report.close()
+}
+
+fn compare_fitting(scale: &Scale) -> bool {
+    let mut report = Report::new("fitting", fitting::compare);
+    for text in ["", "(;)", "(;C[])", "(;(;);)", "(;(;)(;(;))(;))(;)", "(;A[a]b[c][\\]d)[];C[\\]])", "(;GM[2]B[aa](;W[bb]C[x])(;))(;GM[1])"]
+    {
+        report.text(text.as_bytes());
+    }
+    texts::made(5, scale.damaged_records, 1, &mut |text| report.text(text));
+    texts::corpus().iter().step_by(40).for_each(|text| report.text(text));
+    report.close()
+}
+
+fn compare_writing(scale: &Scale) -> bool {
+    let mut report = Report::new("writing", writing::compare);
+    texts::sequences(texts::WORDS, scale.words, &mut |text| report.text(text));
+    report.group("all short sequences of words");
+    value_texts::alike(9, scale.written_records, &mut |text| report.text(text));
+    report.group("records that the crate writes alike");
+    value_texts::lists(6, scale.lists / 2, &mut |text| report.text(text));
+    texts::made(7, scale.written_records, 1, &mut |text| report.text(text));
+    report.group("made records");
+    texts::corpus().iter().for_each(|text| report.text(text));
+    report.group("real records");
+    limits::texts(scale.limits).iter().step_by(scale.limits_step).for_each(|text| report.text(text));
+    report.close()
+}
+
+fn compare_edits(scale: &Scale) -> bool {
+    let mut report = Report::new("edits", edits::compare);
+    texts::made(8, scale.edited_records, 1, &mut |text| report.text(text));
+    report.group("made records");
+    texts::corpus().iter().for_each(|text| report.text(text));
+    report.group("real records");
+    limits::texts(scale.limits).iter().step_by(scale.limits_step).for_each(|text| report.text(text));
+    report.close()
+}
+
+/// Compares one subject, or all; true if nothing differed.
+pub fn compare(scale: &Scale, subject: Option<&str>) -> bool {
+    println!("library: {}", library::NAME);
+    let subjects: [(&str, fn(&Scale) -> bool); 9] = [
+        ("tokens", compare_tokens),
+        ("places", compare_places),
+        ("examples", |_| examples::hold()),
+        ("reader", compare_reader),
+        ("go", compare_go_values),
+        ("display", compare_display),
+        ("fitting", compare_fitting),
+        ("writing", compare_writing),
+        ("edits", compare_edits),
+    ];
+    let wanted: Vec<_> = subjects.iter().filter(|(name, _)| subject.is_none_or(|chosen| *name == chosen)).collect();
+    wanted.iter().fold(!wanted.is_empty(), |good, (_, run)| run(scale) & good)
+}

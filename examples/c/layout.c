@@ -1,0 +1,177 @@
+/* Whether include/sgf.h agrees with the library: every struct by values that come back in each of its fields, every
+ * number by a call that gives it. Prints what does not hold, and how many checks there were. */
+#include "sgf.h"
+
+#include <stdio.h>
+#include <string.h>
+
+static int checks, failures;
+
+#define CHECK(holds) \
+    do { \
+        checks++; \
+        if (!(holds)) { \
+            failures++; \
+            printf("line %d: %s\n", __LINE__, #holds); \
+        } \
+    } while (0)
+
+enum { ROWS = 4096 };
+static uint8_t text[SGF_TEXT_LIMIT + 16];
+static uint32_t trees[2 * ROWS], nodes[5 * ROWS], properties[4 * ROWS], values[2 * ROWS];
+static size_t used;
+static SgfCounts counts;
+
+#define TABLES trees, 2 * ROWS, nodes, 5 * ROWS, properties, 4 * ROWS, values, 2 * ROWS
+#define RECORD text, sizeof text, used, counts, TABLES
+
+static SgfReading read_bytes(size_t length, uint32_t options) {
+    SgfReading r = sgf_read(text, length, options, TABLES);
+    used = length;
+    counts.trees = r.trees;
+    counts.nodes = r.nodes;
+    counts.properties = r.properties;
+    counts.values = r.values;
+    return r;
+}
+
+static SgfReading read_text(const char *source, uint32_t options) {
+    memcpy(text, source, strlen(source));
+    return read_bytes(strlen(source), options);
+}
+
+static SgfEdit edit(size_t k, const char *replacement) {
+    return sgf_edit(RECORD, k, (const uint8_t *)replacement, strlen(replacement));
+}
+
+static void check_tokens(void) {
+    const uint8_t *source = (const uint8_t *)" (;A [x]y) ";
+    SgfTrim trim = sgf_trim(source, 11);
+    CHECK(trim.number == SGF_ACCEPTED && trim.place == 0 && trim.first == 1 && trim.last == 10);
+    trim = sgf_trim((const uint8_t *)"a\xFF", 2);
+    CHECK(trim.number == SGF_NOT_UTF8 && trim.place == 1 && trim.first == 0 && trim.last == 0);
+    SgfToken token = sgf_token(source, 11, 3);
+    CHECK(token.kind == SGF_PROPERTY && token.number == 0 && token.from == 3 && token.opens == 5 && token.to == 8);
+    CHECK(sgf_token(source, 11, 0).kind == SGF_START && sgf_token(source, 11, 0).from == 1);
+    CHECK(sgf_token(source, 11, 2).kind == SGF_NODE && sgf_token(source, 11, 9).kind == SGF_END);
+    CHECK(sgf_token(source, 11, 10).kind == SGF_DONE);
+    token = sgf_token(source, 11, 8);
+    CHECK(token.kind == SGF_FAULT && token.number == SGF_MISSING_PROPERTY_IDENTIFIER && token.from == 8);
+    SgfValue value = sgf_next_value(source, 11, 5);
+    CHECK(value.kind == SGF_VALUE && value.from == 6 && value.to == 7 && value.next == 8);
+    CHECK(sgf_next_value(source, 11, 8).kind == SGF_NO_VALUE && sgf_next_value(source, 7, 5).kind == SGF_UNCLOSED);
+}
+
+static void check_reading(void) {
+    SgfReading r = read_text("(;A[a][b]B[c](;)(;C[d]))(;GM[2])", SGF_STRICT);
+    CHECK(r.number == SGF_ACCEPTED && r.reserved == 0 && r.place == 0);
+    CHECK(r.trees == 2 && r.nodes == 4 && r.properties == 4 && r.values == 5);
+    CHECK(trees[SGF_TREE_ROOT] == 0 && trees[SGF_TREE_GAME_TYPE] == SGF_GO);
+    CHECK(trees[SGF_TREE_STRIDE + SGF_TREE_ROOT] == 3 && trees[SGF_TREE_STRIDE + SGF_TREE_GAME_TYPE] == SGF_UNKNOWN_GAME);
+    const uint32_t *node = nodes + SGF_NODE_STRIDE;
+    CHECK(nodes[SGF_NODE_PARENT] == SGF_NONE && nodes[SGF_NODE_FIRST_CHILD] == 1 && nodes[SGF_NODE_PROPERTY_COUNT] == 2);
+    CHECK(node[SGF_NODE_PARENT] == 0 && node[SGF_NODE_FIRST_CHILD] == SGF_NONE && node[SGF_NODE_NEXT_SIBLING] == 2);
+    CHECK(node[SGF_NODE_FIRST_PROPERTY] == 2 && node[SGF_NODE_PROPERTY_COUNT] == 0);
+    const uint32_t *property = properties + SGF_PROPERTY_STRIDE;
+    CHECK(property[SGF_PROPERTY_IDENTIFIER_START] == 9 && property[SGF_PROPERTY_IDENTIFIER_END] == 10);
+    CHECK(property[SGF_PROPERTY_FIRST_VALUE] == 2 && property[SGF_PROPERTY_VALUE_COUNT] == 1);
+    CHECK(values[SGF_VALUE_STRIDE + SGF_VALUE_START] == 7 && values[SGF_VALUE_STRIDE + SGF_VALUE_END] == 8);
+    CHECK(read_text("(;a[])", SGF_KEEP_IDENTIFIERS | SGF_LENIENT).properties == 0);
+    CHECK(read_text("", SGF_LENIENT).nodes == SGF_NODES_FOR(0) && SGF_TREES_FOR(0) == 1);
+    CHECK(sgf_read(NULL, 0, SGF_LENIENT, NULL, 0, NULL, 0, NULL, 0, NULL, 0).number == SGF_NO_ROOM);
+}
+
+static void check_refused_readings(void) {
+    static const struct {
+        const char *source;
+        uint32_t options, number;
+        size_t place;
+    } cases[] = {
+        {"(;\xC3)", SGF_STRICT, SGF_NOT_UTF8, 2},
+        {"(;B)", SGF_STRICT, SGF_MISSING_PROPERTY_IDENTIFIER, 2},
+        {"(;B\xC3\xA9[])", SGF_STRICT, SGF_UNEXPECTED_END_OF_PROPERTY_IDENTIFIER, 2},
+        {"(;A[x][y", SGF_STRICT, SGF_UNEXPECTED_END_OF_PROPERTY_VALUE, 2},
+        {")", SGF_STRICT, SGF_UNEXPECTED_GAME_TREE_END, 0},
+        {"(;", SGF_STRICT, SGF_UNEXPECTED_END_OF_DATA, 0},
+        {"", SGF_STRICT, SGF_NO_GAME_TREES, 0},
+        {"((;))", SGF_STRICT, SGF_UNEXPECTED_GAME_TREE_START, 0},
+        {"(B[aa])", SGF_STRICT, SGF_UNEXPECTED_PROPERTY, 0},
+        {"(;GM[x])", SGF_STRICT, SGF_INVALID_GAME_TYPE, 0},
+        {"(;a[])", SGF_KEEP_IDENTIFIERS, SGF_INVALID_FF4_PROPERTY, 0},
+    };
+    for (size_t i = 0; i < sizeof cases / sizeof *cases; i++) {
+        SgfReading r = read_text(cases[i].source, cases[i].options);
+        CHECK(r.number == cases[i].number && r.place == cases[i].place && r.trees + r.nodes + r.properties + r.values == 0);
+    }
+    memset(text, ' ', sizeof text);
+    CHECK(read_bytes(SGF_TEXT_LIMIT, SGF_STRICT).number == SGF_NO_GAME_TREES);
+    CHECK(read_bytes(SGF_TEXT_LIMIT + 1, SGF_STRICT).number == SGF_TEXT_TOO_LONG);
+    memset(text, '(', SGF_DEPTH_LIMIT + 1);
+    CHECK(read_bytes(SGF_DEPTH_LIMIT, SGF_LENIENT).number == SGF_ACCEPTED);
+    CHECK(read_bytes(SGF_DEPTH_LIMIT + 1, SGF_LENIENT).number == SGF_TOO_DEEP);
+}
+
+static void check_record(void) {
+    uint8_t out[64];
+    read_text("(;C[a\tb\nc]GM[1][x];AB[ZZ][ba];HA[+12];B[cZ];W[])", SGF_LENIENT);
+    CHECK(sgf_fits(RECORD) == SGF_ACCEPTED);
+    SgfSpan span = sgf_value(RECORD, 1);
+    CHECK(span.number == SGF_ACCEPTED && span.reserved == 0 && span.from == 13 && span.to == 14);
+    CHECK(sgf_value(RECORD, 8).number == SGF_NO_SUCH_NUMBER && sgf_value(RECORD, 8).to == 0);
+    SgfDisplay shown = sgf_display(RECORD, 0, SGF_TEXT, out, sizeof out);
+    CHECK(shown.number == 0 && shown.reserved == 0 && shown.length == 5 && memcmp(out, "a b\nc", 5) == 0);
+    CHECK(sgf_display(RECORD, 0, SGF_SIMPLE_TEXT, out, 5).length == 5 && memcmp(out, "a b c", 5) == 0);
+    CHECK(sgf_display(RECORD, 0, SGF_TEXT, out, 4).number == SGF_NO_ROOM && sgf_display(RECORD, 0, 0, out, 4).length == 0);
+    SgfGoValue go = sgf_go_value(RECORD, 2);
+    CHECK(go.number == 0 && go.kind == SGF_POINTS && go.x == 0 && go.y == 0 && go.handicap == 0);
+    size_t marked = 0;
+    for (size_t i = 0; i < SGF_POINT_PLACES; i++) {
+        marked += go.marks[i];
+    }
+    CHECK(marked == 2 && go.marks[SGF_POINT_PLACE(51, 51)] && go.marks[SGF_POINT_PLACE(1, 0)]);
+    CHECK(sgf_go_value(RECORD, 3).kind == SGF_HANDICAP && sgf_go_value(RECORD, 3).handicap == 12);
+    go = sgf_go_value(RECORD, 4);
+    CHECK(go.kind == SGF_MOVE && go.x == 2 && go.y == 51);
+    CHECK(sgf_go_value(RECORD, 5).kind == SGF_PASS && sgf_go_value(RECORD, 0).kind == SGF_OTHER);
+    CHECK(sgf_go_value(RECORD, 6).number == SGF_NO_SUCH_NUMBER);
+    CHECK(sgf_go_property(SGF_GO, (const uint8_t *)"HA", 2, text, used, values, 2 * ROWS, 0, 1).kind == SGF_INVALID);
+    CHECK(sgf_go_property(SGF_UNKNOWN_GAME, (const uint8_t *)"B", 1, text, used, values, 2 * ROWS, 6, 1).kind == SGF_OTHER);
+    counts.nodes--;
+    CHECK(sgf_fits(RECORD) == SGF_NOT_FITTING && sgf_value(RECORD, 0).number == SGF_NOT_FITTING);
+}
+
+static void check_writing(void) {
+    uint8_t out[64];
+    read_text("(;AB[ba][aa])", SGF_STRICT);
+    SgfWriting writing = sgf_write(RECORD, out, sizeof out);
+    CHECK(writing.number == 0 && writing.reserved == 0 && writing.length == 13 && memcmp(out, "(;AB[aa][ba])", 13) == 0);
+    CHECK(sgf_write(RECORD, out, 12).number == SGF_NO_ROOM && sgf_write(RECORD, out, 12).length == 0);
+    read_text("(;[x])", SGF_STRICT);
+    CHECK(sgf_write(RECORD, out, sizeof out).number == SGF_EMPTY_IDENTIFIER);
+}
+
+static void check_edit(void) {
+    read_text("(;C[ab](;B[cd])(;GM[2][]))(;)", SGF_STRICT);
+    SgfEdit e = edit(0, "x");
+    CHECK(e.number == SGF_ACCEPTED && e.reserved == 0 && e.place == 0 && e.used == 28);
+    CHECK(e.trees == 2 && e.nodes == 4 && e.properties == 3 && e.values == 4);
+    CHECK(memcmp(text, "(;C[x](;B[cd])(;GM[2][]))(;)\0", 29) == 0 && values[2] == 10 && values[3] == 12);
+    used = e.used;
+    CHECK(edit(4, "").number == SGF_NO_SUCH_NUMBER && edit(2, "").number == SGF_GAME_TYPE_FIXED);
+    CHECK(edit(0, "ab\xFF").number == SGF_NOT_UTF8 && edit(0, "ab\xFF").place == 2 && edit(0, "\xFF").used == 0);
+    CHECK(edit(0, "]").number == SGF_NOT_CLOSED && edit(0, "\\").values == 0);
+    CHECK(sgf_edit(text, used, used, counts, TABLES, 0, (const uint8_t *)"xy", 2).number == SGF_NO_ROOM);
+    counts.trees = 1;
+    CHECK(edit(0, "").number == SGF_NOT_FITTING);
+}
+
+int main(void) {
+    check_tokens();
+    check_reading();
+    check_refused_readings();
+    check_record();
+    check_writing();
+    check_edit();
+    printf("layout: %d checks, %d failures\n", checks, failures);
+    return failures != 0;
+}

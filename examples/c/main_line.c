@@ -1,0 +1,171 @@
+/* Reads a record from a file, prints the moves of its main line, corrects its first comment, and writes it.
+ *
+ *   cc -Iinclude examples/c/main_line.c target/staticlib/libsgf.a -o main_line
+ *   ./main_line examples/c/sample.sgf
+ */
+#include "sgf.h"
+
+#include <stdio.h>
+#include <stdlib.h>
+#include <string.h>
+
+/* A record: its text, the used bytes and rows, the tables. */
+typedef struct {
+    uint8_t *text;
+    size_t room, used;
+    SgfCounts counts;
+    uint32_t *trees, *nodes, *properties, *values;
+    size_t trees_len, nodes_len, properties_len, values_len;
+} Record;
+
+/* The arguments with which a record is lent. */
+#define LENT(r) \
+    (r)->text, (r)->room, (r)->used, (r)->counts, (r)->trees, (r)->trees_len, (r)->nodes, (r)->nodes_len, \
+    (r)->properties, (r)->properties_len, (r)->values, (r)->values_len
+
+static void fail(const char *what, uint32_t number, size_t place) {
+    fprintf(stderr, "%s: refused %u at %zu\n", what, (unsigned)number, place);
+    exit(1);
+}
+
+static void *lend(size_t bytes) {
+    void *memory = malloc(bytes > 0 ? bytes : 1);
+    if (memory == NULL) {
+        fail("memory", SGF_NO_ROOM, 0);
+    }
+    return memory;
+}
+
+/* The file's bytes, with as much room again for edits. */
+static void load(Record *r, const char *name) {
+    FILE *file = fopen(name, "rb");
+    if (file == NULL) {
+        perror(name);
+        exit(1);
+    }
+    r->room = 2 * SGF_TEXT_LIMIT;
+    r->text = lend(r->room);
+    r->used = fread(r->text, 1, r->room, file);
+    fclose(file);
+}
+
+/* Lends tables that suffice for the text, and reads it. */
+static void read_record(Record *r) {
+    r->trees_len = SGF_TREE_STRIDE * SGF_TREES_FOR(r->used);
+    r->nodes_len = SGF_NODE_STRIDE * SGF_NODES_FOR(r->used);
+    r->properties_len = SGF_PROPERTY_STRIDE * SGF_PROPERTIES_FOR(r->used);
+    r->values_len = SGF_VALUE_STRIDE * SGF_VALUES_FOR(r->used);
+    r->trees = lend(r->trees_len * sizeof(uint32_t));
+    r->nodes = lend(r->nodes_len * sizeof(uint32_t));
+    r->properties = lend(r->properties_len * sizeof(uint32_t));
+    r->values = lend(r->values_len * sizeof(uint32_t));
+    SgfReading reading = sgf_read(r->text, r->used, SGF_STRICT, r->trees, r->trees_len, r->nodes, r->nodes_len,
+                                  r->properties, r->properties_len, r->values, r->values_len);
+    if (reading.number != SGF_ACCEPTED) {
+        fail("reading", reading.number, reading.place);
+    }
+    r->counts = (SgfCounts){reading.trees, reading.nodes, reading.properties, reading.values};
+}
+
+static char letter(uint32_t coordinate) {
+    return (char)(coordinate < 26 ? 'a' + coordinate : 'A' + (coordinate - 26));
+}
+
+/* Whether property p has this identifier. */
+static bool is_named(const Record *r, size_t p, const char *name) {
+    const uint32_t *row = r->properties + p * SGF_PROPERTY_STRIDE;
+    size_t length = row[SGF_PROPERTY_IDENTIFIER_END] - row[SGF_PROPERTY_IDENTIFIER_START];
+    return length == strlen(name) && memcmp(r->text + row[SGF_PROPERTY_IDENTIFIER_START], name, length) == 0;
+}
+
+/* The moves of one node of a tree with this game type. The tables come from a reading, so they fit. */
+static void print_moves(const Record *r, const uint32_t *node, uint32_t game_type) {
+    size_t first = node[SGF_NODE_FIRST_PROPERTY];
+    for (size_t p = first; p < first + node[SGF_NODE_PROPERTY_COUNT]; p++) {
+        const uint32_t *row = r->properties + p * SGF_PROPERTY_STRIDE;
+        const uint8_t *name = r->text + row[SGF_PROPERTY_IDENTIFIER_START];
+        size_t length = row[SGF_PROPERTY_IDENTIFIER_END] - row[SGF_PROPERTY_IDENTIFIER_START];
+        SgfGoValue value = sgf_go_property(game_type, name, length, r->text, r->used, r->values, r->values_len,
+                                           row[SGF_PROPERTY_FIRST_VALUE], row[SGF_PROPERTY_VALUE_COUNT]);
+        if (value.kind == SGF_MOVE) {
+            printf("  %.*s %c%c\n", (int)length, (const char *)name, letter(value.x), letter(value.y));
+        } else if (value.kind == SGF_PASS) {
+            printf("  %.*s passes\n", (int)length, (const char *)name);
+        }
+    }
+}
+
+static void print_main_line(const Record *r) {
+    for (size_t t = 0; t < r->counts.trees; t++) {
+        const uint32_t *tree = r->trees + t * SGF_TREE_STRIDE;
+        printf("game %zu\n", t + 1);
+        for (uint32_t k = tree[SGF_TREE_ROOT]; k != SGF_NONE;) {
+            const uint32_t *node = r->nodes + k * SGF_NODE_STRIDE;
+            print_moves(r, node, tree[SGF_TREE_GAME_TYPE]);
+            k = node[SGF_NODE_FIRST_CHILD];
+        }
+    }
+}
+
+/* Shows the first comment, and replaces `teh` in it. */
+static void correct_comment(Record *r) {
+    size_t p = 0;
+    while (p < r->counts.properties && !is_named(r, p, "C")) {
+        p++;
+    }
+    if (p == r->counts.properties) {
+        return;
+    }
+    size_t k = r->properties[p * SGF_PROPERTY_STRIDE + SGF_PROPERTY_FIRST_VALUE];
+    SgfSpan span = sgf_value(LENT(r), k);
+    size_t length = span.to - span.from;
+    uint8_t *shown = lend(length);
+    SgfDisplay display = sgf_display(LENT(r), k, SGF_TEXT, shown, length);
+    printf("comment: %.*s\n", (int)display.length, (const char *)shown);
+    uint8_t *corrected = lend(length);
+    memcpy(corrected, r->text + span.from, length);
+    for (size_t i = 0; i + 3 <= length; i++) {
+        if (memcmp(corrected + i, "teh", 3) == 0) {
+            memcpy(corrected + i, "the", 3);
+        }
+    }
+    SgfEdit edit = sgf_edit(LENT(r), k, corrected, length);
+    if (edit.number != SGF_ACCEPTED) {
+        fail("edit", edit.number, edit.place);
+    }
+    r->used = edit.used;
+    r->counts = (SgfCounts){edit.trees, edit.nodes, edit.properties, edit.values};
+    free(shown);
+    free(corrected);
+}
+
+/* Writes the record, lending more as long as it asks for more. */
+static void write_record(const Record *r) {
+    for (size_t room = r->used + 2;; room *= 4) {
+        uint8_t *out = lend(room);
+        SgfWriting writing = sgf_write(LENT(r), out, room);
+        if (writing.number == SGF_ACCEPTED) {
+            printf("%.*s\n", (int)writing.length, (const char *)out);
+        } else if (writing.number != SGF_NO_ROOM) {
+            fail("writing", writing.number, 0);
+        }
+        free(out);
+        if (writing.number == SGF_ACCEPTED) {
+            return;
+        }
+    }
+}
+
+int main(int argc, char **argv) {
+    if (argc != 2) {
+        fprintf(stderr, "usage: main_line FILE\n");
+        return 1;
+    }
+    Record r = {0};
+    load(&r, argv[1]);
+    read_record(&r);
+    print_main_line(&r);
+    correct_comment(&r);
+    write_record(&r);
+    return 0;
+}

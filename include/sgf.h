@@ -1,0 +1,250 @@
+/* Ekimorepa: reading, writing and editing SGF (FF[4]) without a heap, from C and C++.
+ *
+ * Link with libsgf.a (`rt staticlib sgf`). No function allocates, recurses, keeps state or calls back; all may run
+ * in several threads at once as long as no memory that one of them writes is lent to another.
+ *
+ * Memory is lent by the caller. Each lent array is a pointer and a length in elements, in this order; a pointer with
+ * length 0 is not followed. Memory that a call writes must not overlap any other that it is lent. A lent text may
+ * hold any bytes and a lent table any numbers: every call has an answer, and none reads or writes beyond what is lent.
+ *
+ * A reading fills four tables of uint32_t, row behind row, numbered from 0 in the order of the text:
+ *   tree      root node, game type
+ *   node      parent, first child, next sibling, first property, property count
+ *   property  identifier start, identifier end, first value, value count
+ *   value     start, end: what stands between its brackets
+ * Starts and ends count bytes of the text, end excluded. "None" is SGF_NONE. So the raw bytes of value k are
+ * text + values[2 * k] up to text + values[2 * k + 1].
+ *
+ * Every answer has a number: SGF_ACCEPTED, or why the call is refused. A refusal leaves every lent byte and number
+ * as it was, and its counts, lengths and spans are 0. After acceptance, what lies behind the counts given back stays
+ * as well, except for the bytes that sgf_edit sets to 0.
+ */
+#ifndef SGF_H
+#define SGF_H
+
+#include <stdbool.h>
+#include <stddef.h>
+#include <stdint.h>
+
+#ifdef __cplusplus
+extern "C" {
+#endif
+
+/* Numbers given back. The names of 3 to 8 and 10 to 13 are those of the Rust crate sgf-parse. */
+enum {
+    SGF_ACCEPTED = 0,
+    SGF_TEXT_TOO_LONG = 1,                          /* more than SGF_TEXT_LIMIT bytes */
+    SGF_NOT_UTF8 = 2,                               /* place: the start of the first bad sequence */
+    SGF_MISSING_PROPERTY_IDENTIFIER = 3,            /* the text ends before `[`; place: the start of the identifier */
+    SGF_UNEXPECTED_END_OF_PROPERTY_IDENTIFIER = 4,  /* a character that is not ASCII before `[`; place: as for 3 */
+    SGF_UNEXPECTED_END_OF_PROPERTY_VALUE = 5,       /* a value does not close; place: the start of its property */
+    SGF_UNEXPECTED_GAME_TREE_END = 6,               /* a `)` without its `(` */
+    SGF_UNEXPECTED_END_OF_DATA = 7,                 /* a `(` without its `)`, or a tree without a node */
+    SGF_NO_GAME_TREES = 8,                          /* neither `(` nor `)` */
+    SGF_TOO_DEEP = 9,                               /* more than SGF_DEPTH_LIMIT trees open at once */
+    SGF_UNEXPECTED_GAME_TREE_START = 10,            /* a tree begins with a tree */
+    SGF_UNEXPECTED_PROPERTY = 11,                   /* a property outside a node, or a second GM */
+    SGF_INVALID_GAME_TYPE = 12,                     /* GM without exactly one value, or that is no 32-bit number */
+    SGF_INVALID_FF4_PROPERTY = 13,                  /* with SGF_KEEP_IDENTIFIERS: not only uppercase letters */
+    SGF_NO_ROOM = 14,                               /* needed rows or bytes exceed those lent */
+    SGF_EMPTY_IDENTIFIER = 15,                      /* writing: an identifier has no uppercase letter */
+    SGF_NO_SUCH_NUMBER = 16,                        /* value or property number not below the count */
+    SGF_GAME_TYPE_FIXED = 17,                       /* edit: the value of a GM */
+    SGF_NOT_CLOSED = 18,                            /* edit: an unescaped `]` in the new value, or a `\` left open */
+    SGF_NOT_FITTING = 19                            /* the tables do not fit the text */
+};
+
+/* Limits, and "none" in a row. */
+#define SGF_TEXT_LIMIT 1048576
+#define SGF_DEPTH_LIMIT 1024
+#define SGF_NONE UINT32_C(4294967295)
+
+/* Numbers a row of each table, and their places in it. */
+enum { SGF_TREE_ROOT = 0, SGF_TREE_GAME_TYPE = 1, SGF_TREE_STRIDE = 2 };
+enum {
+    SGF_NODE_PARENT = 0,
+    SGF_NODE_FIRST_CHILD = 1,
+    SGF_NODE_NEXT_SIBLING = 2,
+    SGF_NODE_FIRST_PROPERTY = 3,
+    SGF_NODE_PROPERTY_COUNT = 4,
+    SGF_NODE_STRIDE = 5
+};
+enum {
+    SGF_PROPERTY_IDENTIFIER_START = 0,
+    SGF_PROPERTY_IDENTIFIER_END = 1,
+    SGF_PROPERTY_FIRST_VALUE = 2,
+    SGF_PROPERTY_VALUE_COUNT = 3,
+    SGF_PROPERTY_STRIDE = 4
+};
+enum { SGF_VALUE_START = 0, SGF_VALUE_END = 1, SGF_VALUE_STRIDE = 2 };
+
+/* Game types of a tree. */
+enum { SGF_GO = 0, SGF_UNKNOWN_GAME = 1 };
+
+/* Options of a reading, to be added; further bits mean nothing. */
+enum {
+    SGF_STRICT = 0,
+    SGF_LENIENT = 1,         /* reads as far as it can; refuses only with 1, 2, 9 and 14 */
+    SGF_KEEP_IDENTIFIERS = 2 /* identifiers with anything but uppercase letters are not converted but refused */
+};
+
+/* Rows that suffice for the reading of any text of n bytes, strict or lenient: times the stride, numbers to lend.
+ * Not proved: checked for all short texts. With fewer rows a reading may answer SGF_NO_ROOM, and nothing worse. */
+#define SGF_TREES_FOR(n) ((n) < 2 ? (size_t)1 : ((size_t)(n) + 1) / 2)
+#define SGF_NODES_FOR(n) ((n) < 2 ? (size_t)1 : (size_t)(n)-1)
+#define SGF_PROPERTIES_FOR(n) ((n) < 1 ? (size_t)0 : ((size_t)(n)-1) / 3)
+#define SGF_VALUES_FOR(n) ((n) < 2 ? (size_t)0 : ((size_t)(n)-2) / 2)
+
+/* ---- Reading ---------------------------------------------------------------------------------------------- */
+
+/* Used rows of each table. */
+typedef struct {
+    size_t trees, nodes, properties, values;
+} SgfCounts;
+
+/* Number 0 and the used rows of each table; or the number of a refusal and its place. `reserved` is 0 in every answer. */
+typedef struct {
+    uint32_t number, reserved;
+    size_t place, trees, nodes, properties, values;
+} SgfReading;
+
+/* Reads a text into the lent tables. Numbers, in this order: 1; 2; 3 to 5, the first in the text; 6; 7; 8; 9; then
+ * tree by tree 11 and 12 for its game type, 10, 11, 13 and 7 for the tree; 14. */
+SgfReading sgf_read(const uint8_t *text, size_t text_len, uint32_t options,
+                    uint32_t *trees, size_t trees_len, uint32_t *nodes, size_t nodes_len,
+                    uint32_t *properties, size_t properties_len, uint32_t *values, size_t values_len);
+
+/* ---- Over a record in memory ------------------------------------------------------------------------------ */
+
+/* Each function below takes a text of which the first `used` bytes are the record's, the counts of used rows and
+ * the four tables. Whatever made them, a call first checks that they fit one another, in time linear in text and
+ * tables, and answers 19 if they do not. Tables that sgf_read or sgf_edit accepted do fit their text. */
+#define SGF_RECORD \
+    const uint8_t *text, size_t text_len, size_t used, SgfCounts counts, \
+    const uint32_t *trees, size_t trees_len, const uint32_t *nodes, size_t nodes_len, \
+    const uint32_t *properties, size_t properties_len, const uint32_t *values, size_t values_len
+
+/* 0 where the tables fit the text, else 19. */
+uint32_t sgf_fits(SGF_RECORD);
+
+/* A number, and the span of a value in the text. */
+typedef struct {
+    uint32_t number, reserved;
+    size_t from, to;
+} SgfSpan;
+
+/* The span of value k. Numbers: 19, 16. */
+SgfSpan sgf_value(SGF_RECORD, size_t k);
+
+/* A number, and how many bytes were written. */
+typedef struct {
+    uint32_t number, reserved;
+    size_t length;
+} SgfDisplay;
+
+/* How a value is displayed: white space as spaces, escapes resolved; in SimpleText line breaks become spaces too. */
+enum { SGF_TEXT = 0, SGF_SIMPLE_TEXT = 1 }; /* any other kind is SGF_SIMPLE_TEXT */
+
+/* Displays value k in `out`. No display is longer than the raw value. Numbers: 19, 16, 14.
+ * To display one value of a large record without the cost of the check, lend it alone: the text from its `[` to its
+ * `]`, one row each of {0, 1}, {SGF_NONE, SGF_NONE, SGF_NONE, 0, 1}, {0, 0, 0, 1} and {1, 1 + length}, and k 0. */
+SgfDisplay sgf_display(SGF_RECORD, size_t k, uint32_t kind, uint8_t *out, size_t out_len);
+
+/* Kinds of Go value. */
+enum {
+    SGF_OTHER = 0,    /* not one of B, W, HA, AB, AW, AE, TB, TW, or not in a Go tree */
+    SGF_INVALID = 1,  /* one of them, with values that it cannot have */
+    SGF_PASS = 2,     /* B, W: an empty value */
+    SGF_MOVE = 3,     /* B, W: a point, in x and y, each 0 to 51 */
+    SGF_HANDICAP = 4, /* HA: at least 2, in handicap */
+    SGF_POINTS = 5    /* AB, AW, AE, TB, TW: a set of points, in marks */
+};
+
+/* Points of a set, and a point's place among the marks. */
+#define SGF_POINT_PLACES 2704
+#define SGF_POINT_PLACE(x, y) (52 * (x) + (y))
+
+/* A number and a Go value; what its kind does not name is 0 or false. `tt` is the move (19, 19). */
+typedef struct {
+    uint32_t number, kind, x, y;
+    uint64_t handicap;
+    bool marks[SGF_POINT_PLACES];
+} SgfGoValue;
+
+/* The Go value of property p. Numbers: 19, 16; the kind is then SGF_OTHER. */
+SgfGoValue sgf_go_value(SGF_RECORD, size_t p);
+
+/* The same of one property without the check, for callers whose tables are known to fit: the game type of its tree,
+ * its raw identifier, and its values, `count` rows of the value table from row `first` on. The number is 0. Rows that
+ * do not fit do no harm: a row that is not there is an empty value, a span is cut at the end of the text. */
+SgfGoValue sgf_go_property(uint32_t game_type, const uint8_t *identifier, size_t identifier_len,
+                           const uint8_t *text, size_t text_len, const uint32_t *values, size_t values_len,
+                           size_t first, size_t count);
+
+/* A number, and how many bytes were written. */
+typedef struct {
+    uint32_t number, reserved;
+    size_t length;
+} SgfWriting;
+
+/* Writes the record to `out`: identifiers as their uppercase letters, moves, handicaps and point sets in one fixed
+ * form, everything else by its raw bytes. Numbers: 19, 15, 14. A writing can be longer than its text (the rectangle
+ * in `(;AB[aa:ZZ])` is 2,704 points): after 14 lend more. */
+SgfWriting sgf_write(SGF_RECORD, uint8_t *out, size_t out_len);
+
+/* A number and a place, and the used bytes and rows from now on. */
+typedef struct {
+    uint32_t number, reserved;
+    size_t place, used, trees, nodes, properties, values;
+} SgfEdit;
+
+/* Replaces value k by new bytes. Text and tables are then what a fresh strict reading of the new text would give.
+ * Writes the text from the value on and moves the rows behind it; where the text became shorter, the bytes between
+ * the new and the old used length become 0. Numbers: 19, 16, 17, 2 (place: in the new value), 18, 1, 14 (the new
+ * used length exceeds text_len). After a refusal go on with the used length and counts from before. */
+SgfEdit sgf_edit(uint8_t *text, size_t text_len, size_t used, SgfCounts counts,
+                 const uint32_t *trees, size_t trees_len, const uint32_t *nodes, size_t nodes_len,
+                 uint32_t *properties, size_t properties_len, uint32_t *values, size_t values_len,
+                 size_t k, const uint8_t *replacement, size_t replacement_len);
+
+/* ---- Token by token, without tables ----------------------------------------------------------------------- */
+
+/* Number 0 and the part that trimming white space keeps (0 and 0 of a blank text); or 2 and the place. */
+typedef struct {
+    uint32_t number;
+    size_t place, first, last;
+} SgfTrim;
+
+/* Is the text UTF-8, and what does trimming keep of it. The token rules speak of the trimmed text. */
+SgfTrim sgf_trim(const uint8_t *text, size_t text_len);
+
+/* Kinds of token. */
+enum { SGF_DONE = 0, SGF_START = 1, SGF_END = 2, SGF_NODE = 3, SGF_PROPERTY = 4, SGF_FAULT = 5 };
+
+/* A token and its span, whose end is the next place; `opens` is a property's first `[`, else the start. The number
+ * is 3, 4 or 5 for a fault, else 0. */
+typedef struct {
+    uint32_t kind, number;
+    size_t from, opens, to;
+} SgfToken;
+
+/* The next token from a place on. */
+SgfToken sgf_token(const uint8_t *text, size_t text_len, size_t at);
+
+/* Kinds of value step. */
+enum { SGF_NO_VALUE = 0, SGF_VALUE = 1, SGF_UNCLOSED = 2 };
+
+/* A value's span between its brackets and the place of the next; for the other kinds the place asked for. */
+typedef struct {
+    uint32_t kind;
+    size_t from, to, next;
+} SgfValue;
+
+/* The value whose `[` stands at a place. */
+SgfValue sgf_next_value(const uint8_t *text, size_t text_len, size_t at);
+
+#ifdef __cplusplus
+}
+#endif
+
+#endif

@@ -1,0 +1,51 @@
+//! Reads a record from a file, prints the moves of its main line, corrects its first comment, and writes it.
+use ekimorepa::{Move, Record, parse};
+use std::process::ExitCode;
+
+fn print_main_line(record: &Record) {
+    for tree in record.trees() {
+        println!("game {}", tree.number() + 1);
+        for (colour, played) in tree.root().main_variation().filter_map(|node| node.get_move()) {
+            match played {
+                Move::Pass => println!("  {colour} passes"),
+                Move::Move(point) => println!("  {colour} {point}"),
+            }
+        }
+    }
+}
+
+fn run(text: &[u8]) -> Result<String, ekimorepa::Error> {
+    let mut record = parse(text)?;
+    print_main_line(&record);
+    let comment = record.properties().find(|property| property.identifier() == "C");
+    if let Some(value) = comment.map(|property| property.value()) {
+        println!("comment: {}", value.text());
+        let (number, corrected) = (value.number(), value.as_str().replace("teh", "the"));
+        record.set_value(number, corrected)?;
+    }
+    record.to_sgf()
+}
+
+fn main() -> ExitCode {
+    let Some(file) = std::env::args_os().nth(1) else {
+        eprintln!("usage: main_line FILE");
+        return ExitCode::FAILURE;
+    };
+    let text = match std::fs::read(&file) {
+        Ok(text) => text,
+        Err(error) => {
+            eprintln!("{}: {error}", file.display());
+            return ExitCode::FAILURE;
+        }
+    };
+    match run(&text) {
+        Ok(written) => {
+            println!("{written}");
+            ExitCode::SUCCESS
+        }
+        Err(error) => {
+            eprintln!("{}: {error}", file.display());
+            ExitCode::FAILURE
+        }
+    }
+}

@@ -1,0 +1,132 @@
+//! Refusals.
+#![forbid(unsafe_code)]
+use std::fmt;
+
+/// Why something is refused. Those that `sgf-parse` has too bear its names.
+#[derive(Debug, Clone, Copy, PartialEq, Eq, Hash)]
+#[non_exhaustive]
+#[allow(missing_docs)]
+pub enum ErrorKind {
+    TextTooLong = 1,
+    NotUtf8 = 2,
+    MissingPropertyIdentifier = 3,
+    UnexpectedEndOfPropertyIdentifier = 4,
+    UnexpectedEndOfPropertyValue = 5,
+    UnexpectedGameTreeEnd = 6,
+    UnexpectedEndOfData = 7,
+    NoGameTrees = 8,
+    TooDeep = 9,
+    UnexpectedGameTreeStart = 10,
+    UnexpectedProperty = 11,
+    InvalidGameType = 12,
+    InvalidFF4Property = 13,
+    NoRoom = 14,
+    EmptyIdentifier = 15,
+    NoSuchNumber = 16,
+    GameTypeFixed = 17,
+    NotClosed = 18,
+    NotFitting = 19,
+}
+
+use ErrorKind::*;
+
+/// Each kind, and what it tells a user.
+const KINDS: [(ErrorKind, &str); 19] = [
+    (TextTooLong, "the text is longer than 1,048,576 bytes"),
+    (NotUtf8, "these bytes are not UTF-8"),
+    (MissingPropertyIdentifier, "the text ends before the `[` of this property"),
+    (UnexpectedEndOfPropertyIdentifier, "this property identifier has a character that is not ASCII"),
+    (UnexpectedEndOfPropertyValue, "a value of this property has no closing `]`"),
+    (UnexpectedGameTreeEnd, "there is a `)` without its `(`"),
+    (UnexpectedEndOfData, "there is a `(` without its `)`, or a tree without a node"),
+    (NoGameTrees, "there is no game tree in the text"),
+    (TooDeep, "more than 1,024 trees are open at once"),
+    (UnexpectedGameTreeStart, "a tree begins with a tree instead of a node"),
+    (UnexpectedProperty, "a property stands outside a node, or a second GM in the root"),
+    (InvalidGameType, "the game type GM is not one number"),
+    (InvalidFF4Property, "a property identifier is not made of uppercase letters only"),
+    (NoRoom, "more memory is needed than was lent"),
+    (EmptyIdentifier, "a property identifier has no uppercase letter, so it cannot be written"),
+    (NoSuchNumber, "there is no value of this number"),
+    (GameTypeFixed, "the game type GM cannot be edited"),
+    (NotClosed, "the new value has an unescaped `]`, or ends within an escape"),
+    (NotFitting, "the tables do not fit the text"),
+];
+
+/// A refusal: why, and for some kinds where.
+#[derive(Debug, Clone, Copy, PartialEq, Eq, Hash)]
+pub struct Error {
+    kind: ErrorKind,
+    place: usize,
+}
+
+impl Error {
+    /// The refusal with this number, 1 to 19; the library gives no other.
+    pub(crate) fn new(number: u32, place: usize) -> Self {
+        let known = KINDS.iter().find(|(kind, _)| *kind as u32 == number);
+        Error { kind: known.expect("a number of the library").0, place }
+    }
+
+    /// Why.
+    pub fn kind(&self) -> ErrorKind {
+        self.kind
+    }
+
+    /// The library's number for the kind, 1 to 19.
+    pub fn number(&self) -> u32 {
+        self.kind as u32
+    }
+
+    /// The name of the kind.
+    pub fn name(&self) -> String {
+        format!("{:?}", self.kind)
+    }
+
+    /// The byte at which it lies: of kinds 2 to 5, in the text, or in the new value of an edit; else 0.
+    pub fn place(&self) -> usize {
+        self.place
+    }
+
+    /// The place as line and column in characters, from 1, of the text that was refused.
+    ///
+    /// ```
+    /// let text = "(;C[\u{e9}]\n;B)";
+    /// let error = ekimorepa::parse(text).unwrap_err();
+    /// assert_eq!((error.place(), error.line_and_column(text)), (9, (2, 2)));
+    /// ```
+    pub fn line_and_column(&self, text: impl AsRef<[u8]>) -> (usize, usize) {
+        let text = text.as_ref();
+        let before = &text[..self.place.min(text.len())];
+        let line = before.iter().rposition(|b| *b == b'\n').map_or(before, |at| &before[at + 1..]);
+        (1 + before.iter().filter(|b| **b == b'\n').count(), 1 + String::from_utf8_lossy(line).chars().count())
+    }
+
+    fn has_place(&self) -> bool {
+        (2..=5).contains(&self.number())
+    }
+}
+
+impl fmt::Display for Error {
+    fn fmt(&self, f: &mut fmt::Formatter<'_>) -> fmt::Result {
+        let told = KINDS[self.number() as usize - 1].1;
+        if self.has_place() {
+            write!(f, "at byte {}: ", self.place)?;
+        }
+        write!(f, "{told} ({:?})", self.kind)
+    }
+}
+
+impl std::error::Error for Error {}
+
+#[cfg(test)]
+mod tests {
+    use super::*;
+
+    #[test]
+    fn kinds_stand_in_the_order_of_their_numbers() {
+        for (at, (kind, told)) in KINDS.iter().enumerate() {
+            assert_eq!(*kind as usize, at + 1);
+            assert!(Error::new(at as u32 + 1, 0).to_string().contains(told));
+        }
+    }
+}

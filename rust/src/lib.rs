@@ -1,0 +1,63 @@
+//! SGF (Smart Game Format, FF\[4\]) records: reading, writing and editing over a proved library.
+//!
+//! The work is done by `libsgf.a`, whose functions are proved to answer as their definitions say; this crate lends it
+//! memory, and shows its tables as trees, nodes, properties and values. Its names are those of the crate `sgf-parse`
+//! where that has them.
+//!
+//! ```
+//! use ekimorepa::{Move, parse};
+//!
+//! let record = parse("(;GM[1]SZ[9];B[ee]C[centre];W[cc](;B[gc])(;B[cg]))")?;
+//! let root = record.trees().next().unwrap().root();
+//! let moves: Vec<String> = root
+//!     .main_variation()
+//!     .filter_map(|node| node.get_move())
+//!     .map(|(colour, played)| match played {
+//!         Move::Pass => format!("{colour} passes"),
+//!         Move::Move(point) => format!("{colour} {point}"),
+//!     })
+//!     .collect();
+//! assert_eq!(moves, ["B ee", "W cc", "B gc"]);
+//! # Ok::<(), ekimorepa::Error>(())
+//! ```
+//!
+//! Values are edited in place, and a record is written in one form, whatever machine writes it:
+//!
+//! ```
+//! let mut record = ekimorepa::parse("(;AB[bb:cc]TB[ba][aa]C[a:b\\]c])")?;
+//! let root = record.trees().next().unwrap().root();
+//! let comment = root.get_property("C").unwrap().values().next().unwrap().number();
+//! record.set_value(comment, ekimorepa::escape("an [other] one"))?;
+//! assert_eq!(record.to_sgf()?, "(;AB[bb][bc][cb][cc]TB[aa][ba]C[an [other\\] one])");
+//! # Ok::<(), ekimorepa::Error>(())
+//! ```
+//!
+//! A refusal says what is wrong, and where:
+//!
+//! ```
+//! let error = ekimorepa::parse("(;B[aa];C[no end)").unwrap_err();
+//! assert_eq!((error.number(), error.place()), (5, 8));
+//! assert_eq!(error.to_string(), "at byte 8: a value of this property has no closing `]` (UnexpectedEndOfPropertyValue)");
+//! ```
+#![deny(unsafe_code)]
+
+mod error;
+#[allow(unsafe_code)]
+mod ffi;
+mod go;
+mod node;
+mod property;
+mod record;
+mod tables;
+
+pub use error::{Error, ErrorKind};
+pub use go::{Color, GoValue, Move, Point, PointSet};
+pub use node::{GameType, Node, Tree};
+pub use property::{Property, Value, escape};
+pub use record::{ParseOptions, Record, parse, parse_lenient, parse_with_options, serialize};
+pub use tables::Tables;
+
+/// The longest text, in bytes.
+pub const TEXT_LIMIT: usize = 1_048_576;
+/// The greatest number of open trees.
+pub const DEPTH_LIMIT: usize = 1_024;

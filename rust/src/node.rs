@@ -1,0 +1,143 @@
+//! Trees and nodes.
+#![forbid(unsafe_code)]
+use crate::tables::NONE;
+use crate::{Color, GoValue, Move, Property, Record};
+
+/// The game of a tree.
+#[derive(Debug, Clone, Copy, PartialEq, Eq, Hash)]
+pub enum GameType {
+    /// GM is 1 or missing.
+    Go,
+    /// Any other.
+    Unknown,
+}
+
+/// A game tree of a record.
+#[derive(Debug, Clone, Copy)]
+pub struct Tree<'r> {
+    pub(crate) record: &'r Record<'r>,
+    pub(crate) number: usize,
+}
+
+impl<'r> Tree<'r> {
+    /// Its number in the record.
+    pub fn number(self) -> usize {
+        self.number
+    }
+
+    /// Its game.
+    pub fn game_type(self) -> GameType {
+        match self.row()[1] {
+            0 => GameType::Go,
+            _ => GameType::Unknown,
+        }
+    }
+
+    /// Its first node.
+    pub fn root(self) -> Node<'r> {
+        self.node(self.row()[0])
+    }
+
+    /// Its nodes, in the order of the text: each before its children.
+    pub fn nodes(self) -> impl Iterator<Item = Node<'r>> {
+        let tables = &self.record.tables;
+        let end = tables.trees.get(self.number + 1).map_or(tables.nodes.len() as u32, |next| next[0]);
+        (self.row()[0]..end).map(move |number| self.node(number))
+    }
+
+    fn row(self) -> [u32; 2] {
+        self.record.tables.trees[self.number]
+    }
+
+    fn node(self, number: u32) -> Node<'r> {
+        Node { tree: self, number: number as usize }
+    }
+}
+
+/// A node of a tree.
+#[derive(Debug, Clone, Copy)]
+pub struct Node<'r> {
+    tree: Tree<'r>,
+    number: usize,
+}
+
+impl<'r> Node<'r> {
+    /// Its number in the record.
+    pub fn number(self) -> usize {
+        self.number
+    }
+
+    /// Its tree.
+    pub fn tree(self) -> Tree<'r> {
+        self.tree
+    }
+
+    /// Its parent; none of a root.
+    pub fn parent(self) -> Option<Node<'r>> {
+        self.linked(self.row()[0])
+    }
+
+    /// Its children, in the order of the text.
+    ///
+    /// ```
+    /// let record = ekimorepa::parse("(;B[aa](;W[bb])(;W[cc]))")?;
+    /// let root = record.trees().next().unwrap().root();
+    /// let answers: Vec<&str> = root.children().map(|child| child.get_property("W").unwrap().value().as_str()).collect();
+    /// assert_eq!(answers, ["bb", "cc"]);
+    /// # Ok::<(), ekimorepa::Error>(())
+    /// ```
+    pub fn children(self) -> impl Iterator<Item = Node<'r>> {
+        std::iter::successors(self.linked(self.row()[1]), |child| child.linked(child.row()[2]))
+    }
+
+    /// The node, its first child, that one's first child, and so on.
+    pub fn main_variation(self) -> impl Iterator<Item = Node<'r>> {
+        std::iter::successors(Some(self), |node| node.linked(node.row()[1]))
+    }
+
+    /// Its properties, in the order of the text.
+    pub fn properties(self) -> impl Iterator<Item = Property<'r>> {
+        let [_, _, _, first, count] = self.row();
+        (first..first + count).map(move |number| Property { node: self, number: number as usize })
+    }
+
+    /// Its first property with this identifier.
+    pub fn get_property(self, identifier: &str) -> Option<Property<'r>> {
+        self.properties().find(|property| property.identifier() == identifier)
+    }
+
+    /// Its first valid move of a Go game, and whose it is.
+    ///
+    /// ```
+    /// use ekimorepa::{Color, Move};
+    ///
+    /// let record = ekimorepa::parse("(;C[no more]W[])")?;
+    /// assert_eq!(record.trees().next().unwrap().root().get_move(), Some((Color::White, Move::Pass)));
+    /// # Ok::<(), ekimorepa::Error>(())
+    /// ```
+    pub fn get_move(self) -> Option<(Color, Move)> {
+        self.properties().find_map(|property| {
+            let colour = match &*property.identifier() {
+                "B" => Color::Black,
+                "W" => Color::White,
+                _ => return None,
+            };
+            match property.go_value() {
+                GoValue::Move(played) => Some((colour, played)),
+                _ => None,
+            }
+        })
+    }
+
+    pub(crate) fn record(self) -> &'r Record<'r> {
+        self.tree.record
+    }
+
+    fn row(self) -> [u32; 5] {
+        self.record().tables.nodes[self.number]
+    }
+
+    fn linked(self, number: u32) -> Option<Node<'r>> {
+        (number != NONE).then(|| self.tree.node(number))
+    }
+}

@@ -1,0 +1,199 @@
+//! A record: a text and its tables.
+#![forbid(unsafe_code)]
+use crate::{Error, Node, Property, TEXT_LIMIT, Tables, Tree, Value, ffi};
+use std::borrow::Cow;
+
+/// How to read.
+#[derive(Debug, Clone, Copy, PartialEq, Eq)]
+pub struct ParseOptions {
+    /// Whether an identifier with anything but uppercase letters is read as its uppercase letters; if not, it is refused.
+    pub convert_mixed_case_identifiers: bool,
+    /// Whether to read as far as possible instead of refusing.
+    pub lenient: bool,
+}
+
+impl Default for ParseOptions {
+    fn default() -> Self {
+        ParseOptions { convert_mixed_case_identifiers: true, lenient: false }
+    }
+}
+
+impl ParseOptions {
+    fn bits(self) -> u32 {
+        u32::from(self.lenient) + 2 * u32::from(!self.convert_mixed_case_identifiers)
+    }
+}
+
+/// A collection of game trees: its text, borrowed or owned, and the tables of its trees, nodes, properties and values.
+///
+/// The tables always fit the text, and any part of it is handed out without a copy.
+#[derive(Debug, Clone, PartialEq, Eq)]
+pub struct Record<'t> {
+    pub(crate) text: Cow<'t, [u8]>,
+    pub(crate) tables: Tables,
+}
+
+/// Reads a text strictly.
+///
+/// ```
+/// let record = ekimorepa::parse("(;B[aa])(;GM[2])")?;
+/// assert_eq!(record.trees().count(), 2);
+/// assert_eq!(ekimorepa::parse("").unwrap_err().name(), "NoGameTrees");
+/// # Ok::<(), ekimorepa::Error>(())
+/// ```
+pub fn parse<T: AsRef<[u8]> + ?Sized>(text: &T) -> Result<Record<'_>, Error> {
+    parse_with_options(text, &ParseOptions::default())
+}
+
+/// Reads a text as far as possible. Refused are only texts that are too long, too deep or not UTF-8.
+///
+/// ```
+/// let record = ekimorepa::parse_lenient("(;B[aa];W[bb")?;
+/// assert_eq!(record.to_sgf()?, "(;B[aa];)");
+/// # Ok::<(), ekimorepa::Error>(())
+/// ```
+pub fn parse_lenient<T: AsRef<[u8]> + ?Sized>(text: &T) -> Result<Record<'_>, Error> {
+    parse_with_options(text, &ParseOptions { lenient: true, ..ParseOptions::default() })
+}
+
+/// Reads a text.
+///
+/// ```
+/// use ekimorepa::{ErrorKind, ParseOptions, parse_with_options};
+///
+/// let options = ParseOptions { convert_mixed_case_identifiers: false, ..ParseOptions::default() };
+/// let error = parse_with_options("(;Black[aa])", &options).unwrap_err();
+/// assert_eq!(error.kind(), ErrorKind::InvalidFF4Property);
+/// ```
+pub fn parse_with_options<'t, T: AsRef<[u8]> + ?Sized>(text: &'t T, options: &ParseOptions) -> Result<Record<'t>, Error> {
+    Record::read(Cow::Borrowed(text.as_ref()), *options)
+}
+
+/// The record as text, in one form.
+pub fn serialize(record: &Record) -> Result<String, Error> {
+    record.to_sgf()
+}
+
+impl<'t> Record<'t> {
+    fn read(text: Cow<'t, [u8]>, options: ParseOptions) -> Result<Self, Error> {
+        let mut tables = if text.len() <= TEXT_LIMIT { Tables::sufficient(&text) } else { Tables::default() };
+        let reading = ffi::read(&text, options.bits(), &mut tables);
+        if reading.number != 0 {
+            return Err(Error::new(reading.number, reading.place));
+        }
+        tables.keep(reading.counts);
+        Ok(Record { text, tables })
+    }
+
+    /// Reads a text and keeps it.
+    ///
+    /// ```
+    /// use ekimorepa::{ParseOptions, Record};
+    ///
+    /// let record = Record::from_owned(b"(;C[kept])".to_vec(), &ParseOptions::default())?;
+    /// assert_eq!(record.to_sgf()?, "(;C[kept])");
+    /// # Ok::<(), ekimorepa::Error>(())
+    /// ```
+    pub fn from_owned(text: impl Into<Vec<u8>>, options: &ParseOptions) -> Result<Record<'static>, Error> {
+        Record::read(Cow::Owned(text.into()), *options)
+    }
+
+    /// A text with tables that were made elsewhere, if they fit.
+    ///
+    /// ```
+    /// use ekimorepa::{ErrorKind, Record, parse};
+    ///
+    /// let tables = parse("(;C[a])")?.tables().clone();
+    /// assert!(Record::from_tables("(;C[b])", tables.clone()).is_ok());
+    /// assert_eq!(Record::from_tables("(;C[])", tables).unwrap_err().kind(), ErrorKind::NotFitting);
+    /// # Ok::<(), ekimorepa::Error>(())
+    /// ```
+    pub fn from_tables<T: AsRef<[u8]> + ?Sized>(text: &'t T, tables: Tables) -> Result<Self, Error> {
+        match ffi::fits(text.as_ref(), &tables) {
+            0 => Ok(Record { text: Cow::Borrowed(text.as_ref()), tables }),
+            number => Err(Error::new(number, 0)),
+        }
+    }
+
+    /// The record with a text of its own.
+    pub fn into_owned(self) -> Record<'static> {
+        Record { text: Cow::Owned(self.text.into_owned()), tables: self.tables }
+    }
+
+    /// The text.
+    pub fn as_bytes(&self) -> &[u8] {
+        &self.text
+    }
+
+    /// The tables.
+    pub fn tables(&self) -> &Tables {
+        &self.tables
+    }
+
+    /// The trees, in the order of the text.
+    pub fn trees(&self) -> impl Iterator<Item = Tree<'_>> {
+        (0..self.tables.trees.len()).map(|number| Tree { record: self, number })
+    }
+
+    /// The nodes of all trees, in the order of the text.
+    pub fn nodes(&self) -> impl Iterator<Item = Node<'_>> {
+        self.trees().flat_map(Tree::nodes)
+    }
+
+    /// The properties of all nodes, in the order of the text.
+    pub fn properties(&self) -> impl Iterator<Item = Property<'_>> {
+        self.nodes().flat_map(Node::properties)
+    }
+
+    /// The value of this number, if there is one.
+    pub fn value(&self, number: usize) -> Option<Value<'_>> {
+        (number < self.tables.values.len()).then_some(Value { record: self, number })
+    }
+
+    /// Replaces the raw bytes of a value; [`escape`](crate::escape) makes them from plain text.
+    ///
+    /// The record is then what a reading of the new text would give; numbers of values stay. A refusal changes nothing.
+    ///
+    /// ```
+    /// let mut record = ekimorepa::parse("(;C[ab];B[cd])")?;
+    /// record.set_value(0, "x")?;
+    /// assert_eq!(record.as_bytes(), b"(;C[x];B[cd])");
+    /// assert_eq!(record.tables().values, [[4, 5], [9, 11]]);
+    /// assert_eq!(record.set_value(0, "]").unwrap_err().name(), "NotClosed");
+    /// # Ok::<(), ekimorepa::Error>(())
+    /// ```
+    pub fn set_value(&mut self, number: usize, new: impl AsRef<[u8]>) -> Result<(), Error> {
+        let new = new.as_ref();
+        let used = self.text.len();
+        let old = self.value(number).map_or(0, |value| value.as_bytes().len());
+        let growth = new.len().saturating_sub(old).min(TEXT_LIMIT);
+        let text = self.text.to_mut();
+        text.resize(used + growth, 0);
+        let edit = ffi::edit(text, used, &mut self.tables, number, new);
+        if edit.number != 0 {
+            text.truncate(used);
+            return Err(Error::new(edit.number, edit.place));
+        }
+        text.truncate(edit.used);
+        Ok(())
+    }
+
+    /// The record as text, in one form: identifiers as their uppercase letters, moves, handicaps and sets of points of Go games
+    /// in their shortest form, sets sorted, everything else by its raw bytes.
+    ///
+    /// Refused is only a record with an identifier that has no uppercase letter.
+    pub fn to_sgf(&self) -> Result<String, Error> {
+        let mut out = vec![0; self.text.len() + 2];
+        loop {
+            let writing = ffi::write(&self.text, &self.tables, &mut out);
+            match writing.number {
+                0 => {
+                    out.truncate(writing.length);
+                    return Ok(String::from_utf8(out).expect("a writing is UTF-8"));
+                }
+                14 => out = vec![0; out.len() * 4],
+                number => return Err(Error::new(number, 0)),
+            }
+        }
+    }
+}

@@ -1,0 +1,85 @@
+//! The examples of document 01, and every number, as a user of this crate sees them.
+use ekimorepa::{GameType, ParseOptions, Record, parse, parse_lenient, parse_with_options};
+
+fn number(text: &str) -> u32 {
+    parse(text).err().map_or(0, |error| error.number())
+}
+
+fn parents(record: &Record) -> Vec<Option<usize>> {
+    record.nodes().map(|node| node.parent().map(|parent| parent.number())).collect()
+}
+
+#[test]
+fn readings() {
+    let numbers = [
+        ("", 8),
+        ("(;);", 0),
+        ("(;B)", 3),
+        ("(;\u{e9}[])", 4),
+        ("(;A[x", 5),
+        (")", 6),
+        ("(;", 7),
+        ("()", 7),
+        ("((;))", 10),
+        ("(B[aa])", 11),
+    ];
+    for (text, expected) in numbers {
+        assert_eq!(number(text), expected, "{text}");
+    }
+    assert_eq!(number("(;GM[x])"), 12);
+    assert_eq!(parents(&parse("(;(;);)").unwrap()), [None, Some(0), Some(0)]);
+    assert_eq!(parents(&parse("(;())").unwrap()), [None]);
+    let empty = parse_lenient("").unwrap();
+    assert_eq!((parents(&empty), empty.trees().next().unwrap().game_type()), (vec![None], GameType::Go));
+    assert_eq!(parse("(;GM[01])").unwrap().trees().next().unwrap().game_type(), GameType::Unknown);
+}
+
+#[test]
+fn limits() {
+    let nested = |depth: usize| "(;".repeat(depth) + &")".repeat(depth);
+    assert_eq!((number(&nested(1_024)), number(&nested(1_025))), (0, 9));
+    let long = |length: usize| format!("(;C[{}])", "x".repeat(length - 6));
+    assert_eq!((number(&long(1_048_576)), number(&long(1_048_577))), (0, 1));
+    assert_eq!(parse(&[b'(', b';', 0xFF]).unwrap_err().place(), 2);
+    let keep = ParseOptions { convert_mixed_case_identifiers: false, ..ParseOptions::default() };
+    assert_eq!(parse_with_options("(;a[])", &keep).unwrap_err().number(), 13);
+}
+
+#[test]
+fn writings() {
+    let written = |text: &str| parse(text).unwrap().to_sgf().map_err(|error| error.number());
+    assert_eq!(written("(;AB[bb:cc]TB[ba][aa]C[a:b\\]c])").unwrap(), "(;AB[bb][bc][cb][cc]TB[aa][ba]C[a:b\\]c])");
+    assert_eq!(written("(;(;);)").unwrap(), "(;(;)(;))");
+    assert_eq!(written("(;[x])"), Err(15));
+    assert_eq!(written("(;AB[aa:ZZ])").unwrap().len(), "(;AB)".len() + 2_704 * "[aa]".len());
+}
+
+#[test]
+fn edits() {
+    let mut record = parse("(;C[ab]GM[1];B[cd])").unwrap();
+    let before = record.clone();
+    let refused = [(3, "", 16), (1, "1", 17), (0, "]", 18), (0, "\\", 18)];
+    for (value, new, expected) in refused {
+        assert_eq!(record.set_value(value, new).unwrap_err().number(), expected);
+        assert_eq!(record, before);
+    }
+    let error = record.set_value(0, b"ok\xC3").unwrap_err();
+    assert_eq!((error.number(), error.place()), (2, 2));
+    assert_eq!(record.set_value(0, "x".repeat(1_048_576)).unwrap_err().number(), 1);
+    assert_eq!(record, before);
+    for new in ["", "a longer one", "\\]", "x"] {
+        record.set_value(0, new).unwrap();
+        assert_eq!(record.tables(), parse(record.as_bytes()).unwrap().tables());
+        assert_eq!(record.value(0).unwrap().as_str(), new);
+    }
+    assert_eq!(record.as_bytes(), b"(;C[x]GM[1];B[cd])");
+}
+
+#[test]
+fn the_text_may_be_kept_or_borrowed() {
+    let kept = Record::from_owned("(;B[aa])", &ParseOptions::default()).unwrap();
+    assert_eq!(kept, parse("(;B[aa])").unwrap().into_owned());
+    let text = String::from("(;B[aa])");
+    let record = parse(&text).unwrap();
+    assert_eq!(record.value(0).unwrap().as_bytes().as_ptr(), text.as_bytes()[4..].as_ptr());
+}
