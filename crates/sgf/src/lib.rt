@@ -1,10 +1,16 @@
 // The exported library: one C function an operation. Each only calls a proved operation and shows its answer as numbers; include/sgf.h says what a caller sees.
+use fit::Accessed;
+use go::value::GoValue;
+use go::value::Value;
 use lexer::Step;
 use lexer::ValueStep;
+use record::Refusal;
+use record::Shown;
 use tables::Counts;
 use tables::Reading;
 use tables::Reason;
 use utf8::Trimmed;
+use values::display::Kind;
 ghost use mathlib.Core.Path.{_≡_};
 ghost use Rattle.lexer.specs.Scan.{valueAt};
 ghost use Rattle.lexer.specs.Step.{nextAt};
@@ -12,6 +18,13 @@ ghost use Rattle.utf8.specs.Trim.{trimmed};
 ghost use Rattle.tables.specs.declared.Reading.the-variants.{Accepted, Refused};
 ghost use Rattle.parser.specs.Read.{read};
 ghost use Rattle.reader.specs.Lent.{lent};
+ghost use Rattle.fit.specs.Fit.{Fit};
+ghost use Rattle.fit.specs.Access.{accessed};
+ghost use Rattle.go.specs.Rows.{valuesAt};
+ghost use Rattle.go.specs.Value.{goValue};
+ghost use Rattle.record.specs.Ask.{refusalNumber, goAnswer};
+ghost use Rattle.values.specs.Read.{readIdentifier};
+ghost use Rattle.sgf.specs.Asked.{countsFrom, kindOf, fitsShown, spanShown, figuresShown, goShown, answerShown, DisplayShown};
 ghost use Rattle.sgf.specs.Shown.{TrimIs, TokenIs, ValueIs, ReadingIs, optionsOf, ReadShown};
 
 // Number 0 and what trimming keeps; or number 2 and the start of the first bad sequence.
@@ -199,4 +212,291 @@ pub extern "C" fn sgf_read(
         Reading::Accepted(c) => accepted(c),
         Reading::Refused(reason, place) => refused(reason, place),
     }
+}
+
+// Used rows of each table.
+#[repr(C)]
+pub struct SgfCounts {
+    pub trees: usize,
+    pub nodes: usize,
+    pub properties: usize,
+    pub values: usize,
+}
+
+fn counts_from(c: SgfCounts) -> Counts
+    ensures { λ r. ⌜ r ≡ countsFrom c ⌝ }
+{
+    Counts {
+        trees: c.trees,
+        nodes: c.nodes,
+        properties: c.properties,
+        values: c.values,
+    }
+}
+
+// Number 0 where the tables fit the first `used` bytes of the text, else 19.
+#[no_mangle]
+pub extern "C" fn sgf_fits(
+    text: &[u8],
+    used: usize,
+    counts: SgfCounts,
+    trees: &[u32],
+    nodes: &[u32],
+    properties: &[u32],
+    values: &[u32],
+) -> u32
+    ensures { λ r. ⌜ r ≡ fitsShown (Fit (now (text .entry)) used (countsFrom counts) (now (trees .entry)) (now (nodes .entry)) (now (properties .entry)) (now (values .entry))) ⌝ }
+{
+    if fit::fits(
+        text,
+        used,
+        counts_from(counts),
+        trees,
+        nodes,
+        properties,
+        values,
+    ) {
+        return 0;
+    }
+    19
+}
+
+// Number 0 and the span of a value between its brackets; or the number of a refusal and an empty span.
+#[repr(C)]
+pub struct SgfSpan {
+    pub number: u32,
+    pub reserved: u32,
+    pub from: usize,
+    pub to: usize,
+}
+
+// The span of value k.
+#[no_mangle]
+pub extern "C" fn sgf_value(
+    text: &[u8],
+    used: usize,
+    counts: SgfCounts,
+    trees: &[u32],
+    nodes: &[u32],
+    properties: &[u32],
+    values: &[u32],
+    k: usize,
+) -> SgfSpan
+    ensures { λ r. ⌜ r ≡ spanShown (accessed (now (text .entry)) used (countsFrom counts) (now (trees .entry)) (now (nodes .entry)) (now (properties .entry)) (now (values .entry)) k) ⌝ }
+{
+    match fit::access(
+        text,
+        used,
+        counts_from(counts),
+        trees,
+        nodes,
+        properties,
+        values,
+        k,
+    ) {
+        Accessed::Part(a, e) => SgfSpan {
+            number: 0,
+            reserved: 0,
+            from: a,
+            to: e,
+        },
+        Accessed::Refused(reason) => SgfSpan {
+            number: tables::number(reason),
+            reserved: 0,
+            from: 0,
+            to: 0,
+        },
+    }
+}
+
+// Number 0 and the number of bytes displayed; or the number of a refusal and 0.
+#[repr(C)]
+pub struct SgfDisplay {
+    pub number: u32,
+    pub reserved: u32,
+    pub length: usize,
+}
+
+fn kind_of(kind: u32) -> Kind
+    ensures { λ r. ⌜ r ≡ kindOf kind ⌝ }
+{
+    if kind == 0 {
+        return Kind::Text;
+    }
+    Kind::SimpleText
+}
+
+// Displays value k in the output: kind 0 Text, any other SimpleText.
+#[no_mangle]
+pub extern "C" fn sgf_display(
+    text: &[u8],
+    used: usize,
+    counts: SgfCounts,
+    trees: &[u32],
+    nodes: &[u32],
+    properties: &[u32],
+    values: &[u32],
+    k: usize,
+    kind: u32,
+    out: &mut [u8],
+) -> SgfDisplay
+    ensures { λ r. ⌜ DisplayShown (now (text .entry)) (accessed (now (text .entry)) used (countsFrom counts) (now (trees .entry)) (now (nodes .entry)) (now (properties .entry)) (now (values .entry)) k) (kindOf kind) (now (out .entry)) (now (out .exit)) r ⌝ }
+{
+    match record::display(
+        text,
+        used,
+        counts_from(counts),
+        trees,
+        nodes,
+        properties,
+        values,
+        k,
+        kind_of(kind),
+        out,
+    ) {
+        Shown::Shows(n) => SgfDisplay {
+            number: 0,
+            reserved: 0,
+            length: n,
+        },
+        Shown::NotShown(reason) => SgfDisplay {
+            number: tables::number(reason),
+            reserved: 0,
+            length: 0,
+        },
+    }
+}
+
+// A Go value: kind 0 other, 1 invalid, 2 a pass, 3 a move to x and y, 4 handicap stones, 5 the marked points; number 0 or a refusal's.
+#[repr(C)]
+pub struct SgfGoValue {
+    pub number: u32,
+    pub kind: u32,
+    pub x: u32,
+    pub y: u32,
+    pub handicap: u64,
+    pub marks: [bool; 2704],
+}
+
+// The numbers of a Go value beside its marks.
+struct Figures {
+    kind: u32,
+    x: u32,
+    y: u32,
+    handicap: u64,
+}
+
+fn figures_of(value: Value) -> Figures
+    ensures { λ r. ⌜ r ≡ figuresShown value ⌝ }
+{
+    match value {
+        Value::Other => Figures {
+            kind: 0,
+            x: 0,
+            y: 0,
+            handicap: 0,
+        },
+        Value::Invalid => Figures {
+            kind: 1,
+            x: 0,
+            y: 0,
+            handicap: 0,
+        },
+        Value::Pass => Figures {
+            kind: 2,
+            x: 0,
+            y: 0,
+            handicap: 0,
+        },
+        Value::Move(a, b) => Figures {
+            kind: 3,
+            x: a as u32,
+            y: b as u32,
+            handicap: 0,
+        },
+        Value::Handicap(n) => Figures {
+            kind: 4,
+            x: 0,
+            y: 0,
+            handicap: n,
+        },
+        Value::Points => Figures {
+            kind: 5,
+            x: 0,
+            y: 0,
+            handicap: 0,
+        },
+    }
+}
+
+fn go_shown(number: u32, go: GoValue) -> SgfGoValue
+    ensures { λ r. ⌜ r ≡ goShown number go ⌝ }
+{
+    let value = go.value;
+    let marks = go.marks;
+    let f = figures_of(value);
+    SgfGoValue {
+        number: number,
+        kind: f.kind,
+        x: f.x,
+        y: f.y,
+        handicap: f.handicap,
+        marks: marks,
+    }
+}
+
+fn refusal_number(refusal: Refusal) -> u32
+    ensures { λ r. ⌜ r ≡ refusalNumber refusal ⌝ }
+{
+    match refusal {
+        Refusal::Not => 0,
+        Refusal::Because(reason) => tables::number(reason),
+    }
+}
+
+// The Go value of property p; "other" and no points where it is refused.
+#[no_mangle]
+pub extern "C" fn sgf_go_value(
+    text: &[u8],
+    used: usize,
+    counts: SgfCounts,
+    trees: &[u32],
+    nodes: &[u32],
+    properties: &[u32],
+    values: &[u32],
+    p: usize,
+) -> SgfGoValue
+    ensures { λ r. ⌜ r ≡ answerShown (goAnswer (now (text .entry)) used (countsFrom counts) (now (trees .entry)) (now (nodes .entry)) (now (properties .entry)) (now (values .entry)) p) ⌝ }
+{
+    let answer = record::go_value(
+        text,
+        used,
+        counts_from(counts),
+        trees,
+        nodes,
+        properties,
+        values,
+        p,
+    );
+    let refusal = answer.refusal;
+    let go = answer.go;
+    go_shown(refusal_number(refusal), go)
+}
+
+// The Go value of a property by its parts, for tables that are known to fit: its tree's game type, its identifier, and the rows of its values.
+#[no_mangle]
+pub extern "C" fn sgf_go_property(
+    game_type: u32,
+    identifier: &[u8],
+    text: &[u8],
+    values: &[u32],
+    first: usize,
+    count: usize,
+) -> SgfGoValue
+    ensures { λ r. ⌜ r ≡ goShown 0 (goValue «game_type» (readIdentifier (now (identifier .entry))) (valuesAt (now (text .entry)) (now (values .entry)) first count)) ⌝ }
+{
+    go_shown(
+        0,
+        go::value::go_value(game_type, identifier, text, values, first, count),
+    )
 }
