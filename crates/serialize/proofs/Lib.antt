@@ -1,8 +1,17 @@
 pub mod AllNames
+pub mod Boxed
+pub mod Climbs
+pub mod Forms
 pub mod Joined
 pub mod Linked
 pub mod OpenPath
 pub mod PropTexts
+pub mod Room
 pub mod Siblings
 pub mod TreeSlices
 pub mod TreeWalk
+pub mod Unique
+pub mod Variants
+pub mod Walked
+pub mod Whole
+pub mod Writing
