@@ -1,0 +1,8 @@
+pub mod Fitting
+pub mod Given
+pub mod Judged
+pub mod Moving
+pub mod Replaced
+pub mod Tabulated
+pub mod Tested
+pub mod Unique
