@@ -1,6 +1,7 @@
 pub mod Fitting
 pub mod Given
 pub mod Judged
+pub mod Left
 pub mod Moving
 pub mod Replaced
 pub mod Tabulated

@@ -2,5 +2,6 @@ pub mod Accepted
 pub mod DemandThree
 pub mod Found
 pub mod Numbered
+pub mod OnCode
 pub mod Reread
 pub mod Undo
