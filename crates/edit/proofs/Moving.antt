@@ -51,7 +51,7 @@ module _ (f g : ℕ → ℕ) (pr : List ℕ) (n : ℕ) where
   abbrev pub propsTo : ℕ → List ℕ
   propsTo k = flatProps (map (moveProps f g) (tabulate (propRow pr) 0 k))
 
-  length-props-to : (k : ℕ) → length (propsTo k) ≡ k * 4
+  pub length-props-to : (k : ℕ) → length (propsTo k) ≡ k * 4
   length-props-to k =
       length-flat-props (map (moveProps f g) (tabulate (propRow pr) 0 k))
       ∙ ap (λ (z : ℕ). z * 4) (length-map (tabulate (propRow pr) 0 k) (moveProps f g) ∙ tabulate-length (propRow pr) 0 k)
@@ -109,7 +109,7 @@ module _ (f g : ℕ → ℕ) (vl : List ℕ) (n : ℕ) where
   abbrev pub valsTo : ℕ → List ℕ
   valsTo k = flatVals (map (moveVals f g) (tabulate (valRow vl) 0 k))
 
-  length-vals-to : (k : ℕ) → length (valsTo k) ≡ k * 2
+  pub length-vals-to : (k : ℕ) → length (valsTo k) ≡ k * 2
   length-vals-to k =
       length-flat-vals (map (moveVals f g) (tabulate (valRow vl) 0 k))
       ∙ ap (λ (z : ℕ). z * 2) (length-map (tabulate (valRow vl) 0 k) (moveVals f g) ∙ tabulate-length (valRow vl) 0 k)

@@ -1,7 +1,7 @@
 -- `tabulate`: its length, its last element, the element at a place. Assumes nothing.
 use Prim.Native.Nat.{ℕ, zero, suc, _+_, _-_, _<_}
-use mathlib.Core.List.{List, [], _∷_, _++_}
-use mathlib.Core.Path.{_≡_, refl, ap, _∙_}
+use mathlib.Core.List.{List, [], _∷_, _++_, map}
+use mathlib.Core.Path.{_≡_, refl, sym, ap, _∙_}
 use native.Mathlib.Omega.{arith}
 use lib.ListN.{length, getD}
 use Rattle.fit.specs.Each.{tabulate}
@@ -34,3 +34,15 @@ module _ {A : Type 0} (f : ℕ → A) where
   pub tabulate-none : (k n : ℕ) → tabulate f k (n - n) ≡ []
   unfolding tabulate
   tabulate-none k n = let e : n - n ≡ 0 = omega arith in ap (tabulate f k) e
+
+-- a map of it is another one
+pub map-tabulate : {A B : Type 0} (h : A → B) (f : ℕ → A) (k m : ℕ) → map h (tabulate f k m) ≡ tabulate (λ i. h (f i)) k m
+unfolding tabulate
+map-tabulate h f k zero = refl
+map-tabulate {B = B} h f k (suc m) = ap (λ (z : List B). h (f k) ∷ z) (map-tabulate h f (suc k) m)
+
+-- where two are equal, so are their elements
+pub tabulate-same : {A : Type 0} (f g : ℕ → A) (n : ℕ) → tabulate f 0 n ≡ tabulate g 0 n → (k : ℕ) → k < n → f k ≡ g k
+tabulate-same {A} f g n h k l =
+    let e : 0 + k ≡ k = omega arith in
+    ap f (sym e) ∙ sym (tabulate-at f 0 n k (f 0) l) ∙ ap (λ (z : List A). getD z k (f 0)) h ∙ tabulate-at g 0 n k (f 0) l ∙ ap g e

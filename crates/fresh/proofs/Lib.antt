@@ -1,4 +1,5 @@
 pub mod Accepted
+pub mod CallsRun
 pub mod DemandThree
 pub mod Found
 pub mod Numbered
