@@ -1,1 +1,42 @@
-// The value edit: its definition over a text and its rows. No code yet.
+// The value edit, in place: one value's bytes in the lent text, and the places of the rows behind it.
+mod bytes; // bytes.rt: a part of the text replaced
+mod decide; // decide.rt: whether an edit is accepted
+mod rows; // rows.rt: the places in the rows moved
+
+ghost use Rattle.edit.specs.Lent.{outcomeOf, lent, EditIs};
+use tables::Counts;
+use tables::Reason;
+
+// The new used length; or why an edit is refused, and the place.
+pub enum Edited {
+    Changed(usize),
+    Refused(Reason, usize),
+}
+
+// The bytes of value k, of tables that fit the first `used` bytes of the text, replaced by the new ones.
+pub fn edit(
+    text: &mut [u8],
+    used: usize,
+    counts: Counts,
+    trees: &[u32],
+    nodes: &[u32],
+    properties: &mut [u32],
+    values: &mut [u32],
+    k: usize,
+    new: &[u8],
+) -> Edited
+    ensures { λ r. ⌜ EditIs (outcomeOf (now (text .entry)) used counts (now (trees .entry)) (now (nodes .entry)) (now (properties .entry)) (now (values .entry)) k (now (new .entry))) used (lent (now (text .entry)) (now (properties .entry)) (now (values .entry))) (lent (now (text .exit)) (now (properties .exit)) (now (values .exit))) r ⌝ }
+{
+    match decide::decided(text, used, counts, trees, nodes, properties, values, k, new) {
+        Edited::Refused(reason, place) => Edited::Refused(reason, place),
+        Edited::Changed(length) => {
+            let span = rows::span_of(values, k);
+            let start = span.start;
+            let end = span.end;
+            bytes::replace(text, used, start, end, new);
+            rows::move_properties(properties, counts.properties, start, end, new.len());
+            rows::move_values(values, counts.values, start, end, new.len());
+            Edited::Changed(length)
+        }
+    }
+}

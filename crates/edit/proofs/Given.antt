@@ -1,0 +1,127 @@
+-- What an accepted edit says: the tables fit, the value is there, the new text is within the limit and the room. Assumes nothing.
+use Prim.Native.Nat.{ℕ, _+_, _-_, _≤_, _<_}
+use mathlib.Core.Bool.{Bool, true, false}
+use mathlib.Core.List.{List}
+use mathlib.Core.Path.{_≡_, refl, sym, ap, ap₂, _∙_, subst⁻¹}
+use native.Mathlib.Omega.{arith}
+use lib.Dec.{ltb}
+use lib.ListN.{length, take}
+use borrow.Author.Tests.{ltb-true, ltb-false}
+use Rattle.lists.specs.Same.{same}
+use Rattle.utf8.specs.Text.{blank, Ink, Utf, whole, part, bad, utfs}
+use Rattle.lexer.specs.Closed.{closed}
+use Rattle.tables.specs.Numbers.{textLimit}
+use Rattle.tables.specs.Rows.{Tables}
+use Rattle.tables.specs.declared.Counts.{Counts}
+use Rattle.tables.specs.declared.Reason.{Reason}
+use Rattle.parser.specs.Kind.{GM}
+use Rattle.fit.specs.Columns.{valFromAt, valToAt}
+use Rattle.fit.specs.Each.{tabulate}
+use Rattle.fit.specs.Fit.{Fit}
+use Rattle.fit.specs.Record.{propRow}
+use Rattle.fit.proofs.Cases.{either-bool}
+use Rattle.edit.specs.Edit.{ownerName, pasted, Outcome, refuses, gives, outcome}
+use Rattle.edit.specs.Lent.{outcomeOf, answers, over, cleared, Lent, lent, EditIs}
+use Rattle.edit.specs.Locals.{NamesLie, ValuesLie, Replaceable, propertiesMoved, valuesMoved, span}
+use Rattle.edit.specs.declared.Edited.the-variants.{Changed, Refused}
+use Rattle.edit.proofs.Fitting.{fit-short, fit-names, fit-vals, fit-within}
+use Rattle.edit.proofs.Judged.{newText, newRows, decided-misfit, decided-beyond, tests-are, length-new}
+
+not-both : {A : Type 0} (n : ℕ) (r : Reason) (p : ℕ) → Changed n ≡ Refused r p → A
+not-both n r p e = let z : _≡_ {A = ℕ} 0 1 = cc in absurd (omega arith)
+
+-- a refusal leaves all memory
+pub edit-refused : (o : Outcome) (used : ℕ) (l : Lent) {r : Reason} {p : ℕ} → Refused r p ≡ answers o → EditIs o used l l (Refused r p)
+edit-refused (refuses r p) used l h = record { answer = h; memory = refl }
+edit-refused (gives t T) used l {r} {p} h = not-both (length t) r p (sym h)
+
+-- the tests that an acceptance has passed
+pub record Passed (n : ℕ) (g : Bool) (u : Utf) (d l m : Bool) (t : List ℕ) (T : Tables) : Type 0 where
+  pub is : outcome true g u d l m t T ≡ gives t T
+  pub free : g ≡ false
+  pub ink : Ink
+  pub valid : u ≡ whole ink
+  pub shut : d ≡ true
+  pub short : l ≡ false
+  pub room : m ≡ false
+  pub count : n ≡ length t
+
+passed : (n : ℕ) (g : Bool) (u : Utf) (d l m : Bool) (t : List ℕ) (T : Tables) → Changed n ≡ answers (outcome true g u d l m t T) → Passed n g u d l m t T
+passed n true u d l m t T h = not-both n _ _ h
+passed n false (part i s j r x) d l m t T h = not-both n _ _ h
+passed n false (bad p) d l m t T h = not-both n _ _ h
+passed n false (whole i) false l m t T h = not-both n _ _ h
+passed n false (whole i) true true m t T h = not-both n _ _ h
+passed n false (whole i) true false true t T h = not-both n _ _ h
+passed n false (whole i) true false false t T h = record { is = refl; free = refl; ink = i; valid = refl; shut = refl; short = refl; room = refl; count = cc }
+
+module _ (b : List ℕ) (used : ℕ) (c : Counts) (tr nd pr vl : List ℕ) (k : ℕ) (new : List ℕ) where
+  abbrev Text : List ℕ
+  Text = newText b used c tr nd pr vl k new
+
+  abbrev Rows : Tables
+  Rows = newRows b used c tr nd pr vl k new
+
+  pub record Given (n : ℕ) : Type 0 where
+    pub fit : Fit b used c tr nd pr vl ≡ true
+    pub below : k < c .values
+    pub is : outcomeOf b used c tr nd pr vl k new ≡ gives Text Rows
+    pub tests : Passed n (same (ownerName (take used b) (tabulate (propRow pr) 0 (c .properties)) k) GM) (utfs (whole blank) 0 new) (closed new) (ltb textLimit (length Text)) (ltb (length b) (length Text)) Text Rows
+
+  pub given : (n : ℕ) → Changed n ≡ answers (outcomeOf b used c tr nd pr vl k new) → Given n
+  given n h =
+      either-bool (Fit b used c tr nd pr vl)
+      (λ f.
+      either-bool (ltb k (c .values))
+      (λ l.
+      let below = ltb-true k (c .values) l in
+      let e = tests-are b used c tr nd pr vl k new f below in
+      let p = passed n _ _ _ _ _ Text Rows (h ∙ ap answers e) in
+      record { fit = f; below = below; is = e ∙ p .is; tests = p })
+      (λ l. not-both n _ _ (h ∙ sym (decided-beyond b used c tr nd pr vl k new f (ltb-false k (c .values) l)))))
+      (λ f. not-both n _ _ (h ∙ sym (decided-misfit b used c tr nd pr vl k new f)))
+
+  -- ---- what the steps of the change ask for
+
+  module _ {n : ℕ} (x : Given n) where
+    pub given-long : length Text ≤ textLimit
+    given-long = ltb-false textLimit (length Text) (x .tests .short)
+
+    long-is : length Text ≡ valFromAt vl k + length new + (used - valToAt vl k)
+    long-is = length-new b used c tr nd pr vl k new (x .fit) (x .below)
+
+    pub given-replaceable : Replaceable b used (valFromAt vl k) (valToAt vl k) (length new)
+    given-replaceable =
+        record {
+          within = fit-within b used c tr nd pr vl (x .fit) k (x .below);
+          room = omega (arith, long-is, ltb-false (length b) (length Text) (x .tests .room));
+        }
+
+    pub given-new : length new ≤ textLimit
+    given-new = omega (arith, long-is, given-long)
+
+    pub given-end : valToAt vl k ≤ textLimit
+    given-end = let w = given-replaceable .within in omega (arith, w .inside, fit-short b used c tr nd pr vl (x .fit))
+
+    pub given-names : NamesLie pr (c .properties) textLimit
+    given-names p l = let h = fit-names b used c tr nd pr vl (x .fit) p l in (h .0, omega (arith, h .1, fit-short b used c tr nd pr vl (x .fit)))
+
+    pub given-values : ValuesLie vl (c .values) textLimit
+    given-values v l = let h = fit-vals b used c tr nd pr vl (x .fit) v l in (h .0, omega (arith, h .1, fit-short b used c tr nd pr vl (x .fit)))
+
+    -- the change is the one that is asked for
+    pub edit-given : {b′ pr′ vl′ : List ℕ} {a e : ℕ} → a ≡ valFromAt vl k → e ≡ valToAt vl k
+        → b′ ≡ over (cleared (pasted (take used b) (span a e) new) used) b
+        → pr′ ≡ over (propertiesMoved a e (length new) (c .properties) pr) pr
+        → vl′ ≡ over (valuesMoved a e (length new) (c .values) vl) vl
+        → EditIs (outcomeOf b used c tr nd pr vl k new) used (lent b pr vl) (lent b′ pr′ vl′) (Changed n)
+    edit-given {b′} {pr′} {vl′} {a} {e} ea ee eb ep ev =
+        subst⁻¹ (λ (o : Outcome). EditIs o used (lent b pr vl) (lent b′ pr′ vl′) (Changed n)) (x .is)
+        (record {
+          answer = ap Changed (x .tests .count);
+          memory =
+              ap (λ (z : List ℕ). lent z pr′ vl′) (eb ∙ ap₂ (λ (y z : ℕ). over (cleared (pasted (take used b) (span y z) new) used) b) ea ee)
+              ∙ ap₂ (λ (y z : List ℕ). lent (over (cleared Text used) b) y z)
+              (ep ∙ ap₂ (λ (y z : ℕ). over (propertiesMoved y z (length new) (c .properties) pr) pr) ea ee)
+              (ev ∙ ap₂ (λ (y z : ℕ). over (valuesMoved y z (length new) (c .values) vl) vl) ea ee);
+        })

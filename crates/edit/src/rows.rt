@@ -1,0 +1,100 @@
+// The places in property and value rows, moved as a value's change in length moves them.
+ghost use mathlib.Core.Path.{_≡_};
+ghost use Prim.Native.Nat.{_+_, _-_, _/_, _<_, _≤_};
+ghost use lib.ListN.{length};
+ghost use Rattle.lexer.specs.Move.{startsAt, endsAt};
+ghost use Rattle.tables.specs.Numbers.{none, textLimit};
+ghost use Rattle.fit.specs.Columns.{valFromAt, valToAt};
+ghost use Rattle.edit.specs.Lent.{over};
+ghost use Rattle.edit.specs.Locals.{NamesLie, ValuesLie, propertiesMoved, valuesMoved};
+
+// A cell as a place or a number.
+pub fn wide(cell: u32) -> usize
+    ensures { λ r. ⌜ (r ≡ cell) × (r ≤ none) ⌝ }
+{
+    cell as usize
+}
+
+// Where a value stands.
+pub struct Span {
+    pub start: usize,
+    pub end: usize,
+}
+
+// The span of value k.
+pub fn span_of(values: &[u32], k: usize) -> Span
+    requires { ⌜ k < length (now values) / 2 ⌝ }
+    ensures { λ r. ⌜ (r .start ≡ valFromAt (now (values .entry)) k) × (r .end ≡ valToAt (now (values .entry)) k) ⌝ }
+{
+    let at = k * tables::VALUE_STRIDE;
+    Span {
+        start: wide(values[at]),
+        end: wide(values[at + 1]),
+    }
+}
+
+// Where what stood at `place`, behind the value, stands once the value at start..end has become `m` bytes long.
+fn moved(start: usize, end: usize, m: usize, place: u32) -> u32
+    requires { ⌜ (start ≤ end) × (end ≤ textLimit) × (m ≤ textLimit) × (place ≤ textLimit) ⌝ }
+    ensures { λ r. ⌜ r ≡ start + m + (place - end) ⌝ }
+{
+    let at = place as usize;
+    if at < end {
+        return (start + m) as u32;
+    }
+    (start + m + (at - end)) as u32
+}
+
+// A start: one at or before the value's start stays.
+fn moved_start(start: usize, end: usize, m: usize, place: u32) -> u32
+    requires { ⌜ (start ≤ end) × (end ≤ textLimit) × (m ≤ textLimit) × (place ≤ textLimit) ⌝ }
+    ensures { λ r. ⌜ r ≡ startsAt start end m place ⌝ }
+{
+    if place as usize <= start {
+        return place;
+    }
+    moved(start, end, m, place)
+}
+
+// An end: one before the value's end stays.
+fn moved_end(start: usize, end: usize, m: usize, place: u32) -> u32
+    requires { ⌜ (start ≤ end) × (end ≤ textLimit) × (m ≤ textLimit) × (place ≤ textLimit) ⌝ }
+    ensures { λ r. ⌜ r ≡ endsAt start end m place ⌝ }
+{
+    if (place as usize) < end {
+        return place;
+    }
+    moved(start, end, m, place)
+}
+
+// The identifiers of `n` properties.
+pub fn move_properties(properties: &mut [u32], n: usize, start: usize, end: usize, m: usize)
+    requires { ⌜ (n ≤ length (now properties) / 4) × NamesLie (now properties) n textLimit × (start ≤ end) × (end ≤ textLimit) × (m ≤ textLimit) ⌝ }
+    ensures { λ _. ⌜ now (properties .exit) ≡ over (propertiesMoved start end m n (now (properties .entry))) (now (properties .entry)) ⌝ }
+{
+    let mut k: usize = 0;
+    while k < n {
+        let at = k * tables::PROPERTY_STRIDE;
+        let from = moved_start(start, end, m, properties[at]);
+        let to = moved_end(start, end, m, properties[at + 1]);
+        let first = properties[at + 2];
+        let count = properties[at + 3];
+        tables::put4(properties, at, from, to, first, count);
+        k += 1;
+    }
+}
+
+// The spans of `n` values.
+pub fn move_values(values: &mut [u32], n: usize, start: usize, end: usize, m: usize)
+    requires { ⌜ (n ≤ length (now values) / 2) × ValuesLie (now values) n textLimit × (start ≤ end) × (end ≤ textLimit) × (m ≤ textLimit) ⌝ }
+    ensures { λ _. ⌜ now (values .exit) ≡ over (valuesMoved start end m n (now (values .entry))) (now (values .entry)) ⌝ }
+{
+    let mut k: usize = 0;
+    while k < n {
+        let at = k * tables::VALUE_STRIDE;
+        let from = moved_start(start, end, m, values[at]);
+        let to = moved_end(start, end, m, values[at + 1]);
+        tables::put2(values, at, from, to);
+        k += 1;
+    }
+}
