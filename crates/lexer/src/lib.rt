@@ -1,4 +1,6 @@
 // The token rules of SGF: bytes to tokens with spans. The text is the part that trimming keeps, from the start of the buffer to its last place; places count from the start of the buffer.
+mod runs; // runs.rt: runs of bytes that a value's scan steps over
+
 ghost use mathlib.Core.Path.{_≡_};
 ghost use Rattle.lexer.specs.Token.{space, numberOf};
 ghost use Rattle.lexer.specs.Scan.{closeAt, skipAt, identAt, valueAt, valuesAt};
@@ -56,12 +58,16 @@ pub fn skip_space(s: &[u8], from: usize) -> usize
     i
 }
 
-// The first unescaped `]` at or after `from`.
+// The first unescaped `]` at or after `from`. Most values are short: only each 16 bytes a run of plain bytes is tried.
 pub fn value_end(s: &[u8], from: usize) -> Close
     ensures { λ r. ⌜ r ≡ closeAt (now (s .entry)) from ⌝ }
 {
+    if s.len() <= from {
+        return Close::Open;
+    }
     let mut i = from;
     let mut escaped = false;
+    let mut again = from + 16;
     loop {
         if s.len() <= i {
             break Close::Open;
@@ -76,6 +82,10 @@ pub fn value_end(s: &[u8], from: usize) -> Close
             escaped = b == b'\\';
         }
         i += 1;
+        if (again <= i) & !escaped {
+            i = runs::past_plain(s, i);
+            again = i + 16;
+        }
     }
 }
 
