@@ -24,13 +24,13 @@ leads-none s i h = record { order = omega arith; inside = h; same = refl }
 pub leads-on : {s : List ℕ} {a e f : ℕ} → LeadsTo s a e → LeadsTo s e f → LeadsTo s a f
 leads-on p q = record { order = omega (arith, p .order, q .order); inside = q .inside; same = q .same ∙ p .same }
 
+pub leads-one : (s : List ℕ) (i : ℕ) → i < length s → plain (getD s i 0) ≡ true → LeadsTo s i (i + 1)
+leads-one s i h p = record { order = omega arith; inside = omega (arith, h); same = close-plain s i h p }
+
 -- n bytes
 pub leads-plain : (n : ℕ) (s : List ℕ) (i : ℕ) → i + n ≤ length s → ((k : ℕ) → k < n → plain (getD s (i + k) 0) ≡ true) → LeadsTo s i (i + n)
 leads-plain zero s i h p = let e : i ≡ i + 0 = omega arith in subst (LeadsTo s i) e (leads-none s i (omega (arith, h)))
 leads-plain (suc n) s i h p =
     let l = leads-plain n s i (omega (arith, h)) (λ k b. p k (omega (arith, b))) in
     let e : i + n + 1 ≡ i + suc n = omega arith in
-    subst
-    (LeadsTo s i)
-    e
-    (record { order = omega arith; inside = omega (arith, h); same = close-plain s (i + n) (omega (arith, h)) (p n (omega arith)) ∙ l .same })
+    subst (LeadsTo s i) e (leads-on l (leads-one s (i + n) (omega (arith, h)) (p n (omega arith))))

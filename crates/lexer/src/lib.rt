@@ -58,29 +58,28 @@ pub fn skip_space(s: &[u8], from: usize) -> usize
     i
 }
 
-// The first unescaped `]` at or after `from`. Most values are short: only each 16 bytes a run of plain bytes is tried.
+// The first unescaped `]` at or after `from`. Runs of plain bytes are tried at the start, behind an escape and each 16 bytes.
 pub fn value_end(s: &[u8], from: usize) -> Close
     ensures { λ r. ⌜ r ≡ closeAt (now (s .entry)) from ⌝ }
 {
-    if s.len() <= from {
-        return Close::Open;
-    }
     let mut i = from;
     let mut escaped = false;
-    let mut again = from + 16;
+    let mut again = from;
     loop {
         if s.len() <= i {
             break Close::Open;
         }
-        let b = s[i];
         if escaped {
             escaped = false;
-        } else {
-            if b == b']' {
-                break Close::At(i);
-            }
-            escaped = b == b'\\';
+            i = runs::past_plain(s, i + 1);
+            again = i + 16;
+            continue;
         }
+        let b = s[i];
+        if b == b']' {
+            break Close::At(i);
+        }
+        escaped = b == b'\\';
         i += 1;
         if (again <= i) & !escaped {
             i = runs::past_plain(s, i);
@@ -124,9 +123,13 @@ pub fn next_value(s: &[u8], at: usize) -> ValueStep
     if s[at] != b'[' {
         return ValueStep::NoMore;
     }
-    let Close::At(to) = value_end(s, at + 1) else {
-        return ValueStep::Unclosed;
-    };
+    let mut to = runs::past_short(s, at + 1);
+    if !runs::closes(s, to) {
+        let Close::At(far) = value_end(s, to) else {
+            return ValueStep::Unclosed;
+        };
+        to = far;
+    }
     let next = skip_space(s, to + 1);
     ValueStep::Value(at + 1, to, next)
 }
@@ -137,17 +140,20 @@ pub fn values_end(s: &[u8], from: usize) -> Close
 {
     let mut i = from;
     loop {
-        match next_value(s, i) {
-            ValueStep::Value(_, _, next) => {
-                i = next;
-            }
-            ValueStep::NoMore => {
-                break Close::At(i);
-            }
-            ValueStep::Unclosed => {
-                break Close::Open;
-            }
+        if s.len() <= i {
+            break Close::At(i);
         }
+        if s[i] != b'[' {
+            break Close::At(i);
+        }
+        let mut to = runs::past_short(s, i + 1);
+        if !runs::closes(s, to) {
+            let Close::At(far) = value_end(s, to) else {
+                break Close::Open;
+            };
+            to = far;
+        }
+        i = skip_space(s, to + 1);
     }
 }
 

@@ -3,6 +3,8 @@ ghost use mathlib.Core.Path.{_≡_};
 ghost use mathlib.Core.Bool.{true};
 ghost use Prim.Native.Nat.{ℕ, _+_, _≤_, _<_};
 ghost use lib.ListN.{length, getD};
+ghost use Rattle.lexer.specs.declared.Close.the-variants.{At};
+ghost use Rattle.lexer.specs.Scan.{closeAt};
 ghost use Rattle.lexer.specs.Run.{plain, LeadsTo};
 
 // Neither `]` nor a backslash.
@@ -22,6 +24,31 @@ fn all_plain(s: &[u8], i: usize, n: usize) -> bool
         all = all & is_plain(s[i + k]);
     }
     all
+}
+
+// Past the first plain bytes, at most 16: most values are that short.
+pub fn past_short(s: &[u8], from: usize) -> usize
+    requires { ⌜ from ≤ length (now s) ⌝ }
+    ensures { λ r. ⌜ LeadsTo (now (s .entry)) from r ⌝ }
+{
+    let mut i = from;
+    while i < s.len() {
+        if (16 <= i - from) | !is_plain(s[i]) {
+            return i;
+        }
+        i += 1;
+    }
+    i
+}
+
+// Is there a `]`.
+pub fn closes(s: &[u8], i: usize) -> bool
+    ensures { λ r. ⌜ (r ≡ true → closeAt (now (s .entry)) i ≡ At i) ⌝ }
+{
+    if s.len() <= i {
+        return false;
+    }
+    s[i] == b']'
 }
 
 // Past plain blocks of 64 bytes.
