@@ -7,6 +7,7 @@ pub mod Invariant
 pub mod Join
 pub mod Kept
 pub mod Laws
+pub mod Leads
 pub mod Machine
 pub mod Moved
 pub mod Proper

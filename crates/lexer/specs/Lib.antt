@@ -1,5 +1,6 @@
 pub mod Closed
 pub mod Move
+pub mod Run
 pub mod Scan
 pub mod Step
 pub mod Token

@@ -1,4 +1,6 @@
 // The token rules of SGF: bytes to tokens with spans. The text is the part that trimming keeps, from the start of the buffer to its last place; places count from the start of the buffer.
+mod runs; // runs.rt: runs of bytes that a value's scan steps over
+
 ghost use mathlib.Core.Path.{_≡_};
 ghost use Rattle.lexer.specs.Token.{space, numberOf};
 ghost use Rattle.lexer.specs.Scan.{closeAt, skipAt, identAt, valueAt, valuesAt};
@@ -56,26 +58,33 @@ pub fn skip_space(s: &[u8], from: usize) -> usize
     i
 }
 
-// The first unescaped `]` at or after `from`.
+// The first unescaped `]` at or after `from`. Runs of plain bytes are tried at the start, behind an escape and each 16 bytes.
 pub fn value_end(s: &[u8], from: usize) -> Close
     ensures { λ r. ⌜ r ≡ closeAt (now (s .entry)) from ⌝ }
 {
     let mut i = from;
     let mut escaped = false;
+    let mut again = from;
     loop {
         if s.len() <= i {
             break Close::Open;
         }
-        let b = s[i];
         if escaped {
             escaped = false;
-        } else {
-            if b == b']' {
-                break Close::At(i);
-            }
-            escaped = b == b'\\';
+            i = runs::past_plain(s, i + 1);
+            again = i + 16;
+            continue;
         }
+        let b = s[i];
+        if b == b']' {
+            break Close::At(i);
+        }
+        escaped = b == b'\\';
         i += 1;
+        if (again <= i) & !escaped {
+            i = runs::past_plain(s, i);
+            again = i + 16;
+        }
     }
 }
 
@@ -114,9 +123,13 @@ pub fn next_value(s: &[u8], at: usize) -> ValueStep
     if s[at] != b'[' {
         return ValueStep::NoMore;
     }
-    let Close::At(to) = value_end(s, at + 1) else {
-        return ValueStep::Unclosed;
-    };
+    let mut to = runs::past_short(s, at + 1);
+    if !runs::closes(s, to) {
+        let Close::At(far) = value_end(s, to) else {
+            return ValueStep::Unclosed;
+        };
+        to = far;
+    }
     let next = skip_space(s, to + 1);
     ValueStep::Value(at + 1, to, next)
 }
@@ -127,17 +140,20 @@ pub fn values_end(s: &[u8], from: usize) -> Close
 {
     let mut i = from;
     loop {
-        match next_value(s, i) {
-            ValueStep::Value(_, _, next) => {
-                i = next;
-            }
-            ValueStep::NoMore => {
-                break Close::At(i);
-            }
-            ValueStep::Unclosed => {
-                break Close::Open;
-            }
+        if s.len() <= i {
+            break Close::At(i);
         }
+        if s[i] != b'[' {
+            break Close::At(i);
+        }
+        let mut to = runs::past_short(s, i + 1);
+        if !runs::closes(s, to) {
+            let Close::At(far) = value_end(s, to) else {
+                break Close::Open;
+            };
+            to = far;
+        }
+        i = skip_space(s, to + 1);
     }
 }
 
