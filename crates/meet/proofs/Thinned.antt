@@ -21,7 +21,7 @@ abbrev pub Thins : (List Prop → Type 0) → Type 0
 Thins Q = (xs : List Prop) (y : Prop) (ys : List Prop) → Q (xs ++ (y ∷ ys)) → Q (xs ++ ys)
 
 -- the properties of nodes, last node first
-abbrev propsBack : List Node → List Prop
+abbrev pub propsBack : List Node → List Prop
 propsBack [] = []
 propsBack (n ∷ ns) = propsBack ns ++ n .props
 
@@ -29,7 +29,7 @@ back-order : (ns acc : List Node) → allProps (reverseAux ns acc) ≡ propsBack
 back-order [] acc = refl
 back-order (n ∷ ns) acc = back-order ns (n ∷ acc) ∙ sym (append-assoc (propsBack ns) (n .props) (allProps acc))
 
-order-props : (ns : List Node) → allProps (inOrder ns) ≡ propsBack ns
+pub order-props : (ns : List Node) → allProps (inOrder ns) ≡ propsBack ns
 order-props [] = refl
 order-props (n ∷ ns) = back-order (n ∷ ns) [] ∙ append-nil (propsBack (n ∷ ns))
 
