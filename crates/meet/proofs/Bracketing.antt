@@ -1,19 +1,17 @@
 -- What brackets a slice has: a start and an end, but that the last slice of a lenient reading may lack the end. Assumes nothing.
-use mathlib.Core.Path.{_≡_, refl, sym, ap, _∙_, subst}
+use mathlib.Core.Path.{_≡_, refl}
 use mathlib.Core.Logic.{_⊎_, inl, inr}
-use Prim.Native.Nat.{ℕ, zero, suc, _+_, _≤_, _<_, max}
+use Prim.Native.Nat.{ℕ, zero, suc, _+_, _<_}
 use native.Mathlib.Omega.{arith}
 use mathlib.Core.Bool.{Bool, true, false}
-use mathlib.Core.List.{List, [], _∷_, _++_, reverse, reverseAux}
+use mathlib.Core.List.{List, [], _∷_, reverse, reverseAux}
 use lib.Dec.{ltb}
 use lib.ListN.{length, length-reverse}
 use Rattle.lists.specs.All.{All}
-use Rattle.lists.specs.Pick.{pick}
 use Rattle.lists.proofs.All.{all-reverse}
 use Rattle.lists.proofs.Pick.{pick-elim}
 use Rattle.lexer.specs.Token.{Tok, start, end, node, prop}
 use Rattle.tables.specs.Numbers.{depthLimit}
-use Rattle.tables.specs.declared.Reason.{Reason}
 use Rattle.parser.specs.Split.{Splitting, splitting, over, wrong, ended, splits, split, Slices, no, slices, deep, filled, sliced, slicesOf}
 use Rattle.meet.proofs.Weights.{propWeight, weight}
 

@@ -4,6 +4,7 @@ pub mod Boxes
 pub mod Bracketing
 pub mod Climbs
 pub mod Determined
+pub mod Enough
 pub mod Firsts
 pub mod Fitting
 pub mod Grown
@@ -19,5 +20,6 @@ pub mod Sizes
 pub mod Spaced
 pub mod Spans
 pub mod Thinned
+pub mod Totals
 pub mod Walks
 pub mod Weights

@@ -1,11 +1,11 @@
 -- What the nodes, properties and values of a slice weigh: no more than its tokens. Assumes nothing.
-use mathlib.Core.Path.{_≡_, refl, sym, ap, _∙_, subst}
+use mathlib.Core.Path.{_≡_, refl, ap, _∙_}
 use Prim.Native.Nat.{ℕ, suc, _+_, _*_, _≤_, _<_}
 use native.Mathlib.Omega.{arith}
 use mathlib.Core.Bool.{Bool, true, false}
 use mathlib.Core.List.{List, [], _∷_, _++_, append-nil}
 use lib.ListN.{length, length-append}
-use Rattle.lexer.specs.Token.{Prop, Tok, start, end, node, prop}
+use Rattle.lexer.specs.Token.{Prop, Tok, node}
 use Rattle.tables.specs.Numbers.{none}
 use Rattle.tables.specs.Record.{Node, allVals}
 use Rattle.parser.specs.Walk.{Opts, Gate, shut, takes, skips}
