@@ -18,7 +18,7 @@ use Rattle.fit.proofs.RecordRanges.{node-ranges-fit, prop-ranges-fit}
 
 -- ---- counts
 
-tabulate-length : {A : Type 0} (f : ℕ → A) (k m : ℕ) → length (tabulate f k m) ≡ m
+pub tabulate-length : {A : Type 0} (f : ℕ → A) (k m : ℕ) → length (tabulate f k m) ≡ m
 unfolding tabulate
 tabulate-length f k zero = refl
 tabulate-length f k (suc m) = ap suc (tabulate-length f (suc k) m)

@@ -34,6 +34,7 @@ pub record Reading (op : Opts) (t : List ℕ) (ts : List Tree) : Type 0 where
   pub from : (toks ≡ lex ink t .toks) ⊎ (toks ≡ [])
   pub k : ℕ
   pub few : k ≤ suc (length toks)
+  pub cuts : slicesOf (op .lenient) (lex ink t .toks) ≡ slices (cut k toks)
   pub grew : Grew op 0 k toks ts
 
 record Cutting (l : List Tok) (ss : List (List Tok)) : Type 0 where
@@ -81,6 +82,7 @@ module _ (op : Opts) (t : List ℕ) (ts : List Tree) where
             from = elim (c .from) [ inl a ↦ inl (a ∙ el) | inr a ↦ inr a ];
             k = c .k;
             few = c .few;
+            cuts = ap (slicesOf (op .lenient)) (sym el) ∙ e ∙ ap slices (c .are);
             grew = subst (Grew op 0 (c .k) (c .toks)) y (r .1);
           }
       go (failing r) q z c = not-both r 0 ts z

@@ -52,20 +52,17 @@ module _ (used : ℕ) where
   Climb lo hi [] = lo ≤ hi
   Climb lo hi (s ∷ ss) = (lo ≤ s .from) × (s .from ≤ s .to) × (s .to ≤ used) × Climb (suc (s .to)) hi ss
 
+  climb-low : (lo mid hi : ℕ) (ss : List Span) → lo ≤ mid → Climb mid hi ss → Climb lo hi ss
+  climb-low lo mid hi [] l h = omega arith
+  climb-low lo mid hi (s ∷ ss) l h = (omega (arith, h .0), h .1, h .2, h .3)
+
   pub climb-append : (lo mid hi : ℕ) (xs ys : List Span) → Climb lo mid xs → Climb mid hi ys → Climb lo hi (xs ++ ys)
   climb-append lo mid hi [] ys h k = climb-low lo mid hi ys h k
-    where
-      climb-low : (a b hi : ℕ) (ss : List Span) → a ≤ b → Climb b hi ss → Climb a hi ss
-      climb-low a b hi [] l h = omega arith
-      climb-low a b hi (s ∷ ss) l h = (omega (arith, h .0), h .1, h .2, h .3)
   climb-append lo mid hi (x ∷ xs) ys h k = (h .0, h .1, h .2, climb-append (suc (x .to)) mid hi xs ys (h .3) k)
 
   pub climb-up : (lo hi top : ℕ) (ss : List Span) → hi ≤ top → Climb lo hi ss → Climb lo top ss
   climb-up lo hi top [] l h = omega arith
   climb-up lo hi top (s ∷ ss) l h = (h .0, h .1, h .2, climb-up (suc (s .to)) hi top ss l (h .3))
-
-  pub climb-low : (lo mid hi : ℕ) (ss : List Span) → lo ≤ mid → Climb mid hi ss → Climb lo hi ss
-  climb-low lo mid hi ss l h = climb-append lo mid hi [] ss l h
 
   climb-later : (lo hi : ℕ) (xs ys : List Span) → Climb lo hi (xs ++ ys) → Climb lo hi ys
   climb-later lo hi [] ys h = h

@@ -22,7 +22,7 @@ use Rattle.fit.specs.Ranges.{gapless, hasValue, rangesFit}
 use Rattle.fit.specs.Record.{treeRow, nodeRow, propRow, valRow, rowsOf, countsOf, valOf, propOf, nodeOf, treesOf, recordOf}
 use Rattle.fit.specs.Spans.{spansFit}
 use Rattle.fit.proofs.Each.{each-at}
-use Rattle.fit.proofs.RecordFits.{counts-of-rows}
+use Rattle.fit.proofs.RecordFits.{tabulate-length, counts-of-rows}
 use Rattle.fit.proofs.RecordLinks.{Tells, next-at, next-from}
 use Rattle.meet.proofs.Parts.{all-props, parents-are, node-rows-back, all-vals, prop-rows-back, val-rows-back}
 use Rattle.meet.proofs.Rooted.{tree-rows-back, nodes-back}
@@ -65,11 +65,6 @@ tells : (nd : List ℕ) (b m : ℕ) → Tells nd b (tabulate (parentAt nd) b m)
 unfolding tabulate
 tells nd b zero = tt
 tells nd b (suc m) = (refl, tells nd (suc b) m)
-
-tabulate-length : {A : Type 0} (f : ℕ → A) (k m : ℕ) → length (tabulate f k m) ≡ m
-unfolding tabulate
-tabulate-length f k zero = refl
-tabulate-length f k (suc m) = ap suc (tabulate-length f (suc k) m)
 
 module _ (c : Counts) (tr nd pr : List ℕ) (k : Clauses c tr nd pr) where
   abbrev qs : List ℕ

@@ -1,8 +1,8 @@
 -- The trees of an accepted reading, strict or lenient: each grew from its slice, and its root is the number of its first node. Assumes nothing.
-use mathlib.Core.Path.{_≡_, refl, sym, ap, _∙_}
-use Prim.Native.Nat.{ℕ, zero, suc, _+_, _-_, _^_, _≤_}
+use mathlib.Core.Path.{_≡_, refl, sym, ap, _∙_, subst}
+use Prim.Native.Nat.{ℕ, zero, suc, _+_, _-_, _^_, _≤_, _<_}
 use native.Mathlib.Omega.{arith}
-use mathlib.Core.Bool.{Bool, true, false}
+use mathlib.Core.Bool.{Bool, true, false, true≢false}
 use mathlib.Core.List.{List, [], _∷_, reverse, reverseAux}
 use lib.ListN.{length, length-reverse, drop}
 use Rattle.lists.specs.Same.{same}
@@ -34,12 +34,19 @@ abbrev pub inOrder : List Node → List Node
 inOrder [] = record { parent = none; props = [] } ∷ []
 inOrder (n ∷ ns) = reverse (n ∷ ns)
 
--- the trees of the first k slices of the tokens; base: the number of their first node
+-- a tree of the first slice of the tokens; base: the number of its first node. Strict reading gives no empty root
+pub record FromSlice (op : Opts) (base : ℕ) (us : List Tok) (t : Tree) : Type 0 where
+  pub root : t .root ≡ base
+  pub kind : t .kind ≤ 1
+  pub nodes : t .nodes ≡ inOrder (walkOf op base (sliceFrom 0 us))
+  pub some : op .lenient ≡ false → 0 < length (walkOf op base (sliceFrom 0 us))
+
+-- the trees of the first k slices
 abbrev pub Grew : Opts → (base k : ℕ) → List Tok → List Tree → Type 0
 Grew op base zero us [] = Unit {0}
 Grew op base zero us (t ∷ ts) = ⊥
 Grew op base (suc k) us [] = ⊥
-Grew op base (suc k) us (t ∷ ts) = (t .root ≡ base) × (t .kind ≤ 1) × (t .nodes ≡ inOrder (walkOf op base (sliceFrom 0 us))) × Grew op (base + length (t .nodes)) k (restFrom 0 us) ts
+Grew op base (suc k) us (t ∷ ts) = FromSlice op base us t × Grew op (base + length (t .nodes)) k (restFrom 0 us) ts
 
 -- ---- game types
 
@@ -61,25 +68,28 @@ small-props (p ∷ q ∷ ps) = tt
 
 -- ---- one tree
 
--- nodes ns (last first) have become one more tree
-abbrev One : (base : ℕ) → List Node → List Tree → Growing → Type 0
-One base ns ts (growing n us) = (t : Tree) × (us ≡ t ∷ ts) × (n ≡ base + length (t .nodes)) × (t .root ≡ base) × (t .kind ≤ 1) × (t .nodes ≡ inOrder ns)
-One base ns ts (failing r) = Unit {0}
+-- nodes ns (last first) have become one more tree; some there are, unless reading is lenient
+abbrev One : Bool → (base : ℕ) → List Node → List Tree → Growing → Type 0
+One len base ns ts (growing n us) =
+    (t : Tree) × (us ≡ t ∷ ts) × (n ≡ base + length (t .nodes)) × (t .root ≡ base) × (t .kind ≤ 1) × (t .nodes ≡ inOrder ns) × (len ≡ false → 0 < length ns)
+One len base ns ts (failing r) = Unit {0}
 
-one-rooted : (len : Bool) (base k : ℕ) (ns : List Node) (ts : List Tree) → k ≤ 1 → One base ns ts (rooted len base k ns ts)
-one-rooted len base k (n ∷ ns) ts h = (_, refl, ap (λ (z : ℕ). base + z) (sym (length-reverse (n ∷ ns))), refl, h, refl)
-one-rooted true base k [] ts h = (_, refl, omega arith, refl, h, refl)
+one-rooted : (len : Bool) (base k : ℕ) (ns : List Node) (ts : List Tree) → k ≤ 1 → One len base ns ts (rooted len base k ns ts)
+one-rooted len base k (n ∷ ns) ts h = (_, refl, ap (λ (z : ℕ). base + z) (sym (length-reverse (n ∷ ns))), refl, h, refl, λ _. omega arith)
+one-rooted true base k [] ts h = (_, refl, omega arith, refl, h, refl, λ z. absurd (true≢false z))
 one-rooted false base k [] ts h = tt
 
-one-grown : (len : Bool) (base k : ℕ) (w : Walk) (ts : List Tree) → k ≤ 1 → One base (nodesOf w) ts (grown len base k w ts)
+one-grown : (len : Bool) (base k : ℕ) (w : Walk) (ts : List Tree) → k ≤ 1 → One len base (nodesOf w) ts (grown len base k w ts)
 one-grown len base k (walk cur st g ns) ts h = one-rooted len base k ns ts h
 one-grown len base k (halted ns) ts h = one-rooted len base k ns ts h
 one-grown len base k (stopped r) ts h = tt
 
-one-kinded : (op : Opts) (base : ℕ) (x : Kind) (s : List Tok) (ts : List Tree) → Small x → One base (walkOf op base s) ts (kinded op base x s ts)
+one-kinded : (op : Opts) (base : ℕ) (x : Kind) (s : List Tok) (ts : List Tree) → Small x → One (op .lenient) base (walkOf op base s) ts (kinded op base x s ts)
 one-kinded op base (is k) s ts h = one-grown (op .lenient) base k (walked op base (walk none [] shut []) s) ts h
 one-kinded op base (unkind r) s ts h =
-    pick-elim (One base (walkOf op base s) ts) (op .lenient) (λ _. one-grown true base 0 (walked op base (walk none [] shut []) s) ts (omega arith)) (λ _. tt)
+    let w : Walk = walked op base (walk none [] shut []) s in
+    pick-elim (One (op .lenient) base (walkOf op base s) ts) (op .lenient)
+    (λ e. subst (λ (z : Bool). One z base (walkOf op base s) ts (grown true base 0 w ts)) (sym e) (one-grown true base 0 w ts (omega arith))) (λ _. tt)
 
 -- ---- all trees
 
@@ -94,12 +104,12 @@ grow-all op (suc k) us base acc n all e =
     go (kinded op base (kind (sliceFrom 0 us)) (sliceFrom 0 us) acc)
     (one-kinded op base (kind (sliceFrom 0 us)) (sliceFrom 0 us) acc (small-props (named GM (props (drop 2 (sliceFrom 0 us)))))) e (grow-all op k (restFrom 0 us))
   where
-    go : (x : Growing) → One base (walkOf op base (sliceFrom 0 us)) acc x → growAll op x (cut k (restFrom 0 us)) ≡ growing n all
+    go : (x : Growing) → One (op .lenient) base (walkOf op base (sliceFrom 0 us)) acc x → growAll op x (cut k (restFrom 0 us)) ≡ growing n all
         → ((b : ℕ) (a : List Tree) (n : ℕ) (all : List Tree) → growAll op (growing b a) (cut k (restFrom 0 us)) ≡ growing n all
         → (ts : List Tree) × (Grew op b k (restFrom 0 us) ts) × (all ≡ reverseAux ts a))
         → (ts : List Tree) × (Grew op base (suc k) us ts) × (all ≡ reverseAux ts acc)
-    go (growing m vs) (t, a, b, c, d, f) q more =
+    go (growing m vs) (t, a, b, c, d, f, j) q more =
         let z : growAll op (growing (base + length (t .nodes)) (t ∷ acc)) (cut k (restFrom 0 us)) ≡ growing n all = rw (← a, ← b) q in
         let r = more (base + length (t .nodes)) (t ∷ acc) n all z in
-        (t ∷ r .0, (c, d, f, r .1), r .2)
+        (t ∷ r .0, (record { root = c; kind = d; nodes = f; some = j }, r .1), r .2)
     go (failing r) h q more = never (let z : failing r ≡ growing n all = sym (fails op r (cut k (restFrom 0 us))) ∙ q in cc)

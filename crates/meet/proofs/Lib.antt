@@ -1,12 +1,15 @@
 pub mod Accepted
 pub mod Ascends
 pub mod Boxes
+pub mod Bracketing
 pub mod Climbs
 pub mod Determined
+pub mod Enough
 pub mod Firsts
 pub mod Fitting
 pub mod Grown
 pub mod Lent
+pub mod Loads
 pub mod Nodes
 pub mod Parts
 pub mod Paths
@@ -14,7 +17,9 @@ pub mod Properties
 pub mod Recorded
 pub mod Rooted
 pub mod Sizes
+pub mod Spaced
 pub mod Spans
 pub mod Thinned
+pub mod Totals
 pub mod Walks
 pub mod Weights

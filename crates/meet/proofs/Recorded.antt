@@ -19,7 +19,7 @@ pub grew-rooted : (op : Opts) (base k : ℕ) (us : List Tok) (ts : List Tree) �
 grew-rooted op base zero us [] g = tt
 grew-rooted op base zero us (t ∷ ts) g = absurd g
 grew-rooted op base (suc k) us [] g = absurd g
-grew-rooted op base (suc k) us (t ∷ ts) g = (g .0, grew-rooted op (base + length (t .nodes)) k (restFrom 0 us) ts (g .3))
+grew-rooted op base (suc k) us (t ∷ ts) g = (g .0 .root, grew-rooted op (base + length (t .nodes)) k (restFrom 0 us) ts (g .1))
 
 -- strict or lenient, with conversion on or off
 pub record-of : (op : Opts) (t : List ℕ) (ts : List Tree) → read op t ≡ accepted ts → recordOf t (tables ts) ≡ ts

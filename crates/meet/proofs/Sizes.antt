@@ -70,7 +70,7 @@ grew-few op base zero us [] g = omega arith
 grew-few op base zero us (t ∷ ts) g = absurd g
 grew-few op base (suc k) us [] g = absurd g
 grew-few op base (suc k) us (t ∷ ts) g =
-    omega (arith, tree-room op base us (t .nodes) (g .2), grew-few op (base + length (t .nodes)) k (restFrom 0 us) ts (g .3), length-append (t .nodes) (allNodes ts))
+    omega (arith, tree-room op base us (t .nodes) (g .0 .nodes), grew-few op (base + length (t .nodes)) k (restFrom 0 us) ts (g .1), length-append (t .nodes) (allNodes ts))
 
 -- what holds of the tree of each slice; its nodes' numbers are below none
 grew-each : (op : Opts) (P : Tree → Type 0)
@@ -80,9 +80,9 @@ grew-each op P f base zero us [] g b = tt
 grew-each op P f base zero us (t ∷ ts) g b = absurd g
 grew-each op P f base (suc k) us [] g b = absurd g
 grew-each op P f base (suc k) us (t ∷ ts) g b =
-    let e : t .nodes ≡ inOrder (walkOf op (t .root) (sliceFrom 0 us)) = rw (g .0) (g .2) in (
-      f us t (g .1) e (omega (arith, g .0, slice-room op base us (t .nodes) (g .2))),
-      grew-each op P f (base + length (t .nodes)) k (restFrom 0 us) ts (g .3) (omega (arith, tree-room op base us (t .nodes) (g .2))),
+    let e : t .nodes ≡ inOrder (walkOf op (t .root) (sliceFrom 0 us)) = rw (g .0 .root) (g .0 .nodes) in (
+      f us t (g .0 .kind) e (omega (arith, g .0 .root, slice-room op base us (t .nodes) (g .0 .nodes))),
+      grew-each op P f (base + length (t .nodes)) k (restFrom 0 us) ts (g .1) (omega (arith, tree-room op base us (t .nodes) (g .0 .nodes))),
     )
 
 -- ---- tokens and bytes

@@ -21,7 +21,7 @@ abbrev pub Thins : (List Prop → Type 0) → Type 0
 Thins Q = (xs : List Prop) (y : Prop) (ys : List Prop) → Q (xs ++ (y ∷ ys)) → Q (xs ++ ys)
 
 -- the properties of nodes, last node first
-abbrev propsBack : List Node → List Prop
+abbrev pub propsBack : List Node → List Prop
 propsBack [] = []
 propsBack (n ∷ ns) = propsBack ns ++ n .props
 
@@ -29,7 +29,7 @@ back-order : (ns acc : List Node) → allProps (reverseAux ns acc) ≡ propsBack
 back-order [] acc = refl
 back-order (n ∷ ns) acc = back-order ns (n ∷ acc) ∙ sym (append-assoc (propsBack ns) (n .props) (allProps acc))
 
-order-props : (ns : List Node) → allProps (inOrder ns) ≡ propsBack ns
+pub order-props : (ns : List Node) → allProps (inOrder ns) ≡ propsBack ns
 order-props [] = refl
 order-props (n ∷ ns) = back-order (n ∷ ns) [] ∙ append-nil (propsBack (n ∷ ns))
 
@@ -80,8 +80,8 @@ module _ (op : Opts) (Q : List Prop → Type 0) (thin : Thins Q) where
       let rest : List Prop = propsOf (restFrom 0 us) in
       let own : List Prop = allProps (t .nodes) in
       let e : propsOf us ≡ propsOf (sliceFrom 0 us) ++ propsOf (restFrom 0 us) = ap propsOf (sym (slice-rest 0 us)) ∙ props-append (sliceFrom 0 us) (restFrom 0 us) in
-      let a : Q (A ++ (own ++ rest)) = rw (g .2) (slice-thin base (sliceFrom 0 us) A rest (subst (λ (z : List Prop). Q (A ++ z)) e h)) in
-      let b = grew-thin (base + length (t .nodes)) k (restFrom 0 us) ts (A ++ own) (g .3) (subst Q (sym (append-assoc A own rest)) a) in
+      let a : Q (A ++ (own ++ rest)) = rw (g .0 .nodes) (slice-thin base (sliceFrom 0 us) A rest (subst (λ (z : List Prop). Q (A ++ z)) e h)) in
+      let b = grew-thin (base + length (t .nodes)) k (restFrom 0 us) ts (A ++ own) (g .1) (subst Q (sym (append-assoc A own rest)) a) in
       rw (nodes-append (t .nodes) (allNodes ts)) (subst Q (append-assoc A own (allProps (allNodes ts))) b)
 
   -- from the tokens to the record
