@@ -1,4 +1,7 @@
 pub mod AllNames
+pub mod Boxed
+pub mod Climbs
+pub mod Forms
 pub mod Joined
 pub mod Linked
 pub mod OpenPath
@@ -6,3 +9,8 @@ pub mod PropTexts
 pub mod Siblings
 pub mod TreeSlices
 pub mod TreeWalk
+pub mod Unique
+pub mod Variants
+pub mod Walked
+pub mod Whole
+pub mod Writing

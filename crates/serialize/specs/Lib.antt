@@ -1,3 +1,4 @@
 pub mod Form
+pub mod Locals
 pub mod Walk
 pub mod Write

@@ -1,7 +1,53 @@
 // The writer: a record in memory as text, points in one fixed order.
+mod brackets; // brackets.rt: the starts and ends of nodes
+mod cell; // cell.rt: cells of the tables
+mod form; // form.rt: values as they are written
+mod names; // names.rt: identifiers
+mod property; // property.rt: the properties of a node
+mod walk; // walk.rt: node by node along the links
+
+ghost use Rattle.serialize.specs.Form.{WriteIs};
+use tables::Reason;
 
 // A writing: its number of bytes, or why it is refused.
 pub enum Written {
     Wrote(usize),
     Refused(tables::Reason),
+}
+
+// The writing into `out`, measured before its first byte is written.
+pub fn write(
+    text: &[u8],
+    used: usize,
+    counts: tables::Counts,
+    trees: &[u32],
+    nodes: &[u32],
+    properties: &[u32],
+    values: &[u32],
+    out: &mut [u8],
+) -> Written
+    ensures { λ r. ⌜ WriteIs (now (text .entry)) used counts (now (trees .entry)) (now (nodes .entry)) (now (properties .entry)) (now (values .entry)) (now (out .entry)) (now (out .exit)) r ⌝ }
+{
+    if !fit::fits(text, used, counts, trees, nodes, properties, values) {
+        return Written::Refused(Reason::NotFitting);
+    }
+    let used_text = &text[..used];
+    if !names::names_good(used_text, properties, counts.properties) {
+        return Written::Refused(Reason::EmptyIdentifier);
+    }
+    let n = counts.nodes;
+    let need = walk::put_all(
+        &mut out[..0],
+        used_text,
+        trees,
+        nodes,
+        n,
+        properties,
+        values,
+    );
+    if out.len() < need {
+        return Written::Refused(Reason::NoRoom);
+    }
+    let length = walk::put_all(out, used_text, trees, nodes, n, properties, values);
+    Written::Wrote(length)
 }

@@ -1,0 +1,146 @@
+-- The walk: names, game types, properties and nodes. Assumes nothing.
+use Prim.Native.Nat.{ℕ, zero, suc, _+_, _-_, _/_, _^_, _≤_, _<_}
+use mathlib.Core.Bool.{Bool, true, false, _&&_}
+use mathlib.Core.List.{List, [], _∷_, _++_}
+use mathlib.Core.Path.{_≡_, refl, sym, ap, ap₂, _∙_, subst}
+use native.Mathlib.Numerals.{add-one}
+use native.Mathlib.Omega.{arith}
+use lib.Dec.{leb, ltb, eqb}
+use lib.ListN.{length, getD, take, drop, List·getD-eq-default}
+use borrow.Author.Tests.{eq-eqb, ne-eqb, lt-ltb}
+use Rattle.lists.proofs.Pick.{pick-elim}
+use Rattle.values.specs.Read.{readIdentifier}
+use Rattle.values.specs.Wrote.{Wrote}
+use Rattle.values.proofs.Written.{wrote-more}
+use Rattle.tables.specs.Numbers.{none}
+use Rattle.go.specs.Normal.{normal}
+use Rattle.go.specs.Rows.{valuesAt}
+use Rattle.go.proofs.Identifiers.{letter-past, letter-here}
+use Rattle.fit.specs.Columns.{kindAt, parentAt, firstPropAt, propCountAt, nameFromAt, nameToAt, firstValAt, valCountAt}
+use Rattle.fit.proofs.Cases.{same-or}
+use Rattle.fit.proofs.Each.{each-at, each-all}
+use Rattle.fit.proofs.Lists.{part-slice}
+use Rattle.fit.proofs.Rule.{rule-at, rule-before}
+use Rattle.fit.specs.Nodes.{parentRight}
+use Rattle.fit.specs.Locals.{Ruled}
+use Rattle.serialize.specs.Locals.{PropHeld, Placed, Above, NodesHeld}
+use Rattle.serialize.specs.Walk.{texts, rootsBelow, boxes, nameAt, valuesText, propText, propsText, begun, endsBefore, nodeBy, nodeText, linked, named}
+use Rattle.serialize.proofs.Writing.{writing-first, writing-is, writing-next, writing-last}
+
+-- the rule of the parents holds of fewer nodes too
+ruled-up : {nd : List ℕ} {n : ℕ} → Ruled nd n → (k : ℕ) → k ≤ n → Ruled nd k
+ruled-up {nd} {n} x k h =
+    let m = x .most in
+    record { most = omega arith; rule = each-all (parentRight nd) k (λ i l. each-at (parentRight nd) n i (x .rule) (omega arith)) }
+
+-- ---- names
+
+module _ (s : List ℕ) (i : ℕ) where
+  pub named-end : length s ≤ i → readIdentifier (drop i s) ≡ readIdentifier s → false ≡ ltb 0 (length (readIdentifier s))
+  named-end h e = ap (λ (z : List ℕ). ltb 0 (length z)) (sym (letter-past s i h) ∙ e)
+
+  pub named-here : i < length s → (leb 0x41 (getD s i 0) && leb (getD s i 0) 0x5a) ≡ true → readIdentifier (drop i s) ≡ readIdentifier s → true ≡ ltb 0 (length (readIdentifier s))
+  named-here h t e =
+      let r : List ℕ = readIdentifier (drop (i + 1) s) in
+      sym (lt-ltb 0 (suc (length r)) (omega arith)) ∙ ap (λ (z : List ℕ). ltb 0 (length z)) (sym (letter-here s i h t) ∙ e)
+
+-- a part of the text that was asked is the name
+pub name-part : (t pr : List ℕ) (p : ℕ) {a e : ℕ} → a ≡ nameFromAt pr p → e ≡ nameToAt pr p → readIdentifier (take (e - a) (drop a t)) ≡ nameAt t pr p
+name-part t pr p {a} {e} q r = ap readIdentifier (part-slice a e t) ∙ ap₂ (λ (x y : ℕ). readIdentifier (drop x (take y t))) q r
+
+pub name-tested : (t pr : List ℕ) (p : ℕ) {a e : ℕ} {b : Bool} → a ≡ nameFromAt pr p → e ≡ nameToAt pr p → b ≡ ltb 0 (length (readIdentifier (take (e - a) (drop a t)))) → b ≡ named t pr p
+name-tested t pr p q r h = h ∙ ap (λ (z : List ℕ). ltb 0 (length z)) (name-part t pr p q r)
+
+-- ---- a property
+
+module _ (t pr vl : List ℕ) (kind p : ℕ) {a e first count : ℕ} (ea : a ≡ nameFromAt pr p) (ee : e ≡ nameToAt pr p) (ef : first ≡ firstValAt pr p) (ec : count ≡ valCountAt pr p) where
+  values-are : boxes (normal kind (readIdentifier (take (e - a) (drop a t))) (valuesAt t vl first count)) ≡ valuesText t pr vl kind p
+  unfolding valuesText
+  values-are =
+      ap₂ (λ (n : List ℕ) (vs : List (List ℕ)). boxes (normal kind n vs)) (name-part t pr p ea ee) (ap₂ (valuesAt t vl) ef ec)
+
+  pub property-wrote : {o : List ℕ} {at : ℕ} {o1 : List ℕ} {r1 : ℕ} {o2 : List ℕ} {r2 : ℕ} → length o < 2 ^ 64 → at < 2 ^ 64
+      → Wrote (readIdentifier (take (e - a) (drop a t))) o at o1 r1
+      → Wrote (boxes (normal kind (readIdentifier (take (e - a) (drop a t))) (valuesAt t vl first count))) o1 r1 o2 r2 → Wrote (propText t pr vl kind p) o at o2 r2
+  unfolding propText
+  property-wrote s b x y =
+      writing-last y (writing-next x (writing-is (sym (ap₂ (λ (u v : List ℕ). u ++ v) (name-part t pr p ea ee) values-are)) (writing-first (propText t pr vl kind p) _ _ s b)))
+
+pub properties-are : (t nd pr vl : List ℕ) (kind k : ℕ) {first count : ℕ} → first ≡ firstPropAt nd k → count ≡ propCountAt nd k
+    → texts (λ i. propText t pr vl kind (first + i)) count ≡ propsText t nd pr vl kind k
+unfolding propsText
+properties-are t nd pr vl kind k ef ec = ap₂ (λ (f c : ℕ). texts (λ i. propText t pr vl kind (f + i)) c) ef ec
+
+-- ---- game types
+
+module _ (nd : List ℕ) (k : ℕ) {r : ℕ} (e : r ≡ rootsBelow nd k) where
+  pub roots-more : parentAt nd k ≡ none → r + 1 ≡ rootsBelow nd (suc k)
+  unfolding rootsBelow
+  roots-more h = rw (eq-eqb (parentAt nd k) none h, ← e) (omega arith)
+
+  pub roots-same : (parentAt nd k ≡ none → ⊥) → r ≡ rootsBelow nd (suc k)
+  unfolding rootsBelow
+  roots-same h = rw (ne-eqb (parentAt nd k) none h) e
+
+pub roots-next : (nd : List ℕ) (k : ℕ) {r : ℕ} → r ≡ rootsBelow nd (suc k) → r ≡ rootsBelow nd (k + 1)
+roots-next nd k e = e ∙ ap (rootsBelow nd) (sym (add-one k))
+
+-- node 0 is a root
+pub roots-some : (nd : List ℕ) (k : ℕ) → Ruled nd (suc k) → 0 < rootsBelow nd (suc k)
+unfolding rootsBelow
+roots-some nd zero x =
+    same-or (parentAt nd 0) none (λ e. rw (eq-eqb (parentAt nd 0) none e) (omega arith)) (λ e. let z = rule-at x 0 (omega arith) e .0 in absurd (omega arith))
+roots-some nd (suc k) x =
+    let r : 0 < rootsBelow nd (suc k) = roots-some nd k (ruled-up x (suc k) (omega arith)) in
+    pick-elim (λ (n : ℕ). 0 < n) (eqb (parentAt nd (suc k)) none) (λ e. omega arith) (λ e. r)
+
+module _ (tr : List ℕ) (r : ℕ) (h : 0 < r) where
+  pub type-none : length tr / 2 < r → 0 ≡ kindAt tr (r - 1)
+  type-none l = sym (List·getD-eq-default tr 0 (omega arith))
+
+-- ---- a node
+
+module _ {t nd pr : List ℕ} {k : ℕ} (x : NodesHeld t nd pr (suc k)) where
+  pub node-placed : Placed nd k
+  node-placed =
+      let r = x .rows in
+      record { row = omega arith; above = λ w. (let b = rule-before (x .ruled) k (omega arith) w in omega arith) }
+
+  pub node-above : Above nd k (parentAt nd k)
+  node-above =
+      let r = x .rows in
+      record {
+        rows = omega arith;
+        ruled = ruled-up (x .ruled) k (omega arith);
+        above = λ s z. rule-at (x .ruled) k (omega arith) z .1;
+      }
+
+  pub node-property : {first count : ℕ} → first ≡ firstPropAt nd k → count ≡ propCountAt nd k → (i : ℕ) → i < count → PropHeld t pr (first + i)
+  node-property {first = first} ef ec i l = let z : first + i ≡ firstPropAt nd k + i = omega arith in subst (λ (q : ℕ). PropHeld t pr q) (sym z) (x .props k (omega arith) i (omega arith))
+
+pub nodes-up : {t nd pr : List ℕ} {n : ℕ} → NodesHeld t nd pr n → (k : ℕ) → k < n → NodesHeld t nd pr (suc k)
+nodes-up x k h =
+    let r = x .rows in
+    record {
+      rows = omega arith;
+      ruled = ruled-up (x .ruled) (suc k) (omega arith);
+      props = λ j l. x .props j (omega arith);
+    }
+
+pub nodes-above : {t nd pr : List ℕ} {n : ℕ} → NodesHeld t nd pr n → Above nd n none
+nodes-above x = record { rows = x .rows; ruled = x .ruled; above = λ s z. absurd (z refl) }
+
+pub node-wrote : (t nd pr vl : List ℕ) (kind k : ℕ) {o : List ℕ} {at : ℕ} {o1 : List ℕ} {r1 : ℕ} {o2 : List ℕ} {r2 : ℕ} {o3 : List ℕ} {r3 : ℕ} {o4 : List ℕ} {r4 : ℕ} → length o < 2 ^ 64 → at < 2 ^ 64
+    → Wrote (endsBefore nd k (parentAt nd k)) o at o1 r1 → Wrote (begun nd k) o1 r1 o2 r2 → Wrote (0x3b ∷ []) o2 r2 o3 r3 → Wrote (propsText t nd pr vl kind k) o3 r3 o4 r4
+    → Wrote (nodeBy t nd pr vl kind k) o at o4 r4
+unfolding nodeBy
+node-wrote t nd pr vl kind k s l a b c d = writing-last d (writing-next c (writing-next b (writing-next a (writing-first (nodeBy t nd pr vl kind k) _ _ s l))))
+
+-- its game type was counted
+pub node-typed : (t tr nd pr vl : List ℕ) (k : ℕ) {r kind : ℕ} → r ≡ rootsBelow nd (suc k) → kind ≡ kindAt tr (r - 1) → nodeBy t nd pr vl kind k ≡ nodeText t tr nd pr vl k
+node-typed t tr nd pr vl k e h = ap (λ (z : ℕ). nodeBy t nd pr vl z k) (h ∙ ap (λ (z : ℕ). kindAt tr (z - 1)) e)
+
+pub linked-wrote : (t tr nd pr vl : List ℕ) (n : ℕ) {o : List ℕ} {at : ℕ} {o1 : List ℕ} {r1 : ℕ} {o2 : List ℕ} {r2 : ℕ} → length o < 2 ^ 64
+    → Wrote (texts (nodeText t tr nd pr vl) n) o at o1 r1 → Wrote (endsBefore nd n none) o1 r1 o2 r2 → Wrote (linked t tr nd pr vl n) o at o2 r2
+unfolding linked
+linked-wrote t tr nd pr vl n s a b = wrote-more s a b

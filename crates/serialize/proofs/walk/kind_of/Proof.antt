@@ -1,0 +1,22 @@
+-- `walk::kind_of` meets its contract. Assumes nothing.
+use borrow.Author.Needs.{needs}
+use Rattle.serialize.proofs.Walked.{type-none}
+use Rattle.serialize.proofs.walk.kind_of.Statement.{statement}
+use Rattle.serialize.proofs.walk.kind_of.Tie as tie
+
+returns : tie.Need-returns
+returns c =
+    let args = c .before .args in
+    type-none (args .trees .now) (args .roots) (c .before .pre) (c .if1 .taken)
+
+pub kind-of-spec : {M : Type 1} → statement M
+kind-of-spec =
+    tie.close
+    (tie.spec
+    returns
+    (λ c. search needs)
+    (λ c. search needs)
+    (λ c. search needs)
+    (λ c. search needs)
+    (λ c. search needs)
+    (λ c. search needs))

@@ -1,0 +1,44 @@
+-- What the writer's own functions promise and ask of each other.
+use Prim.Native.Nat.{ℕ, suc, _+_, _-_, _/_, _<_, _≤_}
+use mathlib.Core.Bool.{true}
+use mathlib.Core.List.{List}
+use mathlib.Core.Path.{_≡_}
+use lib.ListN.{length}
+use Rattle.tables.specs.Numbers.{none}
+use Rattle.fit.specs.Columns.{parentAt, firstPropAt, propCountAt, nameFromAt, nameToAt}
+use Rattle.fit.specs.Locals.{Ruled}
+use Rattle.fit.specs.Nodes.{onPath}
+use Rattle.go.specs.Normal.{written}
+use Rattle.go.specs.Value.{valueBy}
+use Rattle.go.specs.declared.value.Shape.{Shape}
+
+-- the values of a property of this shape in a Go tree, as they are written
+unfoldable pub formBy : Shape → List (List ℕ) → List (List ℕ)
+formBy s vs = let g = valueBy s vs in written (g .value) (g .marks) vs
+
+-- row p of the properties is there, and its identifier lies in the text
+pub record PropHeld (t pr : List ℕ) (p : ℕ) : Type 0 where
+  pub row : p < length pr / 4
+  pub some : nameFromAt pr p ≤ nameToAt pr p
+  pub inside : nameToAt pr p ≤ length t
+
+-- the rows of node k and of its parent are there
+pub record Placed (nd : List ℕ) (k : ℕ) : Type 0 where
+  pub row : k < length nd / 5
+  pub above : (parentAt nd k ≡ none → ⊥) → parentAt nd k < length nd / 5
+
+-- the first k nodes are there and have right parents, and p is none, node k - 1 or above it
+pub record Above (nd : List ℕ) (k p : ℕ) : Type 0 where
+  pub rows : k ≤ length nd / 5
+  pub ruled : Ruled nd k
+  pub above : 0 < k → (p ≡ none → ⊥) → onPath nd (k - 1) p ≡ true
+
+-- so are n nodes, and their properties
+pub record NodesHeld (t nd pr : List ℕ) (n : ℕ) : Type 0 where
+  pub rows : n ≤ length nd / 5
+  pub ruled : Ruled nd n
+  pub props : (k : ℕ) → k < n → (i : ℕ) → i < propCountAt nd k → PropHeld t pr (firstPropAt nd k + i)
+
+-- the nodes up to node k
+abbrev pub NodeHeld : (t nd pr : List ℕ) (k : ℕ) → Type 0
+NodeHeld t nd pr k = NodesHeld t nd pr (suc k)

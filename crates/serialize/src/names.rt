@@ -1,0 +1,58 @@
+// Identifiers: their uppercase letters.
+ghost use mathlib.Core.Path.{_≡_};
+ghost use Prim.Native.Nat.{ℕ, _<_};
+ghost use lib.Dec.{ltb};
+ghost use lib.ListN.{length};
+ghost use Rattle.values.specs.Read.{readIdentifier};
+ghost use Rattle.values.specs.Wrote.{Wrote};
+ghost use Rattle.serialize.specs.Locals.{PropHeld};
+ghost use Rattle.serialize.specs.Walk.{namesGood};
+use values::put::put_byte;
+
+// The uppercase letters of an identifier.
+pub fn put_letters(out: &mut [u8], at: usize, name: &[u8]) -> usize
+    ensures { λ r. ⌜ Wrote (readIdentifier (now (name .entry))) (now (out .entry)) at (now (out .exit)) r ⌝ }
+{
+    let mut to = at;
+    let mut i = 0;
+    while i < name.len() {
+        let b = name[i];
+        i += 1;
+        if (b'A' <= b) & (b <= b'Z') {
+            to = put_byte(out, to, b);
+        }
+    }
+    to
+}
+
+// Whether an identifier has an uppercase letter.
+fn is_named(name: &[u8]) -> bool
+    ensures { λ r. ⌜ r ≡ ltb 0 (length (readIdentifier (now (name .entry)))) ⌝ }
+{
+    let mut i = 0;
+    while i < name.len() {
+        let b = name[i];
+        i += 1;
+        if (b'A' <= b) & (b <= b'Z') {
+            return true;
+        }
+    }
+    false
+}
+
+// Whether each of n identifiers has one.
+pub fn names_good(text: &[u8], properties: &[u32], n: usize) -> bool
+    requires { ⌜ ((p : ℕ) → p < n → PropHeld (now text) (now properties) p) ⌝ }
+    ensures { λ r. ⌜ r ≡ namesGood (now (text .entry)) (now (properties .entry)) n ⌝ }
+{
+    let mut k: usize = 0;
+    while k < n {
+        let start = crate::cell::wide(properties[k * tables::PROPERTY_STRIDE]);
+        let end = crate::cell::wide(properties[k * tables::PROPERTY_STRIDE + 1]);
+        if !is_named(&text[start..end]) {
+            return false;
+        }
+        k += 1;
+    }
+    true
+}

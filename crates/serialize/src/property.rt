@@ -1,0 +1,51 @@
+// The properties of a node.
+ghost use Rattle.values.specs.Wrote.{Wrote};
+ghost use Rattle.serialize.specs.Locals.{PropHeld, NodeHeld};
+ghost use Rattle.serialize.specs.Walk.{propText, propsText};
+
+// Property p of a tree with this game type.
+fn put_property(
+    out: &mut [u8],
+    at: usize,
+    text: &[u8],
+    properties: &[u32],
+    values: &[u32],
+    kind: u32,
+    p: usize,
+) -> usize
+    requires { ⌜ PropHeld (now text) (now properties) p ⌝ }
+    ensures { λ r. ⌜ Wrote (propText (now (text .entry)) (now (properties .entry)) (now (values .entry)) kind p) (now (out .entry)) at (now (out .exit)) r ⌝ }
+{
+    let start = crate::cell::wide(properties[p * tables::PROPERTY_STRIDE]);
+    let end = crate::cell::wide(properties[p * tables::PROPERTY_STRIDE + 1]);
+    let first = crate::cell::wide(properties[p * tables::PROPERTY_STRIDE + 2]);
+    let count = crate::cell::wide(properties[p * tables::PROPERTY_STRIDE + 3]);
+    let name = &text[start..end];
+    let to = crate::names::put_letters(out, at, name);
+    crate::form::put_values(out, to, kind, name, text, values, first, count)
+}
+
+// The properties of node k.
+pub fn put_properties(
+    out: &mut [u8],
+    at: usize,
+    text: &[u8],
+    nodes: &[u32],
+    properties: &[u32],
+    values: &[u32],
+    kind: u32,
+    k: usize,
+) -> usize
+    requires { ⌜ NodeHeld (now text) (now nodes) (now properties) k ⌝ }
+    ensures { λ r. ⌜ Wrote (propsText (now (text .entry)) (now (nodes .entry)) (now (properties .entry)) (now (values .entry)) kind k) (now (out .entry)) at (now (out .exit)) r ⌝ }
+{
+    let first = crate::cell::wide(nodes[k * tables::NODE_STRIDE + 3]);
+    let count = crate::cell::wide(nodes[k * tables::NODE_STRIDE + 4]);
+    let mut to = at;
+    let mut i: usize = 0;
+    while i < count {
+        to = put_property(out, to, text, properties, values, kind, first + i);
+        i += 1;
+    }
+    to
+}

@@ -1,0 +1,75 @@
+// The writing, node by node along the links: a tree is a node in brackets without parent.
+ghost use mathlib.Core.Path.{_≡_};
+ghost use Prim.Native.Nat.{suc, _-_, _/_, _<_, _≤_};
+ghost use lib.ListN.{length};
+ghost use Rattle.values.specs.Wrote.{Wrote};
+ghost use Rattle.fit.specs.Columns.{kindAt};
+ghost use Rattle.serialize.specs.Locals.{NodeHeld, NodesHeld};
+ghost use Rattle.serialize.specs.Walk.{rootsBelow, nodeBy, linked};
+
+// How many of the first k + 1 nodes have no parent, where `roots` of the first k have none.
+fn roots_with(nodes: &[u32], k: usize, roots: usize) -> usize
+    requires { ⌜ (k < length (now nodes) / 5) × (roots ≤ k) × (roots ≡ rootsBelow (now nodes) k) ⌝ }
+    ensures { λ r. ⌜ (r ≡ rootsBelow (now (nodes .entry)) (suc k)) × (r ≤ suc k) ⌝ }
+{
+    if nodes[k * tables::NODE_STRIDE] == tables::NONE {
+        return roots + 1;
+    }
+    roots
+}
+
+// The game type of the last of `roots` trees; 0 where it has no row.
+fn kind_of(trees: &[u32], roots: usize) -> u32
+    requires { ⌜ 0 < roots ⌝ }
+    ensures { λ r. ⌜ r ≡ kindAt (now (trees .entry)) (roots - 1) ⌝ }
+{
+    if trees.len() / tables::TREE_STRIDE < roots {
+        return 0;
+    }
+    trees[(roots - 1) * tables::TREE_STRIDE + 1]
+}
+
+// Node k of a tree with this game type: the ends before it, its start, `;` and its properties.
+fn put_node(
+    out: &mut [u8],
+    at: usize,
+    text: &[u8],
+    nodes: &[u32],
+    properties: &[u32],
+    values: &[u32],
+    kind: u32,
+    k: usize,
+) -> usize
+    requires { ⌜ NodeHeld (now text) (now nodes) (now properties) k ⌝ }
+    ensures { λ r. ⌜ Wrote (nodeBy (now (text .entry)) (now (nodes .entry)) (now (properties .entry)) (now (values .entry)) kind k) (now (out .entry)) at (now (out .exit)) r ⌝ }
+{
+    let ended = crate::brackets::put_ends(out, at, nodes, k, nodes[k * tables::NODE_STRIDE]);
+    let started = crate::brackets::put_start(out, ended, nodes, k);
+    let to = values::put::put_byte(out, started, b';');
+    crate::property::put_properties(out, to, text, nodes, properties, values, kind, k)
+}
+
+// All n nodes.
+pub fn put_all(
+    out: &mut [u8],
+    text: &[u8],
+    trees: &[u32],
+    nodes: &[u32],
+    n: usize,
+    properties: &[u32],
+    values: &[u32],
+) -> usize
+    requires { ⌜ NodesHeld (now text) (now nodes) (now properties) n ⌝ }
+    ensures { λ r. ⌜ Wrote (linked (now (text .entry)) (now (trees .entry)) (now (nodes .entry)) (now (properties .entry)) (now (values .entry)) n) (now (out .entry)) 0 (now (out .exit)) r ⌝ }
+{
+    let mut to: usize = 0;
+    let mut roots: usize = 0;
+    let mut k: usize = 0;
+    while k < n {
+        roots = roots_with(nodes, k, roots);
+        let kind = kind_of(trees, roots);
+        to = put_node(out, to, text, nodes, properties, values, kind, k);
+        k += 1;
+    }
+    crate::brackets::put_ends(out, to, nodes, n, tables::NONE)
+}
