@@ -1,0 +1,126 @@
+// What is in a record: reads standard input strictly and says its counts, its trees and the moves of each main line, or why it is refused and where.
+mod moves; // moves.rt: the moves of a tree
+mod rows; // rows.rt: cells of the tables
+mod words; // words.rt: refusals in words
+
+ghost use Prim.Native.Nat.{_<_};
+use tables::Counts;
+use tables::Reading;
+use tables::Reason;
+
+fn say_count(words: &[u8], n: usize) {
+    io::write_all(1, words);
+    io::print_decimal(1, n as u64);
+}
+
+// A Go tree: its nodes from `root` to `end`, its moves, those of its main line.
+fn say_go_tree(
+    text: &[u8],
+    counts: Counts,
+    nodes: &[u32],
+    properties: &[u32],
+    values: &[u32],
+    root: usize,
+    end: usize,
+) {
+    let from = rows::node_cell(nodes, root, 3);
+    let mut to = counts.properties;
+    if end < counts.nodes {
+        to = rows::node_cell(nodes, end, 3);
+    }
+    say_count(
+        b", moves ",
+        moves::count_moves(text, properties, values, from, to),
+    );
+    io::write_all(1, b"\n");
+    moves::say_main_line(text, nodes, properties, values, root, end);
+}
+
+fn say_nodes(game: &[u8], root: usize, end: usize) {
+    io::write_all(1, game);
+    if root <= end {
+        say_count(b", nodes ", end - root);
+    }
+}
+
+fn say_tree(
+    text: &[u8],
+    counts: Counts,
+    trees: &[u32],
+    nodes: &[u32],
+    properties: &[u32],
+    values: &[u32],
+    tree: usize,
+)
+    requires { ⌜ tree < counts .trees ⌝ }
+{
+    let root = rows::tree_cell(trees, tree, 0);
+    let mut end = counts.nodes;
+    if tree + 1 < counts.trees {
+        end = rows::tree_cell(trees, tree + 1, 0);
+    }
+    say_count(b"tree ", tree + 1);
+    if rows::tree_cell(trees, tree, 1) == 0 {
+        say_nodes(b": Go", root, end);
+        say_go_tree(text, counts, nodes, properties, values, root, end);
+    } else {
+        say_nodes(b": another game", root, end);
+        io::write_all(1, b"\n");
+    }
+}
+
+fn say_record(
+    text: &[u8],
+    counts: Counts,
+    trees: &[u32],
+    nodes: &[u32],
+    properties: &[u32],
+    values: &[u32],
+) {
+    say_count(b"trees ", counts.trees);
+    say_count(b", nodes ", counts.nodes);
+    say_count(b", properties ", counts.properties);
+    say_count(b", values ", counts.values);
+    io::write_all(1, b"\n");
+    for tree in 0..counts.trees {
+        say_tree(text, counts, trees, nodes, properties, values, tree);
+    }
+}
+
+fn show(
+    text: &[u8],
+    trees: &mut [u32],
+    nodes: &mut [u32],
+    properties: &mut [u32],
+    values: &mut [u32],
+) {
+    if 65536 < text.len() {
+        words::say_refused(text, Reason::TextTooLong, 0);
+        return;
+    }
+    match reader::read(text, false, true, trees, nodes, properties, values) {
+        Reading::Accepted(counts) => {
+            say_record(text, counts, trees, nodes, properties, values);
+        }
+        Reading::Refused(reason, place) => {
+            words::say_refused(text, reason, place);
+        }
+    }
+}
+
+// The rows are enough for any text of 65,536 bytes.
+fn main() {
+    let mut text = [0u8; 65537];
+    let mut trees = [0u32; 65536];
+    let mut nodes = [0u32; 327680];
+    let mut properties = [0u32; 87384];
+    let mut values = [0u32; 65536];
+    let n = io::read_full(0, &mut text);
+    show(
+        &text[..n],
+        &mut trees,
+        &mut nodes,
+        &mut properties,
+        &mut values,
+    );
+}
