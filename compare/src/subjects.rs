@@ -26,10 +26,10 @@ pub struct Scale {
 pub const SHORT: Scale = Scale {
     token_bytes: 6,
     placed_bytes: 5,
-    token_records: 40_000,
+    token_records: 15_000,
     tree_bytes: 6,
     words: 5,
-    tree_records: 6_000,
+    tree_records: 2_500,
     copies: 9,
     real_copies: 2,
     limits: limits::Choice::Some,
