@@ -171,10 +171,12 @@ fn compare_edits(scale: &Scale) -> bool {
     report.close()
 }
 
+type Subject = fn(&Scale) -> bool;
+
 /// Compares one subject, or all; true if nothing differed.
 pub fn compare(scale: &Scale, subject: Option<&str>) -> bool {
     println!("library: {}", library::NAME);
-    let subjects: [(&str, fn(&Scale) -> bool); 9] = [
+    let subjects: [(&str, Subject); 9] = [
         ("tokens", compare_tokens),
         ("places", compare_places),
         ("examples", |_| examples::hold()),
