@@ -1,6 +1,8 @@
 //! Document 01's own examples and the points it leaves open, as a table: what each text must give.
+use crate::held;
 use crate::library::{self, KEEP_IDENTIFIERS, LENIENT};
 use crate::plain_reader::NONE;
+use crate::whole::Whole;
 
 /// A text read with some options: number and place, and if it is accepted the game types and the parents.
 struct Example {
@@ -76,11 +78,64 @@ const EXAMPLES: &[Example] = &[
     refused("(\x0B;B[aa])", 0, 11, 0),
 ];
 
-/// Runs the table; true if every row holds.
+/// Texts, and what is written of their strict reading, or the number of the refusal.
+const WRITTEN: &[(&str, Result<&str, u32>)] = &[
+    ("(;AB[bb:cc]TB[ba][aa]C[a:b\\]c])", Ok("(;AB[bb][bc][cb][cc]TB[aa][ba]C[a:b\\]c])")),
+    ("(;(;);)", Ok("(;(;)(;))")),
+    ("(;[x])", Err(15)),
+    ("(;a[])", Err(15)),
+    ("(;GM[2]b[])", Err(15)),
+    ("(;GM[01])", Ok("(;GM[01])")),
+    ("(;B[AA])", Ok("(;B[AA])")),
+    ("(;AB[Aa][aA][aa])", Ok("(;AB[aa][aA][Aa])")),
+    ("(;HA[+009]B[]Black[\\tt]KM[6.50])", Ok("(;HA[9]B[]B[tt]KM[6.50])")),
+];
+
+/// Texts, a value and its new bytes, and the new text with the span of the value behind it, or number and place of the refusal.
+type Edited = (&'static str, usize, &'static [u8], Result<(&'static str, [u32; 2]), (u32, usize)>);
+const EDITED: &[Edited] = &[
+    ("(;C[ab];B[cd])", 0, b"x", Ok(("(;C[x];B[cd])", [9, 11]))),
+    ("(;C[];B[cd])", 0, b"\\]", Ok(("(;C[\\]];B[cd])", [10, 12]))),
+    ("(;C[ab];B[cd])", 2, b"]", Err((16, 0))),
+    ("(;C[ab];GM[cd])", 1, b"\xFF", Err((17, 0))),
+    ("(;C[ab];B[cd])", 0, b"]\xFF", Err((2, 1))),
+    ("(;C[ab];B[cd])", 0, b"\\", Err((18, 0))),
+    ("(;C[ab];B[cd])", 0, b"a longer one than the room", Err((14, 0))),
+];
+
+/// Runs the tables; true if every row holds.
 pub fn hold() -> bool {
-    let wrong = EXAMPLES.iter().filter(|example| !holds(example)).count();
-    println!("examples: {} texts compared, {wrong} differences", EXAMPLES.len());
+    let wrong = EXAMPLES.iter().filter(|example| !holds(example)).count()
+        + WRITTEN.iter().filter(|(text, expected)| !is_written(text, *expected)).count()
+        + EDITED.iter().filter(|row| !is_edited(row)).count();
+    println!("examples: {} texts compared, {wrong} differences", EXAMPLES.len() + WRITTEN.len() + EDITED.len());
     wrong == 0
+}
+
+fn is_written(text: &str, expected: Result<&str, u32>) -> bool {
+    let whole = Whole::read(text.as_bytes(), 0, 0).unwrap().expect("a text to be read");
+    let mut out = [0; 100];
+    let answer = held::write(&whole.held(), &mut out);
+    let written = String::from_utf8_lossy(&out[..answer.length]);
+    let good = if answer.number == 0 { Ok(written.as_ref()) } else { Err(answer.number) } == expected;
+    if !good {
+        println!("  writing {text:?}: {answer:?}, {written:?}");
+    }
+    good
+}
+
+fn is_edited((text, k, new, expected): &Edited) -> bool {
+    let mut whole = Whole::read(text.as_bytes(), 0, 4).unwrap().expect("a text to be read");
+    let answer = held::edit(&mut whole.edited(), *k, new);
+    let after = String::from_utf8_lossy(&whole.text.lent()[..answer.used]);
+    let good = match expected {
+        Ok((text, span)) => answer.number == 0 && after == *text && whole.tables[3].lent()[2 * (k + 1)..][..2] == *span,
+        Err(refusal) => (answer.number, answer.place) == *refusal,
+    };
+    if !good {
+        println!("  editing value {k} of {text:?}: {answer:?}, {after:?}");
+    }
+    good
 }
 
 fn holds(example: &Example) -> bool {

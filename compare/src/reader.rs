@@ -1,13 +1,13 @@
 //! Readings of a text with every pair of options: the library beside document 01's words and beside the crate.
+use crate::held::STRIDES;
 use crate::library::{self, Reading};
 use crate::oracle;
 use crate::plain::{self, Refusal};
 use crate::plain_reader::{self, Options, Record, NONE};
 use crate::report::same;
+use crate::whole;
 use sgf_parse::{GameTree, SgfNode, SgfProp};
 
-/// Numbers a row of each table.
-const STRIDES: [usize; 4] = [2, 5, 4, 2];
 /// Numbers that stand behind each lent table and must stay.
 const GUARD: usize = 8;
 
@@ -26,6 +26,7 @@ fn options(bits: u32) -> Options {
 fn compare_with(text: &[u8], bits: u32) -> Result<(), String> {
     let expected = plain_reader::read(text, options(bits)).map(columns_of);
     let need = expected.as_ref().map_or([0; 4], |columns| columns.each_ref().map(Vec::len));
+    same("published sizes suffice", (0..4).all(|k| need[k] <= sufficient(text.len(), bits)[k] * STRIDES[k]), true)?;
     for lent in lengths(need, text.len()) {
         compare_lent(&call(text, bits, lent), lent, &expected).map_err(|e| format!("tables of {lent:?}, {e}"))?;
     }
@@ -33,6 +34,14 @@ fn compare_with(text: &[u8], bits: u32) -> Result<(), String> {
         Ok(read) => compare_crate(read, options(bits), &record_of(&call(text, bits, need))),
         Err(_) => Ok(()),
     }
+}
+
+/// Rows that are published to suffice for any text of n bytes, fewer for a strict reading.
+fn sufficient(n: usize, bits: u32) -> [usize; 4] {
+    if bits & library::LENIENT != 0 {
+        return whole::sufficient(n);
+    }
+    [n / 3, n.saturating_sub(2), n.saturating_sub(2) / 3, n.saturating_sub(3) / 2]
 }
 
 /// The tables as flat columns of numbers.

@@ -6,9 +6,9 @@ use std::time::{Duration, Instant};
 /// Cases in the texts of the subject at hand.
 static CASES: AtomicU64 = AtomicU64::new(0);
 
-/// Counts cases of a text: values, calls, edits.
-pub fn count(cases: usize) {
-    CASES.fetch_add(cases as u64, Ordering::Relaxed);
+/// Counts cases of a text: values, calls, edits; gives how many there were before.
+pub fn count(cases: usize) -> u64 {
+    CASES.fetch_add(cases as u64, Ordering::Relaxed)
 }
 
 /// A comparison of one text; the error says what differs.

@@ -14,6 +14,7 @@ pub struct Scale {
     copies: usize,
     real_copies: usize,
     limits: limits::Choice,
+    edges_step: usize,
     pairs_step: usize,
     shown_bytes: usize,
     lists: usize,
@@ -26,13 +27,14 @@ pub struct Scale {
 pub const SHORT: Scale = Scale {
     token_bytes: 6,
     placed_bytes: 5,
-    token_records: 40_000,
+    token_records: 15_000,
     tree_bytes: 6,
     words: 5,
-    tree_records: 6_000,
+    tree_records: 2_500,
     copies: 9,
     real_copies: 2,
     limits: limits::Choice::Some,
+    edges_step: 5,
     pairs_step: 9,
     shown_bytes: 5,
     lists: 10_000,
@@ -52,6 +54,7 @@ pub const LONG: Scale = Scale {
     copies: 9,
     real_copies: 30,
     limits: limits::Choice::All,
+    edges_step: 1,
     pairs_step: 1,
     shown_bytes: 7,
     lists: 300_000,
@@ -61,18 +64,24 @@ pub const LONG: Scale = Scale {
     limits_step: 1,
 };
 
-/// Compares the families of texts that tokens and readings share.
-fn compare_shared(report: &mut Report, records: usize, copies: usize, real_copies: usize) {
+/// Compares the families of texts that tokens and readings share; of the edges of UTF-8 one in so many.
+fn compare_shared(report: &mut Report, scale: &Scale, records: usize, edges_step: usize) {
     texts::white(&mut |text| report.text(text));
     report.group("white space");
-    texts::utf8_edges(&mut |text| report.text(text));
+    let mut edges = 0;
+    texts::utf8_edges(&mut |text| {
+        edges += 1;
+        if edges % edges_step == 0 {
+            report.text(text);
+        }
+    });
     report.group("edges of UTF-8");
-    texts::made(1, records, copies, &mut |text| report.text(text));
+    texts::made(1, records, scale.copies, &mut |text| report.text(text));
     report.group("made records and damaged copies");
     let mut rng = Rng::new(2);
     for text in texts::corpus() {
         report.text(&text);
-        texts::damaged(&mut rng, &text, real_copies, &mut |copy| report.text(copy));
+        texts::damaged(&mut rng, &text, scale.real_copies, &mut |copy| report.text(copy));
     }
     report.group("real records and damaged copies");
 }
@@ -81,7 +90,7 @@ fn compare_tokens(scale: &Scale) -> bool {
     let mut report = Report::new("tokens", tokens::compare);
     texts::sequences(texts::TOKEN_BYTES, scale.token_bytes, &mut |text| report.text(text));
     report.group("all short strings");
-    compare_shared(&mut report, scale.token_records, scale.copies, scale.real_copies);
+    compare_shared(&mut report, scale, scale.token_records, 1);
     report.close()
 }
 
@@ -97,7 +106,7 @@ fn compare_reader(scale: &Scale) -> bool {
     report.group("all short strings");
     texts::sequences(texts::WORDS, scale.words, &mut |text| report.text(text));
     report.group("all short sequences of words");
-    compare_shared(&mut report, scale.tree_records, scale.copies, scale.real_copies);
+    compare_shared(&mut report, scale, scale.tree_records, scale.edges_step);
     for text in limits::texts(scale.limits) {
         report.text(&text);
     }
@@ -162,10 +171,12 @@ fn compare_edits(scale: &Scale) -> bool {
     report.close()
 }
 
+type Subject = fn(&Scale) -> bool;
+
 /// Compares one subject, or all; true if nothing differed.
 pub fn compare(scale: &Scale, subject: Option<&str>) -> bool {
     println!("library: {}", library::NAME);
-    let subjects: [(&str, fn(&Scale) -> bool); 9] = [
+    let subjects: [(&str, Subject); 9] = [
         ("tokens", compare_tokens),
         ("places", compare_places),
         ("examples", |_| examples::hold()),
