@@ -1,4 +1,4 @@
--- Rows of what is written, and of texts that show why reading back asks what it asks: one table each, one statement each.
+-- Rows of texts that show why reading back asks what it asks, and of what is written: one table each, one statement each.
 use mathlib.Core.Path.{_≡_, refl}
 use Prim.Native.Nat.{ℕ}
 use Prim.Native.String.{String}
@@ -88,12 +88,11 @@ pub record WriteRow : Type 0 where
 abbrev writeRow : String → ℕ → String → WriteRow
 writeRow t n w = record { text = t; number = n; writing = w }
 
--- P4, P9, and the paper's writing program
+-- the paper's writing program; and points by coordinates, not by the byte codes of their letters
 abbrev pub writings : List WriteRow
 writings =
-    writeRow "(;[x])" 15 ""
-    ∷ writeRow "(;(;);)" 0 "(;(;)(;))"
-    ∷ writeRow "(;AB[bb:cc]TB[ba][aa]C[a:b\\]c])" 0 "(;AB[bb][bc][cb][cc]TB[aa][ba]C[a:b\\]c])"
+    writeRow "(;AB[bb:cc]TB[ba][aa]C[a:b\\]c])" 0 "(;AB[bb][bc][cb][cc]TB[aa][ba]C[a:b\\]c])"
+    ∷ writeRow "(;AB[Aa][aA][aa])" 0 "(;AB[aa][aA][Aa])"
     ∷ []
 
 -- what is shown of a writing
