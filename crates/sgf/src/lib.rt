@@ -12,7 +12,7 @@ ghost use Rattle.utf8.specs.Trim.{trimmed};
 ghost use Rattle.tables.specs.declared.Reading.the-variants.{Accepted, Refused};
 ghost use Rattle.parser.specs.Read.{read};
 ghost use Rattle.reader.specs.Lent.{lent};
-ghost use Rattle.sgf.specs.Shown.{TrimIs, TokenIs, ValueIs, ReadingIs, optionsOf, ReadShown};
+ghost use Rattle.sgf.specs.Shown.{TrimIs, TokenIs, ValueIs, readingShown, optionsOf, ReadShown};
 
 // Number 0 and what trimming keeps; or number 2 and the start of the first bad sequence.
 #[repr(C)]
@@ -154,7 +154,7 @@ pub struct SgfReading {
 }
 
 fn accepted(c: Counts) -> SgfReading
-    ensures { λ r. ⌜ ReadingIs (Accepted c) (r .number) (r .place) (r .trees) (r .nodes) (r .properties) (r .values) ⌝ }
+    ensures { λ r. ⌜ r ≡ readingShown (Accepted c) ⌝ }
 {
     SgfReading {
         number: 0,
@@ -168,7 +168,7 @@ fn accepted(c: Counts) -> SgfReading
 }
 
 fn refused(reason: Reason, place: usize) -> SgfReading
-    ensures { λ r. ⌜ ReadingIs (Refused reason place) (r .number) (r .place) (r .trees) (r .nodes) (r .properties) (r .values) ⌝ }
+    ensures { λ r. ⌜ r ≡ readingShown (Refused reason place) ⌝ }
 {
     SgfReading {
         number: tables::number(reason),
@@ -191,7 +191,7 @@ pub extern "C" fn sgf_read(
     properties: &mut [u32],
     values: &mut [u32],
 ) -> SgfReading
-    ensures { λ r. ⌜ ReadShown (read (optionsOf options) (now (text .entry))) (lent (now (trees .entry)) (now (nodes .entry)) (now (properties .entry)) (now (values .entry))) (lent (now (trees .exit)) (now (nodes .exit)) (now (properties .exit)) (now (values .exit))) (r .number) (r .place) (r .trees) (r .nodes) (r .properties) (r .values) ⌝ }
+    ensures { λ r. ⌜ ReadShown (read (optionsOf options) (now (text .entry))) (lent (now (trees .entry)) (now (nodes .entry)) (now (properties .entry)) (now (values .entry))) (lent (now (trees .exit)) (now (nodes .exit)) (now (properties .exit)) (now (values .exit))) r ⌝ }
 {
     let lenient = options % 2 == 1;
     let convert = options / 2 % 2 == 0;
