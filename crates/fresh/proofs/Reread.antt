@@ -24,7 +24,8 @@ use Rattle.lists.proofs.All.{all-map}
 use Rattle.lists.specs.All.{All}
 use Rattle.lists.specs.Pick.{pick}
 use Rattle.lists.specs.Same.{same}
-use Rattle.parser.proofs.Moved.{GmStays, move-tokens, moveAnswer}
+use Rattle.parser.proofs.Moved.{move-tokens, moveAnswer}
+use Rattle.parser.proofs.MovedKind.{GmStays}
 use Rattle.parser.specs.Examples.{strict}
 use Rattle.parser.specs.Kind.{GM, is}
 use Rattle.parser.specs.Read.{Answer, accepted, answer, decoded, lexing, parsed, read, refused}

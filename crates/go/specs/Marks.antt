@@ -22,6 +22,7 @@ abbrev pub inArea : Area → ℕ → Bool
 inArea Bad i = false
 inArea (Rect x y x2 y2) i = inRect x (x2 + 1) y (y2 + 1) i
 
+-- each value stands for points
 abbrev pub allGood : List Area → Bool
 allGood [] = true
 allGood (a ∷ rest) = good a && allGood rest

@@ -39,6 +39,7 @@ oneBy f [] = Invalid
 oneBy f (v ∷ []) = f v
 oneBy f (v ∷ w ∷ ws) = Invalid
 
+-- no point marked in any of the 2,704 places
 abbrev pub noMarks : List Bool
 noMarks = replicate 2704 false
 
@@ -46,9 +47,11 @@ noMarks = replicate 2704 false
 abbrev pub unmarked : Value → GoValue
 unmarked v = record { value = v; marks = noMarks }
 
+-- a valid set, with its points marked
 abbrev pub marked : List Bool → GoValue
 marked m = record { value = Points; marks = m }
 
+-- what each raw value stands for, once it is read
 abbrev pub areasOf : List (List ℕ) → List Area
 areasOf vs = map (λ v. areaOf (readValue v)) vs
 
@@ -56,6 +59,7 @@ areasOf vs = map (λ v. areaOf (readValue v)) vs
 unfoldable pub pointsOf : List (List ℕ) → GoValue
 pointsOf vs = pick (allGood (areasOf vs)) (marked (marksOf (inSome (areasOf vs)))) (unmarked Invalid)
 
+-- a move, a number of stones, a set of points, or "other"
 unfoldable pub valueBy : Shape → List (List ℕ) → GoValue
 valueBy OneMove vs = unmarked (oneBy (λ v. moveOf (readValue v)) vs)
 valueBy OneNumber vs = unmarked (oneBy (λ v. handicapOf (decimalOf (2 ^ 63 - 1) (readValue v))) vs)

@@ -1,3 +1,4 @@
+pub mod Balanced
 pub mod Cuts
 pub mod Meets
 pub mod Slices
@@ -7,4 +8,6 @@ pub mod Tokens
 pub mod Unique
 pub mod Lift
 pub mod Moved
+pub mod MovedKind
+pub mod MovedSlices
 pub mod Denoted

@@ -14,7 +14,8 @@ use Rattle.lexer.proofs.Invariant.{OfTok}
 use Rattle.lexer.specs.Move.{moveVal}
 use Rattle.lexer.specs.Token.{End, Lexed, Prop, Tok, Val, done, end, lexFrom, node, prop, start}
 use Rattle.lists.specs.All.{All}
-use Rattle.parser.proofs.Moved.{GmStays, move-tokens, moveAnswer}
+use Rattle.parser.proofs.Moved.{move-tokens, moveAnswer}
+use Rattle.parser.proofs.MovedKind.{GmStays}
 use Rattle.parser.specs.Read.{Answer, accepted, decoded, lexing, planted, read, refused}
 use Rattle.parser.specs.Split.{sliced, split, splitting}
 use Rattle.readback.proofs.Resplit.{Few, deepest, planted-written}

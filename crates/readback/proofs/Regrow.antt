@@ -10,7 +10,7 @@ use Rattle.fresh.specs.Run.{strictly}
 use Rattle.lexer.specs.Token.{Prop, Tok, Val, end, node, start}
 use Rattle.lists.specs.All.{All}
 use Rattle.lists.specs.Pick.{pick}
-use Rattle.parser.proofs.Moved.{move-kindProps, move-named}
+use Rattle.parser.proofs.MovedKind.{move-kindProps, move-named}
 use Rattle.parser.specs.Kind.{GM, Kind, is, kind, kindProps, named, props}
 use Rattle.parser.specs.Read.{Growing, growAll, growing, grown, grows, kinded, rooted}
 use Rattle.parser.specs.Walk.{Gate, Walk, shut, takes, walk, walked}

@@ -62,15 +62,18 @@ Z n = 0
 abbrev pub K : ℕ → List ℕ → List ℕ
 K n r = r
 
--- places aside, of a property, a token, a node, a tree
+-- places aside, of a property
 abbrev pub zProp : Prop → Prop
 zProp = moveProp Z Z K
 
+-- of a token
 abbrev pub zTok : Tok → Tok
 zTok = moveTok Z Z K
 
+-- of a node
 abbrev pub zNode : Node → Node
 zNode = moveNode Z Z K
 
+-- of a tree
 abbrev pub zTree : Tree → Tree
 zTree = moveTree Z Z K

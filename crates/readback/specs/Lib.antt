@@ -1,3 +1,4 @@
 pub mod Back
+pub mod Examples
 pub mod Needed
 pub mod Same

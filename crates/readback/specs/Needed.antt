@@ -1,4 +1,4 @@
--- Rows of what is written, and of texts that show why reading back asks what it asks: one table each, one statement each.
+-- Rows of texts that show why reading back asks what it asks, and of what is written: one table each, one statement each.
 use mathlib.Core.Path.{_≡_, refl}
 use Prim.Native.Nat.{ℕ}
 use Prim.Native.String.{String}
@@ -23,6 +23,7 @@ pub data Says : Type 0 where
   number : ℕ → Says
   types : List ℕ → Says
 
+-- the game type of a tree
 abbrev kindOf : Tree → ℕ
 kindOf t = t .kind
 
@@ -43,6 +44,7 @@ pub record Row : Type 0 where
   pub writing : String
   pub second : Says
 
+-- a row of the table
 abbrev row : String → Says → String → Says → Row
 row t a w b = record { text = t; first = a; writing = w; second = b }
 
@@ -61,14 +63,17 @@ pub record Shown : Type 0 where
   pub writing : List ℕ
   pub second : Says
 
+-- what reading, writing and reading again give, row by row
 abbrev right : List Row → List Shown
 right [] = []
 right (r ∷ rs) = let a = read strict (bytes (r .text)) in record { first = shown a; writing = writes a; second = shown (read strict (writes a)) } ∷ right rs
 
+-- what is wanted, row by row
 abbrev wanted : List Row → List Shown
 wanted [] = []
 wanted (r ∷ rs) = record { first = r .first; writing = bytes (r .writing); second = r .second } ∷ wanted rs
 
+-- each text is read, written and read again as its row says
 pub needed-right : right needed ≡ wanted needed
 unfolding white space readFrom readIdentifier decimalOf digitsFrom digitOf normal written goValue shapeOf valueBy
 needed-right = refl
@@ -79,15 +84,15 @@ pub record WriteRow : Type 0 where
   pub number : ℕ
   pub writing : String
 
+-- a row of the table of writings
 abbrev writeRow : String → ℕ → String → WriteRow
 writeRow t n w = record { text = t; number = n; writing = w }
 
--- P4, P9, and the paper's writing program
+-- the paper's writing program; and points by coordinates, not by the byte codes of their letters
 abbrev pub writings : List WriteRow
 writings =
-    writeRow "(;[x])" 15 ""
-    ∷ writeRow "(;(;);)" 0 "(;(;)(;))"
-    ∷ writeRow "(;AB[bb:cc]TB[ba][aa]C[a:b\\]c])" 0 "(;AB[bb][bc][cb][cc]TB[aa][ba]C[a:b\\]c])"
+    writeRow "(;AB[bb:cc]TB[ba][aa]C[a:b\\]c])" 0 "(;AB[bb][bc][cb][cc]TB[aa][ba]C[a:b\\]c])"
+    ∷ writeRow "(;AB[Aa][aA][aa])" 0 "(;AB[aa][aA][Aa])"
     ∷ []
 
 -- what is shown of a writing
@@ -95,18 +100,22 @@ pub record WriteShown : Type 0 where
   pub number : ℕ
   pub writing : List ℕ
 
+-- a reading, written into 100 bytes
 abbrev writer : Answer → WriteShown
 writer (refused r p) = record { number = numberOf r; writing = [] }
 writer (accepted ts) = let a = answerFor true 100 ts in record { number = writtenNumber a; writing = output a (writing ts) [] }
 
+-- what reading and writing give, row by row
 abbrev writesRight : List WriteRow → List WriteShown
 writesRight [] = []
 writesRight (r ∷ rs) = writer (read strict (bytes (r .text))) ∷ writesRight rs
 
+-- what is wanted, row by row
 abbrev writesWanted : List WriteRow → List WriteShown
 writesWanted [] = []
 writesWanted (r ∷ rs) = record { number = r .number; writing = bytes (r .writing) } ∷ writesWanted rs
 
+-- each text is written as its row says
 pub writings-right : writesRight writings ≡ writesWanted writings
 unfolding white space readFrom readIdentifier normal written goValue shapeOf valueBy pointsOf pointsFrom marksOf marksFrom inRect areaOf cornered letterOf letter
 writings-right = refl

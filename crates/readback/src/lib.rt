@@ -1,1 +1,1 @@
-// Strict reading of a writing gives the record again (specs/Back, proofs/BetterBack). No code.
+// Strict reading of a writing gives the record again (specs/Back, proofs/Theorem). No code.

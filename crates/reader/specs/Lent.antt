@@ -21,6 +21,7 @@ pub record Lent : Type 0 where
   pub props : List ℕ
   pub vals : List ℕ
 
+-- the four together
 abbrev pub lent : (trees nodes props vals : List ℕ) → Lent
 lent r t q w = record { trees = r; nodes = t; props = q; vals = w }
 
@@ -32,6 +33,7 @@ countsOf t = record { trees = length (t .trees); nodes = length (t .nodes); prop
 abbrev pub roomFor : Counts → (trees nodes props vals : ℕ) → Bool
 roomFor c r t q w = leb (c .trees) (r / 2) && leb (c .nodes) (t / 5) && leb (c .properties) (q / 4) && leb (c .values) (w / 2)
 
+-- so many rows are lent as the tables need
 abbrev pub roomy : Tables → Lent → Bool
 roomy t l = roomFor (countsOf t) (length (l .trees)) (length (l .nodes)) (length (l .props)) (length (l .vals))
 
@@ -39,6 +41,7 @@ roomy t l = roomFor (countsOf t) (length (l .trees)) (length (l .nodes)) (length
 abbrev pub over : List ℕ → List ℕ → List ℕ
 over rows t = rows ++ drop (length rows) t
 
+-- the rows of the record in front of what was lent
 abbrev pub stored : Tables → Lent → Lent
 stored t l = lent (over (flatTrees (t .trees)) (l .trees)) (over (flatNodes (t .nodes)) (l .nodes)) (over (flatProps (t .props)) (l .props)) (over (flatVals (t .vals)) (l .vals))
 

@@ -7,11 +7,10 @@ use Rattle.lexer.specs.declared.Step.{Step}
 use Rattle.lexer.specs.declared.Step.the-variants.{Start, End, Node, Property, Refused, Done}
 use Rattle.lexer.specs.declared.ValueStep.{ValueStep}
 use Rattle.lexer.specs.declared.ValueStep.the-variants.{Value, NoMore, Unclosed}
-use Rattle.tables.specs.declared.Reading.{Reading}
-use Rattle.tables.specs.declared.Reading.the-variants.{Accepted, Refused as Refuses}
 use Rattle.parser.specs.Read.{Answer}
-use Rattle.reader.specs.Lent.{Lent, answers}
-use Rattle.sgf.specs.Shown.{TrimIs, TokenIs, ValueIs, ReadingIs, ReadShown}
+use Rattle.reader.specs.Lent.{Lent}
+use Rattle.sgf.specs.Shown.{TrimIs, TokenIs, ValueIs, ReadShown}
+use Rattle.sgf.specs.declared.SgfReading.{SgfReading}
 
 four : {a b c d n p f l n′ p′ f′ l′ : ℕ} → (n ≡ a) × (p ≡ b) × (f ≡ c) × (l ≡ d) → (n′ ≡ a) × (p′ ≡ b) × (f′ ≡ c) × (l′ ≡ d) → (n ≡ n′) × (p ≡ p′) × (f ≡ f′) × (l ≡ l′)
 four x y = (x .0 ∙ sym (y .0), x .1 ∙ sym (y .1), x .2 ∙ sym (y .2), x .3 ∙ sym (y .3))
@@ -38,16 +37,6 @@ value-once at (Value a e x) p q = four p q
 value-once at NoMore p q = four p q
 value-once at Unclosed p q = four p q
 
-six : {a b c d e f n p t o q v n′ p′ t′ o′ q′ v′ : ℕ} → (n ≡ a) × (p ≡ b) × (t ≡ c) × (o ≡ d) × (q ≡ e) × (v ≡ f) → (n′ ≡ a) × (p′ ≡ b) × (t′ ≡ c) × (o′ ≡ d) × (q′ ≡ e) × (v′ ≡ f)
-    → (n ≡ n′) × (p ≡ p′) × (t ≡ t′) × (o ≡ o′) × (q ≡ q′) × (v ≡ v′)
-six x y = (x .0 ∙ sym (y .0), x .1 ∙ sym (y .1), x .2 ∙ sym (y .2), x .3 ∙ sym (y .3), x .4 ∙ sym (y .4), x .5 ∙ sym (y .5))
-
-reading-once : (r : Reading) {n p t o q v n′ p′ t′ o′ q′ v′ : ℕ} → ReadingIs r n p t o q v → ReadingIs r n′ p′ t′ o′ q′ v′
-    → (n ≡ n′) × (p ≡ p′) × (t ≡ t′) × (o ≡ o′) × (q ≡ q′) × (v ≡ v′)
-reading-once (Accepted c) x y = six x y
-reading-once (Refuses r s) x y = six x y
-
--- all numbers given back, and all lent tables
-pub read-once : (a : Answer) (before x y : Lent) {n p t o q v n′ p′ t′ o′ q′ v′ : ℕ} → ReadShown a before x n p t o q v → ReadShown a before y n′ p′ t′ o′ q′ v′
-    → (x ≡ y) × ((n ≡ n′) × (p ≡ p′) × (t ≡ t′) × (o ≡ o′) × (q ≡ q′) × (v ≡ v′))
-read-once a before x y p q = (p .tables ∙ sym (q .tables), reading-once (answers a before) (p .shown) (q .shown))
+-- all of the answer, and all lent tables
+pub read-once : (a : Answer) (before x y : Lent) (r s : SgfReading) → ReadShown a before x r → ReadShown a before y s → (r ≡ s) × (x ≡ y)
+read-once a before x y r s p q = (p .shown ∙ sym (q .shown), p .tables ∙ sym (q .tables))

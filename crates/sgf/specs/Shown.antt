@@ -15,6 +15,7 @@ use Rattle.tables.specs.declared.Reading.the-variants.{Accepted, Refused as Ref
 use Rattle.parser.specs.Walk.{Opts}
 use Rattle.parser.specs.Read.{Answer}
 use Rattle.reader.specs.Lent.{Lent, answers, leaves}
+use Rattle.sgf.specs.declared.SgfReading.{SgfReading}
 
 -- four numbers at once
 abbrev Four : (a b c d n p f l : ℕ) → Type 0
@@ -41,16 +42,16 @@ ValueIs at (Value a e x) k f t n = Four 1 a e x k f t n
 ValueIs at NoMore k f t n = Four 0 at at at k f t n
 ValueIs at Unclosed k f t n = Four 2 at at at k f t n
 
--- number, place, and the used rows of each table
-abbrev pub ReadingIs : Reading → (number place trees nodes properties values : ℕ) → Type 0
-ReadingIs (Accepted c) n p t d q v = (n ≡ 0) × (p ≡ 0) × (t ≡ c .trees) × (d ≡ c .nodes) × (q ≡ c .properties) × (v ≡ c .values)
-ReadingIs (Refuses r s) n p t d q v = (n ≡ numberFor r) × (p ≡ s) × (t ≡ 0) × (d ≡ 0) × (q ≡ 0) × (v ≡ 0)
+-- number, place, and the used rows of each table; what is reserved is 0
+abbrev pub readingShown : Reading → SgfReading
+readingShown (Accepted c) = record { number = 0; reserved = 0; place = 0; trees = c .trees; nodes = c .nodes; properties = c .properties; values = c .values }
+readingShown (Refuses r s) = record { number = numberFor r; reserved = 0; place = s; trees = 0; nodes = 0; properties = 0; values = 0 }
 
 -- the lowest bit: lenient; the next: identifiers are kept as they are
 abbrev pub optionsOf : ℕ → Opts
 optionsOf o = record { lenient = eqb (o % 2) 1; convert = eqb (o / 2 % 2) 0 }
 
 -- a reading, shown as numbers, and the lent tables after it
-pub record ReadShown (a : Answer) (before after : Lent) (number place trees nodes properties values : ℕ) : Type 0 where
-  pub shown : ReadingIs (answers a before) number place trees nodes properties values
+pub record ReadShown (a : Answer) (before after : Lent) (r : SgfReading) : Type 0 where
+  pub shown : r ≡ readingShown (answers a before)
   pub tables : after ≡ leaves a before

@@ -25,7 +25,7 @@ ghost use Rattle.go.specs.Value.{goValue};
 ghost use Rattle.record.specs.Ask.{refusalNumber, goAnswer};
 ghost use Rattle.values.specs.Read.{readIdentifier};
 ghost use Rattle.sgf.specs.Asked.{countsFrom, kindOf, fitsShown, spanShown, figuresShown, goShown, answerShown, DisplayShown};
-ghost use Rattle.sgf.specs.Shown.{TrimIs, TokenIs, ValueIs, ReadingIs, optionsOf, ReadShown};
+ghost use Rattle.sgf.specs.Shown.{TrimIs, TokenIs, ValueIs, readingShown, optionsOf, ReadShown};
 
 // Number 0 and what trimming keeps; or number 2 and the start of the first bad sequence.
 #[repr(C)]
@@ -167,7 +167,7 @@ pub struct SgfReading {
 }
 
 fn accepted(c: Counts) -> SgfReading
-    ensures { λ r. ⌜ ReadingIs (Accepted c) (r .number) (r .place) (r .trees) (r .nodes) (r .properties) (r .values) ⌝ }
+    ensures { λ r. ⌜ r ≡ readingShown (Accepted c) ⌝ }
 {
     SgfReading {
         number: 0,
@@ -181,7 +181,7 @@ fn accepted(c: Counts) -> SgfReading
 }
 
 fn refused(reason: Reason, place: usize) -> SgfReading
-    ensures { λ r. ⌜ ReadingIs (Refused reason place) (r .number) (r .place) (r .trees) (r .nodes) (r .properties) (r .values) ⌝ }
+    ensures { λ r. ⌜ r ≡ readingShown (Refused reason place) ⌝ }
 {
     SgfReading {
         number: tables::number(reason),
@@ -204,7 +204,7 @@ pub extern "C" fn sgf_read(
     properties: &mut [u32],
     values: &mut [u32],
 ) -> SgfReading
-    ensures { λ r. ⌜ ReadShown (read (optionsOf options) (now (text .entry))) (lent (now (trees .entry)) (now (nodes .entry)) (now (properties .entry)) (now (values .entry))) (lent (now (trees .exit)) (now (nodes .exit)) (now (properties .exit)) (now (values .exit))) (r .number) (r .place) (r .trees) (r .nodes) (r .properties) (r .values) ⌝ }
+    ensures { λ r. ⌜ ReadShown (read (optionsOf options) (now (text .entry))) (lent (now (trees .entry)) (now (nodes .entry)) (now (properties .entry)) (now (values .entry))) (lent (now (trees .exit)) (now (nodes .exit)) (now (properties .exit)) (now (values .exit))) r ⌝ }
 {
     let lenient = options % 2 == 1;
     let convert = options / 2 % 2 == 0;

@@ -8,10 +8,11 @@ use lib.ListN.{length, getD}
 use Rattle.lists.specs.Pick.{pick}
 use Rattle.tables.specs.Numbers.{none}
 
--- the parent, and the first child, in row i
+-- the parent in row i
 abbrev pub parentAt : List ℕ → ℕ → ℕ
 parentAt t i = getD t (i * 5) 0
 
+-- the first child in row i
 abbrev pub childAt : List ℕ → ℕ → ℕ
 childAt t i = getD t (i * 5 + 1) 0
 

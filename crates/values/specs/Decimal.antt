@@ -11,6 +11,7 @@ use Rattle.values.specs.declared.decimal.Number.the-variants.{Bad, Plus,
 unfoldable pub digitOf : ℕ → ℕ
 digitOf b = pick (leb 0x30 b && leb b 0x39) (b - 0x30) 10
 
+-- a number with its sign
 abbrev pub signed : Bool → ℕ → Number
 signed true n = Minus n
 signed false n = Plus n

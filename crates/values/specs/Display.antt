@@ -32,6 +32,7 @@ pub record Item : Type 0 where
   pub shows : List ℕ
   pub more : ℕ
 
+-- these bytes are shown, and n bytes more are taken
 abbrev pub item : List ℕ → ℕ → Item
 item s n = record { shows = s; more = n }
 
@@ -48,6 +49,7 @@ unfoldable pub escaped : List ℕ → Item
 escaped [] = item (0x5c ∷ []) 0
 escaped (b ∷ bs) = pick (eqb b 0xa) (removed 0xd bs) (pick (eqb b 0xd) (removed 0xa bs) (item (b ∷ []) 1))
 
+-- what is shown of the byte b with those behind it: a backslash escapes, any other byte is plain
 unfoldable pub itemOf : ℕ → List ℕ → Item
 itemOf b bs = pick (eqb b 0x5c) (escaped bs) (plain b (getD bs 0 0) (getD bs 1 0))
 

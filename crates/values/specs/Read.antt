@@ -14,6 +14,7 @@ readFrom escaped [] = []
 readFrom true (b ∷ bs) = b ∷ readFrom false bs
 readFrom false (b ∷ bs) = pick (eqb b 0x5c) (readFrom true bs) (b ∷ readFrom false bs)
 
+-- the read value of a raw one
 abbrev pub readValue : List ℕ → List ℕ
 readValue s = readFrom false s
 

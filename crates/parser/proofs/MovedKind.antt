@@ -1,0 +1,81 @@
+-- Tokens with their places moved: the same game type, where the values of a GM property stay. Assumes nothing.
+use mathlib.Core.Path.{_≡_, refl, ap, _∙_}
+use Prim.Native.Nat.{ℕ, zero, suc}
+use mathlib.Core.Bool.{Bool, true, false}
+use mathlib.Core.List.{List, [], _∷_, map}
+use lib.ListN.{drop}
+use Rattle.lexer.proofs.Invariant.{OfTok}
+use Rattle.lexer.specs.Move.{moveProp, moveTok, moveVal}
+use Rattle.lexer.specs.Token.{Prop, Tok, Val, end, node, prop, start, values}
+use Rattle.lists.specs.All.{All}
+use Rattle.lists.specs.Pick.{pick}
+use Rattle.lists.specs.Same.{same}
+use Rattle.parser.specs.Kind.{GM, kind, kindOf, kindProps, kindVals, named, props}
+use Rattle.values.specs.Read.{readValue}
+
+map-drop : {A B : Type 0} (f : A → B) (n : ℕ) (xs : List A) → drop n (map f xs) ≡ map f (drop n xs)
+map-drop f zero xs = refl
+map-drop f (suc n) [] = refl
+map-drop f (suc n) (x ∷ xs) = map-drop f n xs
+
+module _ (f g : ℕ → ℕ) (h : ℕ → List ℕ → List ℕ) where
+  abbrev F : Tok → Tok
+  F = moveTok f g h
+
+  abbrev pub Fixed : Prop → Type 0
+  Fixed p = All (λ (v : Val). h (v .from) (v .raw) ≡ v .raw) (p .vals)
+
+  abbrev pub GmStays : Prop → Type 0
+  GmStays p = same (p .name) GM ≡ true → Fixed p
+
+  move-props : (ts : List Tok) → props (map F ts) ≡ map (moveProp f g h) (props ts)
+  move-props [] = refl
+  move-props (start o ∷ ts) = refl
+  move-props (end o ∷ ts) = refl
+  move-props (node o ∷ ts) = refl
+  move-props (prop p e ∷ ts) = ap (λ (z : List Prop). moveProp f g h p ∷ z) (move-props ts)
+
+  move-pick : (b : Bool) (p : Prop) (r : List Prop) → pick b (moveProp f g h p ∷ map (moveProp f g h) r) (map (moveProp f g h) r) ≡ map (moveProp f g h) (pick b (p ∷ r) r)
+  move-pick true p r = refl
+  move-pick false p r = refl
+
+  pub move-named : (w : List ℕ) (ps : List Prop) → named w (map (moveProp f g h) ps) ≡ map (moveProp f g h) (named w ps)
+  move-named w [] = refl
+  move-named w (p ∷ ps) = rw (move-named w ps) (move-pick (same (p .name) w) p (named w ps))
+
+  named-fixed : (ps : List Prop) → All GmStays ps → All Fixed (named GM ps)
+  named-fixed [] k = tt
+  named-fixed (p ∷ ps) k = go (same (p .name) GM) refl (named-fixed ps (k .1))
+    where
+      go : (b : Bool) → same (p .name) GM ≡ b → All Fixed (named GM ps) → All Fixed (pick b (p ∷ named GM ps) (named GM ps))
+      go true e r = (k .0 e, r)
+      go false e r = r
+
+  stay-props : (ts : List Tok) → All (OfTok GmStays) ts → All GmStays (props ts)
+  stay-props [] k = tt
+  stay-props (start o ∷ ts) k = tt
+  stay-props (end o ∷ ts) k = tt
+  stay-props (node o ∷ ts) k = tt
+  stay-props (prop p e ∷ ts) k = (k .0, stay-props ts (k .1))
+
+  all-drop : (R : Tok → Type 0) (n : ℕ) (ts : List Tok) → All R ts → All R (drop n ts)
+  all-drop R zero ts k = k
+  all-drop R (suc n) [] k = tt
+  all-drop R (suc n) (t ∷ ts) k = all-drop R n ts (k .1)
+
+  move-kindVals : (vs : List Val) → All (λ (v : Val). h (v .from) (v .raw) ≡ v .raw) vs → kindVals (map (moveVal f g h) vs) ≡ kindVals vs
+  move-kindVals [] k = refl
+  move-kindVals (v ∷ []) k = ap (λ (z : List ℕ). kindOf (readValue z)) (k .0)
+  move-kindVals (v ∷ u ∷ vs) k = refl
+
+  pub move-kindProps : (ps : List Prop) → All Fixed ps → kindProps (map (moveProp f g h) ps) ≡ kindProps ps
+  move-kindProps [] k = refl
+  move-kindProps (p ∷ []) k = move-kindVals (p .vals) (k .0)
+  move-kindProps (p ∷ q ∷ ps) k = refl
+
+  pub move-kind : (ts : List Tok) → All (OfTok GmStays) ts → kind (map F ts) ≡ kind ts
+  move-kind ts k =
+      ap (λ (z : List Tok). kindProps (named GM (props z))) (map-drop F 2 ts)
+      ∙ ap (λ (z : List Prop). kindProps (named GM z)) (move-props (drop 2 ts))
+      ∙ ap kindProps (move-named GM (props (drop 2 ts)))
+      ∙ move-kindProps (named GM (props (drop 2 ts))) (named-fixed (props (drop 2 ts)) (stay-props (drop 2 ts) (all-drop (OfTok GmStays) 2 ts k)))
