@@ -1,7 +1,8 @@
 -- Answers about a record in memory as they are shown. Assumes nothing.
 use Prim.Native.Nat.{ℕ}
 use mathlib.Core.List.{List}
-use mathlib.Core.Path.{_≡_, sym, ap, ap₂, _∙_}
+use mathlib.Core.Path.{_≡_, sym, ap, ap₂, _∙_, subst}
+use lib.ListN.{take}
 use borrow.Author.Tests.{eq-eqb, ne-eqb}
 use Rattle.values.specs.declared.display.Kind.{Kind}
 use Rattle.values.specs.declared.display.Kind.the-variants.{Text, SimpleText}
@@ -9,7 +10,17 @@ use Rattle.go.specs.declared.value.GoValue.{GoValue}
 use Rattle.fit.specs.declared.Accessed.{Accessed}
 use Rattle.record.specs.Ask.{display, displayIn}
 use Rattle.record.specs.declared.Shown.{Shown}
-use Rattle.sgf.specs.Asked.{kindOf, displayShown, DisplayShown, figuresShown, goShown}
+use Rattle.tables.specs.declared.Counts.{Counts}
+use Rattle.fit.specs.Record.{rowsOf, recordOf}
+use Rattle.serialize.specs.Form.{writing, output, WriteIs}
+use Rattle.serialize.specs.declared.Written.{Written}
+use Rattle.edit.specs.Lent.{outcomeOf, Lent, EditIs}
+use Rattle.edit.specs.declared.Edited.{Edited}
+use Rattle.sgf.specs.Changed.{writingShown, WriteShown, editShown, EditShown}
+use Rattle.sgf.specs.declared.SgfCounts.{SgfCounts}
+use Rattle.sgf.specs.declared.SgfEdit.{SgfEdit}
+use Rattle.sgf.specs.declared.SgfWriting.{SgfWriting}
+use Rattle.sgf.specs.Asked.{countsFrom, kindOf, displayShown, DisplayShown, figuresShown, goShown}
 use Rattle.sgf.specs.declared.Figures.{Figures}
 use Rattle.sgf.specs.declared.SgfDisplay.{SgfDisplay}
 
@@ -32,3 +43,18 @@ display-shown {t} {a} {a′} {kind} {kind′} {out} e k x b g d =
 pub go-shown-is : (number : ℕ) (go : GoValue) {f : Figures} → f ≡ figuresShown (go .value)
     → record { number = number; kind = f .kind; x = f .x; y = f .y; handicap = f .handicap; marks = go .marks } ≡ goShown number go
 go-shown-is number go e = ap (λ (f : Figures). record { number = number; kind = f .kind; x = f .x; y = f .y; handicap = f .handicap; marks = go .marks }) e
+
+-- what is shown of a writing's answer, with the counts that a caller gives
+pub write-shown : {t : List ℕ} {used : ℕ} {c c′ : Counts} {tr nd pr vl out out′ : List ℕ} {r s : Written} {w : SgfWriting} → c ≡ c′ → WriteIs t used c tr nd pr vl out out′ r → r ≡ s → w ≡ writingShown s
+    → WriteShown t used c′ tr nd pr vl out out′ w
+write-shown {t} {used} {c} {c′} {tr} {nd} {pr} {vl} {out} {out′} {r} {s} {w} e x g h =
+    subst (λ (z : Counts). WriteShown t used z tr nd pr vl out out′ w) e
+    (record { is = h ∙ ap writingShown (sym g ∙ x .is); bytes = x .bytes ∙ ap (λ (z : Written). output z (writing (recordOf (take used t) (rowsOf c tr nd pr vl))) out) (x .is) })
+
+-- of an edit's
+pub edit-shown : {b : List ℕ} {used : ℕ} {c : Counts} {counts : SgfCounts} {tr nd pr vl : List ℕ} {k : ℕ} {new : List ℕ} {before after : Lent} {r s : Edited} {w : SgfEdit} → c ≡ countsFrom counts
+    → EditIs (outcomeOf b used c tr nd pr vl k new) used before after r → r ≡ s → w ≡ editShown counts s
+    → EditShown (outcomeOf b used (countsFrom counts) tr nd pr vl k new) used counts before after w
+edit-shown {b} {used} {c} {counts} {tr} {nd} {pr} {vl} {k} {new} {before} {after} {r} {s} {w} e x g h =
+    subst (λ (z : Counts). EditShown (outcomeOf b used z tr nd pr vl k new) used counts before after w) e
+    (record { is = h ∙ ap (editShown counts) (sym g ∙ x .answer); memory = x .memory })

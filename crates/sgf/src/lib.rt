@@ -1,4 +1,5 @@
 // The exported library: one C function an operation. Each only calls a proved operation and shows its answer as numbers; include/sgf.h says what a caller sees.
+use edit::Edited;
 use fit::Accessed;
 use go::value::GoValue;
 use go::value::Value;
@@ -6,6 +7,7 @@ use lexer::Step;
 use lexer::ValueStep;
 use record::Refusal;
 use record::Shown;
+use serialize::Written;
 use tables::Counts;
 use tables::Reading;
 use tables::Reason;
@@ -18,12 +20,16 @@ ghost use Rattle.utf8.specs.Trim.{trimmed};
 ghost use Rattle.tables.specs.declared.Reading.the-variants.{Accepted, Refused};
 ghost use Rattle.parser.specs.Read.{read};
 ghost use Rattle.reader.specs.Lent.{lent};
+ghost use Rattle.edit.specs.declared.Edited.the-variants.{Changed, Refused as Refuses};
+ghost use Rattle.edit.specs.Lent.{outcomeOf};
+ghost use Rattle.edit.specs.Lent.{lent as held};
 ghost use Rattle.fit.specs.Fit.{Fit};
 ghost use Rattle.fit.specs.Access.{accessed};
 ghost use Rattle.go.specs.Rows.{valuesAt};
 ghost use Rattle.go.specs.Value.{goValue};
 ghost use Rattle.record.specs.Ask.{refusalNumber, goAnswer};
 ghost use Rattle.values.specs.Read.{readIdentifier};
+ghost use Rattle.sgf.specs.Changed.{editShown, WriteShown, EditShown};
 ghost use Rattle.sgf.specs.Asked.{countsFrom, kindOf, fitsShown, spanShown, figuresShown, goShown, answerShown, DisplayShown};
 ghost use Rattle.sgf.specs.Shown.{TrimIs, TokenIs, ValueIs, readingShown, optionsOf, ReadShown};
 
@@ -499,4 +505,106 @@ pub extern "C" fn sgf_go_property(
         0,
         go::value::go_value(game_type, identifier, text, values, first, count),
     )
+}
+
+// Number 0 and the number of bytes written; or the number of a refusal and 0.
+#[repr(C)]
+pub struct SgfWriting {
+    pub number: u32,
+    pub reserved: u32,
+    pub length: usize,
+}
+
+// Writes the record into the output, or changes nothing: 19, 15, 14.
+#[no_mangle]
+pub extern "C" fn sgf_write(
+    text: &[u8],
+    used: usize,
+    counts: SgfCounts,
+    trees: &[u32],
+    nodes: &[u32],
+    properties: &[u32],
+    values: &[u32],
+    out: &mut [u8],
+) -> SgfWriting
+    ensures { λ r. ⌜ WriteShown (now (text .entry)) used (countsFrom counts) (now (trees .entry)) (now (nodes .entry)) (now (properties .entry)) (now (values .entry)) (now (out .entry)) (now (out .exit)) r ⌝ }
+{
+    let c = counts_from(counts);
+    match serialize::write(text, used, c, trees, nodes, properties, values, out) {
+        Written::Wrote(n) => SgfWriting {
+            number: 0,
+            reserved: 0,
+            length: n,
+        },
+        Written::Refused(reason) => SgfWriting {
+            number: tables::number(reason),
+            reserved: 0,
+            length: 0,
+        },
+    }
+}
+
+// Number 0, the new used length and the counts; or the number of a refusal and its place, all else 0.
+#[repr(C)]
+pub struct SgfEdit {
+    pub number: u32,
+    pub reserved: u32,
+    pub place: usize,
+    pub used: usize,
+    pub trees: usize,
+    pub nodes: usize,
+    pub properties: usize,
+    pub values: usize,
+}
+
+fn changed(used: usize, c: SgfCounts) -> SgfEdit
+    ensures { λ r. ⌜ r ≡ editShown c (Changed used) ⌝ }
+{
+    SgfEdit {
+        number: 0,
+        reserved: 0,
+        place: 0,
+        used: used,
+        trees: c.trees,
+        nodes: c.nodes,
+        properties: c.properties,
+        values: c.values,
+    }
+}
+
+fn unchanged(reason: Reason, place: usize, c: SgfCounts) -> SgfEdit
+    ensures { λ r. ⌜ r ≡ editShown c (Refuses reason place) ⌝ }
+{
+    SgfEdit {
+        number: tables::number(reason),
+        reserved: 0,
+        place: place,
+        used: 0,
+        trees: 0,
+        nodes: 0,
+        properties: 0,
+        values: 0,
+    }
+}
+
+// Replaces value k by new bytes in place, or changes nothing: 19, 16, 17, 2, 18, 1, 14.
+#[no_mangle]
+pub extern "C" fn sgf_edit(
+    text: &mut [u8],
+    used: usize,
+    counts: SgfCounts,
+    trees: &[u32],
+    nodes: &[u32],
+    properties: &mut [u32],
+    values: &mut [u32],
+    k: usize,
+    replacement: &[u8],
+) -> SgfEdit
+    ensures { λ r. ⌜ EditShown (outcomeOf (now (text .entry)) used (countsFrom counts) (now (trees .entry)) (now (nodes .entry)) (now (properties .entry)) (now (values .entry)) k (now (replacement .entry))) used counts (held (now (text .entry)) (now (properties .entry)) (now (values .entry))) (held (now (text .exit)) (now (properties .exit)) (now (values .exit))) r ⌝ }
+{
+    let c = counts_from(counts);
+    match edit::edit(text, used, c, trees, nodes, properties, values, k, replacement) {
+        Edited::Changed(n) => changed(n, counts),
+        Edited::Refused(reason, place) => unchanged(reason, place, counts),
+    }
 }

@@ -1,0 +1,39 @@
+-- Demand 1, total: any bytes, options and lent tables get an answer, and a refusal changes no lent byte or row. Assumes nothing.
+-- That every input has an answer, and which, is each contract itself, which has no premise: reader's ReadIs, serialize's WriteIs, edit's EditIs,
+-- record's DisplayIs and goAnswer, fit's Fit and accessed. Where the order of numbers is said: parser/specs/Read, serialize/specs/Form.answer, edit/specs/Edit.outcome.
+use Prim.Native.Nat.{ℕ}
+use mathlib.Core.List.{List}
+use mathlib.Core.Path.{_≡_}
+use Rattle.values.specs.declared.display.Kind.{Kind}
+use Rattle.tables.specs.declared.Counts.{Counts}
+use Rattle.tables.specs.declared.Reading.the-variants.{Refused}
+use Rattle.tables.specs.declared.Reason.{Reason}
+use Rattle.fit.specs.Access.{accessed}
+use Rattle.parser.specs.Read.{read}
+use Rattle.parser.specs.Walk.{Opts}
+use Rattle.reader.specs.Lent.{Lent, ReadIs}
+use Rattle.record.specs.Ask.{DisplayIs}
+use Rattle.record.specs.declared.Shown.the-variants.{NotShown}
+use Rattle.serialize.specs.Form.{WriteIs}
+use Rattle.serialize.specs.declared.Written.the-variants as written
+use Rattle.edit.specs.Edit.{Outcome}
+use Rattle.edit.specs.Lent as edit
+use Rattle.edit.specs.declared.Edited.the-variants as edited
+use Rattle.demands.proofs.Refusals.{reading-leaves, edit-leaves, display-leaves}
+
+-- a refused reading leaves every number of the four tables
+pub reading-refused : (op : Opts) (t : List ℕ) (before after : Lent) (r : Reason) (p : ℕ) → ReadIs (read op t) before after (Refused r p) → after ≡ before
+reading-refused op t before after r p x = reading-leaves (read op t) before after r p (x .answer) (x .tables)
+
+-- a refused edit leaves every byte of the buffer and every number of the tables
+pub edit-refused : (o : Outcome) (used : ℕ) (before after : edit.Lent) (r : Reason) (p : ℕ) → edit.EditIs o used before after (edited.Refused r p) → after ≡ before
+edit-refused o used before after r p x = edit-leaves o used before after r p (x .answer) (x .memory)
+
+module _ (t : List ℕ) (used : ℕ) (c : Counts) (tr nd pr vl out out′ : List ℕ) (r : Reason) where
+  -- a refused writing leaves every byte of the output
+  pub writing-refused : WriteIs t used c tr nd pr vl out out′ (written.Refused r) → out′ ≡ out
+  writing-refused x = x .bytes
+
+  -- a refused display too
+  pub display-refused : (k : ℕ) (kind : Kind) → DisplayIs t used c tr nd pr vl k kind out out′ (NotShown r) → out′ ≡ out
+  display-refused k kind x = display-leaves t (accessed t used c tr nd pr vl k) kind out out′ r (x .is) (x .bytes)

@@ -1,0 +1,36 @@
+-- Demand 3, editable: after any run of edits, refused ones between them, text and tables are what a fresh strict reading of the new bytes gives. Assumes nothing.
+use Prim.Native.Nat.{ℕ}
+use mathlib.Core.Bool.{Bool}
+use mathlib.Core.List.{List}
+use mathlib.Core.Path.{_≡_}
+use lib.ListN.{take}
+use Rattle.tables.specs.Rows.{tables}
+use Rattle.tables.specs.declared.Counts.{Counts}
+use Rattle.tables.specs.declared.Reading.the-variants.{Accepted}
+use Rattle.fit.specs.Record.{rowsOf, countsOf}
+use Rattle.parser.specs.Read.{read}
+use Rattle.reader.specs.Lent.{Lent, lent, ReadIs}
+use Rattle.fresh.specs.Calls.{Memory, heldIn, Calls}
+use Rattle.fresh.specs.Run.{strictly, Order, Fresh}
+use Rattle.fresh.proofs.OnCode as code
+use Rattle.demands.proofs.Rereadings.{read-fresh, reread}
+
+module _ (c : Bool) (s : Memory) where
+  -- memory that holds a strict reading of the used text, as the reader leaves it
+  pub reading-fresh : (before : Lent) → ReadIs (read (strictly c) (heldIn s .text)) before (lent (s .trees) (s .nodes) (s .rest .properties) (s .rest .values)) (Accepted (s .counts))
+      → Fresh (strictly c) (heldIn s)
+  reading-fresh = read-fresh c s
+
+  module _ (f : Fresh (strictly c) (heldIn s)) where
+    -- stays such memory under calls of the edit, whatever their answers
+    pub calls-fresh : (xs : List Order) (s′ : Memory) → Calls s xs s′ → Fresh (strictly c) (heldIn s′)
+    calls-fresh xs s′ = code.calls-fresh c s s′ xs f
+
+    -- the counts that the caller keeps are the lengths of its tables
+    pub counts-fresh : s .counts ≡ countsOf (tables (f .trees))
+    counts-fresh = code.counts-fresh c s f
+
+    -- so an accepted strict reading of the new bytes, into any tables, gives the rows that are in memory
+    pub fresh-reading : (xs : List Order) (s′ : Memory) → Calls s xs s′ → (before after : Lent) (k : Counts)
+        → ReadIs (read (strictly c) (heldIn s′ .text)) before after (Accepted k) → rowsOf k (after .trees) (after .nodes) (after .props) (after .vals) ≡ heldIn s′ .rows
+    fresh-reading xs s′ h before after k x = reread c s′ (code.calls-fresh c s s′ xs f h) before after k x

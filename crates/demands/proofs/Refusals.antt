@@ -1,0 +1,53 @@
+-- What a refusal leaves, from each contract. Assumes nothing.
+use Prim.Native.Nat.{ℕ}
+use mathlib.Core.Bool.{Bool, true, false}
+use mathlib.Core.List.{List, _++_}
+use mathlib.Core.Path.{_≡_, refl}
+use native.Mathlib.Omega.{arith}
+use lib.Dec.{leb}
+use lib.ListN.{length, drop}
+use Rattle.lists.specs.Pick.{pick}
+use Rattle.values.specs.Display.{shown, displayed, displayedIn}
+use Rattle.values.specs.Read.{readValue}
+use Rattle.values.specs.declared.display.Kind.{Kind}
+use Rattle.values.specs.declared.display.Displayed.the-variants.{Length, NoRoom}
+use Rattle.tables.specs.Rows.{tables}
+use Rattle.tables.specs.declared.Reading.the-variants.{Accepted, Refused}
+use Rattle.tables.specs.declared.Reason.{Reason}
+use Rattle.tables.specs.declared.Reason.the-variants as reason
+use Rattle.fit.specs.declared.Accessed.{Accessed}
+use Rattle.fit.specs.declared.Accessed.the-variants as access
+use Rattle.parser.specs.Read.{Answer, refused, accepted}
+use Rattle.reader.specs.Lent.{Lent, countsOf, roomy, stored, answers, leaves}
+use Rattle.record.specs.Ask.{shownFor, shownAs, shownIn, display, displayIn}
+use Rattle.record.specs.declared.Shown.the-variants.{NotShown}
+use Rattle.edit.specs.Edit.{Outcome, refuses, gives}
+use Rattle.edit.specs.Lent as lent
+use Rattle.edit.specs.declared.Edited.the-variants as edited
+use lib.Seq.{slice}
+
+never {ℓ} : {X : Type ℓ} → _≡_ {A = ℕ} 0 1 → X
+never e = absurd (omega (arith, e))
+
+pub reading-leaves : (a : Answer) (before after : Lent) (r : Reason) (p : ℕ) → Refused r p ≡ answers a before → after ≡ leaves a before → after ≡ before
+reading-leaves (refused s q) before after r p e l = l
+reading-leaves (accepted ts) before after r p e l = go (roomy (tables ts) before) e l
+  where
+    go : (b : Bool) → Refused r p ≡ pick b (Accepted (countsOf (tables ts))) (Refused reason.NoRoom 0) → after ≡ pick b (stored (tables ts) before) before → after ≡ before
+    go true e l = never cc
+    go false e l = l
+
+pub edit-leaves : (o : Outcome) (used : ℕ) (before after : lent.Lent) (r : Reason) (p : ℕ) → edited.Refused r p ≡ lent.answers o → after ≡ lent.leaves o used before → after ≡ before
+edit-leaves (refuses s q) used before after r p e l = l
+edit-leaves (gives t T) used before after r p e l = never cc
+
+pub display-leaves : (t : List ℕ) (a : Accessed) (kind : Kind) (out out′ : List ℕ) (r : Reason) → NotShown r ≡ display t a kind out → out′ ≡ displayIn t a kind out → out′ ≡ out
+unfolding displayed displayedIn
+display-leaves t (access.Part x y) kind out out′ r e l = go (leb (length w) (length out)) e l
+  where
+    w : List ℕ
+    w = shown kind (readValue (slice x y t))
+    go : (b : Bool) → NotShown r ≡ shownFor (pick b (Length (length w)) NoRoom) → out′ ≡ pick b (w ++ drop (length w) out) out → out′ ≡ out
+    go true e l = never cc
+    go false e l = l
+display-leaves t (access.Refused s) kind out out′ r e l = l

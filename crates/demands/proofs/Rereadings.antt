@@ -1,0 +1,30 @@
+-- Memory that a reading left, and a second reading of it. Assumes nothing.
+use Prim.Native.Nat.{ℕ}
+use mathlib.Core.Bool.{Bool}
+use mathlib.Core.List.{List}
+use mathlib.Core.Path.{_≡_, sym, ap, _∙_}
+use Rattle.tables.specs.Record.{Tree}
+use Rattle.tables.specs.Rows.{tables}
+use Rattle.tables.specs.declared.Counts.{Counts}
+use Rattle.tables.specs.declared.Reading.the-variants.{Accepted}
+use Rattle.fit.specs.Record.{rowsOf}
+use Rattle.parser.specs.Read.{accepted, read}
+use Rattle.reader.specs.Lent.{Lent, lent, ReadIs}
+use Rattle.meet.proofs.Lent.{read-rows}
+use Rattle.fresh.specs.Calls.{Memory, heldIn}
+use Rattle.fresh.specs.Run.{strictly, Fresh}
+
+pub read-fresh : (c : Bool) (s : Memory) (before : Lent)
+    → ReadIs (read (strictly c) (heldIn s .text)) before (lent (s .trees) (s .nodes) (s .rest .properties) (s .rest .values)) (Accepted (s .counts)) → Fresh (strictly c) (heldIn s)
+read-fresh c s before x =
+    let r = read-rows (strictly c) (heldIn s .text) before (lent (s .trees) (s .nodes) (s .rest .properties) (s .rest .values)) (s .counts) x in
+    record { trees = r .0; reads = r .1; same-rows = r .2 }
+
+trees-once : {ts us : List Tree} → accepted ts ≡ accepted us → ts ≡ us
+trees-once e = cc
+
+pub reread : (c : Bool) (s : Memory) → Fresh (strictly c) (heldIn s) → (before after : Lent) (k : Counts) → ReadIs (read (strictly c) (heldIn s .text)) before after (Accepted k)
+    → rowsOf k (after .trees) (after .nodes) (after .props) (after .vals) ≡ heldIn s .rows
+reread c s f before after k x =
+    let r = read-rows (strictly c) (heldIn s .text) before after k x in
+    r .2 ∙ ap tables (trees-once (sym (r .1) ∙ f .reads)) ∙ sym (f .same-rows)
