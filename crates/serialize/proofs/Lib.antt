@@ -6,6 +6,7 @@ pub mod Joined
 pub mod Linked
 pub mod OpenPath
 pub mod PropTexts
+pub mod Room
 pub mod Siblings
 pub mod TreeSlices
 pub mod TreeWalk

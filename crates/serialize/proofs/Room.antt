@@ -1,0 +1,30 @@
+-- What the writer wrote lies in the bytes lent. Assumes nothing.
+use Prim.Native.Nat.{ℕ, _≤_}
+use mathlib.Core.Bool.{Bool, true, false}
+use mathlib.Core.List.{List, _++_}
+use mathlib.Core.Path.{_≡_, sym, ap, _∙_}
+use native.Mathlib.Omega.{arith}
+use lib.Dec.{ltb}
+use lib.ListN.{length, take, drop, length-append}
+use Rattle.tables.specs.Record.{allNodes, allProps}
+use Rattle.tables.specs.declared.Counts.{Counts}
+use Rattle.fit.specs.Fit.{Fit}
+use Rattle.fit.specs.Record.{rowsOf, recordOf}
+use Rattle.serialize.specs.Form.{writing, answer, output, WriteIs}
+use Rattle.serialize.specs.Write.{nameless}
+use Rattle.serialize.specs.declared.Written.{Written}
+use Rattle.serialize.specs.declared.Written.the-variants.{Wrote}
+
+answer-length : (f b s : Bool) (n : ℕ) (w : List ℕ) → Wrote n ≡ answer f b s w → n ≡ length w
+answer-length false b s n w h = let z : _≡_ {A = ℕ} 0 1 = cc in absurd (omega arith)
+answer-length true true s n w h = let z : _≡_ {A = ℕ} 0 1 = cc in absurd (omega arith)
+answer-length true false true n w h = let z : _≡_ {A = ℕ} 0 1 = cc in absurd (omega arith)
+answer-length true false false n w h = cc
+
+module _ (t : List ℕ) (used : ℕ) (c : Counts) (tr nd pr vl out out′ : List ℕ) (n : ℕ) where
+  pub write-room : {r : Written} → WriteIs t used c tr nd pr vl out out′ r → r ≡ Wrote n → n ≤ length out′
+  write-room x e =
+      let ts = recordOf (take used t) (rowsOf c tr nd pr vl) in
+      let l = answer-length (Fit t used c tr nd pr vl) (nameless (allProps (allNodes ts))) (ltb (length out) (length (writing ts))) n (writing ts) (sym e ∙ x .is) in
+      let b : length out′ ≡ length (writing ts ++ drop n out) = ap length (x .bytes ∙ ap (λ (r : Written). output r (writing ts) out) e) in
+      omega (arith, l, b, length-append (writing ts) (drop n out))
