@@ -1,0 +1,33 @@
+-- `edit_cases::line_end` meets its contract. Assumes nothing.
+use borrow.Author.Needs.{needs}
+use lib.ListN.{length}
+use Prim.Native.Nat.{_-_, _≤_}
+use Rattle.edit_cases.proofs.line_end.Statement.{statement}
+use Rattle.edit_cases.proofs.line_end.Tie as tie
+
+abbrev Inv-loop : tie.InvT-loop
+Inv-loop s at i₀ i = (at ≤ i) × (i ≤ length s)
+
+abbrev μ-loop : tie.MeasureT-loop
+μ-loop s at i₀ i = length s - i
+
+-- src/main.rt:194:5
+-- src/main.rt:195:12
+-- src/main.rt:198:9
+-- src/main.rt:194:5
+-- src/main.rt:194:5
+-- src/main.rt:189:1
+-- src/main.rt:189:1
+pub line-end-spec : {M : Type 1} → statement M
+line-end-spec =
+    tie.close
+    (tie.spec
+    Inv-loop
+    μ-loop
+    (λ c. search needs)
+    (λ c. search needs)
+    (λ c. search needs)
+    (λ c. search needs)
+    (λ c. search needs)
+    (λ c. search needs)
+    (λ c. search needs))

@@ -1,0 +1,41 @@
+-- `edit_cases::number_at` meets its contract. Assumes nothing.
+use borrow.Author.Needs.{needs}
+use lib.ListN.{length}
+use Prim.Native.Nat.{_-_, _≤_}
+use Rattle.edit_cases.proofs.number_at.Statement.{statement}
+use Rattle.edit_cases.proofs.number_at.Tie as tie
+
+abbrev Inv-loop : tie.InvT-loop
+Inv-loop line from value₀ i₀ value i = value ≤ 999999
+
+abbrev μ-loop : tie.MeasureT-loop
+μ-loop line from value₀ i₀ value i = length line - i
+
+-- src/main.rt:147:5
+-- src/main.rt:148:30
+-- src/main.rt:148:13
+-- src/main.rt:150:13
+-- src/main.rt:153:13
+-- src/main.rt:155:17
+-- src/main.rt:155:17
+-- src/main.rt:156:9
+-- src/main.rt:147:5
+-- src/main.rt:147:5
+-- src/main.rt:144:1
+pub number-at-spec : {M : Type 1} → statement M
+number-at-spec =
+    tie.close
+    (tie.spec
+    Inv-loop
+    μ-loop
+    (λ c. search needs)
+    (λ c. search needs)
+    (λ c κs. search needs)
+    (λ c. search needs)
+    (λ c. search needs)
+    (λ c. search needs)
+    (λ c. search needs)
+    (λ c. search needs)
+    (λ c. search needs)
+    (λ c. search needs)
+    (λ c. search needs))
