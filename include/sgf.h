@@ -198,9 +198,9 @@ typedef struct {
     size_t place, used, trees, nodes, properties, values;
 } SgfEdit;
 
-/* Replaces value k by new bytes. Text and tables are then what a fresh strict reading of the new text would give.
- * Writes the text from the value on and moves the rows behind it; where the text became shorter, the bytes between
- * the new and the old used length become 0. Numbers: 19, 16, 17, 2 (place: in the new value), 18, 1, 14 (the new
+/* Replaces value k by new bytes. Tables that fit stay fitting, and those of a strict reading, after any run of edits,
+ * are what a fresh strict reading of the new text gives. Writes the text from the value on and moves the rows behind
+ * it; where the text became shorter, the bytes between the new and the old used length become 0. Numbers: 19, 16, 17, 2 (place: in the new value), 18, 1, 14 (the new
  * used length exceeds text_len). After a refusal go on with the used length and counts from before. */
 SgfEdit sgf_edit(uint8_t *text, size_t text_len, size_t used, SgfCounts counts,
                  const uint32_t *trees, size_t trees_len, const uint32_t *nodes, size_t nodes_len,
