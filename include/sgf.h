@@ -102,7 +102,7 @@ typedef struct {
     size_t trees, nodes, properties, values;
 } SgfCounts;
 
-/* Number 0 and the used rows of each table; or the number of a refusal and its place. `reserved` is 0 in every answer. */
+/* Number 0 and the used rows of each table; or the number of a refusal and its place. `reserved` is always 0. */
 typedef struct {
     uint32_t number, reserved;
     size_t place, trees, nodes, properties, values;
@@ -198,10 +198,11 @@ typedef struct {
     size_t place, used, trees, nodes, properties, values;
 } SgfEdit;
 
-/* Replaces value k by new bytes. Text and tables are then what a fresh strict reading of the new text would give.
- * Writes the text from the value on and moves the rows behind it; where the text became shorter, the bytes between
- * the new and the old used length become 0. Numbers: 19, 16, 17, 2 (place: in the new value), 18, 1, 14 (the new
- * used length exceeds text_len). After a refusal go on with the used length and counts from before. */
+/* Replaces value k by new bytes. Tables that fit stay fitting, and those of a strict reading, after any run of edits,
+ * are what a fresh strict reading of the new text gives. Writes the text from the value on and moves the rows behind
+ * it; where the text became shorter, the bytes between the new and the old used length become 0. Numbers: 19, 16, 17,
+ * 2 (place: in the new value), 18, 1, 14 (the new used length exceeds text_len). After a refusal go on with the used
+ * length and counts from before. */
 SgfEdit sgf_edit(uint8_t *text, size_t text_len, size_t used, SgfCounts counts,
                  const uint32_t *trees, size_t trees_len, const uint32_t *nodes, size_t nodes_len,
                  uint32_t *properties, size_t properties_len, uint32_t *values, size_t values_len,

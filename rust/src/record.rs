@@ -152,7 +152,8 @@ impl<'t> Record<'t> {
 
     /// Replaces the raw bytes of a value; [`escape`](crate::escape) makes them from plain text.
     ///
-    /// The record is then what a reading of the new text would give; numbers of values stay. A refusal changes nothing.
+    /// A record that was read strictly is then what a strict reading of the new text gives. Numbers of values stay. A refusal
+    /// changes nothing.
     ///
     /// ```
     /// let mut record = ekimorepa::parse("(;C[ab];B[cd])")?;
