@@ -47,6 +47,7 @@ display-leaves t (access.Part x y) kind out out′ r e l = go (leb (length w) (l
   where
     w : List ℕ
     w = shown kind (readValue (slice x y t))
+
     go : (b : Bool) → NotShown r ≡ shownFor (pick b (Length (length w)) NoRoom) → out′ ≡ pick b (w ++ drop (length w) out) out → out′ ≡ out
     go true e l = never cc
     go false e l = l

@@ -603,7 +603,17 @@ pub extern "C" fn sgf_edit(
     ensures { λ r. ⌜ EditShown (outcomeOf (now (text .entry)) used (countsFrom counts) (now (trees .entry)) (now (nodes .entry)) (now (properties .entry)) (now (values .entry)) k (now (replacement .entry))) used counts (held (now (text .entry)) (now (properties .entry)) (now (values .entry))) (held (now (text .exit)) (now (properties .exit)) (now (values .exit))) r ⌝ }
 {
     let c = counts_from(counts);
-    match edit::edit(text, used, c, trees, nodes, properties, values, k, replacement) {
+    match edit::edit(
+        text,
+        used,
+        c,
+        trees,
+        nodes,
+        properties,
+        values,
+        k,
+        replacement,
+    ) {
         Edited::Changed(n) => changed(n, counts),
         Edited::Refused(reason, place) => unchanged(reason, place, counts),
     }
