@@ -384,6 +384,19 @@ pub struct SgfGoValue {
     pub marks: [bool; 2704],
 }
 
+// The kinds of Go values.
+const OTHER: u32 = 0;
+
+const INVALID: u32 = 1;
+
+const PASS: u32 = 2;
+
+const MOVE: u32 = 3;
+
+const HANDICAP: u32 = 4;
+
+const POINTS: u32 = 5;
+
 // The numbers of a Go value beside its marks.
 struct Figures {
     kind: u32,
@@ -397,37 +410,37 @@ fn figures_of(value: Value) -> Figures
 {
     match value {
         Value::Other => Figures {
-            kind: 0,
+            kind: OTHER,
             x: 0,
             y: 0,
             handicap: 0,
         },
         Value::Invalid => Figures {
-            kind: 1,
+            kind: INVALID,
             x: 0,
             y: 0,
             handicap: 0,
         },
         Value::Pass => Figures {
-            kind: 2,
+            kind: PASS,
             x: 0,
             y: 0,
             handicap: 0,
         },
         Value::Move(a, b) => Figures {
-            kind: 3,
+            kind: MOVE,
             x: a as u32,
             y: b as u32,
             handicap: 0,
         },
         Value::Handicap(n) => Figures {
-            kind: 4,
+            kind: HANDICAP,
             x: 0,
             y: 0,
             handicap: n,
         },
         Value::Points => Figures {
-            kind: 5,
+            kind: POINTS,
             x: 0,
             y: 0,
             handicap: 0,
