@@ -31,9 +31,13 @@ pub fn past_short(s: &[u8], from: usize) -> usize
     requires { ⌜ from ≤ length (now s) ⌝ }
     ensures { λ r. ⌜ LeadsTo (now (s .entry)) from r ⌝ }
 {
+    let mut stop = s.len();
+    if 16 < stop - from {
+        stop = from + 16;
+    }
     let mut i = from;
-    while i < s.len() {
-        if (16 <= i - from) | !is_plain(s[i]) {
+    while i < stop {
+        if !is_plain(s[i]) {
             return i;
         }
         i += 1;
