@@ -11,6 +11,13 @@ struct Used {
     counts: Counts,
 }
 
+fn used_of(text: usize, counts: Counts) -> Used {
+    Used {
+        text: text,
+        counts: counts,
+    }
+}
+
 fn say_refused(number: u32, place: usize) {
     io::write_all(1, b"refused ");
     io::print_decimal(1, number as u64);
@@ -112,10 +119,7 @@ fn on_text(
             nothing()
         }
         Reading::Accepted(counts) => {
-            let used = Used {
-                text: n,
-                counts: counts,
-            };
+            let used = used_of(n, counts);
             say_record(text, used, properties, values);
             used
         }
@@ -200,10 +204,7 @@ fn on_edit(
             used
         }
         Edited::Changed(n) => {
-            let now = Used {
-                text: n,
-                counts: counts,
-            };
+            let now = used_of(n, counts);
             say_record(text, now, properties, values);
             now
         }

@@ -6,31 +6,32 @@ use borrow.Author.Needs.{needs}
 use Rattle.edit_cases.proofs.on_text.Statement.{statement}
 use Rattle.edit_cases.proofs.on_text.Tie as tie
 
--- src/main.rt:108:9
--- src/main.rt:109:31
--- src/main.rt:109:31
+-- src/main.rt:115:9
+-- src/main.rt:116:31
+-- src/main.rt:116:31
 slice-aggregate-read-strict : tie.Need-slice-aggregate-read-strict
 slice-aggregate-read-strict c = sym (length-take-le _ _ (omega arith))
 
--- src/main.rt:109:11
--- src/main.rt:110:26
--- src/main.rt:111:25
--- src/main.rt:111:13
--- src/main.rt:112:13
--- src/main.rt:114:27
+-- src/main.rt:116:11
+-- src/main.rt:117:26
+-- src/main.rt:118:25
+-- src/main.rt:118:13
 -- src/main.rt:119:13
--- src/main.rt:100:1
--- src/main.rt:100:1
--- src/main.rt:100:1
--- src/main.rt:100:1
--- src/main.rt:100:1
--- src/main.rt:100:1
--- src/main.rt:100:1
--- src/main.rt:100:1
--- src/main.rt:100:1
--- src/main.rt:100:1
--- src/main.rt:100:1
--- src/main.rt:100:1
+-- src/main.rt:121:27
+-- src/main.rt:122:17
+-- src/main.rt:123:13
+-- src/main.rt:107:1
+-- src/main.rt:107:1
+-- src/main.rt:107:1
+-- src/main.rt:107:1
+-- src/main.rt:107:1
+-- src/main.rt:107:1
+-- src/main.rt:107:1
+-- src/main.rt:107:1
+-- src/main.rt:107:1
+-- src/main.rt:107:1
+-- src/main.rt:107:1
+-- src/main.rt:107:1
 pub on-text-spec : {M : Type 1} → statement M
 on-text-spec =
     tie.close
@@ -44,6 +45,7 @@ on-text-spec =
     (λ c κs. search needs)
     (λ c κs. search needs)
     (λ c. search needs)
+    (λ c κs. search needs)
     (λ c κs. search needs)
     (λ c. search needs)
     (λ c. search needs)
