@@ -1,9 +1,9 @@
--- `edit_cases::number_at` meets its contract. Assumes nothing.
+-- `line::number_at` meets its contract. Assumes nothing.
 use borrow.Author.Needs.{needs}
 use lib.ListN.{length}
 use Prim.Native.Nat.{_-_, _≤_}
-use Rattle.edit_cases.proofs.number_at.Statement.{statement}
-use Rattle.edit_cases.proofs.number_at.Tie as tie
+use Rattle.edit_cases.proofs.line.number_at.Statement.{statement}
+use Rattle.edit_cases.proofs.line.number_at.Tie as tie
 
 abbrev Inv-loop : tie.InvT-loop
 Inv-loop line from value₀ i₀ value i = value ≤ 999999

@@ -1,9 +1,9 @@
--- `edit_cases::say_rows` meets its contract. Assumes nothing.
+-- `say::say_rows` meets its contract. Assumes nothing.
 use borrow.Author.Needs.{needs}
 use lib.ListN.{length}
 use Prim.Native.Nat.{_-_}
-use Rattle.edit_cases.proofs.say_rows.Statement.{statement}
-use Rattle.edit_cases.proofs.say_rows.Tie as tie
+use Rattle.edit_cases.proofs.say.say_rows.Statement.{statement}
+use Rattle.edit_cases.proofs.say.say_rows.Tie as tie
 
 abbrev Inv-loop : tie.InvT-loop
 Inv-loop rows stride at₀ at = Unit {0}

@@ -1,9 +1,9 @@
--- `edit_cases::line_end` meets its contract. Assumes nothing.
+-- `line::line_end` meets its contract. Assumes nothing.
 use borrow.Author.Needs.{needs}
 use lib.ListN.{length}
 use Prim.Native.Nat.{_-_, _≤_}
-use Rattle.edit_cases.proofs.line_end.Statement.{statement}
-use Rattle.edit_cases.proofs.line_end.Tie as tie
+use Rattle.edit_cases.proofs.line.line_end.Statement.{statement}
+use Rattle.edit_cases.proofs.line.line_end.Tie as tie
 
 abbrev Inv-loop : tie.InvT-loop
 Inv-loop s at i₀ i = (at ≤ i) × (i ≤ length s)

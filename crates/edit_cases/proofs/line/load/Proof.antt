@@ -1,11 +1,11 @@
--- `edit_cases::load` meets its contract. Assumes nothing.
+-- `line::load` meets its contract. Assumes nothing.
 use borrow.Author.Needs.{needs}
 use native.Mathlib.Omega.{arith}
 use lib.ListN.{length, length-set}
 use mathlib.Core.Path.{_≡_}
 use Prim.Native.Nat.{_-_, _≤_}
-use Rattle.edit_cases.proofs.load.Statement.{statement}
-use Rattle.edit_cases.proofs.load.Tie as tie
+use Rattle.edit_cases.proofs.line.load.Statement.{statement}
+use Rattle.edit_cases.proofs.line.load.Tie as tie
 
 abbrev Inv-loop : tie.InvT-loop
 Inv-loop line from text₀ n₀ text n = (n ≤ length text) × (length text ≡ length text₀)

@@ -1,10 +1,10 @@
--- `edit_cases::say_record` meets its contract. Assumes nothing.
+-- `say::say_record` meets its contract. Assumes nothing.
 use lib.Seq.{length-take-le}
 use native.Mathlib.Omega.{arith}
 use mathlib.Core.Path.{sym}
 use borrow.Author.Needs.{needs}
-use Rattle.edit_cases.proofs.say_record.Statement.{statement}
-use Rattle.edit_cases.proofs.say_record.Tie as tie
+use Rattle.edit_cases.proofs.say.say_record.Statement.{statement}
+use Rattle.edit_cases.proofs.say.say_record.Tie as tie
 
 -- src/main.rt:52:9
 -- src/main.rt:55:9
