@@ -1,21 +1,24 @@
 -- What the writer makes of the tables that a reading left. Assumes nothing.
 use Prim.Native.Nat.{ℕ}
 use mathlib.Core.Bool.{Bool, true, false}
-use mathlib.Core.List.{List, _++_}
-use mathlib.Core.Path.{_≡_, refl, sym, ap, _∙_, subst}
+use mathlib.Core.List.{List}
+use mathlib.Core.Path.{_≡_, sym, ap, _∙_}
 use native.Mathlib.Omega.{arith}
+use lib.Dec.{ltb}
 use lib.ListN.{length, take, drop}
 use lib.Seq.{take-length, take-at}
-use Rattle.tables.specs.Record.{Tree}
+use Rattle.tables.specs.Record.{Tree, allNodes, allProps}
 use Rattle.tables.specs.declared.Counts.{Counts}
 use Rattle.tables.specs.declared.Reading.the-variants.{Accepted}
+use Rattle.fit.specs.Fit.{Fit}
 use Rattle.fit.specs.Record.{rowsOf, recordOf}
 use Rattle.parser.specs.Read.{accepted, read}
 use Rattle.parser.specs.Walk.{Opts}
 use Rattle.reader.specs.Lent.{Lent, ReadIs}
 use Rattle.meet.proofs.Lent.{read-rows}
-use Rattle.serialize.specs.Form.{writing, answer, output, WriteIs}
-use Rattle.serialize.specs.declared.Written.the-variants.{Wrote, Refused}
+use Rattle.serialize.specs.Form.{writing, answer, WriteIs}
+use Rattle.serialize.specs.Write.{nameless}
+use Rattle.serialize.specs.declared.Written.the-variants.{Wrote}
 
 never {ℓ} : {X : Type ℓ} → _≡_ {A = ℕ} 0 1 → X
 never e = absurd (omega (arith, e))
@@ -31,6 +34,7 @@ pub bytes-written : (op : Opts) (t : List ℕ) (before after : Lent) (c : Counts
     → WriteIs t (length t) c (after .trees) (after .nodes) (after .props) (after .vals) out out′ (Wrote n) → (ts : List Tree) × (read op t ≡ accepted ts) × (take n out′ ≡ writing ts)
 bytes-written op t before after c x out out′ n w =
     let r = read-rows op t before after c x in
-    let W : List ℕ = writing (recordOf (take (length t) t) (rowsOf c (after .trees) (after .nodes) (after .props) (after .vals))) in
-    let l : length W ≡ n = answer-length _ _ _ W n (w .is) in
+    let R : List Tree = recordOf (take (length t) t) (rowsOf c (after .trees) (after .nodes) (after .props) (after .vals)) in
+    let W : List ℕ = writing R in
+    let l : length W ≡ n = answer-length (Fit t (length t) c (after .trees) (after .nodes) (after .props) (after .vals)) (nameless (allProps (allNodes R))) (ltb (length out) (length W)) W n (w .is) in
     (r .0, r .1, ap (take n) (w .bytes) ∙ take-at W (drop n out) n l ∙ ap (λ (z : List ℕ). writing (recordOf z (rowsOf c (after .trees) (after .nodes) (after .props) (after .vals)))) (take-length t) ∙ ap writing (r .3))

@@ -14,13 +14,14 @@ use Rattle.tables.specs.declared.Counts.{Counts}
 use Rattle.fit.specs.Record.{rowsOf, recordOf}
 use Rattle.serialize.specs.Form.{writing, output, WriteIs}
 use Rattle.serialize.specs.declared.Written.{Written}
-use Rattle.edit.specs.Lent.{outcomeOf, Lent, EditIs}
+use Rattle.edit.specs.Edit.{Outcome}
+use Rattle.edit.specs.Lent.{Lent, EditIs}
 use Rattle.edit.specs.declared.Edited.{Edited}
 use Rattle.sgf.specs.Changed.{writingShown, WriteShown, editShown, EditShown}
 use Rattle.sgf.specs.declared.SgfCounts.{SgfCounts}
 use Rattle.sgf.specs.declared.SgfEdit.{SgfEdit}
 use Rattle.sgf.specs.declared.SgfWriting.{SgfWriting}
-use Rattle.sgf.specs.Asked.{countsFrom, kindOf, displayShown, DisplayShown, figuresShown, goShown}
+use Rattle.sgf.specs.Asked.{kindOf, displayShown, DisplayShown, figuresShown, goShown}
 use Rattle.sgf.specs.declared.Figures.{Figures}
 use Rattle.sgf.specs.declared.SgfDisplay.{SgfDisplay}
 
@@ -52,9 +53,7 @@ write-shown {t} {used} {c} {c′} {tr} {nd} {pr} {vl} {out} {out′} {r} {s} {w}
     (record { is = h ∙ ap writingShown (sym g ∙ x .is); bytes = x .bytes ∙ ap (λ (z : Written). output z (writing (recordOf (take used t) (rowsOf c tr nd pr vl))) out) (x .is) })
 
 -- of an edit's
-pub edit-shown : {b : List ℕ} {used : ℕ} {c : Counts} {counts : SgfCounts} {tr nd pr vl : List ℕ} {k : ℕ} {new : List ℕ} {before after : Lent} {r s : Edited} {w : SgfEdit} → c ≡ countsFrom counts
-    → EditIs (outcomeOf b used c tr nd pr vl k new) used before after r → r ≡ s → w ≡ editShown counts s
-    → EditShown (outcomeOf b used (countsFrom counts) tr nd pr vl k new) used counts before after w
-edit-shown {b} {used} {c} {counts} {tr} {nd} {pr} {vl} {k} {new} {before} {after} {r} {s} {w} e x g h =
-    subst (λ (z : Counts). EditShown (outcomeOf b used z tr nd pr vl k new) used counts before after w) e
-    (record { is = h ∙ ap (editShown counts) (sym g ∙ x .answer); memory = x .memory })
+pub edit-shown : {o o′ : Outcome} {used : ℕ} {counts : SgfCounts} {before after : Lent} {r s : Edited} {w : SgfEdit} → o ≡ o′ → EditIs o used before after r → r ≡ s → w ≡ editShown counts s
+    → EditShown o′ used counts before after w
+edit-shown {o} {o′} {used} {counts} {before} {after} {r} {s} {w} e x g h =
+    subst (λ (z : Outcome). EditShown z used counts before after w) e (record { is = h ∙ ap (editShown counts) (sym g ∙ x .answer); memory = x .memory })
