@@ -11,6 +11,7 @@ use Rattle.tables.specs.Numbers.{none}
 use Rattle.tables.specs.declared.Counts.{Counts}
 use Rattle.tables.specs.declared.Reading.the-variants.{Accepted, Refused}
 use Rattle.tables.specs.declared.Reason.{Reason}
+use Rattle.tables.specs.declared.Reason.the-variants.{UnexpectedGameTreeStart, NoRoom}
 use Rattle.fit.specs.Each.{each, sum, tabulate}
 use Rattle.fit.specs.Fit.{fitText, Fit}
 use Rattle.fit.specs.Nodes.{orphans, upward, onPath, firstUnder, nodesFit}
@@ -45,6 +46,18 @@ refusing-reader after r p x = let e = x .answer ∙ two-nodes in never cc
 -- one that returns one empty tree, or invents its counts
 pub inventing-reader : (after : Lent) (c : Counts) → ReadIs (read strict (bytes "(;;)")) room after (Accepted c) → c ≡ rows 1 2 0 0
 inventing-reader after c x = let e = x .answer ∙ two-nodes in cc
+
+-- no rows at all
+abbrev nothing : Lent
+nothing = lent [] [] [] []
+
+ten-first : answers (read strict (bytes "((;))")) nothing ≡ Refused UnexpectedGameTreeStart 0
+unfolding white space
+ten-first = refl
+
+-- a reader that looks for room before it looks at the trees
+pub hasty-reader : (after : Lent) (p : ℕ) → ReadIs (read strict (bytes "((;))")) nothing after (Refused NoRoom p) → ⊥
+hasty-reader after p x = let e = x .answer ∙ ten-first in never cc
 
 -- the text of P10 in memory, its value 0 becoming `x`, and then its value 1 `y`
 abbrev first : edit.Lent
