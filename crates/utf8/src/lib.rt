@@ -173,19 +173,36 @@ fn marked(seen: Seen, white: bool, start: usize, end: usize) -> Seen
     }
 }
 
-// Sixteen ASCII bytes: no early way out, so that the compiler takes them at once.
-fn ascii16(s: &[u8], i: usize) -> bool
-    requires { ⌜ i + 16 ≤ length (now s) ⌝ }
-    ensures { λ r. ⌜ (r ≡ true → (k : ℕ) → k < 16 → getD (now (s .entry)) (i + k) 0 < 128) ⌝ }
+// Are `n` bytes ASCII: no early way out, so that the compiler takes 16 at once.
+fn all_ascii(s: &[u8], i: usize, n: usize) -> bool
+    requires { ⌜ i + n ≤ length (now s) ⌝ }
+    ensures { λ r. ⌜ (r ≡ true → (k : ℕ) → k < n → getD (now (s .entry)) (i + k) 0 < 128) ⌝ }
 {
     let mut low = true;
-    for k in 0..16usize {
+    for k in 0..n {
         low = low & (s[i + k] < 128);
     }
     low
 }
 
-// How many plain bytes there are from `i` on, 16 or 15: ASCII, the last of them no white space; else 0.
+// How many of `n` bytes from `i` on are plain, all or all but one: ASCII, the last of them no white space; else 0.
+fn plain_run(s: &[u8], i: usize, n: usize) -> usize
+    requires { ⌜ (i + n ≤ length (now s)) × (2 ≤ n) ⌝ }
+    ensures { λ r. ⌜ (0 < r → Plain (r - 1) (now (s .entry)) i) ⌝ }
+{
+    if !all_ascii(s, i, n) {
+        return 0;
+    }
+    if 32 < s[i + n - 1] {
+        return n;
+    }
+    if 32 < s[i + n - 2] {
+        return n - 1;
+    }
+    0
+}
+
+// How many plain bytes are found from `i` on: of 64, or else of 16.
 fn plain_at(s: &[u8], i: usize) -> usize
     requires { ⌜ i ≤ length (now s) ⌝ }
     ensures { λ r. ⌜ (0 < r → Plain (r - 1) (now (s .entry)) i) ⌝ }
@@ -193,16 +210,13 @@ fn plain_at(s: &[u8], i: usize) -> usize
     if s.len() - i < 16 {
         return 0;
     }
-    if !ascii16(s, i) {
-        return 0;
+    if 64 <= s.len() - i {
+        let n = plain_run(s, i, 64);
+        if 0 < n {
+            return n;
+        }
     }
-    if 32 < s[i + 15] {
-        return 16;
-    }
-    if 32 < s[i + 14] {
-        return 15;
-    }
-    0
+    plain_run(s, i, 16)
 }
 
 // What trimming keeps of a text. Within what is kept, plain bytes are taken together; where there are none, not tried again for 16 bytes.

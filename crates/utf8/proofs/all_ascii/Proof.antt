@@ -1,4 +1,4 @@
--- `utf8::ascii16` meets its contract. The loop's invariant: as long as the flag holds, all bytes so far are ASCII. Assumes nothing.
+-- `utf8::all_ascii` meets its contract. The loop's invariant: as long as the flag holds, all bytes so far are ASCII. Assumes nothing.
 use mathlib.Core.Path.{_≡_}
 use mathlib.Core.Bool.{true}
 use Prim.Native.Nat.{ℕ, _+_, _-_, _≤_, _<_}
@@ -10,14 +10,14 @@ use borrow.Author.Count.{below-more}
 use borrow.Author.Needs.{needs}
 use borrow.Author.Tests.{ltb-true}
 use Rattle.lists.proofs.Tests.{and-both}
-use Rattle.utf8.proofs.ascii16.Statement.{statement}
-use Rattle.utf8.proofs.ascii16.Tie as tie
+use Rattle.utf8.proofs.all_ascii.Statement.{statement}
+use Rattle.utf8.proofs.all_ascii.Tie as tie
 
 abbrev Inv-loop : tie.InvT-loop
-Inv-loop s i low₀ k₀ low k = (k ≤ 16) × (low ≡ true → (m : ℕ) → m < k → getD s (i + m) 0 < 128)
+Inv-loop s i n low₀ k₀ low k = (k ≤ n) × (low ≡ true → (m : ℕ) → m < k → getD s (i + m) 0 < 128)
 
 abbrev μ-loop : tie.MeasureT-loop
-μ-loop s i low₀ k₀ low k = 16 - k
+μ-loop s i n low₀ k₀ low k = n - k
 
 loop-holds : tie.Need-loop-holds Inv-loop μ-loop
 loop-holds c = (search needs, λ e m l. absurd (omega arith))
@@ -35,8 +35,8 @@ loop-again c =
 returns : tie.Need-returns Inv-loop μ-loop
 returns c = λ e m l. c .before .loop .inv .1 e m (omega arith)
 
-pub ascii16-spec : {M : Type 1} → statement M
-ascii16-spec =
+pub all-ascii-spec : {M : Type 1} → statement M
+all-ascii-spec =
     tie.close
     (tie.spec
     Inv-loop
