@@ -1,43 +1,62 @@
 /* A soak of the C interface: random runs of readings, damage, edits and all other calls over one lent record.
  *
  *   cc -O2 -Iinclude fuzz/soak.c target/staticlib/libsgf.a -o soak && ./soak 1000000
- *   clang -DFUZZER -fsanitize=fuzzer,address -Iinclude fuzz/soak.c target/staticlib/libsgf.a -o fuzz && ./fuzz
  *
- * Every lent array stands between canaries. After each call they stand, what the call may not write is as it was, a
- * refusal has written nothing and its number is one that the call may give; after an accepted edit of a strict reading
- * the tables are those of a fresh one. The process holds no more memory at the end than after a tenth of them. */
+ * It is a libFuzzer target too, which fuzz/run builds and runs: an input is a text, then FF 00, then draws.
+ *
+ * Every lent array stands between fences (lent.h). After each call what it may not write is as it was, a refusal has
+ * written nothing and its number is one that the call may give; tables of a reading fit; after an accepted edit of a
+ * strict reading the tables are those of a fresh one; a writing reads back, and is written again as the same bytes.
+ * The process holds no more memory at the end than after a tenth of them. */
+#define _GNU_SOURCE
+#include "lent.h"
 #include "sgf.h"
 
 #include <stdio.h>
-#include <stdlib.h>
-#include <string.h>
 #include <sys/resource.h>
 
-enum { TEXT = 1200, OUT = 4096, GUARD = 64, TABLES = 4 };
+enum { TEXT = 4096, OUT = 16384, NEW = 512, ROOM = 250, TABLES = 4 };
 static const size_t strides[TABLES] = {SGF_TREE_STRIDE, SGF_NODE_STRIDE, SGF_PROPERTY_STRIDE, SGF_VALUE_STRIDE};
 
-/* Lent memory with its canaries, and how much of it is lent. */
-static uint8_t text_box[TEXT + 2 * GUARD], out_box[OUT + 2 * GUARD];
-static uint32_t table_box[TABLES][5 * TEXT + 2 * GUARD];
-static size_t text_len, out_len, table_len[TABLES];
-static uint8_t *const text = text_box + GUARD, *const out = out_box + GUARD;
-#define TABLE(t) (table_box[t] + GUARD)
+/* The lent arrays. The tables are lent in whole numbers of four bytes. */
+enum { TREES, NODES, PROPERTIES, VALUES, TEXTS, OUTS, NEWS, LENT };
+static Lent lent[LENT];
+#define BYTES(l) lent[l].at, lent[l].length
+#define TABLE(l) ((uint32_t *)(void *)lent[l].at)
+#define NUMBERS(l) TABLE(l), lent[l].length / 4
+#define LENT_TABLES NUMBERS(TREES), NUMBERS(NODES), NUMBERS(PROPERTIES), NUMBERS(VALUES)
+#define RECORD BYTES(TEXTS), used, counts, LENT_TABLES
 
-/* The record: used bytes and rows, and whether it is a strict reading that was only edited since. */
+/* The record: used bytes and rows; whether it is a strict reading that was only edited since, whether its identifiers
+ * are uppercase letters, and the text that a fuzzer gave. */
 static size_t used;
 static SgfCounts counts;
-static bool is_strict;
-
-/* What memory was before a call. */
-static uint8_t text_then[sizeof text_box], out_then[sizeof out_box];
-static uint32_t table_then[TABLES][5 * TEXT + 2 * GUARD];
+static bool is_strict, is_plain;
+static const uint8_t *given_text;
+static size_t given_text_len;
 
 static unsigned long operations, accepted, refusals[20];
+
+/* What a fuzzer is told beside the code that was reached: which call gave which number, and sizes by their bits. */
+enum { READ, WALK, FITS, VALUE, DISPLAY, GO_VALUE, GO_PROPERTY, WRITE, EDIT, CALLS };
+#ifdef FUZZER
+__attribute__((section("__libfuzzer_extra_counters")))
+#endif
+static uint8_t told[CALLS][20 + 6 * 16];
+
+static void tell(int call, int what, size_t size) {
+    int bits = 0;
+    while (size > 0 && bits < 15) {
+        size /= 2;
+        bits++;
+    }
+    told[call][20 + 16 * what + bits] = 1;
+}
 
 #define REQUIRE(holds) \
     do { \
         if (!(holds)) { \
-            fprintf(stderr, "operation %lu, line %d: %s\ntext: %.*s\n", operations, __LINE__, #holds, (int)used, (char *)text); \
+            fprintf(stderr, "operation %lu, line %d: %s\ntext: %.*s\n", operations, __LINE__, #holds, (int)used, (char *)lent[TEXTS].at); \
             abort(); \
         } \
     } while (0)
@@ -50,7 +69,7 @@ static size_t given_len;
 static uint32_t draw(uint32_t below) {
     uint32_t number = 0;
     if (given != NULL) {
-        for (int i = 0; i < 2 && given_len > 0; i++, given_len--) {
+        for (int i = 0; i < (below > 256 ? 2 : 1) && given_len > 0; i++, given_len--) {
             number = number << 8 | *given++;
         }
         return number % below;
@@ -61,46 +80,34 @@ static uint32_t draw(uint32_t below) {
     return (uint32_t)(seed * 0x2545F4914F6CDD1Du >> 33) % below;
 }
 
-static void remember(void) {
-    memcpy(text_then, text_box, sizeof text_box);
-    memcpy(out_then, out_box, sizeof out_box);
-    for (int t = 0; t < TABLES; t++) {
-        memcpy(table_then[t], table_box[t], (table_len[t] + 2 * GUARD) * sizeof(uint32_t));
+static void remember_all(void) {
+    for (int l = 0; l < LENT; l++) {
+        remember(&lent[l]);
     }
 }
 
-/* Checks that memory is as it was, but for `may` bits: 1 text, 2 out, 4 to 32 the tables; and of those the canaries. */
-static void unchanged(unsigned may) {
-    size_t lent = may & 1 ? text_len : 0;
-    REQUIRE(memcmp(text_then, text_box, GUARD) == 0);
-    REQUIRE(memcmp(text_then + GUARD + lent, text + lent, TEXT + GUARD - lent) == 0);
-    lent = may & 2 ? out_len : 0;
-    REQUIRE(memcmp(out_then, out_box, GUARD) == 0);
-    REQUIRE(memcmp(out_then + GUARD + lent, out + lent, OUT + GUARD - lent) == 0);
-    for (int t = 0; t < TABLES; t++) {
-        lent = may & 4u << t ? table_len[t] : 0;
-        REQUIRE(memcmp(table_then[t], table_box[t], GUARD * sizeof(uint32_t)) == 0);
-        REQUIRE(memcmp(table_then[t] + GUARD + lent, TABLE(t) + lent, (table_len[t] + GUARD - lent) * sizeof(uint32_t)) == 0);
-    }
-}
+/* Checks that an array is as it was, but for these bytes. */
+static void stays_but(int l, size_t from, size_t to) { REQUIRE(same_but(&lent[l], from, to)); }
 
-/* Checks a number against those that the call may give, and memory. */
-static bool answered(uint32_t number, uint32_t may_give, unsigned may_write) {
+/* Checks a number against those that the call may give, and all lent memory but what it may write. */
+#define MAY(n) (1u << (n))
+static bool answered(int call, uint32_t number, uint32_t may_give, unsigned may_write) {
     REQUIRE(number < 20 && (number == 0 || (may_give >> number & 1)));
-    unchanged(number == 0 ? may_write : 0);
+    for (int l = 0; l < LENT; l++) {
+        if (number != 0 || !(may_write >> l & 1)) {
+            stays_but(l, 0, 0);
+        }
+    }
+    told[call][number] = 1;
     refusals[number]++;
     accepted += number == 0;
     return number == 0;
 }
 
-#define MAY(n) (1u << (n))
-#define LENT_TABLES TABLE(0), table_len[0], TABLE(1), table_len[1], TABLE(2), table_len[2], TABLE(3), table_len[3]
-#define RECORD text, text_len, used, counts, LENT_TABLES
-
 /* Words of a text; the first are those of a text that is accepted. */
 static const char *const words[] = {
     ";", "B[aa]", "W[]", "AB[aa:cc][dd]", "HA[2]", "C[x\\]y]", "(;W[bb])", " ", "\n", "a[b]", "TB[ZZ][aA]", ";C[\xE3\x80\x80]", "N[a\\\r\nb]",
-    "LB[aa:1]", "(", ")", "(;", ")(", "C[", "]", "\\", "[", "GM[1]", "GM[2]", "\xC3\xA9", "\xFF", "X", "()"};
+    "LB[aa:1]", "(", ")", "(;", ")(", "C[", "]", "\\", "[", "GM[1]", "GM[2]", "GM[x]", "((;", "\xC3\xA9", "\xFF", "X", "()"};
 enum { GOOD = 14, WORDS = sizeof words / sizeof *words };
 
 static size_t make(uint8_t *to, size_t room, uint32_t most, uint32_t kinds) {
@@ -117,82 +124,239 @@ static size_t make(uint8_t *to, size_t room, uint32_t most, uint32_t kinds) {
     return length;
 }
 
-static void read_text(void) {
-    used = 0;
-    text[used++] = '(';
-    text[used++] = ';';
-    bool is_good = draw(4) > 0;
-    used += make(text + used, TEXT / 2, 40, is_good ? GOOD : WORDS);
-    for (uint32_t open = is_good ? 1 : draw(4); open > 0; open--) {
-        text[used++] = ')';
+/* A text of words, now and then too deep or of anything. */
+static size_t make_text(uint8_t *to) {
+    size_t length = 0;
+    uint32_t kind = draw(64);
+    if (kind == 63) {
+        uint32_t depth = 1020 + draw(10);
+        for (uint32_t i = 0; i < depth; i++) {
+            memcpy(to + 2 * i, "(;", 2);
+        }
+        memset(to + 2 * depth, ')', depth);
+        return 3 * depth;
     }
-    text_len = used + draw(100);
+    if (kind > 8) {
+        to[length++] = '(';
+        to[length++] = ';';
+    }
+    bool is_good = kind > 20;
+    length += make(to + length, TEXT / 2, 40, is_good ? GOOD : WORDS);
+    for (uint32_t open = is_good ? 1 : draw(4); open > 0; open--) {
+        to[length++] = ')';
+    }
+    return length;
+}
+
+static void read_text(void) {
+    uint8_t made[TEXT];
+    used = given_text != NULL ? given_text_len : make_text(made);
+    lend(&lent[TEXTS], used + (draw(2) ? draw(ROOM) : 0), draw(4) == 3);
+    memcpy(lent[TEXTS].at, given_text != NULL ? given_text : made, used);
     size_t rows[TABLES] = {SGF_TREES_FOR(used), SGF_NODES_FOR(used), SGF_PROPERTIES_FOR(used), SGF_VALUES_FOR(used)};
-    bool is_short = draw(8) == 0;
+    bool is_short = draw(8) == 7;
     for (int t = 0; t < TABLES; t++) {
-        table_len[t] = is_short ? draw((uint32_t)(rows[t] * strides[t]) + 1) : rows[t] * strides[t] + draw(4);
+        size_t numbers = is_short ? draw((uint32_t)(rows[t] * strides[t]) + 1) : rows[t] * strides[t] + draw(4);
+        lend(&lent[t], 4 * numbers, draw(4) == 3);
     }
     uint32_t options = draw(8);
-    remember();
-    SgfReading r = sgf_read(text, used, options, LENT_TABLES);
-    uint32_t may = options & 1 ? MAY(1) | MAY(2) | MAY(9) | MAY(14) : 0x7FFEu;
-    bool good = answered(r.number, is_short ? may : may & ~MAY(14), 4 | 8 | 16 | 32);
+    remember_all();
+    SgfReading r = sgf_read(lent[TEXTS].at, used, options, LENT_TABLES);
+    uint32_t may = options & 1 ? MAY(2) | MAY(9) | MAY(14) : 0x7FFCu;
+    bool good = answered(READ, r.number, is_short ? may : may & ~MAY(14), MAY(TREES) | MAY(NODES) | MAY(PROPERTIES) | MAY(VALUES));
+    size_t found[TABLES] = {r.trees, r.nodes, r.properties, r.values};
+    for (int t = 0; t < TABLES; t++) {
+        REQUIRE(good || found[t] == 0);
+        stays_but(t, 0, 4 * strides[t] * found[t]);
+        tell(READ, t, found[t]);
+    }
+    tell(READ, 4, r.place);
+    REQUIRE(r.place == 0 || (r.number >= 2 && r.number <= 5 && r.place < used));
     counts = (SgfCounts){r.trees, r.nodes, r.properties, r.values};
-    REQUIRE(good || (r.trees | r.nodes | r.properties | r.values) == 0);
     REQUIRE(!good || sgf_fits(RECORD) == 0);
     is_strict = good && (options & 1) == 0;
+    is_plain = is_strict && (options & 2) != 0;
 }
 
 static void damage(void) {
     int t = (int)draw(TABLES);
-    is_strict = false;
+    size_t numbers = lent[t].length / 4;
+    is_strict = is_plain = false;
     switch (draw(4)) {
-    case 0: text[draw(TEXT)] = (uint8_t)draw(256); break;
+    case 0:
+        if (lent[TEXTS].length > 0) {
+            lent[TEXTS].at[draw((uint32_t)lent[TEXTS].length)] = (uint8_t)draw(256);
+        }
+        break;
     case 1: counts.nodes += draw(3) - 1u; break;
     case 2: used = draw(TEXT); break;
-    default: TABLE(t)[draw((uint32_t)table_len[t] + 1)] = draw(2) ? draw(12) : SGF_NONE - draw(2); break;
+    default:
+        if (numbers > 0) {
+            TABLE(t)[draw((uint32_t)numbers)] = draw(2) ? draw(12) : SGF_NONE - draw(2);
+        }
+        break;
     }
 }
+
+/* The tokens of the used text, and the values of its properties; whether each tree begins with its start. */
+static bool walk(void) {
+    const uint8_t *text = lent[TEXTS].at;
+    size_t all = used < lent[TEXTS].length ? used : lent[TEXTS].length;
+    SgfTrim kept = sgf_trim(text, all);
+    if (!answered(WALK, kept.number, MAY(2), 0)) {
+        return false;
+    }
+    REQUIRE(kept.first <= kept.last && kept.last <= all);
+    size_t length = kept.last - kept.first, open = 0;
+    bool begins = true;
+    text += kept.first;
+    for (SgfToken token = sgf_token(text, length, 0); token.kind != SGF_DONE; token = sgf_token(text, length, token.to)) {
+        tell(WALK, 0, token.to - token.from);
+        if (token.kind == SGF_FAULT) {
+            told[WALK][token.number] = 1;
+            REQUIRE(token.number >= 3 && token.number <= 5);
+            break;
+        }
+        REQUIRE(token.number == 0 && token.from <= token.opens && token.opens < token.to && token.to <= length);
+        begins = begins && (open > 0 || token.kind == SGF_START);
+        open += (token.kind == SGF_START) - (token.kind == SGF_END && open > 0);
+        for (size_t at = token.opens; token.kind == SGF_PROPERTY;) {
+            SgfValue value = sgf_next_value(text, length, at);
+            if (value.kind != SGF_VALUE) {
+                REQUIRE(value.kind == SGF_NO_VALUE);
+                break;
+            }
+            REQUIRE(at < value.from && value.from <= value.to && value.to < value.next && value.next <= token.to);
+            at = value.next;
+        }
+    }
+    answered(WALK, 0, 0, 0);
+    return begins;
+}
+
+/* Tables of a second reading. */
+static uint32_t fresh[TABLES][5 * OUT];
+#define FRESH fresh[0], 5 * OUT, fresh[1], 5 * OUT, fresh[2], 5 * OUT, fresh[3], 5 * OUT
 
 /* A fresh strict reading of the used text has the same rows. */
 static void check_fresh(void) {
-    static uint32_t fresh[TABLES][5 * TEXT];
-    SgfReading r = sgf_read(text, used, SGF_STRICT, fresh[0], 5 * TEXT, fresh[1], 5 * TEXT, fresh[2], 5 * TEXT, fresh[3], 5 * TEXT);
+    SgfReading r = sgf_read(lent[TEXTS].at, used, SGF_STRICT, FRESH);
     size_t rows[TABLES] = {counts.trees, counts.nodes, counts.properties, counts.values};
     REQUIRE(r.number == 0 && r.trees == rows[0] && r.nodes == rows[1] && r.properties == rows[2] && r.values == rows[3]);
     for (int t = 0; t < TABLES; t++) {
-        REQUIRE(memcmp(fresh[t], TABLE(t), rows[t] * strides[t] * sizeof(uint32_t)) == 0);
+        REQUIRE(memcmp(fresh[t], lent[t].at, rows[t] * strides[t] * 4) == 0);
     }
 }
 
+/* A strict reading of a writing has the same trees and nodes, and is written again as the same bytes. */
+static void check_again(size_t length) {
+    static uint8_t again[OUT];
+    SgfReading r = sgf_read(lent[OUTS].at, length, SGF_STRICT, FRESH);
+    REQUIRE(r.number == 0 && r.trees == counts.trees && r.nodes == counts.nodes && r.properties == counts.properties);
+    REQUIRE(memcmp(fresh[0], TABLE(TREES), 8 * r.trees) == 0 && memcmp(fresh[1], TABLE(NODES), 20 * r.nodes) == 0);
+    SgfCounts c = {r.trees, r.nodes, r.properties, r.values};
+    SgfWriting w = sgf_write(lent[OUTS].at, length, length, c, FRESH, again, OUT);
+    REQUIRE(w.number == 0 && w.length == length && memcmp(again, lent[OUTS].at, length) == 0);
+}
+
+/* A new value: of words, or a longer one of one part over and over, which is closed. */
+static size_t make_value(uint8_t *to) {
+    static const char *const parts[] = {"x", "\xC3\xA9", "\\]", "a\\\\", "\xE3\x80\x80 "};
+    if (draw(4) != 3) {
+        return make(to, NEW, 4, WORDS);
+    }
+    const char *part = parts[draw(5)];
+    size_t size = strlen(part), length = size * draw(NEW / 4);
+    for (size_t at = 0; at < length; at += size) {
+        memcpy(to + at, part, size);
+    }
+    return length;
+}
+
 static void edit(size_t k) {
-    uint8_t replacement[64];
-    size_t length = make(replacement, sizeof replacement, 4, WORDS);
-    SgfEdit e = sgf_edit(RECORD, k, replacement, length);
-    uint32_t may = MAY(19) | MAY(16) | MAY(17) | MAY(2) | MAY(18) | MAY(1) | MAY(14);
-    if (!answered(e.number, may, 1 | 16 | 32)) {
+    uint8_t made[NEW];
+    size_t length = make_value(made), old_used = used;
+    lend(&lent[NEWS], length, draw(4) == 3);
+    memcpy(lent[NEWS].at, made, length);
+    size_t from = sgf_value(RECORD, k).from;
+    remember_all();
+    SgfEdit e = sgf_edit(RECORD, k, BYTES(NEWS));
+    uint32_t may = MAY(19) | MAY(16) | MAY(17) | MAY(2) | MAY(18) | MAY(14);
+    tell(EDIT, 0, e.place);
+    REQUIRE(e.place == 0 || (e.number == 2 && e.place < length));
+    if (!answered(EDIT, e.number, may, MAY(TEXTS) | MAY(PROPERTIES) | MAY(VALUES))) {
         REQUIRE((e.used | e.trees | e.nodes | e.properties | e.values) == 0);
         return;
     }
     REQUIRE(e.trees == counts.trees && e.nodes == counts.nodes && e.properties == counts.properties && e.values == counts.values);
     used = e.used;
-    REQUIRE(sgf_fits(RECORD) == 0 && sgf_value(RECORD, k).to - sgf_value(RECORD, k).from == length);
+    stays_but(TEXTS, from, used > old_used ? used : old_used);
+    stays_but(PROPERTIES, 0, 16 * counts.properties);
+    stays_but(VALUES, 0, 8 * counts.values);
+    for (size_t at = used; at < old_used; at++) {
+        REQUIRE(lent[TEXTS].at[at] == 0);
+    }
+    SgfSpan span = sgf_value(RECORD, k);
+    REQUIRE(span.number == 0 && span.to - span.from == length && memcmp(lent[TEXTS].at + span.from, made, length) == 0);
+    tell(EDIT, 1, used > old_used ? used - old_used : 0);
+    tell(EDIT, 2, old_used > used ? old_used - used : 0);
     if (is_strict) {
         check_fresh();
     }
 }
 
-static void call(void) {
-    size_t k = draw(30) == 0 ? (size_t)-1 : draw((uint32_t)(counts.values % TEXT) + 2);
-    out_len = draw(OUT);
-    remember();
-    switch (draw(7)) {
-    case 0: answered(sgf_fits(RECORD), MAY(19), 0); break;
-    case 1: answered(sgf_value(RECORD, k).number, MAY(19) | MAY(16), 0); break;
-    case 2: answered(sgf_display(RECORD, k, draw(3), out, out_len).number, MAY(19) | MAY(16) | MAY(14), 2); break;
-    case 3: answered(sgf_go_value(RECORD, k).number, MAY(19) | MAY(16), 0); break;
-    case 4: answered(sgf_go_property(draw(2), text, draw(3), text, text_len, TABLE(3), table_len[3], k, draw(4)).number, 0, 0); break;
-    case 5: answered(sgf_write(RECORD, out, out_len).number, MAY(19) | MAY(15) | MAY(14), 2); break;
+static void write_text(void) {
+    SgfWriting w = sgf_write(RECORD, BYTES(OUTS));
+    if (answered(WRITE, w.number, MAY(19) | MAY(15) | MAY(14), MAY(OUTS))) {
+        tell(WRITE, 0, w.length);
+        stays_but(OUTS, 0, w.length);
+        remember_all();
+        if (is_plain && walk()) {
+            check_again(w.length);
+        }
+    }
+}
+
+static void display(size_t k, uint32_t kind) {
+    SgfDisplay d = sgf_display(RECORD, k, kind, BYTES(OUTS));
+    answered(DISPLAY, d.number, MAY(19) | MAY(16) | MAY(14), MAY(OUTS));
+    stays_but(OUTS, 0, d.length);
+    tell(DISPLAY, (int)kind, d.length);
+}
+
+static void go_value(size_t p) {
+    SgfGoValue v = sgf_go_value(RECORD, p);
+    answered(GO_VALUE, v.number, MAY(19) | MAY(16), 0);
+    tell(GO_VALUE, 0, (size_t)1 << v.kind);
+    size_t marks = 0;
+    for (int i = 0; i < SGF_POINT_PLACES; i++) {
+        marks += v.marks[i];
+    }
+    tell(GO_VALUE, 1, marks);
+    REQUIRE((marks > 0) == (v.kind == SGF_POINTS) && v.x < 52 && v.y < 52 && (v.handicap >= 2) == (v.kind == SGF_HANDICAP));
+}
+
+/* Any rows, which need not fit. */
+static void go_property(size_t first) {
+    size_t name = draw(4), length = lent[TEXTS].length;
+    uint32_t game = draw(2), count = draw(4);
+    SgfGoValue v = sgf_go_property(game, lent[TEXTS].at, name < length ? name : length, BYTES(TEXTS), NUMBERS(VALUES), first, count);
+    answered(GO_PROPERTY, v.number, 0, 0);
+    tell(GO_PROPERTY, 0, (size_t)1 << v.kind);
+}
+
+static void call(int what) {
+    size_t k = draw(30) == 29 ? (size_t)-1 : draw((uint32_t)(counts.values % TEXT) + 2);
+    lend(&lent[OUTS], draw(OUT), draw(4) == 3);
+    remember_all();
+    switch (what) {
+    case WALK: walk(); break;
+    case FITS: answered(FITS, sgf_fits(RECORD), MAY(19), 0); break;
+    case VALUE: answered(VALUE, sgf_value(RECORD, k).number, MAY(19) | MAY(16), 0); break;
+    case DISPLAY: display(k, draw(3)); break;
+    case GO_VALUE: go_value(k); break;
+    case GO_PROPERTY: go_property(k); break;
+    case WRITE: write_text(); break;
     default: edit(k); break;
     }
 }
@@ -200,24 +364,37 @@ static void call(void) {
 static void step(void) {
     operations++;
     switch (draw(12)) {
-    case 0: read_text(); break;
-    case 1: draw(4) == 0 ? damage() : read_text(); break;
-    default: call(); break;
+    case 0: draw(8) == 7 ? damage() : read_text(); break;
+    default: call(WALK + (int)draw(CALLS - WALK)); break;
     }
 }
 
 static void begin(void) {
-    memset(text_box, 0xA5, sizeof text_box);
-    memset(out_box, 0x5A, sizeof out_box);
-    memset(table_box, 0xC3, sizeof table_box);
+    if (lent[TREES].low == NULL) {
+        for (int t = 0; t < TABLES; t++) {
+            make_room(&lent[t], 4 * 5 * TEXT);
+        }
+        make_room(&lent[TEXTS], TEXT + ROOM);
+        make_room(&lent[OUTS], OUT);
+        make_room(&lent[NEWS], NEW);
+    }
     read_text();
 }
 
 #ifdef FUZZER
 int LLVMFuzzerTestOneInput(const uint8_t *data, size_t size) {
-    given = data;
-    given_len = size;
+    size_t end = 0;
+    while (end < size && end < TEXT && !(data[end] == 0xFF && end + 1 < size && data[end + 1] == 0)) {
+        end++;
+    }
+    given_text = data;
+    given_text_len = end;
+    given = end + 2 < size ? data + end + 2 : data + size;
+    given_len = (size_t)(data + size - given);
     begin();
+    for (int what = WALK; what < EDIT; what++) {
+        call(what);
+    }
     while (given_len > 0) {
         step();
     }

@@ -78,8 +78,7 @@ fn compare_edit(whole: &mut Whole, k: usize, new: &[u8]) -> Result<(), String> {
 }
 
 fn shown(number: u32, place: usize, used: usize, counts: Counts) -> Edit {
-    let [trees, nodes, properties, values] = counts.rows();
-    Edit { number, reserved: 0, place, used, trees, nodes, properties, values }
+    Edit { number, reserved: 0, place, used, counts }
 }
 
 /// Counts and rows are those of a fresh strict reading of the used text.

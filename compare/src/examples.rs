@@ -143,8 +143,8 @@ fn holds(example: &Example) -> bool {
     let (mut properties, mut values) = ([0; 32], [0; 16]);
     let tables = [&mut trees[..], &mut nodes[..], &mut properties[..], &mut values[..]];
     let reading = library::read(example.text.as_bytes(), example.bits, tables);
-    let kinds: Vec<u32> = trees.chunks(2).take(reading.trees).map(|row| row[1]).collect();
-    let parents: Vec<u32> = nodes.chunks(5).take(reading.nodes).map(|row| row[0]).collect();
+    let kinds: Vec<u32> = trees.chunks(2).take(reading.counts.trees).map(|row| row[1]).collect();
+    let parents: Vec<u32> = nodes.chunks(5).take(reading.counts.nodes).map(|row| row[0]).collect();
     let good = (reading.number, reading.place, &kinds[..], &parents[..]) == (example.number, example.place, example.kinds, example.parents);
     if !good {
         println!("  {:?} with options {}: {reading:?}, game types {kinds:?}, parents {parents:?}", example.text, example.bits);

@@ -126,7 +126,7 @@ fn all_refuse(whole: &mut Whole) -> Result<(), String> {
     let go = held::go_value(&h, 0);
     same("Go value", go == held::GoValue { number: 19, ..shown(Go::Other) }, true)?;
     let edit = held::edit(&mut whole.edited(), 0, b"x");
-    same("edit", (edit.number, edit.place, edit.used, edit.counts()), (19, 0, 0, Counts::default()))?;
+    same("edit", (edit.number, edit.place, edit.used, edit.counts), (19, 0, 0, Counts::default()))?;
     same("output", out.stands_from(0), true)?;
     same("memory", *whole == before, true)
 }

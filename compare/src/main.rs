@@ -6,14 +6,15 @@ mod bench_records;
 mod display;
 mod edits;
 mod examples;
+#[allow(dead_code)]
+#[path = "../../rust/src/ffi.rs"]
+mod ffi;
 mod fitting;
 mod go_values;
 mod heap;
 mod held;
 mod library;
 mod limits;
-#[cfg(not(stand_in))]
-mod linked_held;
 mod oracle;
 mod plain;
 mod plain_edit;

@@ -1,5 +1,5 @@
 //! Readings of a text with every pair of options: the library beside document 01's words and beside the crate.
-use crate::held::STRIDES;
+use crate::held::{Counts, STRIDES};
 use crate::library::{self, Reading};
 use crate::oracle;
 use crate::plain::{self, Refusal};
@@ -90,12 +90,8 @@ fn compare_lent(answer: &Answer, lent: [usize; 4], expected: &Result<Columns, Re
         Ok(columns) => (Refusal { number: 0, place: 0 }, columns),
         Err(refusal) => (*refusal, &nothing),
     };
-    let [trees, nodes, properties, values] = [0, 1, 2, 3].map(|k| columns[k].len() / STRIDES[k]);
-    same(
-        "reading",
-        answer.reading,
-        Reading { number: refusal.number, reserved: 0, place: refusal.place, trees, nodes, properties, values },
-    )?;
+    let counts = Counts::of([0, 1, 2, 3].map(|k| columns[k].len() / STRIDES[k]));
+    same("reading", answer.reading, Reading { number: refusal.number, reserved: 0, place: refusal.place, counts })?;
     for k in 0..4 {
         compare_cells(&answer.cells[k], &columns[k]).map_err(|e| format!("table {k}, {e}"))?;
     }
@@ -119,10 +115,10 @@ fn record_of(answer: &Answer) -> Result<Record, Refusal> {
         return Err(Refusal { number: reading.number, place: reading.place });
     }
     Ok(Record {
-        trees: rows(&cells[0], reading.trees),
-        nodes: rows(&cells[1], reading.nodes),
-        properties: rows(&cells[2], reading.properties),
-        values: rows(&cells[3], reading.values),
+        trees: rows(&cells[0], reading.counts.trees),
+        nodes: rows(&cells[1], reading.counts.nodes),
+        properties: rows(&cells[2], reading.counts.properties),
+        values: rows(&cells[3], reading.counts.values),
     })
 }
 

@@ -1,4 +1,5 @@
 //! The plain implementation behind the library's interface, so that this program can be tested without the library.
+use crate::ffi::Counts;
 use crate::library::*;
 use crate::{plain, plain_reader};
 
@@ -36,10 +37,10 @@ pub fn next_value(text: &[u8], at: usize) -> Value {
 }
 
 fn refusal(number: u32, place: usize) -> Reading {
-    Reading { number, reserved: 0, place, trees: 0, nodes: 0, properties: 0, values: 0 }
+    Reading { number, reserved: 0, place, counts: Counts::default() }
 }
 
-pub fn read(text: &[u8], options: u32, tables: Tables) -> Reading {
+pub fn read(text: &[u8], options: u32, tables: [&mut [u32]; 4]) -> Reading {
     let options = plain_reader::Options { lenient: options & LENIENT != 0, convert: options & KEEP_IDENTIFIERS == 0 };
     let record = match plain_reader::read(text, options) {
         Ok(record) => record,
@@ -52,7 +53,6 @@ pub fn read(text: &[u8], options: u32, tables: Tables) -> Reading {
     for (column, table) in columns.iter().zip(tables) {
         table[..column.len()].copy_from_slice(column);
     }
-    let (trees, nodes) = (record.trees.len(), record.nodes.len());
-    let (properties, values) = (record.properties.len(), record.values.len());
-    Reading { number: 0, reserved: 0, place: 0, trees, nodes, properties, values }
+    let counts = Counts::of([record.trees.len(), record.nodes.len(), record.properties.len(), record.values.len()]);
+    Reading { number: 0, reserved: 0, place: 0, counts }
 }

@@ -69,10 +69,7 @@ pub fn write(h: &Held, out: &mut [u8]) -> Length {
 
 pub fn edit(e: &mut Edited, k: usize, new: &[u8]) -> Edit {
     let h = Held { text: e.text, used: e.used, counts: e.counts, tables: [e.trees, e.nodes, e.properties, e.values] };
-    let answer = |number, place, used, counts: Counts| {
-        let [trees, nodes, properties, values] = counts.rows();
-        Edit { number, reserved: 0, place, used, trees, nodes, properties, values }
-    };
+    let answer = |number, place, used, counts| Edit { number, reserved: 0, place, used, counts };
     match plain_edit::edit(&h, k, new) {
         Err(refusal) => answer(refusal.number, refusal.place, 0, Counts::default()),
         Ok(after) => {

@@ -70,7 +70,7 @@ impl Whole {
             14 => return Err(format!("rows that should suffice do not: {rows:?}")),
             _ => return Ok(None),
         }
-        let counts = Counts::from(reading);
+        let counts = reading.counts;
         let used = counts.rows();
         let lend = |t: usize, table: Vec<u32>| Fenced::new(&table[..used[t] * STRIDES[t]], text.len() % 3 * STRIDES[t]);
         let tables = [lend(0, trees), lend(1, nodes), lend(2, properties), lend(3, values)];

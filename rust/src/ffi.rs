@@ -1,10 +1,10 @@
-//! The library's C functions (include/sgf.h) over slices and tables: the only unsafe code. Each call lends slices that are valid
-//! for its length, and those lent to be written do not overlap, for they are borrowed as mutable.
-use crate::tables::Tables;
+//! The library's C functions (include/sgf.h) over slices: the only unsafe code. `compare/` takes this file in too, so that they are
+//! declared once. Each call lends slices that are valid for its length, and those lent to be written do not overlap, for they are
+//! borrowed as mutable.
 
 /// Used rows of each table.
 #[repr(C)]
-#[derive(Debug, Clone, Copy, PartialEq, Eq)]
+#[derive(Debug, Clone, Copy, Default, PartialEq, Eq)]
 pub struct Counts {
     pub trees: usize,
     pub nodes: usize,
@@ -12,7 +12,9 @@ pub struct Counts {
     pub values: usize,
 }
 
+/// The answer of a reading.
 #[repr(C)]
+#[derive(Debug, Clone, Copy, PartialEq, Eq)]
 pub struct Reading {
     pub number: u32,
     pub reserved: u32,
@@ -20,15 +22,28 @@ pub struct Reading {
     pub counts: Counts,
 }
 
+/// A number and a span.
 #[repr(C)]
+#[derive(Debug, Clone, Copy, PartialEq, Eq)]
+pub struct Span {
+    pub number: u32,
+    pub reserved: u32,
+    pub from: usize,
+    pub to: usize,
+}
+
+/// A number and how many bytes were written.
+#[repr(C)]
+#[derive(Debug, Clone, Copy, PartialEq, Eq)]
 pub struct Length {
     pub number: u32,
     pub reserved: u32,
     pub length: usize,
 }
 
-/// The marks are C's `bool`, 0 or 1.
+/// A number and a Go value: point (x, y) of a set is marked, by 1 as C's `bool`, at 52 * x + y.
 #[repr(C)]
+#[derive(Debug, Clone, Copy, PartialEq, Eq)]
 pub struct GoValue {
     pub number: u32,
     pub kind: u32,
@@ -38,13 +53,66 @@ pub struct GoValue {
     pub marks: [u8; 2704],
 }
 
+/// The answer of an edit: number and place, used bytes, used rows.
 #[repr(C)]
+#[derive(Debug, Clone, Copy, PartialEq, Eq)]
 pub struct Edit {
     pub number: u32,
     pub reserved: u32,
     pub place: usize,
     pub used: usize,
     pub counts: Counts,
+}
+
+/// What trimming keeps: number 0 and first..last, or number 2 and the place of the first bad sequence.
+#[repr(C)]
+#[derive(Debug, Clone, Copy, PartialEq, Eq)]
+pub struct Trimmed {
+    pub number: u32,
+    pub place: usize,
+    pub first: usize,
+    pub last: usize,
+}
+
+/// A token with its span, or the number of its fault; `opens` is a property's first `[`, else the start.
+#[repr(C)]
+#[derive(Debug, Clone, Copy, PartialEq, Eq)]
+pub struct Token {
+    pub kind: u32,
+    pub number: u32,
+    pub from: usize,
+    pub opens: usize,
+    pub to: usize,
+}
+
+/// A value's span between its brackets, and the place behind it; the place itself where there is none.
+#[repr(C)]
+#[derive(Debug, Clone, Copy, PartialEq, Eq)]
+pub struct Value {
+    pub kind: u32,
+    pub from: usize,
+    pub to: usize,
+    pub next: usize,
+}
+
+/// A text of which `used` bytes are the record's, the counts, and the tables of trees, nodes, properties and values.
+#[derive(Debug, Clone, Copy)]
+pub struct Held<'a> {
+    pub text: &'a [u8],
+    pub used: usize,
+    pub counts: Counts,
+    pub tables: [&'a [u32]; 4],
+}
+
+/// The same for an edit, which writes the text and the tables of properties and values.
+pub struct Edited<'a> {
+    pub text: &'a mut [u8],
+    pub used: usize,
+    pub counts: Counts,
+    pub trees: &'a [u32],
+    pub nodes: &'a [u32],
+    pub properties: &'a mut [u32],
+    pub values: &'a mut [u32],
 }
 
 /// Declares functions whose first arguments are a record, over pointers of this mutability to what an edit writes.
@@ -60,12 +128,17 @@ macro_rules! declare {
 
 declare! {
     const sgf_fits() -> u32;
+    const sgf_value(k: usize) -> Span;
     const sgf_display(k: usize, kind: u32, out: *mut u8, out_len: usize) -> Length;
+    const sgf_go_value(p: usize) -> GoValue;
     const sgf_write(out: *mut u8, out_len: usize) -> Length;
     mut sgf_edit(k: usize, new: *const u8, new_len: usize) -> Edit;
 }
 
 unsafe extern "C" {
+    fn sgf_trim(text: *const u8, text_len: usize) -> Trimmed;
+    fn sgf_token(text: *const u8, text_len: usize, at: usize) -> Token;
+    fn sgf_next_value(text: *const u8, text_len: usize, at: usize) -> Value;
     fn sgf_read(
         text: *const u8,
         text_len: usize,
@@ -92,22 +165,31 @@ unsafe extern "C" {
     ) -> GoValue;
 }
 
-/// Calls a function over a record: its text, of which all is used, and its tables.
+/// Calls a function over a record.
 macro_rules! over {
-    ($f:ident, $text:expr, $tables:expr, $($more:expr),*) => {{
-        let (text, tables): (&[u8], &Tables) = ($text, $tables);
-        let (trees, nodes) = (tables.trees.as_flattened(), tables.nodes.as_flattened());
-        let (properties, values) = (tables.properties.as_flattened(), tables.values.as_flattened());
+    ($f:ident, $held:expr, $($more:expr),*) => {{
+        let Held { text, used, counts, tables: [trees, nodes, properties, values] } = *$held;
         unsafe {
-            $f(text.as_ptr(), text.len(), text.len(), tables.counts(), trees.as_ptr(), trees.len(), nodes.as_ptr(), nodes.len(),
+            $f(text.as_ptr(), text.len(), used, counts, trees.as_ptr(), trees.len(), nodes.as_ptr(), nodes.len(),
                 properties.as_ptr(), properties.len(), values.as_ptr(), values.len(), $($more),*)
         }
     }};
 }
 
-pub fn read(text: &[u8], options: u32, tables: &mut Tables) -> Reading {
-    let (trees, nodes) = (tables.trees.as_flattened_mut(), tables.nodes.as_flattened_mut());
-    let (properties, values) = (tables.properties.as_flattened_mut(), tables.values.as_flattened_mut());
+pub fn trim(text: &[u8]) -> Trimmed {
+    unsafe { sgf_trim(text.as_ptr(), text.len()) }
+}
+
+pub fn token(text: &[u8], at: usize) -> Token {
+    unsafe { sgf_token(text.as_ptr(), text.len(), at) }
+}
+
+pub fn next_value(text: &[u8], at: usize) -> Value {
+    unsafe { sgf_next_value(text.as_ptr(), text.len(), at) }
+}
+
+pub fn read(text: &[u8], options: u32, tables: [&mut [u32]; 4]) -> Reading {
+    let [trees, nodes, properties, values] = tables;
     unsafe {
         sgf_read(
             text.as_ptr(),
@@ -125,20 +207,27 @@ pub fn read(text: &[u8], options: u32, tables: &mut Tables) -> Reading {
     }
 }
 
-pub fn fits(text: &[u8], tables: &Tables) -> u32 {
-    over!(sgf_fits, text, tables,)
+pub fn fits(h: &Held) -> u32 {
+    over!(sgf_fits, h,)
 }
 
-pub fn display(text: &[u8], tables: &Tables, k: usize, kind: u32, out: &mut [u8]) -> Length {
-    over!(sgf_display, text, tables, k, kind, out.as_mut_ptr(), out.len())
+pub fn value(h: &Held, k: usize) -> Span {
+    over!(sgf_value, h, k)
 }
 
-pub fn write(text: &[u8], tables: &Tables, out: &mut [u8]) -> Length {
-    over!(sgf_write, text, tables, out.as_mut_ptr(), out.len())
+pub fn display(h: &Held, k: usize, kind: u32, out: &mut [u8]) -> Length {
+    over!(sgf_display, h, k, kind, out.as_mut_ptr(), out.len())
 }
 
-pub fn go_property(game_type: u32, identifier: &[u8], text: &[u8], values: &[[u32; 2]], first: usize, count: usize) -> GoValue {
-    let values = values.as_flattened();
+pub fn go_value(h: &Held, p: usize) -> GoValue {
+    over!(sgf_go_value, h, p)
+}
+
+pub fn write(h: &Held, out: &mut [u8]) -> Length {
+    over!(sgf_write, h, out.as_mut_ptr(), out.len())
+}
+
+pub fn go_property(game_type: u32, identifier: &[u8], text: &[u8], values: &[u32], first: usize, count: usize) -> GoValue {
     unsafe {
         sgf_go_property(
             game_type,
@@ -154,24 +243,21 @@ pub fn go_property(game_type: u32, identifier: &[u8], text: &[u8], values: &[[u3
     }
 }
 
-pub fn edit(text: &mut [u8], used: usize, tables: &mut Tables, k: usize, new: &[u8]) -> Edit {
-    let counts = tables.counts();
-    let (trees, nodes) = (tables.trees.as_flattened(), tables.nodes.as_flattened());
-    let (properties, values) = (tables.properties.as_flattened_mut(), tables.values.as_flattened_mut());
+pub fn edit(e: &mut Edited, k: usize, new: &[u8]) -> Edit {
     unsafe {
         sgf_edit(
-            text.as_mut_ptr(),
-            text.len(),
-            used,
-            counts,
-            trees.as_ptr(),
-            trees.len(),
-            nodes.as_ptr(),
-            nodes.len(),
-            properties.as_mut_ptr(),
-            properties.len(),
-            values.as_mut_ptr(),
-            values.len(),
+            e.text.as_mut_ptr(),
+            e.text.len(),
+            e.used,
+            e.counts,
+            e.trees.as_ptr(),
+            e.trees.len(),
+            e.nodes.as_ptr(),
+            e.nodes.len(),
+            e.properties.as_mut_ptr(),
+            e.properties.len(),
+            e.values.as_mut_ptr(),
+            e.values.len(),
             k,
             new.as_ptr(),
             new.len(),

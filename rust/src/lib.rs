@@ -42,7 +42,7 @@
 #![deny(unsafe_code)]
 
 mod error;
-#[allow(unsafe_code)]
+#[allow(unsafe_code, dead_code)]
 mod ffi;
 mod go;
 mod node;

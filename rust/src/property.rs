@@ -75,7 +75,7 @@ impl<'r> Property<'r> {
         };
         let Record { text, tables } = self.record();
         let name = self.raw_identifier().as_bytes();
-        ffi::go_property(game, name, text, &tables.values, first as usize, count as usize).into()
+        ffi::go_property(game, name, text, tables.values.as_flattened(), first as usize, count as usize).into()
     }
 
     fn record(self) -> &'r Record<'r> {
@@ -158,7 +158,7 @@ impl<'r> Value<'r> {
             values: vec![[1, 1 + to - from]],
         };
         let mut out = vec![0; boxed.len()];
-        let shown = ffi::display(boxed, &alone, 0, kind, &mut out);
+        let shown = ffi::display(&alone.held(boxed), 0, kind, &mut out);
         assert_eq!(shown.number, 0, "a value in its brackets fits, and is displayed in no more bytes");
         out.truncate(shown.length);
         String::from_utf8(out).expect("a displayed value is UTF-8")

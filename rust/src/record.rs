@@ -77,7 +77,7 @@ pub fn serialize(record: &Record) -> Result<String, Error> {
 impl<'t> Record<'t> {
     fn read(text: Cow<'t, [u8]>, options: ParseOptions) -> Result<Self, Error> {
         let mut tables = if text.len() <= TEXT_LIMIT { Tables::sufficient(&text) } else { Tables::default() };
-        let reading = ffi::read(&text, options.bits(), &mut tables);
+        let reading = ffi::read(&text, options.bits(), tables.lent());
         if reading.number != 0 {
             return Err(Error::new(reading.number, reading.place));
         }
@@ -109,7 +109,7 @@ impl<'t> Record<'t> {
     /// # Ok::<(), ekimorepa::Error>(())
     /// ```
     pub fn from_tables<T: AsRef<[u8]> + ?Sized>(text: &'t T, tables: Tables) -> Result<Self, Error> {
-        match ffi::fits(text.as_ref(), &tables) {
+        match ffi::fits(&tables.held(text.as_ref())) {
             0 => Ok(Record { text: Cow::Borrowed(text.as_ref()), tables }),
             number => Err(Error::new(number, 0)),
         }
@@ -170,7 +170,7 @@ impl<'t> Record<'t> {
         let growth = new.len().saturating_sub(old).min(TEXT_LIMIT);
         let text = self.text.to_mut();
         text.resize(used + growth, 0);
-        let edit = ffi::edit(text, used, &mut self.tables, number, new);
+        let edit = ffi::edit(&mut self.tables.edited(text, used), number, new);
         if edit.number != 0 {
             text.truncate(used);
             return Err(Error::new(edit.number, edit.place));
@@ -186,7 +186,7 @@ impl<'t> Record<'t> {
     pub fn to_sgf(&self) -> Result<String, Error> {
         let mut out = vec![0; self.text.len() + 2];
         loop {
-            let writing = ffi::write(&self.text, &self.tables, &mut out);
+            let writing = ffi::write(&self.tables.held(&self.text), &mut out);
             match writing.number {
                 0 => {
                     out.truncate(writing.length);

@@ -1,6 +1,6 @@
 //! The four tables that a reading fills.
 #![forbid(unsafe_code)]
-use crate::ffi::Counts;
+use crate::ffi::{Counts, Edited, Held};
 
 /// No node.
 pub(crate) const NONE: u32 = u32::MAX;
@@ -45,7 +45,28 @@ impl Tables {
         self.values.shrink_to_fit();
     }
 
-    pub(crate) fn counts(&self) -> Counts {
+    fn counts(&self) -> Counts {
         Counts { trees: self.trees.len(), nodes: self.nodes.len(), properties: self.properties.len(), values: self.values.len() }
+    }
+
+    /// All of them, to be filled.
+    pub(crate) fn lent(&mut self) -> [&mut [u32]; 4] {
+        let Tables { trees, nodes, properties, values } = self;
+        [trees.as_flattened_mut(), nodes.as_flattened_mut(), properties.as_flattened_mut(), values.as_flattened_mut()]
+    }
+
+    /// With their text, of which all is used.
+    pub(crate) fn held<'a>(&'a self, text: &'a [u8]) -> Held<'a> {
+        let Tables { trees, nodes, properties, values } = self;
+        let tables = [trees.as_flattened(), nodes.as_flattened(), properties.as_flattened(), values.as_flattened()];
+        Held { text, used: text.len(), counts: self.counts(), tables }
+    }
+
+    /// With their text, to be edited.
+    pub(crate) fn edited<'a>(&'a mut self, text: &'a mut [u8], used: usize) -> Edited<'a> {
+        let counts = self.counts();
+        let Tables { trees, nodes, properties, values } = self;
+        let (properties, values) = (properties.as_flattened_mut(), values.as_flattened_mut());
+        Edited { text, used, counts, trees: trees.as_flattened(), nodes: nodes.as_flattened(), properties, values }
     }
 }

@@ -1,0 +1,210 @@
+/* Every number of include/sgf.h, 0 to 19, from every function that gives it, with its place, and in the order in which a
+ * function gives them. A refusal leaves all lent memory as it was, and all that it counts is 0. */
+#include "sgf.h"
+
+#include <stdio.h>
+#include <string.h>
+
+enum { READ, FITS, VALUE, DISPLAY, GO_VALUE, WRITE, EDIT, TRIM, TOKEN, CALLS };
+enum { FIT, DAMAGED }; /* the tables of a reading, or with a game type that there is not */
+enum { ROOM = 64, ROWS = 1100, LONG = SGF_TEXT_LIMIT };
+
+/* Texts at a limit and one more: a comment of so many bytes, trees in trees, and a value. */
+static char longest[LONG + 1], too_long[LONG + 2], deepest[3 * 1024 + 1], too_deep[3 * 1025 + 1], long_value[LONG + 1];
+
+typedef struct {
+    uint32_t number;
+    size_t place;
+    int call;
+    const char *text;
+    uint32_t options; /* of the reading; with 4 a row too few is lent */
+    int state;
+    size_t k;
+    const char *given; /* the new value of an edit */
+    size_t room;       /* bytes lent to write to, or behind the text of an edit */
+} Row;
+
+static const Row rows[] = {
+    {0, 0, READ, "(;);", 0, FIT, 0, "", 0},
+    {0, 0, READ, longest, 0, FIT, 0, "", 0},
+    {1, 0, READ, too_long, 0, FIT, 0, "", 0},
+    {1, 0, READ, too_long, 1, FIT, 0, "", 0},
+    {2, 4, READ, "(;B)\xFF", 0, FIT, 0, "", 0},
+    {2, 4, READ, "(;B)\xFF", 1, FIT, 0, "", 0},
+    {3, 2, READ, "(;B)", 0, FIT, 0, "", 0},
+    {4, 8, READ, "(;C[\xC3\xA9];B\xC3\xA9[aa", 0, FIT, 0, "", 0},
+    {5, 2, READ, "(;A[x\\]", 0, FIT, 0, "", 0},
+    {6, 0, READ, ")", 0, FIT, 0, "", 0},
+    {7, 0, READ, "(;", 0, FIT, 0, "", 0},
+    {7, 0, READ, "()", 0, FIT, 0, "", 0},
+    {8, 0, READ, "", 0, FIT, 0, "", 0},
+    {0, 0, READ, deepest, 0, FIT, 0, "", 0},
+    {9, 0, READ, too_deep, 0, FIT, 0, "", 0},
+    {9, 0, READ, too_deep, 1, FIT, 0, "", 0},
+    {10, 0, READ, "((;))", 0, FIT, 0, "", 0},
+    {11, 0, READ, "(B[aa])", 0, FIT, 0, "", 0},
+    {11, 0, READ, "(;GM[1]GM[x])", 0, FIT, 0, "", 0},
+    {12, 0, READ, "(;GM[x])", 0, FIT, 0, "", 0},
+    {13, 0, READ, "(;Black[aa])", 2, FIT, 0, "", 0},
+    {14, 0, READ, "(;B[aa])", 4, FIT, 0, "", 0},
+    {14, 0, READ, "(;B[aa])", 5, FIT, 0, "", 0},
+    {13, 0, READ, "(;Black[aa])", 6, FIT, 0, "", 0},
+    {0, 0, FITS, "(;C[ab])", 0, FIT, 0, "", 0},
+    {19, 0, FITS, "(;C[ab])", 0, DAMAGED, 0, "", 0},
+    {0, 0, VALUE, "(;C[ab])", 0, FIT, 0, "", 0},
+    {16, 0, VALUE, "(;C[ab])", 0, FIT, 1, "", 0},
+    {19, 0, VALUE, "(;C[ab])", 0, DAMAGED, 1, "", 0},
+    {0, 0, DISPLAY, "(;C[ab])", 0, FIT, 0, "", 2},
+    {14, 0, DISPLAY, "(;C[ab])", 0, FIT, 0, "", 1},
+    {16, 0, DISPLAY, "(;C[ab])", 0, FIT, 1, "", 0},
+    {19, 0, DISPLAY, "(;C[ab])", 0, DAMAGED, 1, "", 0},
+    {0, 0, GO_VALUE, "(;B[ab])", 0, FIT, 0, "", 0},
+    {16, 0, GO_VALUE, "(;B[ab])", 0, FIT, 1, "", 0},
+    {19, 0, GO_VALUE, "(;B[ab])", 0, DAMAGED, 1, "", 0},
+    {0, 0, WRITE, "(;B[ab])", 0, FIT, 0, "", 8},
+    {14, 0, WRITE, "(;B[ab])", 0, FIT, 0, "", 7},
+    {15, 0, WRITE, "(;[x])", 0, FIT, 0, "", 0},
+    {19, 0, WRITE, "(;[x])", 0, DAMAGED, 0, "", 0},
+    {0, 0, EDIT, "(;C[ab])", 0, FIT, 0, "abcd", 2},
+    {14, 0, EDIT, "(;C[ab])", 0, FIT, 0, "abcd", 1},
+    {1, 0, EDIT, "(;C[ab])", 0, FIT, 0, long_value, 1},
+    {18, 0, EDIT, "(;C[ab])", 0, FIT, 0, "x]", 0},
+    {18, 0, EDIT, "(;C[ab])", 0, FIT, 0, "x\\", 0},
+    {2, 1, EDIT, "(;C[ab])", 0, FIT, 0, "]\xFF", 0},
+    {17, 0, EDIT, "(;GM[1])", 0, FIT, 0, "\xFF", 0},
+    {16, 0, EDIT, "(;GM[1])", 0, FIT, 1, "\xFF", 0},
+    {19, 0, EDIT, "(;GM[1])", 0, DAMAGED, 1, "\xFF", 0},
+    {0, 0, TRIM, " (;) ", 0, FIT, 0, "", 0},
+    {2, 1, TRIM, "(\xC3(;)", 0, FIT, 0, "", 0},
+    {0, 0, TOKEN, "(;B[aa])", 0, FIT, 2, "", 0},
+    {3, 2, TOKEN, "(;B)", 0, FIT, 2, "", 0},
+    {4, 2, TOKEN, "(;\xC3\xA9[])", 0, FIT, 2, "", 0},
+    {5, 2, TOKEN, "(;B[aa", 0, FIT, 2, "", 0},
+};
+
+/* All that is lent, and what it was. */
+static struct Memory {
+    uint8_t text[LONG + ROOM], out[ROOM];
+    uint32_t trees[2 * ROWS], nodes[5 * ROWS], properties[4 * ROWS], values[2 * ROWS];
+} lent, before;
+
+static SgfReading reading(size_t length, uint32_t options, size_t value_rows) {
+    return sgf_read(lent.text, length, options, lent.trees, 2 * ROWS, lent.nodes, 5 * ROWS, lent.properties, 4 * ROWS,
+                    lent.values, 2 * value_rows);
+}
+
+#define RECORD \
+    lent.text, length + r->room, length, counts, lent.trees, 2 * ROWS, lent.nodes, 5 * ROWS, lent.properties, 4 * ROWS, \
+    lent.values, 2 * ROWS
+
+/* Makes the call: its number and place, and whether all else that it answers is 0. */
+static uint32_t answer(const Row *r, uint32_t options, size_t *place, bool *is_zero) {
+    size_t length = strlen(r->text);
+    SgfCounts counts = {0, 0, 0, 0};
+    memset(&lent, 0xA5, sizeof lent);
+    memcpy(lent.text, r->text, length);
+    if (r->call != READ && r->call < TRIM) {
+        SgfReading made = reading(length, SGF_STRICT, ROWS);
+        counts = (SgfCounts){made.trees, made.nodes, made.properties, made.values};
+        lent.trees[SGF_TREE_GAME_TYPE] = r->state == DAMAGED ? 2 : lent.trees[SGF_TREE_GAME_TYPE];
+    }
+    memcpy(&before, &lent, sizeof lent);
+    *place = 0;
+    *is_zero = true;
+    switch (r->call) {
+    case READ: {
+        SgfReading a = reading(length, options, options & 4 ? 0 : ROWS);
+        *place = a.place;
+        *is_zero = (a.trees | a.nodes | a.properties | a.values) == 0;
+        return a.number;
+    }
+    case FITS: return sgf_fits(RECORD);
+    case VALUE: {
+        SgfSpan a = sgf_value(RECORD, r->k);
+        *is_zero = (a.from | a.to) == 0;
+        return a.number;
+    }
+    case DISPLAY: {
+        SgfDisplay a = sgf_display(RECORD, r->k, SGF_TEXT, lent.out, r->room);
+        *is_zero = a.length == 0;
+        return a.number;
+    }
+    case GO_VALUE: {
+        SgfGoValue a = sgf_go_value(RECORD, r->k);
+        *is_zero = a.kind == SGF_OTHER && memchr(a.marks, 1, sizeof a.marks) == NULL;
+        return a.number;
+    }
+    case WRITE: {
+        SgfWriting a = sgf_write(RECORD, lent.out, r->room);
+        *is_zero = a.length == 0;
+        return a.number;
+    }
+    case EDIT: {
+        SgfEdit a = sgf_edit(RECORD, r->k, (const uint8_t *)r->given, strlen(r->given));
+        *place = a.place;
+        *is_zero = (a.used | a.trees | a.nodes | a.properties | a.values) == 0;
+        return a.number;
+    }
+    case TRIM: {
+        SgfTrim a = sgf_trim(lent.text, length);
+        *place = a.place;
+        *is_zero = (a.first | a.last) == 0;
+        return a.number;
+    }
+    default: {
+        SgfToken a = sgf_token(lent.text, length, r->k);
+        *place = a.number != 0 ? a.from : 0;
+        return a.number;
+    }
+    }
+}
+
+static int failures;
+
+static void check(const Row *r, uint32_t options, uint32_t number, size_t place) {
+    size_t found = 0;
+    bool is_zero = false;
+    uint32_t given = answer(r, options, &found, &is_zero);
+    bool stays = number == 0 || (is_zero && memcmp(&before, &lent, sizeof lent) == 0);
+    if (given != number || found != place || !stays) {
+        printf("row %d: %u at %zu instead of %u at %zu%s\n", (int)(r - rows), (unsigned)given, found, (unsigned)number, place,
+               stays ? "" : ", and not all stayed");
+        failures++;
+    }
+}
+
+static void make_texts(void) {
+    memset(too_long, 'x', LONG + 1);
+    memcpy(too_long, "(;C[", 4);
+    memcpy(longest, too_long, LONG);
+    memcpy(longest + LONG - 2, "])", 2);
+    memcpy(too_long + LONG - 1, "])", 2);
+    memset(long_value, 'x', LONG);
+    memset(too_deep, ')', 3 * 1025);
+    memset(deepest, ')', 3 * 1024);
+    for (int i = 0; i < 1025; i++) {
+        memcpy(too_deep + 2 * i, "(;", 2);
+    }
+    memcpy(deepest, too_deep, 2 * 1024);
+}
+
+int main(void) {
+    unsigned seen = 0;
+    make_texts();
+    for (const Row *r = rows; r < rows + sizeof rows / sizeof *rows; r++) {
+        check(r, r->options, r->number, r->place);
+        seen |= 1u << r->number;
+        /* Lenient reading gives only 0, 1, 2, 9 and 14. */
+        if (r->call == READ && (r->options & 4) == 0 && r->number > 2 && r->number != 9) {
+            check(r, r->options | SGF_LENIENT, 0, 0);
+        }
+    }
+    for (int n = 0; n < 20; n++) {
+        if (!(seen >> n & 1)) {
+            printf("no row gives %d\n", n);
+            failures++;
+        }
+    }
+    printf("numbers: %d rows, %d failures\n", (int)(sizeof rows / sizeof *rows), failures);
+    return failures != 0;
+}
