@@ -4,11 +4,11 @@
 use Prim.Native.Nat.{ℕ}
 use mathlib.Core.List.{List}
 use mathlib.Core.Path.{_≡_}
-use Rattle.values.specs.declared.display.Kind.{Kind}
+use Rattle.display.specs.declared.Kind.{Kind}
 use Rattle.tables.specs.declared.Counts.{Counts}
 use Rattle.tables.specs.declared.Reading.the-variants.{Refused}
 use Rattle.tables.specs.declared.Reason.{Reason}
-use Rattle.fit.specs.Access.{accessed}
+use Rattle.access.specs.Access.{accessed}
 use Rattle.parser.specs.Read.{read}
 use Rattle.parser.specs.Walk.{Opts}
 use Rattle.reader.specs.Lent.{Lent, ReadIs}

@@ -8,7 +8,7 @@ use lib.ListN.{length, take}
 use Rattle.lists.specs.All.{All}
 use Rattle.tables.specs.Numbers.{textLimit}
 use Rattle.tables.specs.Record.{Tree, allNodes, allProps}
-use Rattle.tables.specs.Rows.{tables}
+use Rattle.tables.specs.Rows.{tables, countsOf}
 use Rattle.tables.specs.declared.Counts.{Counts}
 use Rattle.tables.specs.declared.Reading.the-variants.{Accepted}
 use Rattle.tables.specs.declared.Reason.the-variants.{TooDeep}
@@ -16,7 +16,7 @@ use Rattle.fit.specs.Fit.{Fit}
 use Rattle.fit.specs.Record.{rowsOf, recordOf}
 use Rattle.parser.specs.Read.{refused, accepted, read}
 use Rattle.parser.specs.Walk.{Opts}
-use Rattle.reader.specs.Lent.{Lent, countsOf, ReadIs}
+use Rattle.reader.specs.Lent.{Lent, ReadIs}
 use Rattle.reader.proofs.Theorems.{counts-are-lengths}
 use Rattle.meet.proofs.Lent.{read-fits, read-rows}
 use Rattle.serialize.specs.Form.{writing, WriteIs}

@@ -4,10 +4,10 @@ use mathlib.Core.Bool.{Bool}
 use mathlib.Core.List.{List}
 use mathlib.Core.Path.{_≡_}
 use lib.ListN.{take}
-use Rattle.tables.specs.Rows.{tables}
+use Rattle.tables.specs.Rows.{tables, countsOf}
 use Rattle.tables.specs.declared.Counts.{Counts}
 use Rattle.tables.specs.declared.Reading.the-variants.{Accepted}
-use Rattle.fit.specs.Record.{rowsOf, countsOf}
+use Rattle.fit.specs.Record.{rowsOf}
 use Rattle.parser.specs.Read.{read}
 use Rattle.reader.specs.Lent.{Lent, lent, ReadIs}
 use Rattle.fresh.specs.Calls.{Memory, heldIn, Calls}

@@ -2,32 +2,29 @@
 use Prim.Native.Nat.{ℕ}
 use mathlib.Core.Bool.{Bool, true, false}
 use mathlib.Core.List.{List, _++_}
-use mathlib.Core.Path.{_≡_, refl}
-use native.Mathlib.Omega.{arith}
+use mathlib.Core.Path.{_≡_}
 use lib.Dec.{leb}
 use lib.ListN.{length, drop}
 use Rattle.lists.specs.Pick.{pick}
-use Rattle.values.specs.Display.{shown, displayed, displayedIn}
+use Rattle.lists.proofs.Tests.{never}
+use Rattle.display.specs.Display.{shown, displayed, displayedIn}
 use Rattle.values.specs.Read.{readValue}
-use Rattle.values.specs.declared.display.Kind.{Kind}
-use Rattle.values.specs.declared.display.Displayed.the-variants.{Length, NoRoom}
-use Rattle.tables.specs.Rows.{tables}
+use Rattle.display.specs.declared.Kind.{Kind}
+use Rattle.display.specs.declared.Displayed.the-variants.{Length, NoRoom}
+use Rattle.tables.specs.Rows.{tables, countsOf}
 use Rattle.tables.specs.declared.Reading.the-variants.{Accepted, Refused}
 use Rattle.tables.specs.declared.Reason.{Reason}
 use Rattle.tables.specs.declared.Reason.the-variants as reason
-use Rattle.fit.specs.declared.Accessed.{Accessed}
-use Rattle.fit.specs.declared.Accessed.the-variants as access
+use Rattle.access.specs.declared.Accessed.{Accessed}
+use Rattle.access.specs.declared.Accessed.the-variants as access
 use Rattle.parser.specs.Read.{Answer, refused, accepted}
-use Rattle.reader.specs.Lent.{Lent, countsOf, roomy, stored, answers, leaves}
-use Rattle.record.specs.Ask.{shownFor, shownAs, shownIn, display, displayIn}
+use Rattle.reader.specs.Lent.{Lent, roomy, stored, answers, leaves}
+use Rattle.record.specs.Ask.{shownFor, display, displayIn}
 use Rattle.record.specs.declared.Shown.the-variants.{NotShown}
 use Rattle.edit.specs.Edit.{Outcome, refuses, gives}
 use Rattle.edit.specs.Lent as lent
 use Rattle.edit.specs.declared.Edited.the-variants as edited
 use lib.Seq.{slice}
-
-never {ℓ} : {X : Type ℓ} → _≡_ {A = ℕ} 0 1 → X
-never e = absurd (omega (arith, e))
 
 pub reading-leaves : (a : Answer) (before after : Lent) (r : Reason) (p : ℕ) → Refused r p ≡ answers a before → after ≡ leaves a before → after ≡ before
 reading-leaves (refused s q) before after r p e l = l

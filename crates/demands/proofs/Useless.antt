@@ -4,9 +4,10 @@ use mathlib.Core.List.{List, [], _∷_, _++_}
 use mathlib.Core.Path.{_≡_, refl, ap, _∙_}
 use native.Mathlib.Omega.{arith}
 use lib.ListN.{getD}
+use Rattle.lists.proofs.Tests.{never}
 use Rattle.utf8.specs.Text.{white}
 use Rattle.utf8.specs.Trim.{trimmed}
-use Rattle.lexer.specs.Token.{space}
+use Rattle.scan.specs.Scan.{space}
 use Rattle.tables.specs.Numbers.{none}
 use Rattle.tables.specs.declared.Counts.{Counts}
 use Rattle.tables.specs.declared.Reading.the-variants.{Accepted, Refused}
@@ -23,9 +24,6 @@ use Rattle.reader.specs.Lent.{Lent, lent, answers, ReadIs}
 use Rattle.edit.specs.Edit.{Outcome}
 use Rattle.edit.specs.Lent as edit
 use Rattle.edit.specs.declared.Edited.the-variants as edited
-
-never {ℓ} : {X : Type ℓ} → _≡_ {A = ℕ} 0 1 → X
-never e = absurd (omega (arith, e))
 
 -- so many rows
 abbrev rows : (trees nodes properties values : ℕ) → Counts

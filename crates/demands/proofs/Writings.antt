@@ -1,9 +1,7 @@
 -- What the writer makes of the tables that a reading left. Assumes nothing.
 use Prim.Native.Nat.{ℕ}
-use mathlib.Core.Bool.{Bool, true, false}
 use mathlib.Core.List.{List}
 use mathlib.Core.Path.{_≡_, sym, ap, _∙_}
-use native.Mathlib.Omega.{arith}
 use lib.Dec.{ltb}
 use lib.ListN.{length, take, drop}
 use lib.Seq.{take-length, take-at}
@@ -16,19 +14,10 @@ use Rattle.parser.specs.Read.{accepted, read}
 use Rattle.parser.specs.Walk.{Opts}
 use Rattle.reader.specs.Lent.{Lent, ReadIs}
 use Rattle.meet.proofs.Lent.{read-rows}
-use Rattle.serialize.specs.Form.{writing, answer, WriteIs}
+use Rattle.serialize.specs.Form.{writing, WriteIs}
 use Rattle.serialize.specs.Write.{nameless}
+use Rattle.serialize.proofs.Room.{answer-length}
 use Rattle.serialize.specs.declared.Written.the-variants.{Wrote}
-
-never {ℓ} : {X : Type ℓ} → _≡_ {A = ℕ} 0 1 → X
-never e = absurd (omega (arith, e))
-
--- an accepted writing has the length that is answered
-answer-length : (f e s : Bool) (w : List ℕ) (n : ℕ) → Wrote n ≡ answer f e s w → length w ≡ n
-answer-length false e s w n h = never cc
-answer-length true true s w n h = never cc
-answer-length true false true w n h = never cc
-answer-length true false false w n h = let z : n ≡ length w = cc in sym z
 
 pub bytes-written : (op : Opts) (t : List ℕ) (before after : Lent) (c : Counts) → ReadIs (read op t) before after (Accepted c) → (out out′ : List ℕ) (n : ℕ)
     → WriteIs t (length t) c (after .trees) (after .nodes) (after .props) (after .vals) out out′ (Wrote n) → (ts : List Tree) × (read op t ≡ accepted ts) × (take n out′ ≡ writing ts)
@@ -36,5 +25,5 @@ bytes-written op t before after c x out out′ n w =
     let r = read-rows op t before after c x in
     let R : List Tree = recordOf (take (length t) t) (rowsOf c (after .trees) (after .nodes) (after .props) (after .vals)) in
     let W : List ℕ = writing R in
-    let l : length W ≡ n = answer-length (Fit t (length t) c (after .trees) (after .nodes) (after .props) (after .vals)) (nameless (allProps (allNodes R))) (ltb (length out) (length W)) W n (w .is) in
-    (r .0, r .1, ap (take n) (w .bytes) ∙ take-at W (drop n out) n l ∙ ap (λ (z : List ℕ). writing (recordOf z (rowsOf c (after .trees) (after .nodes) (after .props) (after .vals)))) (take-length t) ∙ ap writing (r .3))
+    let l : n ≡ length W = answer-length (Fit t (length t) c (after .trees) (after .nodes) (after .props) (after .vals)) (nameless (allProps (allNodes R))) (ltb (length out) (length W)) n W (w .is) in
+    (r .0, r .1, ap (take n) (w .bytes) ∙ take-at W (drop n out) n (sym l) ∙ ap (λ (z : List ℕ). writing (recordOf z (rowsOf c (after .trees) (after .nodes) (after .props) (after .vals)))) (take-length t) ∙ ap writing (r .3))

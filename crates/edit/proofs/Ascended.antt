@@ -12,10 +12,9 @@ use Rattle.lexer.specs.Move.{startsAt, endsAt}
 use Rattle.lexer.proofs.Replace.{starts-low, starts-high, ends-low, ends-high}
 use Rattle.tables.specs.Move.{moveProps, moveVals}
 use Rattle.tables.specs.Rows.{PropRow, ValRow}
-use Rattle.tables.specs.declared.Counts.{Counts}
-use Rattle.fit.specs.Columns.{firstPropAt, propCountAt, nameFromAt, nameToAt, firstValAt, valCountAt}
+use Rattle.fit.specs.Columns.{nameFromAt, nameToAt, firstValAt, valCountAt}
 use Rattle.fit.specs.Each.{each, sum, tabulate}
-use Rattle.fit.specs.Ranges.{gapless, hasValue, rangesFit}
+use Rattle.fit.specs.Ranges.{gapless, hasValue}
 use Rattle.fit.specs.Record.{propRow, valRow}
 use Rattle.fit.specs.Spans.{Span, span, valSpan, propSpans, spans, ascending}
 use Rattle.edit.proofs.Apart.{First, first-is, is-first}
@@ -137,13 +136,13 @@ unfolding sum
 sum-same f g zero h = refl
 sum-same f g (suc n) h = ap₂ (λ (x y : ℕ). x + y) (sum-same f g n (λ k l. h k (omega arith))) (h n (omega arith))
 
-pub ranges-same : (c : Counts) (nd pr pr′ : List ℕ) → ((p : ℕ) → p < c .properties → firstValAt pr′ p ≡ firstValAt pr p) → ((p : ℕ) → p < c .properties → valCountAt pr′ p ≡ valCountAt pr p)
-    → rangesFit c nd pr′ ≡ rangesFit c nd pr
-unfolding rangesFit
-ranges-same c nd pr pr′ first count =
-    ap₂ (λ (x y : Bool). gapless (firstPropAt nd) (propCountAt nd) (c .nodes) (c .properties) && x && y)
-    (ap₂ (λ (x : Bool) (z : ℕ). x && eqb z (c .values))
-    (each-same (λ k. eqb (firstValAt pr′ k) (sum (valCountAt pr′) k)) (λ k. eqb (firstValAt pr k) (sum (valCountAt pr) k)) (c .properties)
-    (λ k l. ap₂ eqb (first k l) (sum-same (valCountAt pr′) (valCountAt pr) k (λ i h. count i (omega arith)))))
-    (sum-same (valCountAt pr′) (valCountAt pr) (c .properties) count))
-    (each-same (hasValue pr′) (hasValue pr) (c .properties) (λ k l. ap (λ (z : ℕ). leb 1 z) (count k l)))
+module _ (pr pr′ : List ℕ) (n : ℕ) (first : (p : ℕ) → p < n → firstValAt pr′ p ≡ firstValAt pr p) (count : (p : ℕ) → p < n → valCountAt pr′ p ≡ valCountAt pr p) where
+  pub ranges-same : (total : ℕ) → gapless (firstValAt pr′) (valCountAt pr′) n total ≡ gapless (firstValAt pr) (valCountAt pr) n total
+  ranges-same total =
+      ap₂ (λ (x : Bool) (z : ℕ). x && eqb z total)
+      (each-same (λ k. eqb (firstValAt pr′ k) (sum (valCountAt pr′) k)) (λ k. eqb (firstValAt pr k) (sum (valCountAt pr) k)) n
+      (λ k l. ap₂ eqb (first k l) (sum-same (valCountAt pr′) (valCountAt pr) k (λ i h. count i (omega arith)))))
+      (sum-same (valCountAt pr′) (valCountAt pr) n count)
+
+  pub have-same : each n (hasValue pr′) ≡ each n (hasValue pr)
+  have-same = each-same (hasValue pr′) (hasValue pr) n (λ k l. ap (λ (z : ℕ). leb 1 z) (count k l))

@@ -14,11 +14,10 @@ use Rattle.lexer.specs.Move.{startsAt, endsAt}
 use Rattle.lexer.proofs.Replace.{starts-low, starts-high, ends-low, ends-high}
 use Rattle.tables.specs.declared.Counts.{Counts}
 use Rattle.fit.specs.Columns.{valFromAt, valToAt}
-use Rattle.fit.specs.Spans.{span, spans, boxed, valueRight}
+use Rattle.fit.specs.Spans.{boxed, valueRight}
 use Rattle.fit.proofs.Cases.{and-left, and-right}
 use Rattle.fit.proofs.Each.{each-at}
-use Rattle.edit.proofs.Ascended.{moved}
-use Rattle.edit.proofs.Fitting.{Fits}
+use Rattle.fit.proofs.Clauses.{Clauses}
 use Rattle.edit.proofs.Pasted.{U, byte-before, byte-after, slice-before, slice-after, slice-new}
 
 -- what a value's three tests say
@@ -47,7 +46,7 @@ pub boxed-is : (t : List ℕ) (a e : ℕ) → Boxed t a e → boxed t a e ≡ tr
 boxed-is t a e x = rw (lt-ltb 0 a (x .some), eq-eqb (getD t (a - 1) 0) 0x5b (x .opens), eq-eqb (getD t e 0) 0x5d (x .closes)) (x .shut)
 
 -- the text t, the value k of it, the new bytes; and tables whose rows are the moved ones
-module _ (t : List ℕ) (c : Counts) (tr nd pr vl : List ℕ) (fits : Fits t c tr nd pr vl) (k : ℕ) (below : k < c .values) (new : List ℕ)
+module _ (t : List ℕ) (c : Counts) (tr nd pr vl : List ℕ) (fits : Clauses t c tr nd pr vl) (k : ℕ) (below : k < c .values) (new : List ℕ)
     (order : valFromAt vl k ≤ valToAt vl k) (within : valToAt vl k ≤ length t) where
   abbrev pub q : ℕ
   q = valFromAt vl k

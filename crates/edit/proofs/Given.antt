@@ -8,6 +8,7 @@ use lib.Dec.{ltb}
 use lib.ListN.{length, take}
 use borrow.Author.Tests.{ltb-true, ltb-false}
 use Rattle.lists.specs.Same.{same}
+use Rattle.lists.proofs.Tests.{never}
 use Rattle.utf8.specs.Text.{blank, Ink, Utf, whole, part, bad, utfs}
 use Rattle.lexer.specs.Closed.{closed}
 use Rattle.tables.specs.Numbers.{textLimit}
@@ -21,14 +22,16 @@ use Rattle.fit.specs.Fit.{Fit}
 use Rattle.fit.specs.Record.{propRow}
 use Rattle.fit.proofs.Cases.{either-bool}
 use Rattle.edit.specs.Edit.{ownerName, pasted, Outcome, refuses, gives, outcome}
-use Rattle.edit.specs.Lent.{outcomeOf, answers, over, cleared, Lent, lent, EditIs}
+use Rattle.edit.specs.Lent.{outcomeOf, answers, cleared, Lent, lent, EditIs}
+use Rattle.tables.specs.Flat.{over}
 use Rattle.edit.specs.Locals.{NamesLie, ValuesLie, Replaceable, propertiesMoved, valuesMoved, span}
 use Rattle.edit.specs.declared.Edited.the-variants.{Changed, Refused}
-use Rattle.edit.proofs.Fitting.{fit-short, fit-names, fit-vals, fit-within}
+use Rattle.fit.proofs.Clauses.{fit-short, fit-names, fit-vals}
+use Rattle.edit.proofs.Fitting.{fit-within}
 use Rattle.edit.proofs.Judged.{newText, newRows, decided-misfit, decided-beyond, tests-are, length-new}
 
 not-both : {A : Type 0} (n : ℕ) (r : Reason) (p : ℕ) → Changed n ≡ Refused r p → A
-not-both n r p e = let z : _≡_ {A = ℕ} 0 1 = cc in absurd (omega arith)
+not-both n r p e = never cc
 
 -- a refusal leaves all memory
 pub edit-refused : (o : Outcome) (used : ℕ) (l : Lent) {r : Reason} {p : ℕ} → Refused r p ≡ answers o → EditIs o used l l (Refused r p)

@@ -12,6 +12,7 @@ use lib.ListN.{length, take}
 use borrow.Author.Tests.{lt-ltb, le-ltb}
 use Rattle.lists.specs.Pick.{pick}
 use Rattle.lists.specs.Same.{same}
+use Rattle.lists.proofs.Tests.{never}
 use Rattle.utf8.specs.Text.{Ink, blank, inked, Utf, whole, part, bad, utfs}
 use Rattle.utf8.specs.Trim.{shown, trimmed}
 use Rattle.utf8.specs.declared.Trimmed.{Trimmed}
@@ -34,7 +35,7 @@ use Rattle.edit.specs.declared.Edited.{Edited}
 use Rattle.edit.specs.declared.Edited.the-variants.{Changed, Refused}
 use Rattle.edit.proofs.Fitting.{fit-within}
 use Rattle.edit.proofs.Replaced.{length-pasted}
-use Rattle.edit.proofs.Tabulated.{tabulate-length, tabulate-at}
+use Rattle.fit.proofs.Parts.{tabulate-length, tabulate-at}
 
 -- ---- the new bytes
 
@@ -47,8 +48,8 @@ whole-of (bad p) (inl z) = absurd (omega arith)
 whole-of (bad p) (inr z) = absurd (omega arith)
 
 bad-at : (u : Utf) (c l m : Bool) (t : List ℕ) (T : Tables) {p : ℕ} → Bad p ≡ shown u → Refused NotUtf8 p ≡ answers (outcome true false u c l m t T)
-bad-at (whole blank) c l m t T h = let z : _≡_ {A = ℕ} 0 1 = cc in absurd (omega arith)
-bad-at (whole (inked f e)) c l m t T h = let z : _≡_ {A = ℕ} 0 1 = cc in absurd (omega arith)
+bad-at (whole blank) c l m t T h = never cc
+bad-at (whole (inked f e)) c l m t T h = never cc
 bad-at (part k s n r x) c l m t T {p} h = let z : p ≡ s = cc in ap (Refused NotUtf8) z
 bad-at (bad q) c l m t T {p} h = let z : p ≡ q = cc in ap (Refused NotUtf8) z
 

@@ -6,17 +6,17 @@ use native.Mathlib.Omega.{arith}
 use lib.ListN.{length, take, drop, replicate, length-map, length-append, length-drop, length-replicate}
 use lib.Seq.{take-at}
 use Rattle.lexer.specs.Move.{startsAt, endsAt}
-use Rattle.tables.specs.Flat.{flatProps, flatVals}
+use Rattle.tables.specs.Flat.{flatProps, flatVals, over}
 use Rattle.tables.specs.Move.{moveProps, moveVals}
 use Rattle.tables.specs.Rows.{PropRow, ValRow, Tables}
 use Rattle.tables.specs.declared.Counts.{Counts}
 use Rattle.fit.specs.Each.{tabulate}
-use Rattle.fit.specs.Record.{treeRow, nodeRow, propRow, valRow, rowsOf, countsOf}
+use Rattle.fit.specs.Record.{propRow, valRow, rowsOf}
 use Rattle.fit.proofs.Rows.{rows-of-flat}
 use Rattle.edit.specs.Edit.{shifted}
-use Rattle.edit.specs.Lent.{over, cleared}
+use Rattle.edit.specs.Lent.{cleared}
 use Rattle.edit.proofs.Moving.{length-props-to, length-vals-to}
-use Rattle.edit.proofs.Tabulated.{tabulate-length, map-tabulate, tabulate-same}
+use Rattle.fit.proofs.Parts.{tabulate-length, map-tabulate, tabulate-same}
 
 pub text-left : (t b : List ℕ) (used : ℕ) → take (length t) (over (cleared t used) b) ≡ t
 text-left t b used =
@@ -45,11 +45,11 @@ module _ (f g : ℕ → ℕ) where
   -- a row by itself
   pub prop-row-left : (pr : List ℕ) (n p : ℕ) → p < n → propRow (over (flatProps (map (moveProps f g) (tabulate (propRow pr) 0 n))) pr) p ≡ moveProps f g (propRow pr p)
   prop-row-left pr n =
-      tabulate-same (propRow (over (flatProps (map (moveProps f g) (tabulate (propRow pr) 0 n))) pr)) (λ p. moveProps f g (propRow pr p)) n (props-left pr n ∙ map-tabulate (moveProps f g) (propRow pr) 0 n)
+      tabulate-same (propRow (over (flatProps (map (moveProps f g) (tabulate (propRow pr) 0 n))) pr)) (λ p. moveProps f g (propRow pr p)) n (props-left pr n ∙ map-tabulate (propRow pr) (moveProps f g) 0 n)
 
   pub val-row-left : (vl : List ℕ) (n j : ℕ) → j < n → valRow (over (flatVals (map (moveVals f g) (tabulate (valRow vl) 0 n))) vl) j ≡ moveVals f g (valRow vl j)
   val-row-left vl n =
-      tabulate-same (valRow (over (flatVals (map (moveVals f g) (tabulate (valRow vl) 0 n))) vl)) (λ j. moveVals f g (valRow vl j)) n (vals-left vl n ∙ map-tabulate (moveVals f g) (valRow vl) 0 n)
+      tabulate-same (valRow (over (flatVals (map (moveVals f g) (tabulate (valRow vl) 0 n))) vl)) (λ j. moveVals f g (valRow vl j)) n (vals-left vl n ∙ map-tabulate (valRow vl) (moveVals f g) 0 n)
 
   -- as much is lent as before
   pub length-props-left : (pr : List ℕ) (n : ℕ) → n ≤ length pr / 4 → length (over (flatProps (map (moveProps f g) (tabulate (propRow pr) 0 n))) pr) ≡ length pr
@@ -67,8 +67,3 @@ pub rows-left : (c : Counts) (tr nd pr vl : List ℕ) (v : ValRow) (n : ℕ)
 rows-left c tr nd pr vl v n =
     ap₂ (λ (ps : List PropRow) (vs : List ValRow). record { trees = rowsOf c tr nd pr vl .trees; nodes = rowsOf c tr nd pr vl .nodes; props = ps; vals = vs })
     (props-left (startsAt (v .from) (v .to) n) (endsAt (v .from) (v .to) n) pr (c .properties)) (vals-left (startsAt (v .from) (v .to) n) (endsAt (v .from) (v .to) n) vl (c .values))
-
--- how many rows there are of each kind is what the counts say
-pub counts-of-rows : (c : Counts) (tr nd pr vl : List ℕ) → countsOf (rowsOf c tr nd pr vl) ≡ c
-counts-of-rows c tr nd pr vl =
-    rw (tabulate-length (treeRow tr) 0 (c .trees), tabulate-length (nodeRow nd) 0 (c .nodes), tabulate-length (propRow pr) 0 (c .properties), tabulate-length (valRow vl) 0 (c .values))

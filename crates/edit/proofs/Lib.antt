@@ -9,6 +9,5 @@ pub mod Moving
 pub mod Pasted
 pub mod Replaced
 pub mod Stays
-pub mod Tabulated
 pub mod Tested
 pub mod Unique

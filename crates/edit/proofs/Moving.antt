@@ -8,13 +8,12 @@ use lib.ListN.{length, drop, getD, length-map}
 use lib.Seq.{getD-append-add, getD-drop}
 use Rattle.lists.specs.Put.{PutIs, PutWhole}
 use Rattle.lists.proofs.Put.{put-none, put-more, put-all}
-use Rattle.tables.specs.Flat.{flatProps, flatVals}
+use Rattle.tables.specs.Flat.{flatProps, flatVals, over}
 use Rattle.tables.specs.Move.{moveProps, moveVals}
 use Rattle.tables.specs.Rows.{PropRow, ValRow}
 use Rattle.fit.specs.Each.{tabulate}
 use Rattle.fit.specs.Record.{propRow, valRow}
-use Rattle.edit.specs.Lent.{over}
-use Rattle.edit.proofs.Tabulated.{tabulate-length, tabulate-last}
+use Rattle.fit.proofs.Parts.{tabulate-length, tabulate-last}
 
 -- ---- what stands behind the rows that are put is as it was
 

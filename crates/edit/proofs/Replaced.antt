@@ -8,7 +8,8 @@ use lib.Seq.{paste, length-paste-head, length-take-le, drop-drop, take-all, take
 use Rattle.lists.proofs.Paste.{paste-block}
 use Rattle.lists.proofs.Places.{drop-take}
 use Rattle.edit.specs.Edit.{pasted}
-use Rattle.edit.specs.Lent.{over, cleared}
+use Rattle.edit.specs.Lent.{cleared}
+use Rattle.tables.specs.Flat.{over}
 use Rattle.edit.specs.Locals.{span, Within}
 
 -- the new bytes go in last

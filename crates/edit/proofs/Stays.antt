@@ -1,5 +1,5 @@
 -- Tables that fit stay fitting: after an accepted edit they fit the new text. Assumes nothing.
-use Prim.Native.Nat.{ℕ, _+_, _-_, _/_, _≤_, _<_}
+use Prim.Native.Nat.{ℕ, _+_, _-_, _≤_, _<_}
 use mathlib.Core.Bool.{true}
 use mathlib.Core.List.{List, map}
 use mathlib.Core.Logic.{_⊎_, inl, inr}
@@ -7,33 +7,30 @@ use mathlib.Core.Path.{_≡_, refl, ap, _∙_, subst, subst⁻¹}
 use native.Mathlib.Omega.{arith}
 use lib.ListN.{length, take}
 use lib.Seq.{slice, length-take-le}
-use borrow.Author.Tests.{le-leb}
 use Rattle.lexer.specs.Move.{startsAt, endsAt}
 use Rattle.lexer.proofs.Replace.{starts-low}
 use Rattle.lists.specs.All.{All}
-use Rattle.tables.specs.Flat.{flatProps, flatVals}
+use Rattle.tables.specs.Flat.{flatProps, flatVals, over}
 use Rattle.tables.specs.Move.{moveProps, moveVals}
-use Rattle.tables.specs.Numbers.{none, textLimit}
 use Rattle.tables.specs.Rows.{PropRow, ValRow}
 use Rattle.tables.specs.declared.Counts.{Counts}
 use Rattle.fit.specs.Columns.{nameFromAt, nameToAt, firstValAt, valCountAt, valFromAt, valToAt}
 use Rattle.fit.specs.Each.{each, sum, tabulate}
-use Rattle.fit.specs.Fit.{lentFor, Fit}
+use Rattle.fit.specs.Fit.{Fit}
 use Rattle.fit.specs.Locals.{Held}
-use Rattle.fit.specs.Ranges.{gapless}
 use Rattle.fit.specs.Record.{propRow, valRow}
 use Rattle.fit.specs.Spans.{span, spans, ascending, plainName, nameRight, boxed, valueRight}
 use Rattle.fit.proofs.Cases.{same-or}
+use Rattle.fit.proofs.Clauses.{Clauses, fit-clauses, clauses-fit, fit-vals}
 use Rattle.fit.proofs.Each.{each-at, each-all}
 use Rattle.fit.proofs.Lying.{names-lie}
 use Rattle.fit.proofs.Ranges.{gapless-first, gapless-sum, gapless-in}
-use Rattle.fit.proofs.Whole.{ranges-values}
-use Rattle.edit.specs.Lent.{Lent, lent, outcomeOf, over, cleared, leaves, EditIs}
+use Rattle.fit.proofs.Whole.{fit-lent}
+use Rattle.edit.specs.Lent.{Lent, lent, outcomeOf, cleared, leaves, EditIs}
 use Rattle.edit.specs.declared.Edited.the-variants.{Changed}
 use Rattle.edit.proofs.Apart.{AllApart, all-apart}
-use Rattle.edit.proofs.Ascended.{Ok, moved-ascend, first-same, count-same, spans-moved, all-spans, ranges-same}
+use Rattle.edit.proofs.Ascended.{Ok, moved-ascend, first-same, count-same, spans-moved, all-spans, ranges-same, have-same}
 use Rattle.edit.proofs.Boxes.{Boxed, boxed-is, value-box, slice-apart, box-apart, box-new}
-use Rattle.edit.proofs.Fitting.{Fits, fits-text, fit-held, fit-clauses, fit-vals}
 use Rattle.edit.proofs.Given.{Given, given, given-long, given-replaceable}
 use Rattle.edit.proofs.Judged.{newText, newRows, length-new}
 use Rattle.edit.proofs.Left.{text-left, prop-row-left, val-row-left, length-buffer-left, length-props-left, length-vals-left}
@@ -64,11 +61,11 @@ module _ (b : List ℕ) (used : ℕ) (c : Counts) (tr nd pr vl : List ℕ) (k : 
   abbrev vl′ : List ℕ
   vl′ = over (flatVals (map (moveVals f g) (tabulate (valRow vl) 0 (c .values)))) vl
 
-  F : Fits t c tr nd pr vl
+  F : Clauses t c tr nd pr vl
   F = fit-clauses b used c tr nd pr vl (x .fit)
 
   held : (used ≤ length b) × Held c tr nd pr vl
-  held = fit-held b used c tr nd pr vl (x .fit)
+  held = fit-lent b used c tr nd pr vl (x .fit)
 
   long : length t ≡ used
   long = length-take-le used b (held .0)
@@ -90,11 +87,8 @@ module _ (b : List ℕ) (used : ℕ) (c : Counts) (tr nd pr vl : List ℕ) (k : 
 
   -- ---- every other span lies apart
 
-  ranges : gapless (firstValAt pr) (valCountAt pr) (c .properties) (c .values) ≡ true
-  ranges = ranges-values c nd pr (F .ranges)
-
   up-all : sum (valCountAt pr) (0 + c .properties) ≡ c .values
-  up-all = let z : 0 + c .properties ≡ c .properties = omega arith in ap (sum (valCountAt pr)) z ∙ gapless-sum (firstValAt pr) (valCountAt pr) (c .properties) (c .values) ranges
+  up-all = let z : 0 + c .properties ≡ c .properties = omega arith in ap (sum (valCountAt pr)) z ∙ gapless-sum (firstValAt pr) (valCountAt pr) (c .properties) (c .values) (F .prop-ranges)
 
   up-none : sum (valCountAt pr) 0 ≡ 0
   unfolding sum
@@ -102,7 +96,7 @@ module _ (b : List ℕ) (used : ℕ) (c : Counts) (tr nd pr vl : List ℕ) (k : 
 
   apart : AllApart pr vl (length t) k 0 (c .properties)
   apart =
-      all-apart pr vl (length t) k (c .properties) 0 0 (λ i _ l. gapless-first (firstValAt pr) (valCountAt pr) (c .properties) (c .values) ranges i (omega arith)) (F .ascends)
+      all-apart pr vl (length t) k (c .properties) 0 0 (λ i _ l. gapless-first (firstValAt pr) (valCountAt pr) (c .properties) (c .values) (F .prop-ranges) i (omega arith)) (F .ascend)
       (omega (arith, up-none)) (omega (arith, x .below, up-all))
 
   name-apart : (p : ℕ) → p < c .properties → (nameToAt pr p < q) ⊎ (e < nameFromAt pr p)
@@ -117,7 +111,7 @@ module _ (b : List ℕ) (used : ℕ) (c : Counts) (tr nd pr vl : List ℕ) (k : 
   names-stay =
       each-all (nameRight u pr′) (c .properties)
       (λ p l.
-      let o = names-lie pr vl (length t) (c .properties) (F .ascends) p l .0 in
+      let o = names-lie pr vl (length t) (c .properties) (F .ascend) p l .0 in
       ap (λ (r : PropRow). plainName (slice (r .from) (r .to) u)) (prop-row p l)
       ∙ ap plainName (slice-apart t c tr nd pr vl F k (x .below) new order within (nameFromAt pr p) (nameToAt pr p) o (name-apart p l))
       ∙ each-at (nameRight t pr) (c .properties) p (F .names) l)
@@ -138,54 +132,56 @@ module _ (b : List ℕ) (used : ℕ) (c : Counts) (tr nd pr vl : List ℕ) (k : 
   all-ok =
       all-spans (Ok (length t) q e (length new) order within) pr vl (c .properties) 0 (λ i _ l. inl (name-apart i (omega arith)))
       (λ i j _ l a z.
-      let h : j < c .values = omega (arith, gapless-in (firstValAt pr) (valCountAt pr) (c .properties) (c .values) ranges i (omega arith)) in
+      let h : j < c .values = omega (arith, gapless-in (firstValAt pr) (valCountAt pr) (c .properties) (c .values) (F .prop-ranges) i (omega arith)) in
       same-or j k (λ w. rw w (inr (refl, refl))) (λ w. inl (val-apart j h w)))
 
   ascends-still : ascending (length u) 0 (spans pr′ vl′ 0 (c .properties)) ≡ true
   ascends-still =
       let l : q + length new + (length t - e) ≡ length u = omega (arith, new-long, long) in
       let z : startsAt q e (length new) 0 ≡ 0 = starts-low q e (length new) 0 (omega arith) in
-      ap (ascending (length u) 0) (spans-moved f g pr vl pr′ vl′ (c .properties) (c .values) prop-row val-row (gapless-in (firstValAt pr) (valCountAt pr) (c .properties) (c .values) ranges) (c .properties) 0 (omega arith))
+      ap (ascending (length u) 0) (spans-moved f g pr vl pr′ vl′ (c .properties) (c .values) prop-row val-row (gapless-in (firstValAt pr) (valCountAt pr) (c .properties) (c .values) (F .prop-ranges)) (c .properties) 0 (omega arith))
       ∙ subst (λ (w : ℕ). ascending (length u) w (map (λ s. span (f (s .from)) (g (s .to))) (spans pr vl 0 (c .properties))) ≡ true) z
       (subst (λ (w : ℕ). ascending w (startsAt q e (length new) 0) (map (λ s. span (f (s .from)) (g (s .to))) (spans pr vl 0 (c .properties))) ≡ true) l
-      (moved-ascend (length t) q e (length new) order within 0 (spans pr vl 0 (c .properties)) (inl (omega arith)) (F .ascends) all-ok))
+      (moved-ascend (length t) q e (length new) order within 0 (spans pr vl 0 (c .properties)) (inl (omega arith)) (F .ascend) all-ok))
 
-  text-stays : Fits u c tr nd pr′ vl′
+  held-still : Held c tr nd pr′ vl′
+  held-still =
+      let h = held .1 in
+      record {
+        trees = h .trees;
+        nodes = h .nodes;
+        few = h .few;
+        properties = rw (length-props-left f g pr (c .properties) (h .properties)) (h .properties);
+        values = rw (length-vals-left f g vl (c .values) (h .values)) (h .values);
+      }
+
+  text-stays : Clauses u c tr nd pr′ vl′
   text-stays =
       let v = value-box t c tr nd pr vl F k (x .below) new order within k (x .below) in
+      let first = first-same f g pr vl pr′ vl′ (c .properties) (c .values) prop-row val-row in
+      let count = count-same f g pr vl pr′ vl′ (c .properties) (c .values) prop-row val-row in
       record {
-        short = le-leb (length u) textLimit (given-long b used c tr nd pr vl k new x);
-        valid = valid-still t new q e order within (v .some) (v .opens) (v .closes) (F .valid) (x .tests .ink) (x .tests .valid);
-        nodes = F .nodes;
-        ranges =
-            ranges-same c nd pr pr′ (first-same f g pr vl pr′ vl′ (c .properties) (c .values) prop-row val-row) (count-same f g pr vl pr′ vl′ (c .properties) (c .values) prop-row val-row)
-            ∙ F .ranges;
-        ascends = ascends-still;
+        held = held-still;
+        short = given-long b used c tr nd pr vl k new x;
+        utf8 = valid-still t new q e order within (v .some) (v .opens) (v .closes) (F .utf8) (x .tests .ink) (x .tests .valid);
+        roots = F .roots;
+        parents = F .parents;
+        children = F .children;
+        siblings = F .siblings;
+        kinds = F .kinds;
+        node-ranges = F .node-ranges;
+        prop-ranges = ranges-same pr pr′ (c .properties) first count (c .values) ∙ F .prop-ranges;
+        have-values = have-same pr pr′ (c .properties) first count ∙ F .have-values;
+        ascend = ascends-still;
         names = names-stay;
         values = values-stay;
       }
 
-  -- ---- what is lent
-
-  lent-still : lentFor (over (cleared u used) b) (length u) c tr nd pr′ vl′ ≡ true
-  lent-still =
-      let h = held .1 in
+  fit-still : Fit (over (cleared u used) b) (length u) c tr nd pr′ vl′ ≡ true
+  fit-still =
       let r = given-replaceable b used c tr nd pr vl k new x .room in
       let lb = length-buffer-left u b used (held .0) (omega (arith, new-long)) in
-      let lp = length-props-left f g pr (c .properties) (h .properties) in
-      let lv = length-vals-left f g vl (c .values) (h .values) in
-      rw (
-        le-leb (length u) (length (over (cleared u used) b)) (omega (arith, new-long, lb)),
-        le-leb (c .trees) (length tr / 2) (h .trees),
-        le-leb (c .nodes) (length nd / 5) (h .nodes),
-        le-leb (c .nodes) none (h .few),
-        le-leb (c .properties) (length pr′ / 4) (rw lp (h .properties)),
-        le-leb (c .values) (length vl′ / 2) (rw lv (h .values)),
-      )
-
-  fit-still : Fit (over (cleared u used) b) (length u) c tr nd pr′ vl′ ≡ true
-  unfolding Fit
-  fit-still = rw (lent-still, text-left u b used) (fits-text u c tr nd pr′ vl′ text-stays)
+      clauses-fit (over (cleared u used) b) (length u) c tr nd pr′ vl′ (omega (arith, new-long, lb)) (rw (text-left u b used) text-stays)
 
 -- of any tables that fit, and any answer that meets the contract: accepted, they fit the new text with the new used length
 pub edit-stays : (b : List ℕ) (used : ℕ) (c : Counts) (tr nd pr vl : List ℕ) (k : ℕ) (new : List ℕ) (after : Lent) (n : ℕ)

@@ -18,7 +18,7 @@ use Rattle.fit.specs.Each.{tabulate}
 use Rattle.fit.specs.Record.{propRow}
 use Rattle.fit.proofs.Lists.{part-slice}
 use Rattle.edit.specs.Edit.{ownerRow, ownerName}
-use Rattle.edit.proofs.Tabulated.{tabulate-next, tabulate-none}
+use Rattle.fit.proofs.Parts.{tabulate-next, tabulate-none}
 
 -- ---- closed: what is left answers as the whole
 

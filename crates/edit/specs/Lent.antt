@@ -2,9 +2,9 @@
 use Prim.Native.Nat.{ℕ, _-_}
 use mathlib.Core.Path.{_≡_}
 use mathlib.Core.List.{List, _++_}
-use lib.ListN.{length, take, drop, replicate}
+use lib.ListN.{length, take, replicate}
 use Rattle.lists.specs.Pick.{pick}
-use Rattle.tables.specs.Flat.{flatProps, flatVals}
+use Rattle.tables.specs.Flat.{flatProps, flatVals, over}
 use Rattle.tables.specs.Numbers.{numberOf}
 use Rattle.tables.specs.declared.Counts.{Counts}
 use Rattle.tables.specs.declared.Reason.the-variants.{NotFitting}
@@ -28,10 +28,6 @@ answers (gives t T) = Changed (length t)
 abbrev pub editNumber : Edited → ℕ
 editNumber (Changed n) = 0
 editNumber (Refused r p) = numberOf r
-
--- numbers in front, and behind them what was lent
-abbrev pub over : List ℕ → List ℕ → List ℕ
-over xs t = xs ++ drop (length xs) t
 
 -- the new used text, and zeros up to the old used length
 abbrev pub cleared : List ℕ → ℕ → List ℕ

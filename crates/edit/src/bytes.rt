@@ -4,7 +4,8 @@ ghost use Prim.Native.Nat.{_+_, _-_, _≤_};
 ghost use lib.ListN.{length, take, drop, replicate};
 ghost use lib.Seq.{paste};
 ghost use Rattle.edit.specs.Edit.{pasted};
-ghost use Rattle.edit.specs.Lent.{over, cleared};
+ghost use Rattle.tables.specs.Flat.{over};
+ghost use Rattle.edit.specs.Lent.{cleared};
 ghost use Rattle.edit.specs.Locals.{Replaceable, span};
 
 // `new` copied to `at` and on.

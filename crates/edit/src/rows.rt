@@ -5,7 +5,7 @@ ghost use lib.ListN.{length};
 ghost use Rattle.lexer.specs.Move.{startsAt, endsAt};
 ghost use Rattle.tables.specs.Numbers.{none, textLimit};
 ghost use Rattle.fit.specs.Columns.{valFromAt, valToAt};
-ghost use Rattle.edit.specs.Lent.{over};
+ghost use Rattle.tables.specs.Flat.{over};
 ghost use Rattle.edit.specs.Locals.{NamesLie, ValuesLie, propertiesMoved, valuesMoved};
 
 // A cell as a place or a number.

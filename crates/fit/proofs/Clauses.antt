@@ -1,12 +1,14 @@
--- The clauses of the fitting rule, each by its name, of tables that fit. Assumes nothing.
-use Prim.Native.Nat.{ℕ, _≤_, _<_}
+-- The clauses of the fitting rule, each by its name: tables that fit have them, and tables that have them fit. Assumes nothing.
+use Prim.Native.Nat.{ℕ, _/_, _≤_, _<_}
 use mathlib.Core.Bool.{Bool, true, _&&_}
 use mathlib.Core.List.{List}
 use mathlib.Core.Path.{_≡_}
+use native.Mathlib.Omega.{arith}
 use lib.Dec.{leb}
 use lib.ListN.{length, take}
-use borrow.Author.Tests.{leb-true}
-use Rattle.tables.specs.Numbers.{textLimit}
+use lib.Seq.{length-take-le}
+use borrow.Author.Tests.{leb-true, le-leb}
+use Rattle.tables.specs.Numbers.{none, textLimit}
 use Rattle.tables.specs.declared.Counts.{Counts}
 use Rattle.fit.specs.Columns.{firstPropAt, propCountAt, nameFromAt, nameToAt, firstValAt, valCountAt, valFromAt, valToAt}
 use Rattle.fit.specs.Each.{each}
@@ -71,9 +73,49 @@ fit-clauses t used c tr nd pr vl h =
       values = s .2;
     }
 
+pub clauses-fit : (t : List ℕ) (used : ℕ) (c : Counts) (tr nd pr vl : List ℕ) → used ≤ length t → Clauses (take used t) c tr nd pr vl → Fit t used c tr nd pr vl ≡ true
+unfolding Fit fitText nodesFit rangesFit spansFit
+clauses-fit t used c tr nd pr vl l f =
+    rw (
+      le-leb used (length t) l,
+      le-leb (c .trees) (length tr / 2) (f .held .trees),
+      le-leb (c .nodes) (length nd / 5) (f .held .nodes),
+      le-leb (c .nodes) none (f .held .few),
+      le-leb (c .properties) (length pr / 4) (f .held .properties),
+      le-leb (c .values) (length vl / 2) (f .held .values),
+      le-leb (length (take used t)) textLimit (f .short),
+      f .utf8,
+      f .roots,
+      f .parents,
+      f .children,
+      f .siblings,
+      f .kinds,
+      f .node-ranges,
+      f .prop-ranges,
+      f .have-values,
+      f .ascend,
+      f .names,
+      f .values,
+    )
+
 module _ {t : List ℕ} {c : Counts} {tr nd pr vl : List ℕ} (f : Clauses t c tr nd pr vl) where
   pub name-in : (p : ℕ) → p < c .properties → (nameFromAt pr p ≤ nameToAt pr p) × (nameToAt pr p ≤ length t)
   name-in = names-lie pr vl (length t) (c .properties) (f .ascend)
 
   pub value-in : (v : ℕ) → v < c .values → (valFromAt vl v ≤ valToAt vl v) × (valToAt vl v ≤ length t)
   value-in = values-lie pr vl (length t) (c .properties) (f .ascend) (c .values) (f .prop-ranges)
+
+-- ---- of the first `used` bytes of a buffer
+
+module _ (t : List ℕ) (used : ℕ) (c : Counts) (tr nd pr vl : List ℕ) (fit : Fit t used c tr nd pr vl ≡ true) where
+  used-is : length (take used t) ≡ used
+  used-is = length-take-le used t (fit-lent t used c tr nd pr vl fit .0)
+
+  pub fit-short : used ≤ textLimit
+  fit-short = omega (arith, fit-clauses t used c tr nd pr vl fit .short, used-is)
+
+  pub fit-names : (p : ℕ) → p < c .properties → (nameFromAt pr p ≤ nameToAt pr p) × (nameToAt pr p ≤ used)
+  fit-names p l = let n = name-in (fit-clauses t used c tr nd pr vl fit) p l in (n .0, omega (arith, n .1, used-is))
+
+  pub fit-vals : (v : ℕ) → v < c .values → (valFromAt vl v ≤ valToAt vl v) × (valToAt vl v ≤ used)
+  fit-vals v l = let n = value-in (fit-clauses t used c tr nd pr vl fit) v l in (n .0, omega (arith, n .1, used-is))

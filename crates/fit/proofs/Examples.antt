@@ -1,36 +1,35 @@
--- Tables of `(;C[ab];B[cd])` fit it, and with one cell or count changed they do not; its values are accessed. By computation. Assumes nothing.
+-- Tables of `(;C[ab];B[cd])` fit it, and with one cell or count changed they do not. By computation. Assumes nothing.
 use Prim.Native.Nat.{ℕ}
 use mathlib.Core.Bool.{Bool, true, false, _||_}
-use mathlib.Core.List.{List, [], _∷_, map}
+use mathlib.Core.List.{List, [], _∷_}
 use mathlib.Core.Path.{_≡_, refl}
 use lib.ListN.{set}
 use Rattle.utf8.specs.Text.{white}
 use Rattle.utf8.specs.Trim.{trimmed}
 use Rattle.tables.specs.Numbers.{none}
 use Rattle.tables.specs.declared.Counts.{Counts}
-use Rattle.fit.specs.Access.{accessed, accessNumber, rawValue}
 use Rattle.fit.specs.Each.{each, sum, tabulate}
 use Rattle.fit.specs.Fit.{fitText, Fit}
 use Rattle.fit.specs.Nodes.{orphans, upward, onPath, firstUnder, nodesFit}
 use Rattle.fit.specs.Ranges.{rangesFit}
 use Rattle.fit.specs.Spans.{spans, ascending, plainName, spansFit}
 
-abbrev text : List ℕ
+abbrev pub text : List ℕ
 text = 0x28 ∷ 0x3b ∷ 0x43 ∷ 0x5b ∷ 0x61 ∷ 0x62 ∷ 0x5d ∷ 0x3b ∷ 0x42 ∷ 0x5b ∷ 0x63 ∷ 0x64 ∷ 0x5d ∷ 0x29 ∷ []
 
-abbrev tr : List ℕ
+abbrev pub tr : List ℕ
 tr = 0 ∷ 0 ∷ []
 
-abbrev nd : List ℕ
+abbrev pub nd : List ℕ
 nd = none ∷ 1 ∷ none ∷ 0 ∷ 1 ∷ 0 ∷ none ∷ none ∷ 1 ∷ 1 ∷ []
 
-abbrev pr : List ℕ
+abbrev pub pr : List ℕ
 pr = 2 ∷ 3 ∷ 0 ∷ 1 ∷ 8 ∷ 9 ∷ 1 ∷ 1 ∷ []
 
-abbrev vl : List ℕ
+abbrev pub vl : List ℕ
 vl = 4 ∷ 6 ∷ 10 ∷ 12 ∷ []
 
-abbrev counts : (trees nodes properties values : ℕ) → Counts
+abbrev pub counts : (trees nodes properties values : ℕ) → Counts
 counts a b c d = record { trees = a; nodes = b; properties = c; values = d }
 
 abbrev fitting : (tr nd pr vl : List ℕ) → Bool
@@ -92,13 +91,3 @@ pub changed : any (
     ) ≡ false
 unfolding trimmed white each sum tabulate orphans upward onPath firstUnder nodesFit rangesFit spans ascending plainName spansFit fitText Fit
 changed = refl
-
--- values 0, 1 and 2; and value 2 where the tables don't fit
-pub values-accessed : map (λ (k : ℕ). rawValue text 14 (counts 1 2 2 2) tr nd pr vl k) (0 ∷ 1 ∷ 2 ∷ []) ≡ (0x61 ∷ 0x62 ∷ []) ∷ (0x63 ∷ 0x64 ∷ []) ∷ [] ∷ []
-unfolding trimmed white each sum tabulate orphans upward onPath firstUnder nodesFit rangesFit spans ascending plainName spansFit fitText Fit accessed
-values-accessed = refl
-
-pub numbers-given : accessNumber (accessed text 14 (counts 1 2 2 2) tr nd pr vl 1) ∷ accessNumber (accessed text 14 (counts 1 2 2 2) tr nd pr vl 2) ∷ accessNumber (accessed text 13 (counts 1 2 2 2) tr (set nd 2 0) pr vl 2) ∷ []
-    ≡ 0 ∷ 16 ∷ 19 ∷ []
-unfolding trimmed white each sum tabulate orphans upward onPath firstUnder nodesFit rangesFit spans ascending plainName spansFit fitText Fit accessed
-numbers-given = refl

@@ -14,6 +14,7 @@ pub mod Ranges
 pub mod RecordFits
 pub mod RecordLinks
 pub mod RecordRanges
+pub mod RecordRows
 pub mod Recorded
 pub mod RootRows
 pub mod Roots

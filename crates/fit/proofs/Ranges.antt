@@ -25,6 +25,10 @@ module _ (first count : ℕ → ℕ) where
   unfolding sum
   sum-next k = rw add-one
 
+  pub sum-suc : (k : ℕ) → sum count (suc k) ≡ sum count k + count k
+  unfolding sum
+  sum-suc k = refl
+
   -- ---- gapless ranges
 
   abbrev Follows : ℕ → Bool

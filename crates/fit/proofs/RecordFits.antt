@@ -1,27 +1,23 @@
 -- Lent tables that have a record's rows: what of fitting follows for any record. Assumes nothing.
-use Prim.Native.Nat.{ℕ, zero, suc, _+_}
+use Prim.Native.Nat.{ℕ, suc, _+_}
 use mathlib.Core.Bool.{true}
 use mathlib.Core.List.{List, [], _∷_}
 use mathlib.Core.Path.{_≡_, refl, sym, ap, _∙_}
 use lib.ListN.{length}
 use Rattle.lexer.specs.Token.{Val, Prop}
 use Rattle.tables.specs.Record.{Node, Tree, allNodes, allProps, allVals}
-use Rattle.tables.specs.Rows.{Tables, tables, parents, nodeRows, propRows, valRows}
+use Rattle.tables.specs.Rows.{Tables, tables, parents, nodeRows, propRows, valRows, countsOf}
 use Rattle.tables.specs.declared.Counts.{Counts}
 use Rattle.fit.specs.Columns.{firstPropAt, propCountAt, firstValAt, valCountAt}
 use Rattle.fit.specs.Each.{each, tabulate}
 use Rattle.fit.specs.Nodes.{childRight, siblingRight}
 use Rattle.fit.specs.Ranges.{gapless}
-use Rattle.fit.specs.Record.{nodeRow, propRow, rowsOf, countsOf}
+use Rattle.fit.specs.Record.{nodeRow, propRow, rowsOf}
+use Rattle.fit.proofs.Parts.{tabulate-length}
 use Rattle.fit.proofs.RecordLinks.{children-fit, siblings-fit}
 use Rattle.fit.proofs.RecordRanges.{node-ranges-fit, prop-ranges-fit}
 
 -- ---- counts
-
-pub tabulate-length : {A : Type 0} (f : ℕ → A) (k m : ℕ) → length (tabulate f k m) ≡ m
-unfolding tabulate
-tabulate-length f k zero = refl
-tabulate-length f k (suc m) = ap suc (tabulate-length f (suc k) m)
 
 pub counts-of-rows : (c : Counts) (tr nd pr vl : List ℕ) → countsOf (rowsOf c tr nd pr vl) ≡ c
 counts-of-rows c tr nd pr vl = simp tabulate-length

@@ -8,7 +8,7 @@ use lib.Dec.{eqb}
 use borrow.Author.Tests.{eqb-true, eqb-false}
 use Rattle.lists.specs.Same.{same}
 use Rattle.lists.specs.Pick.{pick}
-use Rattle.lists.proofs.Tests.{and-both}
+use Rattle.lists.proofs.Tests.{and-both, never}
 use Rattle.tables.specs.Numbers.{none}
 use Rattle.fit.specs.Columns.{rootAt, parentAt}
 use Rattle.fit.specs.Each.{tabulate}
@@ -35,7 +35,7 @@ module _ (tr nd : List ℕ) where
   none-listed : (a m k : ℕ) → Listed a m k 0 → m ≡ 0
   unfolding tabulate orphans
   none-listed a zero k e = refl
-  none-listed a (suc m) k e = let z : _≡_ {A = ℕ} 0 1 = cc in absurd (omega arith)
+  none-listed a (suc m) k e = never cc
 
   -- node k has no parent: it is the first root; or it is none
   listed-step {ℓ} : {X : Type ℓ} (a m k n : ℕ) → Listed a m k (suc n)
@@ -45,7 +45,7 @@ module _ (tr nd : List ℕ) where
     where
       go : (b : Bool) → eqb (parentAt nd k) none ≡ b → (m : ℕ) → tabulate R a m ≡ pick b (k ∷ orphans nd (suc k) n) (orphans nd (suc k) n)
           → ((j : ℕ) → m ≡ suc j → R a ≡ k → parentAt nd k ≡ none → Listed (suc a) j (suc k) n → X) → ((parentAt nd k ≡ none → ⊥) → Listed a m (suc k) n → X) → X
-      go true q zero e f g = let z : _≡_ {A = ℕ} 0 1 = cc in absurd (omega arith)
+      go true q zero e f g = never cc
       go true q (suc j) e f g =
           let x : R a ≡ k = cc in
           let y : tabulate R (suc a) j ≡ orphans nd (suc k) n = cc in

@@ -5,9 +5,9 @@ use mathlib.Core.Path.{_≡_, refl, ap, ap₂, _∙_}
 use native.Mathlib.Omega.{arith}
 use lib.ListN.{length}
 use Rattle.tables.specs.Flat.{flatTrees, flatNodes, flatProps, flatVals}
-use Rattle.tables.specs.Rows.{TreeRow, NodeRow, PropRow, ValRow, Tables}
+use Rattle.tables.specs.Rows.{TreeRow, NodeRow, PropRow, ValRow, Tables, countsOf}
 use Rattle.fit.specs.Each.{tabulate}
-use Rattle.fit.specs.Record.{treeRow, nodeRow, propRow, valRow, rowsOf, countsOf}
+use Rattle.fit.specs.Record.{treeRow, nodeRow, propRow, valRow, rowsOf}
 
 tabulate-later : {A : Type 0} (f g : ℕ → A) → ((k : ℕ) → f (suc k) ≡ g k) → (k m : ℕ) → tabulate f (suc k) m ≡ tabulate g k m
 unfolding tabulate

@@ -11,11 +11,11 @@ use borrow.Author.Tests.{eq-eqb, ne-eqb, eqb-true, lt-ltb, le-ltb, leb-true, leb
 use Rattle.lists.specs.Pick.{pick}
 use Rattle.lexer.proofs.Exactly.{CloseIs, close-is, close-exactly}
 use Rattle.lexer.specs.Closed.{closed}
-use Rattle.lexer.specs.Scan.{closeAt, identFrom}
-use Rattle.lexer.specs.declared.Close.{Close}
-use Rattle.lexer.specs.declared.Close.the-variants.{At, Open}
-use Rattle.lexer.specs.declared.Ident.{Ident}
-use Rattle.lexer.specs.declared.Ident.the-variants.{Opens, Missing, Foreign}
+use Rattle.scan.specs.Scan.{closeAt, identFrom}
+use Rattle.scan.specs.declared.Close.{Close}
+use Rattle.scan.specs.declared.Close.the-variants.{At, Open}
+use Rattle.scan.specs.declared.Ident.{Ident}
+use Rattle.scan.specs.declared.Ident.the-variants.{Opens, Missing, Foreign}
 use Rattle.fit.specs.Columns.{nameFromAt, nameToAt, valFromAt, valToAt}
 use Rattle.fit.specs.Spans.{plainName, nameRight, boxed, valueRight}
 use Rattle.fit.proofs.Cases.{same-or, either-bool, below-or, true-false, and-left, and-right}

@@ -6,17 +6,8 @@ use mathlib.Core.Path.{_≡_}
 use Rattle.lists.proofs.Once.{once-is}
 use Rattle.lists.specs.Once.{Once}
 use Rattle.tables.specs.declared.Counts.{Counts}
-use Rattle.fit.specs.Access.{accessed, rawValue}
 use Rattle.fit.specs.Fit.{Fit}
-use Rattle.fit.specs.declared.Accessed.{Accessed}
 
 module _ (text : List ℕ) (used : ℕ) (counts : Counts) (trees nodes properties values : List ℕ) where
   pub fits-once : Once (λ (r : Bool). r ≡ Fit text used counts trees nodes properties values)
   fits-once = once-is (Fit text used counts trees nodes properties values)
-
-  pub access-once : (k : ℕ) → Once (λ (r : Accessed). r ≡ accessed text used counts trees nodes properties values k)
-  access-once k = once-is (accessed text used counts trees nodes properties values k)
-
-  -- of the bytes that are handed out
-  pub value-once : (k : ℕ) → Once (λ (r : List ℕ). r ≡ rawValue text used counts trees nodes properties values k)
-  value-once k = once-is (rawValue text used counts trees nodes properties values k)

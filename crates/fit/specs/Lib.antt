@@ -1,4 +1,3 @@
-pub mod Access
 pub mod Columns
 pub mod Each
 pub mod Fit

@@ -1,7 +1,7 @@
 -- The record that tables over a text denote: names and raw values are parts of the text.
 use Prim.Native.Nat.{ℕ, _-_}
 use mathlib.Core.List.{List, [], _∷_, map}
-use lib.ListN.{length, take, drop}
+use lib.ListN.{take, drop}
 use lib.Seq.{slice}
 use Rattle.lexer.specs.Token.{Val, Prop}
 use Rattle.tables.specs.Record.{Node, Tree}
@@ -36,13 +36,17 @@ rowsOf c tr nd pr vl =
       vals = tabulate (valRow vl) 0 (c .values);
     }
 
--- how many rows there are of each kind
-abbrev pub countsOf : Tables → Counts
-countsOf T = record { trees = length (T .trees); nodes = length (T .nodes); properties = length (T .props); values = length (T .vals) }
-
 -- a value of the text
 abbrev pub valOf : List ℕ → ValRow → Val
 valOf t r = record { from = r .from; to = r .to; raw = slice (r .from) (r .to) t }
+
+-- the raw bytes of a value
+abbrev pub rawOf : Val → List ℕ
+rawOf v = v .raw
+
+-- the raw values of a property
+abbrev pub rawsOf : Prop → List (List ℕ)
+rawsOf p = map rawOf (p .vals)
 
 -- a property has `count` of the values from `first` on
 abbrev pub propOf : List ℕ → List Val → PropRow → Prop

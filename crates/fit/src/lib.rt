@@ -1,12 +1,10 @@
-// Whether tables fit a text, and the value accessor over tables that do. Linear in text and tables: what climbs leaves a node only once.
+// Whether tables fit a text. Linear in text and tables: what climbs leaves a node only once.
 ghost use mathlib.Core.Path.{_≡_};
 ghost use mathlib.Core.Bool.{true};
 ghost use mathlib.Core.List.{[], _∷_};
 ghost use Prim.Native.Nat.{ℕ, _+_, _*_, _/_, _<_, _≤_};
 ghost use lib.ListN.{length, getD};
 ghost use Rattle.tables.specs.Numbers.{none, textLimit};
-ghost use Rattle.fit.specs.declared.Accessed.the-variants.{Part};
-ghost use Rattle.fit.specs.Access.{accessed, rawValue};
 ghost use Rattle.fit.specs.Columns.{nameFromAt, nameToAt, firstValAt, valCountAt, valFromAt, valToAt};
 ghost use Rattle.fit.specs.Each.{each, tabulate};
 ghost use Rattle.fit.specs.Fit.{lentFor, validUtf8, fitText, Fit};
@@ -14,13 +12,6 @@ ghost use Rattle.fit.specs.Locals.{Held, Ruled, Next, Climbed, Spanned};
 ghost use Rattle.fit.specs.Nodes.{rootsRight, onPath, parentRight, childRight, siblingRight, kindRight, nodesFit};
 ghost use Rattle.fit.specs.Ranges.{gapless, hasValue, rangesFit};
 ghost use Rattle.fit.specs.Spans.{span, valSpan, propSpans, spans, ascending, plainName, nameRight, boxed, valueRight, spansFit};
-
-// A cell as an index.
-fn wide(cell: u32) -> usize
-    ensures { λ r. ⌜ r ≡ cell ⌝ }
-{
-    cell as usize
-}
 
 // Whether the roots of `m` trees are those of `n` nodes that have no parent, ascending.
 fn roots_right(trees: &[u32], m: usize, nodes: &[u32], n: usize) -> bool
@@ -36,7 +27,7 @@ fn roots_right(trees: &[u32], m: usize, nodes: &[u32], n: usize) -> bool
             if r == m {
                 return false;
             }
-            if wide(trees[r * tables::TREE_STRIDE]) != at {
+            if lists::wide(trees[r * tables::TREE_STRIDE]) != at {
                 return false;
             }
             r += 1;
@@ -56,7 +47,7 @@ fn on_path(nodes: &[u32], from: usize, p: usize) -> bool
         if parent == tables::NONE {
             return false;
         }
-        let up = wide(parent);
+        let up = lists::wide(parent);
         if j <= up {
             return false;
         }
@@ -77,7 +68,7 @@ fn parent_right(nodes: &[u32], k: usize) -> bool
     if k == 0 {
         return false;
     }
-    on_path(nodes, k - 1, wide(parent))
+    on_path(nodes, k - 1, lists::wide(parent))
 }
 
 // Whether the parents of `n` nodes are right.
@@ -105,10 +96,10 @@ fn child_right(nodes: &[u32], n: usize, k: usize) -> bool
     if n <= next {
         return child == tables::NONE;
     }
-    if wide(nodes[next * tables::NODE_STRIDE]) != k {
+    if lists::wide(nodes[next * tables::NODE_STRIDE]) != k {
         return child == tables::NONE;
     }
-    wide(child) == next
+    lists::wide(child) == next
 }
 
 // Whether the first children of `n` nodes are right.
@@ -132,7 +123,7 @@ fn climb(nodes: &[u32], n: usize, k: usize, p: u32) -> bool
     ensures { λ r. ⌜ Climbed (now (nodes .entry)) n k p r ⌝ }
 {
     let mut j = k - 1;
-    if j == wide(p) {
+    if j == lists::wide(p) {
         return true;
     }
     loop {
@@ -142,12 +133,12 @@ fn climb(nodes: &[u32], n: usize, k: usize, p: u32) -> bool
             if p == tables::NONE {
                 return sibling == tables::NONE;
             }
-            return wide(sibling) == k;
+            return lists::wide(sibling) == k;
         }
         if sibling != tables::NONE {
             return false;
         }
-        j = wide(parent);
+        j = lists::wide(parent);
     }
 }
 
@@ -219,8 +210,8 @@ fn ranges_follow(
     let mut sum: usize = 0;
     let mut k: usize = 0;
     while k < n {
-        let begins = wide(table[k * stride + first]);
-        let has = wide(table[k * stride + count]);
+        let begins = lists::wide(table[k * stride + first]);
+        let has = lists::wide(table[k * stride + count]);
         if begins != sum {
             return false;
         }
@@ -301,8 +292,8 @@ fn value_spans(values: &[u32], used: usize, from: usize, v: usize, m: usize) -> 
     let mut k = v;
     let mut next = from;
     while k < last {
-        let start = wide(values[k * tables::VALUE_STRIDE]);
-        let end = wide(values[k * tables::VALUE_STRIDE + 1]);
+        let start = lists::wide(values[k * tables::VALUE_STRIDE]);
+        let end = lists::wide(values[k * tables::VALUE_STRIDE + 1]);
         let step = span_after(used, next, start, end);
         if !step.ok {
             return step;
@@ -321,14 +312,14 @@ fn property_spans(properties: &[u32], k: usize, values: &[u32], used: usize, fro
     requires { ⌜ (k < length (now properties) / 4) × (firstValAt (now properties) k + valCountAt (now properties) k ≤ length (now values) / 2) × (used ≤ textLimit) ⌝ }
     ensures { λ r. ⌜ Spanned used from (propSpans (now (properties .entry)) (now (values .entry)) k) (r .ok) (r .next) ⌝ }
 {
-    let start = wide(properties[k * tables::PROPERTY_STRIDE]);
-    let end = wide(properties[k * tables::PROPERTY_STRIDE + 1]);
+    let start = lists::wide(properties[k * tables::PROPERTY_STRIDE]);
+    let end = lists::wide(properties[k * tables::PROPERTY_STRIDE + 1]);
     let name = span_after(used, from, start, end);
     if !name.ok {
         return name;
     }
-    let first = wide(properties[k * tables::PROPERTY_STRIDE + 2]);
-    let count = wide(properties[k * tables::PROPERTY_STRIDE + 3]);
+    let first = lists::wide(properties[k * tables::PROPERTY_STRIDE + 2]);
+    let count = lists::wide(properties[k * tables::PROPERTY_STRIDE + 3]);
     value_spans(values, used, name.next, first, count)
 }
 
@@ -354,10 +345,10 @@ fn spans_right(properties: &[u32], n: usize, values: &[u32], used: usize) -> boo
 fn is_plain(name: &[u8]) -> bool
     ensures { λ r. ⌜ r ≡ plainName (now (name .entry)) ⌝ }
 {
-    match lexer::ident_end(name, 0) {
-        lexer::Ident::Opens(_) => false,
-        lexer::Ident::Missing => true,
-        lexer::Ident::Foreign => false,
+    match scan::ident_end(name, 0) {
+        scan::Ident::Opens(_) => false,
+        scan::Ident::Missing => true,
+        scan::Ident::Foreign => false,
     }
 }
 
@@ -368,8 +359,8 @@ fn names_right(text: &[u8], properties: &[u32], n: usize) -> bool
 {
     let mut k = 0;
     while k < n {
-        let start = wide(properties[k * tables::PROPERTY_STRIDE]);
-        let end = wide(properties[k * tables::PROPERTY_STRIDE + 1]);
+        let start = lists::wide(properties[k * tables::PROPERTY_STRIDE]);
+        let end = lists::wide(properties[k * tables::PROPERTY_STRIDE + 1]);
         if !is_plain(&text[start..end]) {
             return false;
         }
@@ -389,9 +380,9 @@ fn is_boxed(text: &[u8], start: usize, end: usize) -> bool
     if text[start - 1] != b'[' {
         return false;
     }
-    match lexer::value_end(text, start) {
-        lexer::Close::At(place) => place == end,
-        lexer::Close::Open => false,
+    match scan::value_end(text, start) {
+        scan::Close::At(place) => place == end,
+        scan::Close::Open => false,
     }
 }
 
@@ -402,8 +393,8 @@ fn values_right(text: &[u8], values: &[u32], n: usize) -> bool
 {
     let mut k = 0;
     while k < n {
-        let start = wide(values[k * tables::VALUE_STRIDE]);
-        let end = wide(values[k * tables::VALUE_STRIDE + 1]);
+        let start = lists::wide(values[k * tables::VALUE_STRIDE]);
+        let end = lists::wide(values[k * tables::VALUE_STRIDE + 1]);
         if !is_boxed(text, start, end) {
             return false;
         }
@@ -500,61 +491,4 @@ pub fn fits(
         return false;
     }
     fits_text(&text[..used], counts, trees, nodes, properties, values)
-}
-
-// A value's part of the text, or why there is none.
-pub enum Accessed {
-    Part(usize, usize),
-    Refused(tables::Reason),
-}
-
-// The part of value k.
-fn part_of(values: &[u32], k: usize) -> Accessed
-    requires { ⌜ k < length (now values) / 2 ⌝ }
-    ensures { λ r. ⌜ r ≡ Part (valFromAt (now (values .entry)) k) (valToAt (now (values .entry)) k) ⌝ }
-{
-    let start = wide(values[k * tables::VALUE_STRIDE]);
-    let end = wide(values[k * tables::VALUE_STRIDE + 1]);
-    Accessed::Part(start, end)
-}
-
-// Where value k stands, or why it is refused.
-pub fn access(
-    text: &[u8],
-    used: usize,
-    counts: tables::Counts,
-    trees: &[u32],
-    nodes: &[u32],
-    properties: &[u32],
-    values: &[u32],
-    k: usize,
-) -> Accessed
-    ensures { λ r. ⌜ r ≡ accessed (now (text .entry)) used counts (now (trees .entry)) (now (nodes .entry)) (now (properties .entry)) (now (values .entry)) k ⌝ }
-{
-    if !fits(text, used, counts, trees, nodes, properties, values) {
-        return Accessed::Refused(tables::Reason::NotFitting);
-    }
-    if counts.values <= k {
-        return Accessed::Refused(tables::Reason::NoSuchNumber);
-    }
-    part_of(values, k)
-}
-
-// The raw bytes of value k, a part of the text; the empty part where access is refused.
-pub fn value<'a>(
-    text: &'a [u8],
-    used: usize,
-    counts: tables::Counts,
-    trees: &[u32],
-    nodes: &[u32],
-    properties: &[u32],
-    values: &[u32],
-    k: usize,
-) -> &'a [u8]
-    ensures { λ r. ⌜ now r ≡ rawValue (now (text .entry)) used counts (now (trees .entry)) (now (nodes .entry)) (now (properties .entry)) (now (values .entry)) k ⌝ }
-{
-    match access(text, used, counts, trees, nodes, properties, values, k) {
-        Accessed::Part(start, end) => &text[start..end],
-        Accessed::Refused(_) => &text[..0],
-    }
 }

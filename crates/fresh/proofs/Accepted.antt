@@ -10,12 +10,12 @@ use Rattle.fresh.specs.Run.{strictly}
 use Rattle.lexer.proofs.Inside.{OfVals}
 use Rattle.lexer.proofs.Invariant.{keep-rest}
 use Rattle.lexer.proofs.Starting.{Each, each-from, each-value}
-use Rattle.lexer.specs.Token.{End, Prop, Tok, Val, between, broken, done, end, lexFrom, value}
+use Rattle.lexer.specs.Token.{End, Prop, Tok, Val, between, broken, done, end, lexFrom}
 use Rattle.lists.proofs.All.{all-mem}
 use Rattle.lists.specs.All.{All}
 use Rattle.lists.specs.Pick.{pick}
+use Rattle.lists.proofs.Tests.{never}
 use Rattle.parser.proofs.Lift.{OfAnswer, of-tokens, of-trees}
-use Rattle.parser.specs.Kind.{is}
 use Rattle.parser.specs.Read.{Answer, accepted, decoded, lexing, parsed, read, refused}
 use Rattle.parser.specs.Split.{ended}
 use Rattle.parser.specs.Walk.{Opts}
@@ -24,12 +24,12 @@ use Rattle.tables.specs.Record.{Tree, allNodes, allProps}
 use Rattle.tables.specs.declared.Reason.{Reason}
 use Rattle.tables.specs.declared.Reason.the-variants.{NoGameTrees, NotUtf8, TextTooLong}
 use Rattle.utf8.proofs.Steps.{place}
-use Rattle.utf8.specs.Text.{Utf, bad, blank, holds, inked, part, utfs, whole}
+use Rattle.utf8.specs.Text.{Utf, bad, blank, inked, part, utfs, whole}
 
 -- ---- what an acceptance says
 
 not-both : {A : Type 0} (r : Reason) (p : ℕ) (ts : List Tree) → refused r p ≡ accepted ts → A
-not-both r p ts e = let z : _≡_ {A = ℕ} 0 1 = cc in absurd (omega arith)
+not-both r p ts e = never cc
 
 short : (b : Bool) (a : Answer) (ts : List Tree) → pick b (refused TextTooLong 0) a ≡ accepted ts → a ≡ accepted ts
 short true a ts e = not-both TextTooLong 0 ts e

@@ -12,7 +12,7 @@ use Rattle.edit.specs.Edit.{Outcome, refuses, gives, edit}
 use Rattle.edit.specs.Lent.{Lent, outcomeOf, answers, leaves, EditIs}
 use Rattle.edit.specs.declared.Edited.{Edited}
 use Rattle.edit.specs.declared.Edited.the-variants.{Changed}
-use Rattle.edit.proofs.Fitting.{fit-held}
+use Rattle.fit.proofs.Whole.{fit-lent}
 use Rattle.edit.proofs.Given.{given}
 use Rattle.edit.proofs.Judged.{newText, newRows}
 use Rattle.edit.proofs.Left.{length-buffer-left}
@@ -50,7 +50,7 @@ module _ (s : Memory) (x : Order) (fit : Fitting s) where
       let w : t ≡ New = cc in (
         edit-stays (s .rest .buffer) (s .used) (s .counts) (s .trees) (s .nodes) (s .rest .properties) (s .rest .values) (x .value) (x .bytes) (leaves (gives t T) (s .used) (s .rest)) (length t)
             (record { answer = h; memory = ap (λ (o : Outcome). leaves o (s .used) (s .rest)) (sym e) }),
-        length-buffer-left t (s .rest .buffer) (s .used) (fit-held (s .rest .buffer) (s .used) (s .counts) (s .trees) (s .nodes) (s .rest .properties) (s .rest .values) fit .0)
+        length-buffer-left t (s .rest .buffer) (s .used) (fit-lent (s .rest .buffer) (s .used) (s .counts) (s .trees) (s .nodes) (s .rest .properties) (s .rest .values) fit .0)
             (omega (arith, ap length w, ltb-false (length (s .rest .buffer)) (length New) (g .tests .room))),
       )
 

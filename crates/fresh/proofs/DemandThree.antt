@@ -23,7 +23,7 @@ use Rattle.tables.proofs.Moved.{tables-move}
 use Rattle.parser.specs.Kind.{GM}
 use Rattle.parser.specs.Read.{accepted, read}
 use Rattle.parser.proofs.Denoted.{read-denotes}
-use Rattle.edit.specs.Edit.{ownerRow, ownerName, spanAt, pasted, shifted, Outcome, gives, outcome, edit}
+use Rattle.edit.specs.Edit.{ownerRow, ownerName, spanAt, pasted, shifted, Outcome, outcome, edit}
 use Rattle.fresh.specs.Run.{strictly, Held, Order, after, run, Fresh}
 use Rattle.fresh.proofs.Numbered.{noVal, ownerOf, valueOf, newText, newTrees, edit-number}
 

@@ -12,7 +12,7 @@ use Rattle.fresh.specs.Run.{strictly}
 use Rattle.lexer.proofs.Inside.{Inside, NotAt, OfVals, Only, inside, vals-map}
 use Rattle.lexer.proofs.Starting.{last}
 use Rattle.lexer.specs.Closed.{closedFrom}
-use Rattle.lexer.specs.Token.{Prop, Tok, Val, between, end, ends, lexFrom, starts, value}
+use Rattle.lexer.specs.Token.{Prop, Tok, Val, between, ends, lexFrom, value}
 use Rattle.lists.proofs.All.{all-map}
 use Rattle.lists.specs.All.{All}
 use Rattle.parser.specs.Read.{accepted, parsed}

@@ -5,16 +5,16 @@ use mathlib.Core.List.{List, [], _∷_}
 use mathlib.Core.Path.{_≡_, refl, sym, ap, ap₂, _∙_, subst, subst⁻¹}
 use lib.ListN.{length}
 use Rattle.lists.specs.Pick.{pick}
-use Rattle.tables.specs.Rows.{Tables, tables}
+use Rattle.tables.specs.Rows.{Tables, tables, countsOf}
 use Rattle.tables.specs.declared.Reason.the-variants.{NotFitting}
 use Rattle.fit.specs.Fit.{Fit}
-use Rattle.fit.specs.Record.{countsOf}
 use Rattle.edit.specs.Edit.{Outcome, refuses, gives, edit}
 use Rattle.edit.specs.Lent.{Lent, outcomeOf, answers, leaves, EditIs}
 use Rattle.edit.specs.declared.Edited.{Edited}
 use Rattle.edit.proofs.Given.{given}
 use Rattle.edit.proofs.Judged.{newText, newRows}
-use Rattle.edit.proofs.Left.{text-left, rows-left, counts-of-rows}
+use Rattle.fit.proofs.RecordFits.{counts-of-rows}
+use Rattle.edit.proofs.Left.{text-left, rows-left}
 use Rattle.fresh.specs.Calls.{Memory, heldIn, asked, next, Calls, none, call}
 use Rattle.fresh.specs.Run.{strictly, Order, after, Fresh}
 use Rattle.fresh.proofs.DemandThree.{demand-three}

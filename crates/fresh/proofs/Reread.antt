@@ -9,7 +9,6 @@ use lib.ListN.{length, take, drop, length-append, take-append-drop}
 use borrow.Author.Tests.{le-ltb}
 use Rattle.fresh.proofs.Accepted.{Accepted, accepted-is}
 use Rattle.fresh.proofs.Found.{Found, at-pre, bounds, ends-in, found, trimmed-parts}
-use Rattle.edit.specs.Edit.{edit, gives}
 use Rattle.fresh.specs.Run.{strictly}
 use Rattle.lexer.proofs.Inside.{OfVals, Only}
 use Rattle.lexer.proofs.Invariant.{OfTok}
@@ -26,9 +25,8 @@ use Rattle.lists.specs.Pick.{pick}
 use Rattle.lists.specs.Same.{same}
 use Rattle.parser.proofs.Moved.{move-tokens, moveAnswer}
 use Rattle.parser.proofs.MovedKind.{GmStays}
-use Rattle.parser.specs.Examples.{strict}
-use Rattle.parser.specs.Kind.{GM, is}
-use Rattle.parser.specs.Read.{Answer, accepted, answer, decoded, lexing, parsed, read, refused}
+use Rattle.parser.specs.Kind.{GM}
+use Rattle.parser.specs.Read.{Answer, accepted, decoded, lexing, parsed, read, refused}
 use Rattle.parser.specs.Split.{ended}
 use Rattle.tables.specs.Move.{moveTree}
 use Rattle.tables.specs.Numbers.{textLimit}

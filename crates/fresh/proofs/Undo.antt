@@ -11,6 +11,7 @@ use borrow.Author.Tests.{ltb-true, ltb-false, lt-ltb, le-ltb}
 use Rattle.lists.specs.Pick.{pick}
 use Rattle.lists.specs.Same.{same}
 use Rattle.lists.proofs.All.{all-mem}
+use Rattle.lists.proofs.Tests.{never}
 use Rattle.utf8.specs.Text.{Ink, blank, inked, Utf, whole, part, bad, utfs}
 use Rattle.lexer.specs.Token.{Val, Prop, lexFrom}
 use Rattle.lexer.specs.Closed.{closed}
@@ -47,13 +48,13 @@ pub record Gave (b g : Bool) (w : Utf) (d l m : Bool) (U u : List ℕ) (S T : Ta
   pub rows : S ≡ T
 
 gave : (b g : Bool) (w : Utf) (d l m : Bool) (U u : List ℕ) (S T : Tables) → outcome b g w d l m U S ≡ gives u T → Gave b g w d l m U u S T
-gave false g w d l m U u S T e = let z : _≡_ {A = ℕ} 0 1 = cc in absurd (omega arith)
-gave true true w d l m U u S T e = let z : _≡_ {A = ℕ} 0 1 = cc in absurd (omega arith)
-gave true false (part i s n r y) d l m U u S T e = let z : _≡_ {A = ℕ} 0 1 = cc in absurd (omega arith)
-gave true false (bad p) d l m U u S T e = let z : _≡_ {A = ℕ} 0 1 = cc in absurd (omega arith)
-gave true false (whole i) false l m U u S T e = let z : _≡_ {A = ℕ} 0 1 = cc in absurd (omega arith)
-gave true false (whole i) true true m U u S T e = let z : _≡_ {A = ℕ} 0 1 = cc in absurd (omega arith)
-gave true false (whole i) true false true U u S T e = let z : _≡_ {A = ℕ} 0 1 = cc in absurd (omega arith)
+gave false g w d l m U u S T e = never cc
+gave true true w d l m U u S T e = never cc
+gave true false (part i s n r y) d l m U u S T e = never cc
+gave true false (bad p) d l m U u S T e = never cc
+gave true false (whole i) false l m U u S T e = never cc
+gave true false (whole i) true true m U u S T e = never cc
+gave true false (whole i) true false true U u S T e = never cc
 gave true false (whole i) true false false U u S T e =
     record { below = refl; free = refl; ink = i; valid = refl; shut = refl; short = refl; text = cc; rows = cc }
 
@@ -62,7 +63,7 @@ accepts : {b g : Bool} {w : Utf} {d l m : Bool} {U u : List ℕ} {S T : Tables} 
 accepts i eb eg ew ed el em eu es = rw (eb, eg, ew, ed, el, em, eu, es)
 
 in-limit : (t : List ℕ) (b : Bool) (a : Answer) (ts : List Tree) → pick b (refused TextTooLong 0) a ≡ accepted ts → b ≡ false
-in-limit t true a ts e = let z : _≡_ {A = ℕ} 0 1 = cc in absurd (omega arith)
+in-limit t true a ts e = never cc
 in-limit t false a ts e = refl
 
 -- ---- numbers and names of moved trees

@@ -1,10 +1,8 @@
 -- Raw values by their rows: one of them, and all that are left. Assumes nothing.
-use Prim.Native.Nat.{ℕ, zero, suc, _+_, _-_, _*_, _/_, _≤_, _<_, min}
+use Prim.Native.Nat.{ℕ, suc, _+_, _-_, _*_, _/_, _≤_, _<_, min}
 use mathlib.Core.Path.{_≡_, refl, sym, ap, ap₂, _∙_}
 use mathlib.Core.Bool.{Bool, true, false}
 use mathlib.Core.List.{List, [], _∷_}
-use native.Mathlib.Nat.{add-suc}
-use native.Mathlib.Numerals.{add-one}
 use native.Mathlib.Omega.{arith}
 use lib.Dec.{leb}
 use lib.ListN.{length, getD, take, drop, length-drop}
@@ -37,6 +35,15 @@ module _ (text vals : List ℕ) (v : ℕ) where
     value-empty l = let e : 0 ≡ end - from = omega arith in ap (λ (n : ℕ). take n (drop from text)) e ∙ value-part
 
 module _ (text vals : List ℕ) (first : ℕ) where
+  pub values-none : [] ≡ valuesAt text vals first 0
+  unfolding valuesAt
+  values-none = refl
+
+  -- a row that is there
+  pub values-more : (n : ℕ) → first < length vals / 2 → cut text (getD vals (first * 2) 0) (getD vals (first * 2 + 1) 0) ∷ valuesAt text vals (suc first) n ≡ valuesAt text vals first (suc n)
+  unfolding valueAt valuesAt
+  values-more n h = rw (lt-ltb first (length vals / 2) h)
+
   -- the values from the nth on
   pub values-next : (count n : ℕ) → n < count
       → valuesAt text vals (first + n) (count - n) ≡ valueAt text vals (first + n) ∷ valuesAt text vals (first + (n + 1)) (count - (n + 1))

@@ -3,12 +3,6 @@ ghost use mathlib.Core.Path.{_≡_};
 ghost use Prim.Native.Nat.{_+_, min};
 ghost use Rattle.go.specs.Rows.{valueAt};
 
-fn wide(x: u32) -> usize
-    ensures { λ r. ⌜ r ≡ x ⌝ }
-{
-    x as usize
-}
-
 // The lesser of two numbers.
 fn least(x: usize, y: usize) -> usize
     ensures { λ r. ⌜ r ≡ min x y ⌝ }
@@ -31,8 +25,8 @@ pub fn value_at<'a, 'b>(text: &'a [u8], vals: &'b [u32], first: usize, i: usize)
         return &text[..0];
     }
     let v = first + i;
-    let from = wide(vals[v * 2]);
-    let to = least(wide(vals[v * 2 + 1]), text.len());
+    let from = lists::wide(vals[v * 2]);
+    let to = least(lists::wide(vals[v * 2 + 1]), text.len());
     if to < from {
         return &text[..0];
     }

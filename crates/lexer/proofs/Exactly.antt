@@ -1,5 +1,5 @@
 -- Where identifiers and values end: each answer is given exactly when document 01 says. Assumes nothing.
-use Prim.Native.Nat.{ℕ, suc, _+_, _-_, _≤_, _<_}
+use Prim.Native.Nat.{ℕ, suc, _+_, _≤_, _<_}
 use mathlib.Core.Path.{_≡_, refl, sym, ap, _∙_, subst}
 use mathlib.Core.Bool.{Bool, true, false, not, _&&_, false≢true}
 use mathlib.Core.List.{List, [], _∷_, _++_, append-nil, head-eq-of-cons-eq, tail-eq-of-cons-eq}
@@ -9,13 +9,13 @@ use lib.Dec.{eqb, leb}
 use borrow.Author.Tests.{eqb-true, eqb-false, ne-eqb, leb-true, leb-false, le-leb, lt-leb}
 use Rattle.lists.specs.Pick.{pick}
 use Rattle.lists.specs.All.{All}
-use Rattle.lexer.specs.Scan.{closeFrom, identFrom}
+use Rattle.scan.specs.Scan.{closeFrom, identFrom}
 use Rattle.lexer.specs.Closed.{closedFrom}
-use Rattle.lexer.proofs.Bounds.{never}
-use Rattle.lexer.specs.declared.Close.{Close}
-use Rattle.lexer.specs.declared.Close.the-variants.{At, Open}
-use Rattle.lexer.specs.declared.Ident.{Ident}
-use Rattle.lexer.specs.declared.Ident.the-variants.{Opens, Missing, Foreign}
+use Rattle.lists.proofs.Tests.{never}
+use Rattle.scan.specs.declared.Close.{Close}
+use Rattle.scan.specs.declared.Close.the-variants.{At, Open}
+use Rattle.scan.specs.declared.Ident.{Ident}
+use Rattle.scan.specs.declared.Ident.the-variants.{Opens, Missing, Foreign}
 
 -- ---- an identifier
 

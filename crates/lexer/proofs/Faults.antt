@@ -1,12 +1,12 @@
 -- Numbers 3, 4 and 5: the first token from a place on that is at fault, and its start. Assumes nothing.
-use Prim.Native.Nat.{ℕ, zero, suc, _-_, _<_}
+use Prim.Native.Nat.{ℕ, zero, suc, _<_, _-_}
 use mathlib.Core.Path.{_≡_, refl, sym, ap, _∙_, subst}
 use mathlib.Core.List.{List}
 use native.Mathlib.Omega.{arith}
 use lib.ListN.{length}
 use Rattle.lexer.specs.Token.{Lexed, done, broken, lexAt}
 use Rattle.lexer.specs.Step.{nextAt, behind, stepOn}
-use Rattle.lexer.proofs.Bounds.{never}
+use Rattle.lists.proofs.Tests.{never}
 use Rattle.lexer.proofs.Join.{lex-next}
 use Rattle.lexer.proofs.Within.{Within, next-within}
 use Rattle.lexer.specs.declared.Fault.{Fault}

@@ -8,7 +8,8 @@ use borrow.Author.Tests.{eqb-true, eqb-false}
 use Rattle.lists.specs.All.{All}
 use Rattle.lists.proofs.All.{all-append}
 use Rattle.utf8.proofs.Steps.{place}
-use Rattle.lexer.specs.Token.{Val, Prop, Tok, start, end, node, prop, St, between, ident, value, after, fault, Out, starts, begins, values, afters, step, space, emits, ends, finish}
+use Rattle.lexer.specs.Token.{Val, Prop, Tok, start, end, node, prop, St, between, ident, value, after, fault, Out, starts, begins, values, afters, step, emits, ends, finish}
+use Rattle.scan.specs.Scan.{space}
 
 -- a fact of the property that a token is
 abbrev pub OfTok : (Prop → Type 0) → Tok → Type 0

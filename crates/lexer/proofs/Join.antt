@@ -1,5 +1,5 @@
 -- The steps and the machine: what the machine gives from a place on is the next token, then what it gives from behind that. Assumes nothing.
-use Prim.Native.Nat.{ℕ, zero, suc, _+_, _-_, _≤_, _<_}
+use Prim.Native.Nat.{ℕ, zero, suc, _+_, _≤_, _<_, _-_}
 use mathlib.Core.Path.{_≡_, refl, sym, ap, _∙_}
 use mathlib.Core.Bool.{Bool, true, false}
 use mathlib.Core.List.{List, [], _∷_, _++_, append-assoc, append-nil}
@@ -10,17 +10,18 @@ use lib.Seq.{slice, slice-empty}
 use lib.Dec.{eqb, ltb}
 use borrow.Author.Tests.{ne-eqb, eq-eqb, eqb-true, eqb-false, ltb-true, ltb-false}
 use Rattle.lists.proofs.Pick.{pick-elim}
-use Rattle.lexer.specs.Token.{Val, Tok, start, end, node, prop, between, ident, value, after, Out, silent, step, space, Lexed, lexed, lexAt, done, broken}
-use Rattle.lexer.specs.Scan.{closeAt, skipAt, identAt, valuesAt}
+use Rattle.lexer.specs.Token.{Val, Tok, start, end, node, prop, between, ident, value, after, Out, silent, step, Lexed, lexed, lexAt, done, broken}
+use Rattle.scan.specs.Scan.{space, closeAt, skipAt, identAt, valuesAt}
 use Rattle.lexer.specs.Step.{onIdent, headFrom, headAt, onValues, onHead, nextAt, valsAt, propAt, stepOn}
-use Rattle.lexer.proofs.Bounds.{past, close-bounds, skip-bounds, skip-within, ident-bounds, value-on, value-open, value-none}
-use Rattle.lexer.proofs.Values.{values-more, values-unclosed, values-none, vals-more, vals-none}
+use Rattle.scan.proofs.Bounds.{past, close-bounds, skip-bounds, skip-within, ident-bounds, value-on, value-open, value-none}
+use Rattle.scan.proofs.Values.{values-more, values-unclosed, values-none}
+use Rattle.lexer.proofs.Listed.{vals-more, vals-none}
 use Rattle.lexer.proofs.Rest.{rest, step-at, end-at, identOn, ident-rest, made, closeOn, value-rest, skip-rest, between-skips, after-skips, skip-stops}
 use Rattle.lexer.specs.declared.Fault.the-variants.{UnexpectedEndOfPropertyValue}
-use Rattle.lexer.specs.declared.Close.{Close}
-use Rattle.lexer.specs.declared.Close.the-variants.{At, Open}
-use Rattle.lexer.specs.declared.Ident.{Ident}
-use Rattle.lexer.specs.declared.Ident.the-variants.{Opens, Missing, Foreign}
+use Rattle.scan.specs.declared.Close.{Close}
+use Rattle.scan.specs.declared.Close.the-variants.{At, Open}
+use Rattle.scan.specs.declared.Ident.{Ident}
+use Rattle.scan.specs.declared.Ident.the-variants.{Opens, Missing, Foreign}
 use Rattle.lexer.specs.declared.Head.{Head}
 
 module _ (u : List ℕ) (s k : ℕ) (w : List ℕ) where

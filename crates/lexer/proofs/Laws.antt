@@ -10,7 +10,7 @@ use Rattle.utf8.proofs.Steps.{place}
 use Rattle.lexer.specs.Token.{Val, St, between, value, emits, ends, lexFrom, lexAt, broken}
 use Rattle.lexer.specs.Closed.{closedFrom}
 use Rattle.lexer.specs.Move.{startsAt, endsAt, newRaw}
-use Rattle.lexer.specs.Scan.{identFrom, closeFrom}
+use Rattle.scan.specs.Scan.{identFrom, closeFrom}
 use Rattle.lexer.specs.Step.{nextAt, stepOn}
 use Rattle.lexer.proofs.Machine as machine
 use Rattle.lexer.proofs.Join as join
@@ -23,8 +23,8 @@ use Rattle.lexer.proofs.Replace as replace
 use Rattle.lexer.proofs.Exactly as exactly
 use Rattle.lexer.proofs.Faults as faults
 use Rattle.lexer.specs.declared.Fault.{Fault}
-use Rattle.lexer.specs.declared.Close.{Close}
-use Rattle.lexer.specs.declared.Ident.{Ident}
+use Rattle.scan.specs.declared.Close.{Close}
+use Rattle.scan.specs.declared.Ident.{Ident}
 use Rattle.lexer.specs.declared.Step.the-variants.{Refused}
 
 -- the tokens of a joined text are those of the first part, then those of the second from the state that the first leaves

@@ -1,4 +1,3 @@
-pub mod Bounds
 pub mod Contents
 pub mod Exactly
 pub mod Faults
@@ -7,14 +6,12 @@ pub mod Invariant
 pub mod Join
 pub mod Kept
 pub mod Laws
-pub mod Leads
+pub mod Listed
 pub mod Machine
 pub mod Moved
 pub mod Proper
 pub mod Replace
 pub mod Rest
-pub mod Scans
 pub mod Starting
 pub mod Unique
-pub mod Values
 pub mod Within

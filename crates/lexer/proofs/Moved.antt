@@ -6,7 +6,8 @@ use mathlib.Core.Bool.{Bool, true, false}
 use mathlib.Core.List.{List, [], _∷_, _++_, map, map-append}
 use lib.Dec.{leb, eqb}
 use Rattle.utf8.proofs.Steps.{place, place-is}
-use Rattle.lexer.specs.Token.{Val, Prop, Tok, end, St, between, ident, value, after, fault, Out, silent, starts, begins, values, afters, step, space, emits, ends, finish, Lexed, End, done, broken}
+use Rattle.lexer.specs.Token.{Val, Prop, Tok, end, St, between, ident, value, after, fault, Out, silent, starts, begins, values, afters, step, emits, ends, finish, Lexed, End, done, broken}
+use Rattle.scan.specs.Scan.{space}
 use Rattle.lexer.specs.Move.{moveVal, moveProp, moveTok}
 
 module _ (f g : ℕ → ℕ) (h : ℕ → List ℕ → List ℕ) where

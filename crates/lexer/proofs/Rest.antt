@@ -11,14 +11,14 @@ use lib.Dec.{eqb, leb}
 use borrow.Author.Tests.{ne-eqb}
 use Rattle.lists.specs.Pick.{pick}
 use Rattle.lists.proofs.Places.{at-place, slice-snoc}
-use Rattle.lexer.specs.Token.{Val, Prop, Tok, St, between, ident, value, after, fault, Out, silent, starts, begins, values, afters, step, space, emits, ends, finish, Lexed, lexed, broken}
-use Rattle.lexer.specs.Scan.{closeFrom, skipFrom, skipAt, identFrom}
+use Rattle.lexer.specs.Token.{Val, Prop, Tok, St, between, ident, value, after, fault, Out, silent, starts, begins, values, afters, step, emits, ends, finish, Lexed, lexed, broken}
+use Rattle.scan.specs.Scan.{space, closeFrom, skipFrom, skipAt, identFrom}
 use Rattle.lexer.specs.declared.Fault.{Fault}
 use Rattle.lexer.specs.declared.Fault.the-variants.{MissingPropertyIdentifier, UnexpectedEndOfPropertyIdentifier, UnexpectedEndOfPropertyValue}
-use Rattle.lexer.specs.declared.Close.{Close}
-use Rattle.lexer.specs.declared.Close.the-variants.{At, Open}
-use Rattle.lexer.specs.declared.Ident.{Ident}
-use Rattle.lexer.specs.declared.Ident.the-variants.{Opens, Missing, Foreign}
+use Rattle.scan.specs.declared.Close.{Close}
+use Rattle.scan.specs.declared.Close.the-variants.{At, Open}
+use Rattle.scan.specs.declared.Ident.{Ident}
+use Rattle.scan.specs.declared.Ident.the-variants.{Opens, Missing, Foreign}
 
 -- what the machine still gives
 abbrev pub rest : St → (o l : ℕ) → List ℕ → Lexed

@@ -1,7 +1,7 @@
 -- A value from its start on: facts of every value that could start, how far it is read, and where it closes. Assumes nothing.
 use mathlib.Core.Path.{_≡_, refl, ap, _∙_}
 use mathlib.Core.Logic.{_⊎_, inl, inr}
-use Prim.Native.Nat.{ℕ, suc, _+_, _-_, _≤_, _<_}
+use Prim.Native.Nat.{ℕ, suc, _+_, _≤_, _<_, _-_}
 use native.Mathlib.Omega.{arith}
 use mathlib.Core.Bool.{Bool, true, false}
 use mathlib.Core.List.{List, [], _∷_, _++_}
@@ -11,7 +11,7 @@ use borrow.Author.Tests.{eqb-true}
 use Rattle.lists.specs.All.{All}
 use Rattle.lists.proofs.All.{all-append}
 use Rattle.utf8.proofs.Steps.{place, place-is}
-use Rattle.lexer.specs.Token.{Val, Prop, start, end, St, between, value, after, emits, ends, finish}
+use Rattle.lexer.specs.Token.{Val, Prop, St, between, value, emits, ends, finish}
 use Rattle.lexer.specs.Closed.{closedFrom}
 use Rattle.lexer.proofs.Invariant.{EachAt, Invariant, Keeps, keep-run}
 

@@ -1,5 +1,5 @@
 -- Where the next token lies: in the text, from the place where it was looked for on. Assumes nothing.
-use Prim.Native.Nat.{ℕ, suc, _+_, _-_, _≤_, _<_}
+use Prim.Native.Nat.{ℕ, suc, _+_, _≤_, _<_}
 use mathlib.Core.Path.{_≡_, refl, sym, ap, _∙_, subst}
 use mathlib.Core.List.{List}
 use native.Mathlib.Omega.{arith}
@@ -7,14 +7,15 @@ use lib.ListN.{length, getD}
 use lib.Dec.{eqb, ltb}
 use borrow.Author.Tests.{ltb-true}
 use Rattle.lists.proofs.Pick.{pick-elim}
-use Rattle.lexer.specs.Scan.{skipAt, identAt, valuesAt}
+use Rattle.scan.specs.Scan.{skipAt, identAt, valuesAt}
 use Rattle.lexer.specs.Step.{onIdent, headFrom, headAt, onValues, onHead, nextAt, behind, SteppedIs, valsAt}
-use Rattle.lexer.proofs.Bounds.{skip-bounds, ident-bounds, opens-not-none}
-use Rattle.lexer.proofs.Values.{values-bounds, values-forward, vals-count}
-use Rattle.lexer.specs.declared.Close.{Close}
-use Rattle.lexer.specs.declared.Close.the-variants.{At, Open}
-use Rattle.lexer.specs.declared.Ident.{Ident}
-use Rattle.lexer.specs.declared.Ident.the-variants.{Opens, Missing, Foreign}
+use Rattle.scan.proofs.Bounds.{skip-bounds, ident-bounds, opens-not-none}
+use Rattle.scan.proofs.Values.{values-bounds, values-forward}
+use Rattle.lexer.proofs.Listed.{vals-count}
+use Rattle.scan.specs.declared.Close.{Close}
+use Rattle.scan.specs.declared.Close.the-variants.{At, Open}
+use Rattle.scan.specs.declared.Ident.{Ident}
+use Rattle.scan.specs.declared.Ident.the-variants.{Opens, Missing, Foreign}
 use Rattle.lexer.specs.declared.Head.{Head}
 use Rattle.lexer.specs.declared.Head.the-variants.{Start as headStart, End as headEnd, Node as headNode, Name, Refused as headRefused, Done as headDone}
 use Rattle.lexer.specs.declared.Step.{Step}

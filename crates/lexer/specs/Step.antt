@@ -7,18 +7,18 @@ use lib.ListN.{length, getD}
 use lib.Seq.{slice}
 use Rattle.lists.specs.Pick.{pick}
 use Rattle.lexer.specs.declared.Fault.the-variants.{MissingPropertyIdentifier, UnexpectedEndOfPropertyIdentifier, UnexpectedEndOfPropertyValue}
-use Rattle.lexer.specs.declared.Close.{Close}
-use Rattle.lexer.specs.declared.Close.the-variants.{At, Open}
-use Rattle.lexer.specs.declared.Ident.{Ident}
-use Rattle.lexer.specs.declared.Ident.the-variants.{Opens, Missing, Foreign}
-use Rattle.lexer.specs.declared.ValueStep.{ValueStep}
-use Rattle.lexer.specs.declared.ValueStep.the-variants.{Value, NoMore, Unclosed}
+use Rattle.scan.specs.declared.Close.{Close}
+use Rattle.scan.specs.declared.Close.the-variants.{At, Open}
+use Rattle.scan.specs.declared.Ident.{Ident}
+use Rattle.scan.specs.declared.Ident.the-variants.{Opens, Missing, Foreign}
+use Rattle.scan.specs.declared.ValueStep.{ValueStep}
+use Rattle.scan.specs.declared.ValueStep.the-variants.{Value, NoMore, Unclosed}
 use Rattle.lexer.specs.declared.Head.{Head}
 use Rattle.lexer.specs.declared.Head.the-variants.{Start as headStart, End as headEnd, Node as headNode, Name, Refused as headRefused, Done as headDone}
 use Rattle.lexer.specs.declared.Step.{Step}
 use Rattle.lexer.specs.declared.Step.the-variants.{Start, End, Node, Property, Refused, Done}
 use Rattle.lexer.specs.Token.{Val, Prop, start, end, node, prop, done, broken, Lexed, lexed, lexAt}
-use Rattle.lexer.specs.Scan.{skipAt, identAt, valueAt, valuesAt}
+use Rattle.scan.specs.Scan.{skipAt, identAt, valueAt, valuesAt}
 
 -- a property that starts at i, by where its identifier ends
 abbrev pub onIdent : ℕ → Ident → Head

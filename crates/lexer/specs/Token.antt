@@ -1,9 +1,10 @@
 -- The tokens of a text: one machine, one step for each byte. Places count from the start of the untrimmed text; a token has its contents beside its places.
 use Prim.Native.Nat.{ℕ, suc}
-use mathlib.Core.Bool.{Bool, true, false, _||_}
+use mathlib.Core.Bool.{Bool, true, false}
 use mathlib.Core.List.{List, [], _∷_, _++_}
 use lib.Dec.{leb, eqb}
 use lib.ListN.{length, drop}
+use Rattle.scan.specs.Scan.{space}
 use Rattle.lexer.specs.declared.Fault.{Fault}
 use Rattle.lexer.specs.declared.Fault.the-variants.{MissingPropertyIdentifier, UnexpectedEndOfPropertyIdentifier, UnexpectedEndOfPropertyValue}
 
@@ -26,10 +27,6 @@ pub data Tok : Type 0 where
   end : ℕ → Tok
   node : ℕ → Tok
   prop : Prop → ℕ → Tok
-
--- white space between tokens: space, tab, LF, FF, CR
-unfoldable pub space : ℕ → Bool
-space b = eqb b 0x20 || eqb b 0x9 || eqb b 0xa || eqb b 0xc || eqb b 0xd
 
 -- where the bytes so far leave the machine: between tokens; in the identifier of the property that starts at s; in its value that starts at v, with what came before it; after a value; or with a fault
 pub data St : Type 0 where

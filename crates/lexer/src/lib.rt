@@ -1,9 +1,7 @@
 // The token rules of SGF: bytes to tokens with spans. The text is the part that trimming keeps, from the start of the buffer to its last place; places count from the start of the buffer.
-mod runs; // runs.rt: runs of bytes that a value's scan steps over
-
 ghost use mathlib.Core.Path.{_≡_};
-ghost use Rattle.lexer.specs.Token.{space, numberOf};
-ghost use Rattle.lexer.specs.Scan.{closeAt, skipAt, identAt, valueAt, valuesAt};
+ghost use Rattle.scan.specs.Scan.{valuesAt};
+ghost use Rattle.lexer.specs.Token.{numberOf};
 ghost use Rattle.lexer.specs.Step.{headFrom, headAt, onValues, nextAt, SteppedIs};
 
 // What is wrong with a token.
@@ -21,139 +19,6 @@ pub fn number(fault: Fault) -> u32
         Fault::MissingPropertyIdentifier => 3,
         Fault::UnexpectedEndOfPropertyIdentifier => 4,
         Fault::UnexpectedEndOfPropertyValue => 5,
-    }
-}
-
-// Where a scan for a closing bracket ends.
-pub enum Close {
-    At(usize),
-    Open,
-}
-
-// Where an identifier ends: at a `[`; or the text ends first; or a byte that is not ASCII comes first.
-pub enum Ident {
-    Opens(usize),
-    Missing,
-    Foreign,
-}
-
-// Space, tab, LF, FF or CR.
-pub fn is_space(b: u8) -> bool
-    ensures { λ r. ⌜ r ≡ space b ⌝ }
-{
-    (b == 32) | (b == 9) | (b == 10) | (b == 12) | (b == 13)
-}
-
-// The first place at or after `from` that is no white space.
-pub fn skip_space(s: &[u8], from: usize) -> usize
-    ensures { λ r. ⌜ r ≡ skipAt (now (s .entry)) from ⌝ }
-{
-    let mut i = from;
-    while i < s.len() {
-        if !is_space(s[i]) {
-            return i;
-        }
-        i += 1;
-    }
-    i
-}
-
-// The first unescaped `]` at or after `from`. Runs of plain bytes are tried at the start, behind an escape and each 16 bytes.
-pub fn value_end(s: &[u8], from: usize) -> Close
-    ensures { λ r. ⌜ r ≡ closeAt (now (s .entry)) from ⌝ }
-{
-    let mut i = from;
-    let mut escaped = false;
-    let mut again = from;
-    loop {
-        if s.len() <= i {
-            break Close::Open;
-        }
-        if escaped {
-            escaped = false;
-            i = runs::past_plain(s, i + 1);
-            again = i + 16;
-            continue;
-        }
-        let b = s[i];
-        if b == b']' {
-            break Close::At(i);
-        }
-        escaped = b == b'\\';
-        i += 1;
-        if (again <= i) & !escaped {
-            i = runs::past_plain(s, i);
-            again = i + 16;
-        }
-    }
-}
-
-// The `[` that ends the identifier at `from`.
-pub fn ident_end(s: &[u8], from: usize) -> Ident
-    ensures { λ r. ⌜ r ≡ identAt (now (s .entry)) from ⌝ }
-{
-    let mut i = from;
-    while i < s.len() {
-        let b = s[i];
-        if b == b'[' {
-            return Ident::Opens(i);
-        }
-        if 128 <= b {
-            return Ident::Foreign;
-        }
-        i += 1;
-    }
-    Ident::Missing
-}
-
-// A value of a property: its first place, the place of its `]`, and where the white space after it ends.
-pub enum ValueStep {
-    Value(usize, usize, usize),
-    NoMore,
-    Unclosed,
-}
-
-// The value whose `[` stands at `at`.
-pub fn next_value(s: &[u8], at: usize) -> ValueStep
-    ensures { λ r. ⌜ r ≡ valueAt (now (s .entry)) at ⌝ }
-{
-    if s.len() <= at {
-        return ValueStep::NoMore;
-    }
-    if s[at] != b'[' {
-        return ValueStep::NoMore;
-    }
-    let mut to = runs::past_short(s, at + 1);
-    if !runs::closes(s, to) {
-        let Close::At(far) = value_end(s, to) else {
-            return ValueStep::Unclosed;
-        };
-        to = far;
-    }
-    let next = skip_space(s, to + 1);
-    ValueStep::Value(at + 1, to, next)
-}
-
-// Past the values that stand from `from` on, and the white space after each.
-pub fn values_end(s: &[u8], from: usize) -> Close
-    ensures { λ r. ⌜ r ≡ valuesAt (now (s .entry)) from ⌝ }
-{
-    let mut i = from;
-    loop {
-        if s.len() <= i {
-            break Close::At(i);
-        }
-        if s[i] != b'[' {
-            break Close::At(i);
-        }
-        let mut to = runs::past_short(s, i + 1);
-        if !runs::closes(s, to) {
-            let Close::At(far) = value_end(s, to) else {
-                break Close::Open;
-            };
-            to = far;
-        }
-        i = skip_space(s, to + 1);
     }
 }
 
@@ -183,10 +48,10 @@ fn head_from(s: &[u8], at: usize) -> Head
     if b == b';' {
         return Head::Node(at);
     }
-    match ident_end(s, at) {
-        Ident::Opens(k) => Head::Name(at, k),
-        Ident::Missing => Head::Refused(Fault::MissingPropertyIdentifier, at),
-        Ident::Foreign => Head::Refused(Fault::UnexpectedEndOfPropertyIdentifier, at),
+    match scan::ident_end(s, at) {
+        scan::Ident::Opens(k) => Head::Name(at, k),
+        scan::Ident::Missing => Head::Refused(Fault::MissingPropertyIdentifier, at),
+        scan::Ident::Foreign => Head::Refused(Fault::UnexpectedEndOfPropertyIdentifier, at),
     }
 }
 
@@ -194,7 +59,7 @@ fn head_from(s: &[u8], at: usize) -> Head
 pub fn next_head(s: &[u8], from: usize) -> Head
     ensures { λ r. ⌜ r ≡ headAt (now (s .entry)) from ⌝ }
 {
-    let at = skip_space(s, from);
+    let at = scan::skip_space(s, from);
     head_from(s, at)
 }
 
@@ -211,9 +76,9 @@ pub enum Step {
 fn property(s: &[u8], from: usize, opens: usize) -> Step
     ensures { λ r. ⌜ r ≡ onValues from opens (valuesAt (now (s .entry)) opens) ⌝ }
 {
-    match values_end(s, opens) {
-        Close::At(e) => Step::Property(from, opens, e),
-        Close::Open => Step::Refused(Fault::UnexpectedEndOfPropertyValue, from),
+    match scan::values_end(s, opens) {
+        scan::Close::At(e) => Step::Property(from, opens, e),
+        scan::Close::Open => Step::Refused(Fault::UnexpectedEndOfPropertyValue, from),
     }
 }
 

@@ -6,3 +6,4 @@ pub mod Places
 pub mod Put
 pub mod Run
 pub mod Tests
+pub mod Unique

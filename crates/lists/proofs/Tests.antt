@@ -1,6 +1,8 @@
--- Tests that are Booleans: what a conjunction and a disjunction say. Assumes nothing.
+-- Tests that are Booleans: what a conjunction and a disjunction say; and what cannot be. Assumes nothing.
+use Prim.Native.Nat.{ℕ}
 use mathlib.Core.Path.{_≡_, refl}
 use mathlib.Core.Bool.{Bool, true, false, _&&_, _||_, false≢true, true≢false}
+use native.Mathlib.Omega.{arith}
 
 pub and-both : (x y : Bool) → x && y ≡ true → (x ≡ true) × (y ≡ true)
 and-both true y h = (refl, h)
@@ -13,3 +15,7 @@ and-second false y h e = absurd (false≢true e)
 pub or-neither : (x y : Bool) → x || y ≡ false → (x ≡ false) × (y ≡ false)
 or-neither true y h = absurd (true≢false h)
 or-neither false y h = (refl, h)
+
+-- two constructors are never equal: from such an equation (`cc` makes it), anything
+pub never {ℓ} : {X : Type ℓ} → _≡_ {A = ℕ} 0 1 → X
+never e = absurd (omega (arith, e))

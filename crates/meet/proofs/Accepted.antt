@@ -11,7 +11,7 @@ use borrow.Author.Tests.{ltb-false}
 use Rattle.lists.specs.Pick.{pick}
 use Rattle.utf8.specs.Text.{Ink, blank, Utf, whole, part, bad, utfs}
 use Rattle.lexer.specs.Token.{Tok, End, done, broken}
-use Rattle.tables.specs.Numbers.{none, textLimit, reasonOf}
+use Rattle.tables.specs.Numbers.{textLimit, reasonOf}
 use Rattle.tables.specs.Record.{Tree}
 use Rattle.tables.specs.declared.Reason.{Reason}
 use Rattle.tables.specs.declared.Reason.the-variants.{TextTooLong, NotUtf8}
@@ -19,11 +19,11 @@ use Rattle.parser.specs.Split.{Slices, no, slices, slicesOf}
 use Rattle.parser.specs.Slice.{sliceFrom, cut}
 use Rattle.parser.specs.Survey.{foundAs, counted}
 use Rattle.parser.specs.declared.Survey.the-variants.{Slices as found}
-use Rattle.parser.specs.Kind.{is}
 use Rattle.parser.specs.Walk.{Opts}
 use Rattle.parser.specs.Read.{refused, accepted, Growing, growing, failing, growAll, answer, planted, parsed, lexing, lex, decoded, read}
 use Rattle.parser.proofs.Slices.{slices-cut}
-use Rattle.meet.proofs.Grown.{Grew, never, grow-all}
+use Rattle.meet.proofs.Grown.{Grew, grow-all}
+use Rattle.lists.proofs.Tests.{never}
 
 -- what an acceptance says; `toks`: the tokens that the slices are cut from, all or none of the text's
 pub record Reading (op : Opts) (t : List ℕ) (ts : List Tree) : Type 0 where

@@ -10,10 +10,9 @@ use borrow.Author.Tests.{le-leb}
 use Rattle.utf8.specs.Text.{Ink, blank, inked}
 use Rattle.lexer.specs.Token.{Tok}
 use Rattle.tables.specs.Record.{Node, Tree, allNodes, allProps, allVals}
-use Rattle.tables.specs.Rows.{tables, parents}
+use Rattle.tables.specs.Rows.{tables, parents, countsOf}
 use Rattle.tables.specs.declared.Counts.{Counts}
 use Rattle.tables.specs.declared.Reading.the-variants.{Accepted}
-use Rattle.fit.specs.Record.{countsOf}
 use Rattle.parser.specs.Slice.{cut}
 use Rattle.parser.specs.Split.{slices}
 use Rattle.parser.specs.Walk.{Opts}
@@ -23,7 +22,8 @@ use Rattle.reader.proofs.Rooms.{tree-count, node-count, prop-count, val-count}
 use Rattle.meet.specs.Enough.{Rows, strictRows, lenientRows, Suffices, Lends}
 use Rattle.meet.proofs.Accepted.{Reading, reading-is}
 use Rattle.meet.proofs.Bracketing.{Ending, Parted, slices-parted}
-use Rattle.meet.proofs.Grown.{Grew, never, walkOf, inOrder}
+use Rattle.meet.proofs.Grown.{Grew, walkOf, inOrder}
+use Rattle.lists.proofs.Tests.{never}
 use Rattle.meet.proofs.Sizes.{few-toks, toks-have}
 use Rattle.meet.proofs.Spaced.{Spaced, tokens-spaced}
 use Rattle.meet.proofs.Totals.{strict-total, lenient-total}

@@ -11,7 +11,8 @@ use Rattle.tables.specs.Numbers.{none}
 use Rattle.tables.specs.Record.{Node, Tree}
 use Rattle.parser.specs.Slice.{sliceFrom}
 use Rattle.parser.specs.Walk.{Opts, shut}
-use Rattle.meet.proofs.Grown.{never, walkOf, inOrder}
+use Rattle.meet.proofs.Grown.{walkOf, inOrder}
+use Rattle.lists.proofs.Tests.{never}
 use Rattle.meet.proofs.Accepted.{Reading}
 use Rattle.meet.proofs.Sizes.{each-tree}
 use Rattle.meet.proofs.Walks.{MayOpen, Kept, keep-walk}

@@ -1,26 +1,22 @@
 -- The tables of an accepted reading fit its text, strict or lenient, with conversion on or off. Assumes nothing.
 use mathlib.Core.Path.{_≡_, refl, sym, ap, _∙_}
-use Prim.Native.Nat.{ℕ, _/_, _≤_}
+use Prim.Native.Nat.{ℕ, _≤_}
 use native.Mathlib.Omega.{arith}
 use mathlib.Core.Bool.{true}
 use mathlib.Core.List.{List, _++_}
 use lib.ListN.{length, take, length-append}
 use lib.Seq.{take-length}
-use borrow.Author.Tests.{le-leb}
 use Rattle.utf8.specs.Text.{Ink, blank, inked, Utf, whole}
 use Rattle.utf8.specs.Trim.{trimmed, shown}
 use Rattle.lexer.specs.Token.{Prop}
 use Rattle.tables.specs.Flat.{flatTrees, flatNodes, flatProps, flatVals}
-use Rattle.tables.specs.Numbers.{none, textLimit}
 use Rattle.tables.specs.Record.{Node, Tree, allNodes, allProps, allVals}
-use Rattle.tables.specs.Rows.{Tables, tables, parents, treeRows, nodeRows, propRows, valRows}
+use Rattle.tables.specs.Rows.{Tables, tables, parents, treeRows, nodeRows, propRows, valRows, countsOf}
 use Rattle.tables.specs.declared.Counts.{Counts}
 use Rattle.fit.specs.Each.{tabulate}
-use Rattle.fit.specs.Fit.{sound, validUtf8, fitText, Fit}
-use Rattle.fit.specs.Nodes.{nodesFit}
-use Rattle.fit.specs.Ranges.{rangesFit}
-use Rattle.fit.specs.Record.{treeRow, nodeRow, propRow, valRow, rowsOf, countsOf}
-use Rattle.fit.specs.Spans.{spansFit}
+use Rattle.fit.specs.Fit.{sound, validUtf8, Fit}
+use Rattle.fit.specs.Record.{treeRow, nodeRow, propRow, valRow, rowsOf}
+use Rattle.fit.proofs.Clauses.{Clauses, clauses-fit}
 use Rattle.fit.proofs.RecordFits.{counts-of-rows, nodes-counted, properties-counted, values-counted, record-children, record-siblings, record-properties, record-values}
 use Rattle.fit.proofs.Rows.{rows-of-flat}
 use Rattle.parser.specs.Walk.{Opts}
@@ -73,51 +69,33 @@ module _ (op : Opts) (t : List ℕ) (ts : List Tree) (h : read op t ≡ accepted
   val-rows : tabulate (valRow vl) 0 (length (allVals ps)) ≡ valRows (allVals ps)
   val-rows = rw (← vals-are) (ap (λ (z : Tables). z .vals) rows)
 
-  nodes-fit : nodesFit c tr nd ≡ true
-  unfolding nodesFit
-  nodes-fit =
-      rw (
-        record-children c tr nd pr vl ts rows,
-        record-siblings c tr nd pr vl ts rows,
-        trees-counted,
-        nodes-are,
-        roots-fit r tr nd tree-rows node-rows,
-        parents-fit r tr nd tree-rows node-rows,
-        kinds-fit r tr nd tree-rows node-rows,
-      )
-
-  ranges-fit : rangesFit c nd pr ≡ true
-  unfolding rangesFit
-  ranges-fit = rw (record-properties c tr nd pr vl ts rows, record-values c tr nd pr vl ts rows, props-are, have-values op t ts h pr vl prop-rows)
-
-  spans-fit : spansFit t c pr vl ≡ true
-  unfolding spansFit
-  spans-fit = rw (props-are, vals-are, ascent-fits op t ts h pr vl prop-rows val-rows, names-fit op t ts h pr vl prop-rows, values-fit op t ts h pr vl val-rows)
-
   valid : validUtf8 t ≡ true
   unfolding trimmed
   valid = ap (λ (u : Utf). sound (shown u)) (r .valid) ∙ valid-ink (r .ink)
 
-  text-fits : fitText t c tr nd pr vl ≡ true
-  unfolding fitText
-  text-fits = rw (le-leb (length t) textLimit (r .short), valid, nodes-fit, ranges-fit, spans-fit)
-
-  few : c .nodes ≤ none
-  few = rw nodes-are (nodes-most r)
+  clauses : Room c (lent tr nd pr vl) → Clauses t c tr nd pr vl
+  clauses room =
+      record {
+        held = record { trees = room .trees; nodes = room .nodes; few = rw nodes-are (nodes-most r); properties = room .props; values = room .vals };
+        short = r .short;
+        utf8 = valid;
+        roots = rw (trees-counted, nodes-are) (roots-fit r tr nd tree-rows node-rows);
+        parents = rw nodes-are (parents-fit r tr nd tree-rows node-rows);
+        children = record-children c tr nd pr vl ts rows;
+        siblings = record-siblings c tr nd pr vl ts rows;
+        kinds = rw trees-counted (kinds-fit r tr nd tree-rows node-rows);
+        node-ranges = record-properties c tr nd pr vl ts rows;
+        prop-ranges = record-values c tr nd pr vl ts rows;
+        have-values = rw props-are (have-values op t ts h pr vl prop-rows);
+        ascend = rw props-are (ascent-fits op t ts h pr vl prop-rows val-rows);
+        names = rw props-are (names-fit op t ts h pr vl prop-rows);
+        values = rw vals-are (values-fit op t ts h pr vl val-rows);
+      }
 
 -- of the first `used` bytes of a buffer, where enough is lent
 pub rows-fit : (op : Opts) (buf : List ℕ) (used : ℕ) (ts : List Tree) → used ≤ length buf → read op (take used buf) ≡ accepted ts
     → (c : Counts) (tr nd pr vl : List ℕ) → Room c (lent tr nd pr vl) → rowsOf c tr nd pr vl ≡ tables ts → Fit buf used c tr nd pr vl ≡ true
-unfolding Fit
-rows-fit op buf used ts b h c tr nd pr vl room rows =
-    rw (
-      le-leb used (length buf) b,
-      le-leb (c .trees) (length tr / 2) (room .trees),
-      le-leb (c .nodes) (length nd / 5) (room .nodes),
-      le-leb (c .nodes) none (few op (take used buf) ts h c tr nd pr vl rows),
-      le-leb (c .properties) (length pr / 4) (room .props),
-      le-leb (c .values) (length vl / 2) (room .vals),
-    ) (text-fits op (take used buf) ts h c tr nd pr vl rows)
+rows-fit op buf used ts b h c tr nd pr vl room rows = clauses-fit buf used c tr nd pr vl b (clauses op (take used buf) ts h c tr nd pr vl rows room)
 
 -- ---- the flat tables of the reading, whatever stands behind them
 

@@ -7,16 +7,16 @@ use mathlib.Core.List.{List, [], _∷_, reverse, reverseAux}
 use lib.ListN.{length, length-reverse, drop}
 use Rattle.lists.specs.Same.{same}
 use Rattle.lists.proofs.Pick.{pick-elim}
+use Rattle.lists.proofs.Tests.{never}
 use Rattle.values.specs.Read.{readValue}
 use Rattle.values.specs.Decimal.{decimalOf}
 use Rattle.lexer.specs.Token.{Val, Prop, Tok}
 use Rattle.tables.specs.Numbers.{none}
 use Rattle.tables.specs.Record.{Node, Tree}
-use Rattle.parser.specs.Split.{slices}
 use Rattle.parser.specs.Slice.{sliceFrom, restFrom, cut}
 use Rattle.parser.specs.Kind.{Kind, is, unkind, kind, kindVals, kindProps, named, props, GM, numbered}
 use Rattle.parser.specs.Walk.{Opts, Walk, walk, halted, stopped, shut, walked}
-use Rattle.parser.specs.Read.{accepted, Growing, growing, failing, rooted, grown, kinded, growAll}
+use Rattle.parser.specs.Read.{Growing, growing, failing, rooted, grown, kinded, growAll}
 use Rattle.reader.proofs.Kinded.{fails}
 
 -- the nodes of a walk, last first
@@ -92,9 +92,6 @@ one-kinded op base (unkind r) s ts h =
     (λ e. subst (λ (z : Bool). One z base (walkOf op base s) ts (grown true base 0 w ts)) (sym e) (one-grown true base 0 w ts (omega arith))) (λ _. tt)
 
 -- ---- all trees
-
-pub never : {X : Type 0} → _≡_ {A = ℕ} 0 1 → X
-never z = absurd (omega arith)
 
 pub grow-all : (op : Opts) (k : ℕ) (us : List Tok) (base : ℕ) (acc : List Tree) (n : ℕ) (all : List Tree)
     → growAll op (growing base acc) (cut k us) ≡ growing n all → (ts : List Tree) × (Grew op base k us ts) × (all ≡ reverseAux ts acc)

@@ -9,18 +9,18 @@ use lib.Seq.{take-length}
 use Rattle.lists.specs.Pick.{pick}
 use Rattle.tables.specs.Flat.{flatTrees, flatNodes, flatProps, flatVals}
 use Rattle.tables.specs.Record.{Tree}
-use Rattle.tables.specs.Rows.{Tables, tables}
+use Rattle.tables.specs.Rows.{Tables, tables, countsOf}
 use Rattle.tables.specs.declared.Counts.{Counts}
 use Rattle.tables.specs.declared.Reading.the-variants.{Accepted, Refused}
 use Rattle.tables.specs.declared.Reason.the-variants.{NoRoom}
 use Rattle.fit.specs.Fit.{Fit}
-use Rattle.fit.specs.Record.{rowsOf, countsOf, recordOf}
+use Rattle.fit.specs.Record.{rowsOf, recordOf}
 use Rattle.fit.proofs.Rows.{rows-of-flat}
 use Rattle.parser.specs.Walk.{Opts}
 use Rattle.parser.specs.Read.{Answer, refused, accepted, read}
 use Rattle.reader.specs.Lent.{Lent, roomy, stored, answers, leaves, ReadIs}
 use Rattle.meet.proofs.Fitting.{buffer-fits}
-use Rattle.meet.proofs.Grown.{never}
+use Rattle.lists.proofs.Tests.{never}
 use Rattle.meet.proofs.Recorded.{record-of}
 
 -- a record was read, its counts are given back, and its rows are stored

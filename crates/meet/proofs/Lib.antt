@@ -15,7 +15,6 @@ pub mod Parts
 pub mod Paths
 pub mod Properties
 pub mod Recorded
-pub mod Rooted
 pub mod Sizes
 pub mod Spaced
 pub mod Spans

@@ -1,58 +1,29 @@
--- Ranges without gap cut a list into parts that joined are the list again; so rows that have such ranges are the rows of what they denote. Assumes nothing.
+-- Rows that have ranges without gap are the rows of what they denote. Assumes nothing.
 use mathlib.Core.Path.{_≡_, refl, sym, ap, ap₂, _∙_}
 use Prim.Native.Nat.{ℕ, zero, suc, _+_, _≤_, _<_}
-use native.Mathlib.Numerals.{add-one}
 use native.Mathlib.Omega.{arith}
 use mathlib.Core.Bool.{true}
-use mathlib.Core.List.{List, [], _∷_, _++_, map, append-assoc, append-nil}
+use mathlib.Core.List.{List, [], _∷_, map}
 use lib.Dec.{eqb}
-use lib.ListN.{length, take, drop, length-drop}
-use lib.Seq.{take-add, take-length, length-take-le}
+use lib.ListN.{length, take, drop}
 use Rattle.lists.specs.Pick.{pick}
 use Rattle.lexer.specs.Token.{Val, Prop}
 use Rattle.tables.specs.Numbers.{none}
-use Rattle.tables.specs.Record.{Node, allProps, allVals}
-use Rattle.tables.specs.Rows.{NodeRow, PropRow, ValRow, next, parents, nodeRows, propRows, valRows}
+use Rattle.tables.specs.Record.{Node}
+use Rattle.tables.specs.Rows.{TreeRow, NodeRow, PropRow, ValRow, next, parents, treeRows, nodeRows, propRows, valRows}
 use Rattle.fit.specs.Columns.{parentAt, childAt, siblingAt, firstPropAt, propCountAt, nameFromAt, nameToAt, firstValAt, valCountAt}
 use Rattle.fit.specs.Each.{sum, tabulate}
 use Rattle.fit.specs.Ranges.{gapless}
-use Rattle.fit.specs.Record.{nodeRow, propRow, valOf, propOf, nodeOf}
-use Rattle.fit.proofs.Ranges.{sum-next, gapless-first, gapless-sum, gapless-in}
+use Rattle.fit.specs.Record.{nodeRow, propRow, valOf, propOf, nodeOf, treesOf}
+use Rattle.fit.proofs.Parts.{part-length}
+use Rattle.fit.proofs.Ranges.{sum-suc, gapless-first}
 
-module _ {A : Type 0} (xs : List A) (first count : ℕ → ℕ) (n : ℕ) (g : gapless first count n (length xs) ≡ true) where
-  -- the range of row k
-  abbrev part : ℕ → List A
-  part k = take (count k) (drop (first k) xs)
+-- ---- trees
 
-  -- those of the m rows from b on
-  abbrev joined : (b m : ℕ) → List A
-  joined b zero = []
-  joined b (suc m) = part b ++ joined (suc b) m
-
-  part-length : (k : ℕ) → k < n → length (part k) ≡ count k
-  part-length k l = length-take-le (count k) (drop (first k) xs) (omega (arith, gapless-in first count n (length xs) g k l, length-drop (first k) xs))
-
-  sum-suc : (k : ℕ) → sum count (suc k) ≡ sum count k + count k
-  sum-suc k = ap (sum count) (sym (add-one k)) ∙ sum-next first count k
-
-  joined-from : (b m : ℕ) → b + m ≤ n → take (sum count b) xs ++ joined b m ≡ take (sum count (b + m)) xs
-  joined-from b zero l = let e : b + 0 ≡ b = omega arith in rw e (append-nil (take (sum count b) xs))
-  joined-from b (suc m) l =
-      let e : suc b + m ≡ b + suc m = omega arith in
-      let s : take (sum count b) xs ++ part b ≡ take (sum count (suc b)) xs =
-      ap (λ (z : ℕ). take (sum count b) xs ++ take (count b) (drop z xs)) (gapless-first first count n (length xs) g b (omega arith))
-      ∙ sym (take-add (sum count b) (count b) xs)
-      ∙ ap (λ (z : ℕ). take z xs) (sym (sum-suc b)) in
-      sym (append-assoc (take (sum count b) xs) (part b) (joined (suc b) m))
-      ∙ ap (λ (z : List A). z ++ joined (suc b) m) s
-      ∙ joined-from (suc b) m (omega arith)
-      ∙ ap (λ (z : ℕ). take (sum count z) xs) e
-
-  pub joined-all : joined 0 n ≡ xs
-  unfolding sum
-  joined-all =
-      let z : 0 + n ≡ n = omega arith in
-      joined-from 0 n (omega arith) ∙ ap (λ (k : ℕ). take (sum count k) xs) z ∙ ap (λ (k : ℕ). take k xs) (gapless-sum first count n (length xs) g) ∙ take-length xs
+pub tree-rows-back : (ns : List Node) (rs : List TreeRow) → treeRows (treesOf ns rs) ≡ rs
+tree-rows-back ns [] = refl
+tree-rows-back ns (r ∷ []) = refl
+tree-rows-back ns (r ∷ s ∷ rs) = ap (λ (z : List TreeRow). r ∷ z) (tree-rows-back ns (s ∷ rs))
 
 -- ---- nodes
 
@@ -63,14 +34,6 @@ node-row p a b c d = rw (a, b, c, d)
 module _ (nd : List ℕ) (ps : List Prop) (n : ℕ) (g : gapless (firstPropAt nd) (propCountAt nd) n (length ps) ≡ true) where
   abbrev nodesAt : (b m : ℕ) → List Node
   nodesAt b m = map (nodeOf ps) (tabulate (nodeRow nd) b m)
-
-  props-joined : (b m : ℕ) → allProps (nodesAt b m) ≡ joined ps (firstPropAt nd) (propCountAt nd) n g b m
-  unfolding tabulate
-  props-joined b zero = refl
-  props-joined b (suc m) = ap (λ (z : List Prop). take (propCountAt nd b) (drop (firstPropAt nd b) ps) ++ z) (props-joined (suc b) m)
-
-  pub all-props : allProps (nodesAt 0 n) ≡ ps
-  all-props = props-joined 0 n ∙ joined-all ps (firstPropAt nd) (propCountAt nd) n g
 
   pub parents-are : (b m : ℕ) → parents (nodesAt b m) ≡ tabulate (parentAt nd) b m
   unfolding tabulate
@@ -85,7 +48,7 @@ module _ (nd : List ℕ) (ps : List Prop) (n : ℕ) (g : gapless (firstPropAt nd
       let k = links b (omega arith) in
       let c = part-length ps (firstPropAt nd) (propCountAt nd) n g b (omega arith) in
       let e : sum (propCountAt nd) b + length (take (propCountAt nd b) (drop (firstPropAt nd b) ps)) ≡ sum (propCountAt nd) (suc b) =
-      ap (λ (z : ℕ). sum (propCountAt nd) b + z) c ∙ sym (sum-suc ps (firstPropAt nd) (propCountAt nd) n g b) in
+      ap (λ (z : ℕ). sum (propCountAt nd) b + z) c ∙ sym (sum-suc (firstPropAt nd) (propCountAt nd) b) in
       ap₂ (λ (x : NodeRow) (z : List NodeRow). x ∷ z)
       (node-row (parentAt nd b) (sym (k .0)) (sym (k .1)) (sym (gapless-first (firstPropAt nd) (propCountAt nd) n (length ps) g b (omega arith))) c)
       (ap (λ (z : ℕ). nodeRows qs (suc b) z (nodesAt (suc b) m)) e ∙ node-rows-from qs links (suc b) m (omega arith))
@@ -104,21 +67,13 @@ module _ (t pr : List ℕ) (vs : List Val) (n : ℕ) (g : gapless (firstValAt pr
   abbrev propsAt : (b m : ℕ) → List Prop
   propsAt b m = map (propOf t vs) (tabulate (propRow pr) b m)
 
-  vals-joined : (b m : ℕ) → allVals (propsAt b m) ≡ joined vs (firstValAt pr) (valCountAt pr) n g b m
-  unfolding tabulate
-  vals-joined b zero = refl
-  vals-joined b (suc m) = ap (λ (z : List Val). take (valCountAt pr b) (drop (firstValAt pr b) vs) ++ z) (vals-joined (suc b) m)
-
-  pub all-vals : allVals (propsAt 0 n) ≡ vs
-  all-vals = vals-joined 0 n ∙ joined-all vs (firstValAt pr) (valCountAt pr) n g
-
   prop-rows-from : (b m : ℕ) → b + m ≤ n → propRows (sum (valCountAt pr) b) (propsAt b m) ≡ tabulate (propRow pr) b m
   unfolding tabulate
   prop-rows-from b zero l = refl
   prop-rows-from b (suc m) l =
       let c = part-length vs (firstValAt pr) (valCountAt pr) n g b (omega arith) in
       let e : sum (valCountAt pr) b + length (take (valCountAt pr b) (drop (firstValAt pr b) vs)) ≡ sum (valCountAt pr) (suc b) =
-      ap (λ (z : ℕ). sum (valCountAt pr) b + z) c ∙ sym (sum-suc vs (firstValAt pr) (valCountAt pr) n g b) in
+      ap (λ (z : ℕ). sum (valCountAt pr) b + z) c ∙ sym (sum-suc (firstValAt pr) (valCountAt pr) b) in
       ap₂ (λ (x : PropRow) (z : List PropRow). x ∷ z)
       (prop-row (nameFromAt pr b) (nameToAt pr b) (sym (gapless-first (firstValAt pr) (valCountAt pr) n (length vs) g b (omega arith))) c)
       (ap (λ (z : ℕ). propRows z (propsAt (suc b) m)) e ∙ prop-rows-from (suc b) m (omega arith))

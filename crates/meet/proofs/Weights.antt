@@ -7,7 +7,8 @@ use mathlib.Core.List.{List, [], _∷_, _++_}
 use lib.Dec.{leb, eqb}
 use lib.ListN.{length, length-append}
 use Rattle.lists.specs.All.{All}
-use Rattle.lexer.specs.Token.{Val, Prop, Tok, start, end, node, prop, St, between, ident, value, after, fault, Out, starts, begins, values, afters, step, space, emits, ends, finish, lexFrom}
+use Rattle.lexer.specs.Token.{Val, Prop, Tok, start, end, node, prop, St, between, ident, value, after, fault, Out, starts, begins, values, afters, step, emits, ends, finish, lexFrom}
+use Rattle.scan.specs.Scan.{space}
 use Rattle.lexer.proofs.Invariant.{OfTok}
 use Rattle.lexer.proofs.Proper.{HasProper}
 

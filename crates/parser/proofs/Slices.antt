@@ -9,6 +9,7 @@ use lib.Dec.{ltb}
 use borrow.Author.Tests.{ltb-false}
 use Rattle.lists.specs.All.{All}
 use Rattle.lists.specs.Pick.{pick}
+use Rattle.lists.proofs.Tests.{never}
 use Rattle.lexer.specs.Token.{Tok}
 use Rattle.tables.specs.Numbers.{depthLimit}
 use Rattle.tables.specs.declared.Reason.the-variants.{TooDeep}
@@ -23,9 +24,6 @@ pub record SlicesAre (len : Bool) (ts : List Tok) (k : ℕ) : Type 0 where
   pub are : slicesOf len ts ≡ slices (cut k ts)
   pub shallow : All (Shallow 0) (cut k ts)
   pub few : k ≤ length ts
-
-abbrev never : {X : Type 0} → _≡_ {A = ℕ} 0 1 → X
-never z = absurd (omega arith)
 
 cut-length : (j : ℕ) (ts : List Tok) → length (cut j ts) ≡ j
 unfolding cut

@@ -13,6 +13,7 @@ use Rattle.fresh.proofs.Reread.{in-textLimit}
 use Rattle.fresh.specs.Run.{strictly}
 use Rattle.lexer.specs.Token.{End, Lexed, Tok, lexFrom}
 use Rattle.lists.specs.Pick.{pick}
+use Rattle.lists.proofs.Tests.{never}
 use Rattle.parser.proofs.Moved.{move-tokens, moveAnswer}
 use Rattle.parser.specs.Read.{Answer, accepted, decoded, lexing, planted, read, refused}
 use Rattle.parser.specs.Split.{Splitting, no, sliced, slices, split, splitting}
@@ -61,7 +62,7 @@ nine c ts f s b =
   where
     go : (a : Answer) → read (strictly c) (writeTrees ts) ≡ a → moveAnswer Z Z K a ≡ refused TooDeep 0 → read (strictly c) (writeTrees ts) ≡ refused TooDeep 0
     go (refused n p) e h = e ∙ h
-    go (accepted us) e h = let z : _≡_ {A = ℕ} 0 1 = cc in absurd (omega arith)
+    go (accepted us) e h = never cc
 
 pub back-or-nine : (c : Bool) (ts : List Tree) → Form ts → length (writeTrees ts) ≤ textLimit → (read (strictly c) (writeTrees ts) ≡ refused TooDeep 0) ⊎ Back c ts
 back-or-nine c ts f s = go (ltb depthLimit (deepest (split false (splitting 0 0 [] []) (tokTrees ts)))) refl

@@ -20,7 +20,8 @@ use Rattle.parser.specs.Kind.{GM, kindProps, kindVals, named}
 use Rattle.readback.proofs.Inked.{ValidProp}
 use Rattle.readback.proofs.WrittenProps.{Plain}
 use Rattle.readback.specs.Back.{Z, K, zProp}
-use Rattle.serialize.specs.Form.{rawOf, placeless, formProp}
+use Rattle.serialize.specs.Form.{placeless, formProp}
+use Rattle.fit.specs.Record.{rawOf}
 use Rattle.utf8.specs.Text.{Ink, blank, mark, utfs, white, whole}
 use Rattle.values.proofs.Safe.{Safe}
 use Rattle.values.specs.Read.{readIdentifier}

@@ -3,8 +3,8 @@ use Prim.Native.Nat.{ℕ, suc, _+_}
 use mathlib.Core.Path.{_≡_, refl, sym, ap, ap₂, _∙_}
 use mathlib.Core.Bool.{false, false≢true}
 use mathlib.Core.List.{List, [], _∷_, _++_, map, map-map, head-eq-of-cons-eq, tail-eq-of-cons-eq}
-use native.Mathlib.Omega.{arith}
 use lib.ListN.{length}
+use Rattle.lists.proofs.Tests.{never}
 use Rattle.go.proofs.ReadBack.{normal-value}
 use Rattle.go.specs.Normal.{normal, written}
 use Rattle.go.specs.Value.{goValue}
@@ -13,8 +13,9 @@ use Rattle.go.specs.declared.value.Value.the-variants.{Other, Invalid, Pass, Mo
 use Rattle.lexer.specs.Token.{Prop}
 use Rattle.readback.proofs.FormProps.{raws-aside, raws-back}
 use Rattle.readback.specs.Back.{zProp, zNode, zTree}
-use Rattle.readback.specs.Same.{Pairs, rawsOf, valid, SameProp, SameNode, SameTree}
-use Rattle.serialize.specs.Form.{rawOf, placeless, formProp, formNode, formTree}
+use Rattle.readback.specs.Same.{Pairs, valid, SameProp, SameNode, SameTree}
+use Rattle.fit.specs.Record.{rawsOf, rawOf}
+use Rattle.serialize.specs.Form.{placeless, formProp, formNode, formTree}
 use Rattle.tables.specs.Record.{Node, Tree, allNodes}
 use Rattle.tables.specs.Rows.{parents, nodeRows, tables}
 use Rattle.values.specs.Read.{readIdentifier}
@@ -24,8 +25,8 @@ use Rattle.values.specs.Read.{readIdentifier}
 module _ {A C : Type 0} (f g : A → C) (R : A → A → Type 0) (step : (x y : A) → f y ≡ g x → R x y) where
   pairs-from : (xs ys : List A) → map f ys ≡ map g xs → Pairs R xs ys
   pairs-from [] [] e = tt
-  pairs-from [] (y ∷ ys) e = let z : _≡_ {A = ℕ} 0 1 = cc in absurd (omega arith)
-  pairs-from (x ∷ xs) [] e = let z : _≡_ {A = ℕ} 0 1 = cc in absurd (omega arith)
+  pairs-from [] (y ∷ ys) e = never cc
+  pairs-from (x ∷ xs) [] e = never cc
   pairs-from (x ∷ xs) (y ∷ ys) e = (step x y (head-eq-of-cons-eq e), pairs-from xs ys (tail-eq-of-cons-eq e))
 
 -- a value that is not valid keeps its bytes

@@ -6,7 +6,8 @@ use mathlib.Core.List.{List, [], _∷_, _++_}
 use lib.Dec.{leb, eqb}
 use lib.ListN.{getD, take, drop}
 use borrow.Author.Tests.{eqb-false}
-use Rattle.lexer.specs.Token.{Out, Prop, St, Tok, Val, after, afters, begins, between, emits, end, ends, fault, finish, ident, node, prop, space, start, starts, step, value, values}
+use Rattle.lexer.specs.Token.{Out, Prop, St, Tok, Val, after, afters, begins, between, emits, end, ends, fault, finish, ident, node, prop, start, starts, step, value, values}
+use Rattle.scan.specs.Scan.{space}
 use Rattle.lists.proofs.Places.{at-place, part-begins}
 use Rattle.lists.specs.All.{All}
 use Rattle.parser.proofs.Lift.{OfSlices, of-split, of-sliced}

@@ -3,7 +3,8 @@ use mathlib.Core.Path.{_≡_, refl, sym, ap, _∙_}
 use Prim.Native.Nat.{ℕ}
 use mathlib.Core.List.{List, [], _∷_, _++_, map, append-assoc, append-nil, map-append}
 use Rattle.lexer.proofs.Machine.{emits-append, ends-append}
-use Rattle.lexer.specs.Token.{St, Tok, after, between, emits, end, ends, fault, ident, node, prop, space, start, value}
+use Rattle.lexer.specs.Token.{St, Tok, after, between, emits, end, ends, fault, ident, node, prop, start, value}
+use Rattle.scan.specs.Scan.{space}
 use Rattle.utf8.proofs.Steps.{place}
 use Rattle.serialize.specs.Write as Write
 use Rattle.readback.specs.Back.{zProp, zTok}

@@ -1,7 +1,6 @@
 -- Strict reading of a writing gives the same trees, places aside; the writer sees no places. Assumes nothing.
 use mathlib.Core.Path.{_≡_, refl, sym, ap, ap₂, _∙_}
 use Prim.Native.Nat.{ℕ, suc, _≤_, _<_}
-use native.Mathlib.Omega.{arith}
 use mathlib.Core.Bool.{Bool, false}
 use mathlib.Core.List.{List, [], _∷_, _++_, map}
 use lib.Dec.{ltb}
@@ -14,6 +13,7 @@ use Rattle.lexer.proofs.Invariant.{OfTok}
 use Rattle.lexer.specs.Move.{moveVal}
 use Rattle.lexer.specs.Token.{End, Lexed, Prop, Tok, Val, done, end, lexFrom, node, prop, start}
 use Rattle.lists.specs.All.{All}
+use Rattle.lists.proofs.Tests.{never}
 use Rattle.parser.proofs.Moved.{move-tokens, moveAnswer}
 use Rattle.parser.proofs.MovedKind.{GmStays}
 use Rattle.parser.specs.Read.{Answer, accepted, decoded, lexing, planted, read, refused}
@@ -113,5 +113,5 @@ pub read-back-again : (c : Bool) (ts : List Tree) → Writable ts → Back c ts
 read-back-again c ts w = go (read (strictly c) (writeTrees ts)) refl (read-back c ts w)
   where
     go : (a : Answer) → read (strictly c) (writeTrees ts) ≡ a → moveAnswer Z Z K a ≡ accepted (map zTree ts) → Back c ts
-    go (refused n p) e h = let z : _≡_ {A = ℕ} 0 1 = cc in absurd (omega arith)
+    go (refused n p) e h = never cc
     go (accepted us) e h = record { again = us; accepts = e; alike = cc }

@@ -7,7 +7,8 @@ use mathlib.Core.List.{List, [], _∷_, reverse, reverseAux}
 use lib.Dec.{ltb, eqb}
 use lib.ListN.{length, length-append, length-reverse}
 use Rattle.fresh.specs.Run.{strictly}
-use Rattle.lexer.specs.Token.{Out, Prop, St, Tok, after, afters, begins, between, emits, end, ends, fault, finish, ident, lexFrom, node, prop, space, start, step, value}
+use Rattle.lexer.specs.Token.{Out, Prop, St, Tok, after, afters, begins, between, emits, end, ends, fault, finish, ident, lexFrom, node, prop, start, step, value}
+use Rattle.scan.specs.Scan.{space}
 use Rattle.lists.specs.Pick.{pick}
 use Rattle.parser.specs.Split.{Slices, Splitting, ended, filled, no, over, sliced, slices, split, splits, splitting, wrong}
 use Rattle.parser.specs.Walk.{Gate, Walk, adds, children, closes, gated, halted, opens, shut, skips, stopped, takes, uppers, walk, walked, walks}

@@ -10,6 +10,7 @@ use borrow.Author.Tests.{lt-leb, ne-eqb}
 use Rattle.fresh.specs.Run.{strictly}
 use Rattle.lexer.specs.Token.{Prop, Tok, end, node, prop, start}
 use Rattle.lists.specs.All.{All}
+use Rattle.lists.proofs.Tests.{never}
 use Rattle.parser.specs.Kind.{GM, Kind, is, kind, kindProps, named, props, unkind}
 use Rattle.parser.specs.Read.{Growing, failing, growAll, growing, grown, grows, kinded, rooted}
 use Rattle.parser.specs.Walk.{Walk, halted, shut, stopped, walk, walked}
@@ -80,7 +81,7 @@ pre-nodes base k (x ∷ xs) qs h l r e =
 -- ---- a slice, and all slices
 
 failed : {A : Type 0} (n : Reason) (m : ℕ) (vs : List Tree) → failing n ≡ growing m vs → A
-failed n m vs e = let z : _≡_ {A = ℕ} 0 1 = cc in absurd (omega arith)
+failed n m vs e = never cc
 
 record Planted (base : ℕ) (s : List Tok) (us : List Tree) (n : ℕ) (vs : List Tree) : Type 0 where
   t : Tree

@@ -14,6 +14,7 @@ use Rattle.lexer.specs.Token.{Prop, Tok, Val, lexFrom}
 use Rattle.lists.proofs.All.{all-map}
 use Rattle.lists.specs.All.{All}
 use Rattle.lists.specs.Pick.{pick}
+use Rattle.lists.proofs.Tests.{never}
 use Rattle.parser.proofs.Lift.{OfAnswer, OfNode, OfTree, of-tokens}
 use Rattle.parser.specs.Read.{Answer, Growing, accepted, answer, decoded, failing, growAll, growing, planted, read, refused}
 use Rattle.parser.specs.Split.{Slices, Splitting, filled, no, over, sliced, slices, split, splitting, wrong}
@@ -53,7 +54,7 @@ some-sliced (over m ss) = some-filled m ss
 some-sliced (wrong n) = tt
 
 not-accepted : {A : Type 0} (n : Reason) (p : ℕ) (ts : List Tree) → refused n p ≡ accepted ts → A
-not-accepted n p ts e = let z : _≡_ {A = ℕ} 0 1 = cc in absurd (omega arith)
+not-accepted n p ts e = never cc
 
 pre-answer : (c : Bool) (ss : List (List Tok)) (r : Growing) (ts : List Tree) → growAll (strictly c) (growing 0 []) ss ≡ r → answer r ≡ accepted ts
     → All Leads ss → All SliceOk ss → total ss ≤ none → PreTrees 0 ts × (length ts ≡ length ss)

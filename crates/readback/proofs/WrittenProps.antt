@@ -10,7 +10,8 @@ use borrow.Author.Tests.{leb-true, lt-leb, ne-eqb}
 use Rattle.lexer.proofs.Machine.{emits-append, ends-append, grown, over-value}
 use Rattle.lexer.specs.Closed.{closedFrom}
 use Rattle.lexer.specs.Move.{moveVal}
-use Rattle.lexer.specs.Token.{Out, Prop, St, Tok, Val, after, between, emits, ends, fault, ident, prop, silent, space, starts, step, value}
+use Rattle.lexer.specs.Token.{Out, Prop, St, Tok, Val, after, between, emits, ends, fault, ident, prop, silent, starts, step, value}
+use Rattle.scan.specs.Scan.{space}
 use Rattle.lists.proofs.Tests.{and-both}
 use Rattle.lists.specs.All.{All}
 use Rattle.parser.specs.Walk.{uppers}

@@ -5,7 +5,7 @@ use Prim.Native.String.{String}
 use mathlib.Core.Bool.{true}
 use mathlib.Core.List.{List, [], _∷_}
 use Rattle.utf8.specs.Text.{white}
-use Rattle.lexer.specs.Token.{space}
+use Rattle.scan.specs.Scan.{space}
 use Rattle.values.specs.Read.{readFrom, readIdentifier}
 use Rattle.values.specs.Decimal.{decimalOf, digitsFrom, digitOf}
 use Rattle.go.specs.Normal.{normal, written}
@@ -41,7 +41,7 @@ pub record Row : Type 0 where
   pub says : Says
 
 -- a row of the table
-abbrev row : String → Deed → Says → Row
+abbrev pub row : String → Deed → Says → Row
 row t d s = record { text = t; deed = d; says = s }
 
 -- the tree table of one Go tree: root 0, game type 0
@@ -84,47 +84,47 @@ table =
     ∷ []
 
 -- the four tables as they are lent
-abbrev flat : ((trees nodes props vals : List ℕ) → Says) → Tables → Says
+abbrev pub flat : ((trees nodes props vals : List ℕ) → Says) → Tables → Says
 flat f T = f (flatTrees (T .trees)) (flatNodes (T .nodes)) (flatProps (T .props)) (flatVals (T .vals))
 
 -- a reading shown
-abbrev readSays : Answer → Says
+abbrev pub readSays : Answer → Says
 readSays (refused r p) = number (numberOf r) p
 readSays (accepted ts) = flat rows (tables ts)
 
 -- a writing shown
-abbrev writtenSays : Written → List ℕ → Says
+abbrev pub writtenSays : Written → List ℕ → Says
 writtenSays (Wrote n) w = text w
 writtenSays (Refused r) w = number (numberOf r) 0
 
 -- what was read, written into 100 bytes
-abbrev writeSays : Answer → Says
+abbrev pub writeSays : Answer → Says
 writeSays (refused r p) = number (numberOf r) p
 writeSays (accepted ts) = writtenSays (answerFor true 100 ts) (writing ts)
 
 -- an edit shown
-abbrev outcomeSays : Outcome → Says
+abbrev pub outcomeSays : Outcome → Says
 outcomeSays (refuses r p) = number (numberOf r) p
 outcomeSays (gives t T) = flat (edited t) T
 
 -- the text t, read, with value k edited where 100 bytes are lent
-abbrev editSays : List ℕ → ℕ → List ℕ → Answer → Says
+abbrev pub editSays : List ℕ → ℕ → List ℕ → Answer → Says
 editSays t k new (refused r p) = number (numberOf r) p
 editSays t k new (accepted ts) = outcomeSays (edit 100 t (tables ts) k new)
 
 -- what is answered to one
-abbrev does : List ℕ → Deed → Says
+abbrev pub does : List ℕ → Deed → Says
 does t (reading op) = readSays (read op t)
 does t rewriting = writeSays (read strict t)
 does t (editing k new) = editSays t k (bytes new) (read strict t)
 
 -- what is answered, row by row
-abbrev answered : List Row → List Says
+abbrev pub answered : List Row → List Says
 answered [] = []
 answered (r ∷ rs) = does (bytes (r .text)) (r .deed) ∷ answered rs
 
 -- what document 01 wants, row by row
-abbrev wanted : List Row → List Says
+abbrev pub wanted : List Row → List Says
 wanted [] = []
 wanted (r ∷ rs) = r .says ∷ wanted rs
 

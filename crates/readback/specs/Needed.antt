@@ -2,10 +2,9 @@
 use mathlib.Core.Path.{_≡_, refl}
 use Prim.Native.Nat.{ℕ}
 use Prim.Native.String.{String}
-use mathlib.Core.Bool.{true}
 use mathlib.Core.List.{List, [], _∷_, map}
 use Rattle.utf8.specs.Text.{white}
-use Rattle.lexer.specs.Token.{space}
+use Rattle.scan.specs.Scan.{space}
 use Rattle.values.specs.Read.{readFrom, readIdentifier}
 use Rattle.values.specs.Decimal.{decimalOf, digitsFrom, digitOf}
 use Rattle.go.specs.Area.{areaOf, cornered, letterOf, letter}
@@ -16,7 +15,8 @@ use Rattle.tables.specs.Numbers.{numberOf}
 use Rattle.tables.specs.Record.{Tree}
 use Rattle.parser.specs.Examples.{bytes, strict}
 use Rattle.parser.specs.Read.{Answer, refused, accepted, read}
-use Rattle.serialize.specs.Form.{writing, answerFor, output, writtenNumber}
+use Rattle.serialize.specs.Form.{writing}
+use Rattle.readback.specs.Examples as paper
 
 -- what a reading says: why it is refused, or the game types of the trees
 pub data Says : Type 0 where
@@ -78,44 +78,14 @@ pub needed-right : right needed ≡ wanted needed
 unfolding white space readFrom readIdentifier decimalOf digitsFrom digitOf normal written goValue shapeOf valueBy
 needed-right = refl
 
--- a text, the writer's number, and what it writes where 100 bytes are lent
-pub record WriteRow : Type 0 where
-  pub text : String
-  pub number : ℕ
-  pub writing : String
-
--- a row of the table of writings
-abbrev writeRow : String → ℕ → String → WriteRow
-writeRow t n w = record { text = t; number = n; writing = w }
-
 -- the paper's writing program; and points by coordinates, not by the byte codes of their letters
-abbrev pub writings : List WriteRow
+abbrev pub writings : List paper.Row
 writings =
-    writeRow "(;AB[bb:cc]TB[ba][aa]C[a:b\\]c])" 0 "(;AB[bb][bc][cb][cc]TB[aa][ba]C[a:b\\]c])"
-    ∷ writeRow "(;AB[Aa][aA][aa])" 0 "(;AB[aa][aA][Aa])"
+    paper.row "(;AB[bb:cc]TB[ba][aa]C[a:b\\]c])" paper.rewriting (paper.text (bytes "(;AB[bb][bc][cb][cc]TB[aa][ba]C[a:b\\]c])"))
+    ∷ paper.row "(;AB[Aa][aA][aa])" paper.rewriting (paper.text (bytes "(;AB[aa][aA][Aa])"))
     ∷ []
 
--- what is shown of a writing
-pub record WriteShown : Type 0 where
-  pub number : ℕ
-  pub writing : List ℕ
-
--- a reading, written into 100 bytes
-abbrev writer : Answer → WriteShown
-writer (refused r p) = record { number = numberOf r; writing = [] }
-writer (accepted ts) = let a = answerFor true 100 ts in record { number = writtenNumber a; writing = output a (writing ts) [] }
-
--- what reading and writing give, row by row
-abbrev writesRight : List WriteRow → List WriteShown
-writesRight [] = []
-writesRight (r ∷ rs) = writer (read strict (bytes (r .text))) ∷ writesRight rs
-
--- what is wanted, row by row
-abbrev writesWanted : List WriteRow → List WriteShown
-writesWanted [] = []
-writesWanted (r ∷ rs) = record { number = r .number; writing = bytes (r .writing) } ∷ writesWanted rs
-
 -- each text is written as its row says
-pub writings-right : writesRight writings ≡ writesWanted writings
+pub writings-right : paper.answered writings ≡ paper.wanted writings
 unfolding white space readFrom readIdentifier normal written goValue shapeOf valueBy pointsOf pointsFrom marksOf marksFrom inRect areaOf cornered letterOf letter
 writings-right = refl

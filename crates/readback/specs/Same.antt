@@ -2,19 +2,19 @@
 use Prim.Native.Nat.{ℕ}
 use mathlib.Core.Path.{_≡_}
 use mathlib.Core.Bool.{Bool, true, false}
-use mathlib.Core.List.{List, [], _∷_, map}
+use mathlib.Core.List.{List, [], _∷_}
+use Rattle.record.specs.Ask.{goOf}
 use Rattle.lexer.specs.Token.{Prop}
 use Rattle.values.specs.Read.{readIdentifier}
 use Rattle.go.specs.Normal.{normal}
-use Rattle.go.specs.Value.{goValue}
-use Rattle.go.specs.declared.value.GoValue.{GoValue}
 use Rattle.go.specs.declared.value.Value.{Value}
 use Rattle.go.specs.declared.value.Value.the-variants.{Other, Invalid, Pass, Move, Handicap, Points}
 use Rattle.tables.specs.Record.{Node, Tree}
 use Rattle.tables.specs.Rows.{tables}
 use Rattle.parser.specs.Read.{accepted, read}
 use Rattle.fresh.specs.Run.{strictly}
-use Rattle.serialize.specs.Form.{rawOf, writing}
+use Rattle.fit.specs.Record.{rawsOf}
+use Rattle.serialize.specs.Form.{writing}
 
 -- R holds of the elements of two lists one by one, and none is left over
 abbrev pub Pairs : {A : Type 0} → (A → A → Type 0) → List A → List A → Type 0
@@ -22,14 +22,6 @@ Pairs R [] [] = Unit {0}
 Pairs R [] (y ∷ ys) = ⊥
 Pairs R (x ∷ xs) [] = ⊥
 Pairs R (x ∷ xs) (y ∷ ys) = R x y × Pairs R xs ys
-
--- the raw values of a property
-abbrev pub rawsOf : Prop → List (List ℕ)
-rawsOf p = map rawOf (p .vals)
-
--- the Go value of a property of a tree with game type k
-abbrev pub goOf : (k : ℕ) → Prop → GoValue
-goOf k p = goValue k (readIdentifier (p .name)) (rawsOf p)
 
 -- a valid move, handicap or set; any other value is written as it is raw
 abbrev pub valid : Value → Bool

@@ -3,22 +3,19 @@ use Prim.Native.Nat.{ℕ}
 use mathlib.Core.Path.{_≡_, refl, sym, ap, _∙_}
 use mathlib.Core.Bool.{Bool, true, false}
 use mathlib.Core.List.{List, [], _∷_}
-use native.Mathlib.Omega.{arith}
+use Rattle.lists.proofs.Tests.{never}
 use Rattle.lexer.specs.Token.{Tok}
 use Rattle.tables.specs.Numbers.{none}
 use Rattle.tables.specs.Record.{Tree}
 use Rattle.tables.specs.declared.Reason.{Reason}
 use Rattle.parser.specs.Walk.{Opts, walk, shut, walked}
 use Rattle.parser.specs.Kind.{Kind, is, unkind}
-use Rattle.parser.specs.Read.{Growing, failing, grown, kinded, growAll}
+use Rattle.parser.specs.Read.{failing, grown, kinded, growAll}
 use Rattle.trees.specs.Walks.{opts}
 use Rattle.reader.specs.Slices.{leniently}
-use Rattle.reader.specs.Game.{typeOf}
-use Rattle.reader.specs.declared.game.GameType.{GameType}
-use Rattle.reader.specs.declared.game.GameType.the-variants.{Is, Refused}
-
-abbrev never : {X : Type 0} → _≡_ {A = ℕ} 0 1 → X
-never z = absurd (omega arith)
+use Rattle.game.specs.Game.{typeOf}
+use Rattle.game.specs.declared.GameType.{GameType}
+use Rattle.game.specs.declared.GameType.the-variants.{Is, Refused}
 
 -- ---- what lenient reading makes of a refusal
 

@@ -1,5 +1,3 @@
-pub mod GameValues
-pub mod Gather
 pub mod Kinded
 pub mod Linked
 pub mod Nexts
@@ -11,5 +9,4 @@ pub mod Surveyed
 pub mod Texts
 pub mod Theorems
 pub mod Unique
-pub mod Variants
 pub mod Whole

@@ -24,10 +24,10 @@ use Rattle.trees.proofs.Between.{Between, between-ready, between-next}
 use Rattle.trees.proofs.Stored.{stored-none, stored-both}
 use Rattle.reader.specs.Lent.{Lent, lent}
 use Rattle.reader.specs.Slices.{leniently, readOf, SlicesReady, GrownIs}
-use Rattle.reader.specs.Game.{typeOf}
+use Rattle.game.specs.Game.{typeOf}
 use Rattle.reader.proofs.Kinded.{fails, kinded-is, kinded-refused}
-use Rattle.reader.specs.declared.game.GameType.{GameType}
-use Rattle.reader.specs.declared.game.GameType.the-variants.{Is, Refused}
+use Rattle.game.specs.declared.GameType.{GameType}
+use Rattle.game.specs.declared.GameType.the-variants.{Is, Refused}
 
 tree-append : (xs ys : List Tree) → flatTrees (treeRows (xs ++ ys)) ≡ flatTrees (treeRows xs) ++ flatTrees (treeRows ys)
 tree-append [] ys = refl

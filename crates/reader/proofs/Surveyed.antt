@@ -1,29 +1,27 @@
 -- From what the first pass finds to the definition's answer. Assumes nothing.
-use Prim.Native.Nat.{ℕ, _+_, _≤_}
+use Prim.Native.Nat.{ℕ, _≤_}
 use mathlib.Core.Path.{_≡_, refl, sym, ap, _∙_, subst⁻¹}
 use mathlib.Core.Bool.{Bool, true, false}
 use mathlib.Core.List.{List, [], _∷_}
 use native.Mathlib.Omega.{arith}
 use lib.ListN.{length}
-use Rattle.lexer.specs.Token.{Tok, End, done, broken, Lexed, lexAt}
+use Rattle.lists.proofs.Tests.{never}
+use Rattle.lexer.specs.Token.{End, done, broken, Lexed, lexAt}
 use Rattle.tables.specs.Numbers.{textLimit}
 use Rattle.tables.specs.declared.Reason.{Reason}
 use Rattle.tables.specs.declared.Reading.{Reading}
 use Rattle.tables.specs.declared.Reading.the-variants.{Refused as refusedReading}
 use Rattle.parser.specs.Split.{Slices, no, slices, slicesOf}
 use Rattle.parser.specs.Slice.{sliceFrom, restFrom, cut, Shallow}
-use Rattle.parser.specs.Survey.{foundAs, counted, strictly, surveyOf}
+use Rattle.parser.specs.Survey.{counted, strictly, surveyOf}
 use Rattle.parser.specs.declared.Survey.{Survey}
 use Rattle.parser.specs.declared.Survey.the-variants.{Refused, Slices as found, Empty}
-use Rattle.parser.specs.Read.{Answer, refused, growing, growAll, answer, planted, parsed, lexing}
+use Rattle.parser.specs.Read.{Answer, refused, answer, planted, parsed, lexing}
 use Rattle.parser.proofs.Slices.{slices-cut}
 use Rattle.parser.proofs.Tokens.{tokens-few}
 use Rattle.trees.specs.Walks.{opts}
 use Rattle.reader.specs.Lent.{Lent, ReadIs}
 use Rattle.reader.specs.Slices.{readOf, SlicesReady}
-
-abbrev never : {X : Type 0} → _≡_ {A = ℕ} 0 1 → X
-never z = absurd (omega arith)
 
 -- the answer of the tokens from a place on
 abbrev pub tokensAnswer : Bool → Bool → Lexed → Answer

@@ -3,29 +3,25 @@ use Prim.Native.Nat.{ℕ, _≤_, _<_}
 use mathlib.Core.Path.{_≡_, refl, sym, ap, _∙_}
 use mathlib.Core.Bool.{Bool}
 use mathlib.Core.List.{List, []}
-use native.Mathlib.Omega.{arith}
 use lib.ListN.{length, take, drop}
 use lib.Seq.{length-take-le}
-use lib.Dec.{ltb}
 use borrow.Author.Tests.{lt-ltb, le-ltb}
 use Rattle.lists.specs.Pick.{pick}
+use Rattle.lists.proofs.Tests.{never}
 use Rattle.utf8.specs.Text.{Utf, whole, part, bad, blank, inked, utfs}
 use Rattle.utf8.specs.Trim.{shown, trimmed}
 use Rattle.utf8.specs.declared.Trimmed.{Trimmed}
 use Rattle.utf8.specs.declared.Trimmed.the-variants.{NotUtf8, Blank, Kept}
 use Rattle.utf8.proofs.Extent.{trim-bounds}
-use Rattle.lexer.specs.Token.{St, between, emits, ends, finish, Lexed, lexed, lexFrom, lexAt}
+use Rattle.lexer.specs.Token.{between, emits, ends, finish, lexed, lexFrom, lexAt}
 use Rattle.tables.specs.Numbers.{textLimit}
 use Rattle.tables.specs.declared.Reason.the-variants.{TextTooLong, NotUtf8 as notUtf8}
 use Rattle.tables.specs.declared.Reading.the-variants.{Refused}
 use Rattle.parser.specs.Walk.{Opts}
-use Rattle.parser.specs.Read.{Answer, refused, lexing, decoded, read}
+use Rattle.parser.specs.Read.{refused, decoded, read}
 use Rattle.trees.specs.Walks.{opts}
 use Rattle.reader.specs.Lent.{Lent, ReadIs}
 use Rattle.reader.proofs.Surveyed.{tokensAnswer}
-
-abbrev never : {X : Type 0} → _≡_ {A = ℕ} 0 1 → X
-never z = absurd (omega arith)
 
 -- the tokens of what trimming keeps are those from a place of the text's front part on
 lex-prefix : (t : List ℕ) (f l : ℕ) → l ≤ length t → lexFrom f l (drop f (take l t)) ≡ lexAt (take l t) f

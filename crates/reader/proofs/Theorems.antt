@@ -6,9 +6,10 @@ use mathlib.Core.Logic.{_⊎_, inl, inr}
 use mathlib.Core.List.{List}
 use native.Mathlib.Omega.{arith}
 use Rattle.lists.specs.Pick.{pick}
+use Rattle.lists.proofs.Tests.{never}
 use Rattle.tables.specs.Numbers.{numberOf}
 use Rattle.tables.specs.Record.{Tree}
-use Rattle.tables.specs.Rows.{tables}
+use Rattle.tables.specs.Rows.{tables, countsOf}
 use Rattle.tables.specs.declared.Counts.{Counts}
 use Rattle.tables.specs.declared.Reading.the-variants.{Accepted, Refused}
 use Rattle.tables.specs.declared.Reason.{Reason}
@@ -16,11 +17,8 @@ use Rattle.tables.specs.declared.Reason.the-variants.{NoRoom}
 use Rattle.parser.specs.Walk.{Opts}
 use Rattle.parser.specs.Read.{Answer, refused, accepted, read}
 use Rattle.trees.specs.Walks.{opts}
-use Rattle.reader.specs.Lent.{Lent, countsOf, roomy, answers, ReadIs}
+use Rattle.reader.specs.Lent.{Lent, roomy, answers, ReadIs}
 use Rattle.reader.proofs.Reasons.{refused-with}
-
-abbrev never : {X : Type 0} → _≡_ {A = ℕ} 0 1 → X
-never z = absurd (omega arith)
 
 -- a refusal is the definition's, or there is no room
 refusal-is : (a : Answer) (b : Lent) (r : Reason) (p : ℕ) → Refused r p ≡ answers a b → (a ≡ refused r p) ⊎ (r ≡ NoRoom)

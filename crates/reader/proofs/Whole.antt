@@ -7,11 +7,12 @@ use native.Mathlib.Omega.{arith}
 use lib.ListN.{length, drop}
 use Rattle.lists.specs.All.{All}
 use Rattle.lists.proofs.Put.{put-all}
+use Rattle.lists.proofs.Tests.{never}
 use Rattle.lexer.specs.Token.{Tok}
 use Rattle.tables.specs.Numbers.{none}
 use Rattle.tables.specs.Record.{Node, Tree, allNodes, allProps, allVals}
-use Rattle.tables.specs.Rows.{treeRows, nodeRows, parents, propRows, valRows, Tables, tables}
-use Rattle.tables.specs.Flat.{flatTrees, flatNodes, flatProps, flatVals}
+use Rattle.tables.specs.Rows.{treeRows, nodeRows, parents, propRows, valRows, tables, countsOf}
+use Rattle.tables.specs.Flat.{flatNodes, over}
 use Rattle.tables.specs.Links.{HasRows, LinkedFrom, LinksIs}
 use Rattle.tables.specs.declared.Counts.{Counts}
 use Rattle.tables.specs.declared.Reading.the-variants.{Accepted, Refused}
@@ -19,10 +20,10 @@ use Rattle.tables.specs.declared.Reason.{Reason}
 use Rattle.tables.specs.declared.Reason.the-variants.{NoRoom}
 use Rattle.parser.specs.Walk.{Opts}
 use Rattle.parser.specs.Slice.{cut}
-use Rattle.parser.specs.Read.{Answer, accepted, Growing, growing, failing, growAll, answer}
+use Rattle.parser.specs.Read.{Answer, accepted, Growing, growing, failing, answer}
 use Rattle.trees.specs.Flat.{bareRows}
 use Rattle.trees.proofs.Flats.{val-length, prop-length, node-length}
-use Rattle.reader.specs.Lent.{Lent, lent, countsOf, roomFor, roomy, over, stored, ReadIs}
+use Rattle.reader.specs.Lent.{Lent, lent, roomFor, roomy, stored, ReadIs}
 use Rattle.reader.specs.Slices.{readOf, GrownIs, TreesIs}
 use Rattle.reader.specs.declared.slices.Total.{Total}
 use Rattle.reader.specs.declared.slices.Total.the-variants.{Rows, Refused as refusedTotal}
@@ -134,7 +135,7 @@ module _ {X : Growing} {count n p v : ℕ} {b₀ a₀ : Lent} (G : GrownIs X cou
       → ReadIs (answer X) b (lent (A .trees) t2 (A .props) (A .vals)) (Accepted (counts G))
   read-accepted f A (Rows n′ p′ v′) Y op l ex t2 links = read-filled f Y op l ex links
   read-accepted f A (refusedTotal r) Y op l ex t2 links =
-      let w : failing r ≡ growing n (reverse (G .ts)) = sym Y ∙ G .grown in let z : _≡_ {A = ℕ} 0 1 = cc in absurd (omega arith)
+      let w : failing r ≡ growing n (reverse (G .ts)) = sym Y ∙ G .grown in never cc
 
 -- what a run gave
 module _ (X : Growing) (count : ℕ) (b a : Lent) {x : Total} (y : TreesIs X count b a x) where

@@ -2,12 +2,12 @@
 use Prim.Native.Nat.{ℕ, _/_}
 use mathlib.Core.Path.{_≡_}
 use mathlib.Core.Bool.{Bool, _&&_}
-use mathlib.Core.List.{List, _++_}
+use mathlib.Core.List.{List}
 use lib.Dec.{leb}
-use lib.ListN.{length, drop}
+use lib.ListN.{length}
 use Rattle.lists.specs.Pick.{pick}
-use Rattle.tables.specs.Rows.{Tables, tables}
-use Rattle.tables.specs.Flat.{flatTrees, flatNodes, flatProps, flatVals}
+use Rattle.tables.specs.Rows.{Tables, countsOf, tables}
+use Rattle.tables.specs.Flat.{flatTrees, flatNodes, flatProps, flatVals, over}
 use Rattle.tables.specs.declared.Counts.{Counts}
 use Rattle.tables.specs.declared.Reading.{Reading}
 use Rattle.tables.specs.declared.Reading.the-variants.{Accepted, Refused}
@@ -25,10 +25,6 @@ pub record Lent : Type 0 where
 abbrev pub lent : (trees nodes props vals : List ℕ) → Lent
 lent r t q w = record { trees = r; nodes = t; props = q; vals = w }
 
--- how many rows there are of each kind
-abbrev pub countsOf : Tables → Counts
-countsOf t = record { trees = length (t .trees); nodes = length (t .nodes); properties = length (t .props); values = length (t .vals) }
-
 -- so many rows are lent: numbers divided by the stride
 abbrev pub roomFor : Counts → (trees nodes props vals : ℕ) → Bool
 roomFor c r t q w = leb (c .trees) (r / 2) && leb (c .nodes) (t / 5) && leb (c .properties) (q / 4) && leb (c .values) (w / 2)
@@ -36,10 +32,6 @@ roomFor c r t q w = leb (c .trees) (r / 2) && leb (c .nodes) (t / 5) && leb (c .
 -- so many rows are lent as the tables need
 abbrev pub roomy : Tables → Lent → Bool
 roomy t l = roomFor (countsOf t) (length (l .trees)) (length (l .nodes)) (length (l .props)) (length (l .vals))
-
--- rows, and behind them what was lent
-abbrev pub over : List ℕ → List ℕ → List ℕ
-over rows t = rows ++ drop (length rows) t
 
 -- the rows of the record in front of what was lent
 abbrev pub stored : Tables → Lent → Lent

@@ -1,3 +1,2 @@
-pub mod Game
 pub mod Lent
 pub mod Slices

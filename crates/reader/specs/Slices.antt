@@ -1,12 +1,12 @@
 -- The trees of the slices from a place on.
-use Prim.Native.Nat.{ℕ, zero, _+_, _≤_}
+use Prim.Native.Nat.{ℕ, _+_, _≤_}
 use mathlib.Core.Path.{_≡_}
 use mathlib.Core.Bool.{Bool, true, false}
 use mathlib.Core.List.{List, [], reverse}
 use lib.ListN.{length}
 use Rattle.lists.specs.All.{All}
 use Rattle.lists.specs.Put.{PutIs}
-use Rattle.lexer.specs.Token.{Tok, done, Lexed, lexAt}
+use Rattle.lexer.specs.Token.{Tok, done, lexAt}
 use Rattle.tables.specs.Numbers.{textLimit}
 use Rattle.tables.specs.Record.{Tree, allNodes}
 use Rattle.tables.specs.Rows.{treeRows}

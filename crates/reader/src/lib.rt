@@ -1,5 +1,4 @@
 // The reader: a text into the four lent tables, strict or lenient.
-mod game; // game.rt: the game type of a slice
 mod slices; // slices.rt: the trees of all slices
 
 ghost use mathlib.Core.Path.{_≡_};
@@ -67,7 +66,8 @@ fn read_tokens(
     }
 }
 
-fn read_text(
+// Reads a text into the lent tables, strictly or leniently: the counts, or why it is refused and the place.
+pub fn read(
     text: &[u8],
     lenient: bool,
     convert: bool,
@@ -106,7 +106,7 @@ fn read_text(
     }
 }
 
-// Reads a text strictly into the lent tables: the counts, or why it is refused and the place.
+// Strictly.
 pub fn read_strict(
     text: &[u8],
     convert: bool,
@@ -117,10 +117,10 @@ pub fn read_strict(
 ) -> Reading
     ensures { λ r. ⌜ ReadIs (definition.read (opts false convert) (now (text .entry))) (lent (now (trees .entry)) (now (nodes .entry)) (now (properties .entry)) (now (values .entry))) (lent (now (trees .exit)) (now (nodes .exit)) (now (properties .exit)) (now (values .exit))) r ⌝ }
 {
-    read_text(text, false, convert, trees, nodes, properties, values)
+    read(text, false, convert, trees, nodes, properties, values)
 }
 
-// The same, leniently: what can be read is read.
+// Leniently: what can be read is read.
 pub fn read_lenient(
     text: &[u8],
     convert: bool,
@@ -131,23 +131,5 @@ pub fn read_lenient(
 ) -> Reading
     ensures { λ r. ⌜ ReadIs (definition.read (opts true convert) (now (text .entry))) (lent (now (trees .entry)) (now (nodes .entry)) (now (properties .entry)) (now (values .entry))) (lent (now (trees .exit)) (now (nodes .exit)) (now (properties .exit)) (now (values .exit))) r ⌝ }
 {
-    read_text(text, true, convert, trees, nodes, properties, values)
-}
-
-// Strict or lenient.
-pub fn read(
-    text: &[u8],
-    lenient: bool,
-    convert: bool,
-    trees: &mut [u32],
-    nodes: &mut [u32],
-    properties: &mut [u32],
-    values: &mut [u32],
-) -> Reading
-    ensures { λ r. ⌜ ReadIs (definition.read (opts lenient convert) (now (text .entry))) (lent (now (trees .entry)) (now (nodes .entry)) (now (properties .entry)) (now (values .entry))) (lent (now (trees .exit)) (now (nodes .exit)) (now (properties .exit)) (now (values .exit))) r ⌝ }
-{
-    if lenient {
-        return read_lenient(text, convert, trees, nodes, properties, values);
-    }
-    read_strict(text, convert, trees, nodes, properties, values)
+    read(text, true, convert, trees, nodes, properties, values)
 }

@@ -5,10 +5,10 @@ ghost use Rattle.parser.specs.Kind.{kind};
 ghost use Rattle.parser.specs.Read.{answer};
 ghost use Rattle.parser.specs.Slice.{sliceFrom};
 ghost use Rattle.trees.specs.Walks.{opts};
-ghost use Rattle.reader.specs.Game.{typeOf};
+ghost use Rattle.game.specs.Game.{typeOf};
 ghost use Rattle.reader.specs.Lent.{lent, roomFor, ReadIs};
 ghost use Rattle.reader.specs.Slices.{leniently, readOf, SlicesReady, TreesIs};
-use crate::game::GameType;
+use game::GameType;
 use tables::Counts;
 use tables::Reading;
 use tables::Reason;
@@ -24,7 +24,7 @@ pub enum Total {
 fn type_or_go(s: &[u8], at: usize, lenient: bool) -> GameType
     ensures { λ r. ⌜ r ≡ typeOf (leniently lenient (kind (sliceFrom 0 (lexAt (now (s .entry)) at .toks)))) ⌝ }
 {
-    match crate::game::game_type(s, at) {
+    match game::game_type(s, at) {
         GameType::Is(kind) => GameType::Is(kind),
         GameType::Refused(reason) => {
             if lenient {

@@ -18,7 +18,6 @@ use Rattle.fit.proofs.Clauses.{Clauses, fit-clauses, name-in}
 use Rattle.fit.proofs.RootRows.{root-in}
 use Rattle.record.specs.Ask.{given, refuses, goAnswer}
 use Rattle.record.specs.Locals.{Rooted, Named, kindFrom, nameAt}
-use Rattle.record.specs.declared.GoAnswer.{GoAnswer}
 use Rattle.record.proofs.Goes.{trees-some, go-of-rows}
 
 module _ (t : List ℕ) (used : ℕ) (c : Counts) (tr nd pr vl : List ℕ) (p : ℕ) where

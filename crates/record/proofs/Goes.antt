@@ -1,32 +1,29 @@
 -- The Go value of a property of tables that fit, by its rows and the game type of its tree. Assumes nothing.
 use Prim.Native.Nat.{ℕ, zero, suc, _+_, _-_, _≤_, _<_}
-use mathlib.Core.Bool.{Bool, true, false, _||_, false≢true}
-use mathlib.Core.List.{List, map}
-use mathlib.Core.Path.{_≡_, refl, ap, ap₂, _∙_}
+use mathlib.Core.List.{List}
+use mathlib.Core.Path.{_≡_, ap, ap₂, _∙_}
 use native.Mathlib.Omega.{arith}
-use lib.Dec.{ltb, eqb}
+use lib.Dec.{ltb}
 use lib.ListN.{length, take, drop, getD, length-map, length-drop}
 use lib.Seq.{getD-take, getD-drop, length-take-le}
-use borrow.Author.Tests.{lt-ltb, le-ltb, eqb-true}
+use borrow.Author.Tests.{lt-ltb, le-ltb}
 use Rattle.lists.specs.Pick.{pick}
 use Rattle.lexer.specs.Token.{Val, Prop}
 use Rattle.values.specs.Read.{readIdentifier}
 use Rattle.go.specs.Rows.{valuesAt}
 use Rattle.go.specs.Value.{goValue}
 use Rattle.go.specs.declared.value.GoValue.{GoValue}
-use Rattle.tables.specs.Numbers.{none}
 use Rattle.tables.specs.Record.{Node, allProps}
 use Rattle.tables.specs.declared.Counts.{Counts}
-use Rattle.fit.specs.Columns.{rootAt, kindAt, parentAt, firstPropAt, propCountAt, firstValAt, valCountAt}
+use Rattle.fit.specs.Columns.{rootAt, kindAt, firstPropAt, propCountAt, firstValAt, valCountAt}
 use Rattle.fit.specs.Each.{sum, tabulate}
-use Rattle.fit.specs.Nodes.{parentRight}
-use Rattle.fit.specs.Record.{treeRow, nodeRow, propRow, valRow, valOf, propOf, nodeOf, treesOf, recordOf, rowsOf}
+use Rattle.fit.specs.Record.{treeRow, nodeRow, propRow, propOf, nodeOf, treesOf, recordOf, rowsOf}
 use Rattle.fit.proofs.Cases.{below-or}
 use Rattle.fit.proofs.Clauses.{Clauses}
-use Rattle.fit.proofs.Each.{each-at}
-use Rattle.fit.proofs.Parts.{tabulate-length, tabulate-drop, tabulate-at, tabulate-part, map-tabulate, props-part}
+use Rattle.fit.proofs.Parts.{tabulate-length, tabulate-drop, tabulate-at, tabulate-part, map-tabulate}
 use Rattle.fit.proofs.Ranges.{gapless-first, gapless-sum, sum-up}
-use Rattle.fit.proofs.RootRows.{root-in, root-rises, orphan-root, root-zero}
+use Rattle.fit.proofs.RecordRows.{valsIn, propsIn, props-part, first-root, no-trees}
+use Rattle.fit.proofs.RootRows.{root-in, root-rises}
 use Rattle.record.specs.Ask.{noProp, goOf, goAt}
 use Rattle.record.specs.Locals.{kindFrom, nameAt}
 use Rattle.record.proofs.Values.{values-raw}
@@ -107,23 +104,13 @@ unfolding sum
 nodes-some nd zero h = h
 nodes-some nd (suc n) h = omega arith
 
-parent-zero : (nd : List ℕ) → parentRight nd 0 ≡ true → parentAt nd 0 ≡ none
-parent-zero nd h = go (eqb (parentAt nd 0) none) refl h
-  where
-    go : (b : Bool) → eqb (parentAt nd 0) none ≡ b → (b || false) ≡ true → parentAt nd 0 ≡ none
-    go true e q = eqb-true (parentAt nd 0) none e
-    go false e q = absurd (false≢true q)
-
 -- where there is a property there is a node, and so a tree
 module _ {t : List ℕ} {c : Counts} {tr nd pr vl : List ℕ} (f : Clauses t c tr nd pr vl) (p : ℕ) (h : p < c .properties) where
   some-node : 0 < c .nodes
   some-node = nodes-some nd (c .nodes) (omega (arith, gapless-sum (firstPropAt nd) (propCountAt nd) (c .nodes) (c .properties) (f .node-ranges)))
 
-  first-orphan : parentAt nd 0 ≡ none
-  first-orphan = parent-zero nd (each-at (parentRight nd) (c .nodes) 0 (f .parents) some-node)
-
   pub trees-some : 0 < c .trees
-  trees-some = let r = orphan-root tr nd (c .trees) (c .nodes) (f .roots) 0 some-node first-orphan in omega (arith, r .1)
+  trees-some = below-or 0 (c .trees) (λ l. l) (λ l. absurd (omega (arith, some-node, no-trees f (omega arith))))
 
 -- property p of fitting tables over the used text t
 pub go-of-rows : {t : List ℕ} {c : Counts} {tr nd pr vl : List ℕ} → Clauses t c tr nd pr vl → (p : ℕ) → p < c .properties
@@ -132,10 +119,10 @@ go-of-rows {t} {c} {tr} {nd} {pr} {vl} f p h =
     let M : ℕ = c .trees in
     let N : ℕ = c .nodes in
     let P : ℕ = c .properties in
-    let vs : List Val = map (valOf t) (tabulate (valRow vl) 0 (c .values)) in
-    let ps : List Prop = map (propOf t vs) (tabulate (propRow pr) 0 P) in
+    let vs : List Val = valsIn t vl (c .values) in
+    let ps : List Prop = propsIn t pr vl P (c .values) in
     let total : sum (propCountAt nd) N ≡ P = gapless-sum (firstPropAt nd) (propCountAt nd) N P (f .node-ranges) in
-    let zero-root : rootAt tr 0 ≡ 0 = root-zero tr nd M N (f .roots) (trees-some f p h) (first-orphan f p h) in
+    let zero-root : rootAt tr 0 ≡ 0 = first-root f (trees-some f p h) in
     let z : S-zero nd (rootAt tr 0) = sum-zero nd (rootAt tr 0) zero-root in
     let one : M ≡ suc (M - 1) = omega (arith, trees-some f p h) in
     let k : ℕ = kindFrom tr nd p 0 (M - 1) in

@@ -4,13 +4,13 @@ use mathlib.Core.List.{List}
 use mathlib.Core.Path.{_≡_, sym, ap, _∙_}
 use lib.ListN.{take, drop}
 use Rattle.values.specs.Read.{readIdentifier}
-use Rattle.values.specs.declared.display.Kind.{Kind}
+use Rattle.display.specs.declared.Kind.{Kind}
 use Rattle.go.specs.Rows.{valuesAt}
 use Rattle.go.specs.Value.{goValue}
 use Rattle.go.specs.declared.value.GoValue.{GoValue}
 use Rattle.fit.specs.Columns.{nameFromAt, nameToAt, firstValAt, valCountAt}
-use Rattle.fit.specs.declared.Accessed.{Accessed}
-use Rattle.fit.specs.declared.Accessed.the-variants.{Part}
+use Rattle.access.specs.declared.Accessed.{Accessed}
+use Rattle.access.specs.declared.Accessed.the-variants.{Part}
 use Rattle.fit.proofs.Lists.{part-slice}
 use Rattle.record.specs.Ask.{shownAs, shownIn, display, displayIn}
 use Rattle.record.specs.Locals.{nameAt}

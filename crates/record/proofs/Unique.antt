@@ -1,10 +1,10 @@
 -- No second answer: of each public function, two answers that meet its contract are equal. Assumes nothing.
 use Prim.Native.Nat.{ℕ}
 use mathlib.Core.List.{List}
-use mathlib.Core.Path.{_≡_, sym, ap, _∙_}
+use mathlib.Core.Path.{_≡_, sym, _∙_}
 use Rattle.lists.proofs.Once.{once-is}
 use Rattle.lists.specs.Once.{Once}
-use Rattle.values.specs.declared.display.Kind.{Kind}
+use Rattle.display.specs.declared.Kind.{Kind}
 use Rattle.tables.specs.declared.Counts.{Counts}
 use Rattle.record.specs.Ask.{DisplayIs, goAnswer}
 use Rattle.record.specs.declared.Shown.{Shown}

@@ -1,17 +1,17 @@
 -- What a record in memory answers by number: how a value is displayed, and the Go value of a property.
 use Prim.Native.Nat.{ℕ, _-_}
 use mathlib.Core.Path.{_≡_}
-use mathlib.Core.List.{List, [], _∷_, map}
+use mathlib.Core.List.{List, [], _∷_}
 use lib.Dec.{ltb}
 use lib.ListN.{length, getD, take}
 use lib.Seq.{slice}
 use Rattle.lists.specs.Pick.{pick}
-use Rattle.lexer.specs.Token.{Val, Prop}
+use Rattle.lexer.specs.Token.{Prop}
 use Rattle.values.specs.Read.{readValue, readIdentifier}
-use Rattle.values.specs.Display.{shown, displayed, displayedIn}
-use Rattle.values.specs.declared.display.Kind.{Kind}
-use Rattle.values.specs.declared.display.Displayed.{Displayed}
-use Rattle.values.specs.declared.display.Displayed.the-variants.{Length, NoRoom}
+use Rattle.display.specs.Display.{shown, displayed, displayedIn}
+use Rattle.display.specs.declared.Kind.{Kind}
+use Rattle.display.specs.declared.Displayed.{Displayed}
+use Rattle.display.specs.declared.Displayed.the-variants.{Length, NoRoom}
 use Rattle.go.specs.Value.{unmarked, goValue}
 use Rattle.go.specs.declared.value.GoValue.{GoValue}
 use Rattle.go.specs.declared.value.Value.the-variants.{Other}
@@ -20,11 +20,11 @@ use Rattle.tables.specs.Record.{Tree, allProps}
 use Rattle.tables.specs.declared.Counts.{Counts}
 use Rattle.tables.specs.declared.Reason.{Reason}
 use Rattle.tables.specs.declared.Reason.the-variants as reason
-use Rattle.fit.specs.Access.{accessed}
+use Rattle.access.specs.Access.{accessed}
 use Rattle.fit.specs.Fit.{Fit}
-use Rattle.fit.specs.Record.{rowsOf, recordOf}
-use Rattle.fit.specs.declared.Accessed.{Accessed}
-use Rattle.fit.specs.declared.Accessed.the-variants.{Part, Refused}
+use Rattle.fit.specs.Record.{rowsOf, rawsOf, recordOf}
+use Rattle.access.specs.declared.Accessed.{Accessed}
+use Rattle.access.specs.declared.Accessed.the-variants.{Part, Refused}
 use Rattle.record.specs.declared.Shown.{Shown}
 use Rattle.record.specs.declared.Shown.the-variants.{Shows, NotShown}
 use Rattle.record.specs.declared.Refusal.{Refusal}
@@ -70,7 +70,7 @@ noProp = record { from = 0; to = 0; name = []; vals = [] }
 
 -- the Go value of a property of a tree with game type k
 abbrev pub goOf : (k : ℕ) → Prop → GoValue
-goOf k p = goValue k (readIdentifier (p .name)) (map (λ (v : Val). v .raw) (p .vals))
+goOf k p = goValue k (readIdentifier (p .name)) (rawsOf p)
 
 -- property p of these trees, numbered from 0
 abbrev pub goAt : List Tree → ℕ → GoValue

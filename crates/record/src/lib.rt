@@ -1,11 +1,11 @@
 // What is asked of a record in memory by number: how a value is displayed, and the Go value of a property.
-use fit::Accessed;
+use access::Accessed;
+use display::Displayed;
+use display::Kind;
 use go::value::GoValue;
 use go::value::Value;
 use tables::Counts;
 use tables::Reason;
-use values::display::Displayed;
-use values::display::Kind;
 ghost use mathlib.Core.Path.{_≡_};
 ghost use Prim.Native.Nat.{ℕ, _-_, _/_, _<_, _≤_};
 ghost use lib.ListN.{length};
@@ -27,7 +27,7 @@ fn show(kind: Kind, raw: &[u8], out: &mut [u8]) -> Shown
     ensures { λ r. ⌜ r ≡ shownAs kind (now (raw .entry)) (now (out .entry)) ⌝ }
     ensures { λ _. ⌜ now (out .exit) ≡ shownIn kind (now (raw .entry)) (now (out .entry)) ⌝ }
 {
-    match values::display::display(kind, raw, out) {
+    match display::display(kind, raw, out) {
         Displayed::Length(n) => Shown::Shows(n),
         Displayed::NoRoom => Shown::NotShown(Reason::NoRoom),
     }
@@ -48,7 +48,7 @@ pub fn display(
 ) -> Shown
     ensures { λ r. ⌜ DisplayIs (now (text .entry)) used counts (now (trees .entry)) (now (nodes .entry)) (now (properties .entry)) (now (values .entry)) k kind (now (out .entry)) (now (out .exit)) r ⌝ }
 {
-    match fit::access(text, used, counts, trees, nodes, properties, values, k) {
+    match access::access(text, used, counts, trees, nodes, properties, values, k) {
         Accessed::Part(start, end) => show(kind, &text[start..end], out),
         Accessed::Refused(reason) => Shown::NotShown(reason),
     }
@@ -79,13 +79,6 @@ fn refused(reason: Reason) -> GoAnswer
     }
 }
 
-// A cell as an index.
-fn wide(cell: u32) -> usize
-    ensures { λ r. ⌜ r ≡ cell ⌝ }
-{
-    cell as usize
-}
-
 // The game type of the tree that has property p: of the last whose root's first property is not behind it.
 fn kind_over(trees: &[u32], m: usize, nodes: &[u32], p: usize) -> u32
     requires { ⌜ Rooted m (now trees) (now nodes) ⌝ }
@@ -93,8 +86,8 @@ fn kind_over(trees: &[u32], m: usize, nodes: &[u32], p: usize) -> u32
 {
     let mut r: usize = 0;
     while r + 1 < m {
-        let root = wide(trees[(r + 1) * tables::TREE_STRIDE]);
-        if p < wide(nodes[root * tables::NODE_STRIDE + 3]) {
+        let root = lists::wide(trees[(r + 1) * tables::TREE_STRIDE]);
+        if p < lists::wide(nodes[root * tables::NODE_STRIDE + 3]) {
             return trees[r * tables::TREE_STRIDE + 1];
         }
         r += 1;
@@ -107,10 +100,10 @@ fn value_of(kind: u32, text: &[u8], properties: &[u32], values: &[u32], p: usize
     requires { ⌜ Named p (now text) (now properties) ⌝ }
     ensures { λ r. ⌜ r ≡ goValue kind (readIdentifier (nameAt (now (text .entry)) (now (properties .entry)) p)) (valuesAt (now (text .entry)) (now (values .entry)) (firstValAt (now (properties .entry)) p) (valCountAt (now (properties .entry)) p)) ⌝ }
 {
-    let start = wide(properties[p * tables::PROPERTY_STRIDE]);
-    let end = wide(properties[p * tables::PROPERTY_STRIDE + 1]);
-    let first = wide(properties[p * tables::PROPERTY_STRIDE + 2]);
-    let count = wide(properties[p * tables::PROPERTY_STRIDE + 3]);
+    let start = lists::wide(properties[p * tables::PROPERTY_STRIDE]);
+    let end = lists::wide(properties[p * tables::PROPERTY_STRIDE + 1]);
+    let first = lists::wide(properties[p * tables::PROPERTY_STRIDE + 2]);
+    let count = lists::wide(properties[p * tables::PROPERTY_STRIDE + 3]);
     go::value::go_value(kind, &text[start..end], text, values, first, count)
 }
 

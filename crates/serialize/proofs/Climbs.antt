@@ -1,5 +1,5 @@
 -- Where nodes stand in brackets, and the climb over their ends. Assumes nothing.
-use Prim.Native.Nat.{ℕ, zero, suc, _-_, _^_, _≤_, _<_}
+use Prim.Native.Nat.{ℕ, zero, suc, _^_, _≤_, _<_, _-_}
 use mathlib.Core.Bool.{Bool, true, not}
 use mathlib.Core.List.{List, [], _∷_, _++_, append-nil}
 use mathlib.Core.Path.{_≡_, refl, sym, ap, _∙_, subst}
@@ -17,7 +17,7 @@ use Rattle.fit.proofs.Path.{has-before, path-down, path-le}
 use Rattle.fit.proofs.Rule.{rule-before}
 use Rattle.serialize.specs.Locals.{Placed, Above}
 use Rattle.serialize.specs.Walk.{inBrackets, shut, begun, climbs, endsBefore}
-use Rattle.serialize.proofs.Writing.{Writing, writing-first, writing-is, writing-next, writing-last}
+use Rattle.form.proofs.Writing.{Writing, writing-first, writing-is, writing-next, writing-last}
 
 module _ (nd : List ℕ) (k : ℕ) where
   pub brackets-root : parentAt nd k ≡ none → true ≡ inBrackets nd k

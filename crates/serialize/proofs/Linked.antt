@@ -1,5 +1,5 @@
 -- The writing of the record that fitting tables denote is the walk along their links. Assumes nothing.
-use Prim.Native.Nat.{ℕ, zero, suc, _+_, _-_, _≤_, _<_}
+use Prim.Native.Nat.{ℕ, zero, suc, _+_, _≤_, _<_, _-_}
 use mathlib.Core.Bool.{true}
 use mathlib.Core.List.{List, _∷_, _++_, map, append-assoc, append-nil}
 use mathlib.Core.Path.{_≡_, refl, sym, ap, ap₂, _∙_}
@@ -11,6 +11,7 @@ use Rattle.tables.specs.Record.{Node}
 use Rattle.tables.specs.declared.Counts.{Counts}
 use Rattle.fit.proofs.Clauses.{Clauses, fit-clauses}
 use Rattle.fit.proofs.Parts.{map-tabulate, tabulate-drop, tabulate-part}
+use Rattle.fit.proofs.RecordRows.{propsIn, first-root, no-trees}
 use Rattle.fit.proofs.Ranges.{gapless-in}
 use Rattle.fit.proofs.RootRows.{root-in}
 use Rattle.fit.specs.Columns.{rootAt, kindAt, parentAt, firstPropAt, propCountAt, firstValAt, valCountAt}
@@ -21,8 +22,8 @@ use Rattle.serialize.specs.Form.{formProp, formNode, formTree, writing}
 use Rattle.serialize.specs.Walk.{begun, endsBefore, kindOver, propsText, nodeBy, nodeText, linked}
 use Rattle.serialize.specs.Write.{writeProps, writeTree}
 use Rattle.serialize.proofs.Joined.{joined, joined-more, texts-joined}
-use Rattle.serialize.proofs.PropTexts.{propsIn, node-text}
-use Rattle.serialize.proofs.TreeSlices.{linking, stretch-next, stretch-last, first-root, no-trees, kind-here}
+use Rattle.serialize.proofs.PropTexts.{node-text}
+use Rattle.serialize.proofs.TreeSlices.{linking, stretch-next, stretch-last, kind-here}
 use Rattle.serialize.proofs.TreeWalk.{Stretch, textOf, tree-is}
 
 -- a tree's text, its ends, and the text of the next tree

@@ -4,19 +4,19 @@ use mathlib.Core.List.{List, [], _∷_, _++_, map, append-assoc}
 use mathlib.Core.Path.{_≡_, refl, sym, ap, ap₂, _∙_}
 use native.Mathlib.Omega.{arith}
 use lib.ListN.{length, take, drop}
-use lib.Seq.{slice}
-use borrow.Author.Tests.{lt-ltb}
 use Rattle.lexer.specs.Token.{Val, Prop}
 use Rattle.values.specs.Read.{readIdentifier}
 use Rattle.go.specs.Normal.{normal}
-use Rattle.go.specs.Rows.{valueAt, valuesAt}
-use Rattle.fit.proofs.Lists.{part-slice}
+use Rattle.go.specs.Rows.{valuesAt}
+use Rattle.go.proofs.Valued.{values-none, values-more}
 use Rattle.fit.proofs.Parts.{map-tabulate, tabulate-part}
-use Rattle.fit.specs.Columns.{firstPropAt, propCountAt, firstValAt, valCountAt, valFromAt, valToAt}
+use Rattle.fit.proofs.RecordRows.{valsIn, propsIn, raws-at}
+use Rattle.fit.specs.Columns.{firstPropAt, propCountAt, firstValAt, valCountAt}
 use Rattle.fit.specs.Each.{tabulate}
-use Rattle.fit.specs.Record.{nodeRow, propRow, valRow, valOf, propOf, nodeOf}
-use Rattle.serialize.specs.Form.{rawOf, placeless, formProp, formNode}
-use Rattle.serialize.specs.Walk.{boxes, nameAt, valuesText, propText, propsText}
+use Rattle.fit.specs.Record.{nodeRow, propRow, propOf, nodeOf, rawOf}
+use Rattle.serialize.specs.Form.{placeless, formProp, formNode}
+use Rattle.serialize.specs.Walk.{nameAt, valuesText, propText, propsText}
+use Rattle.form.specs.Boxes.{boxes}
 use Rattle.serialize.specs.Write.{boxed, writeProps}
 use Rattle.serialize.proofs.Joined.{joined, texts-from}
 
@@ -32,48 +32,25 @@ write-joined p f (suc m) a h =
     sym (append-assoc (readIdentifier (p a .name)) (boxed (p a .vals)) (writeProps (tabulate p (suc a) m)))
     ∙ ap₂ (λ (y z : List ℕ). y ++ z) (h a (omega arith) (omega arith)) (write-joined p f m (suc a) (λ i l u. h i (omega arith) (omega arith)))
 
--- the values of a text by their rows
-abbrev pub valsIn : (t vl : List ℕ) → (nv : ℕ) → List Val
-valsIn t vl nv = map (valOf t) (tabulate (valRow vl) 0 nv)
+module _ (t vl : List ℕ) (nv : ℕ) (lent : nv ≤ length vl / 2) where
+  abbrev vals : List Val
+  vals = valsIn t vl nv
 
--- its properties
-abbrev pub propsIn : (t pr vl : List ℕ) → (np nv : ℕ) → List Prop
-propsIn t pr vl np nv = map (propOf t (valsIn t vl nv)) (tabulate (propRow pr) 0 np)
+  module _ (pr : List ℕ) (np : ℕ) (inside : (p : ℕ) → p < np → firstValAt pr p + valCountAt pr p ≤ nv) where
+    prop-text : (kind p : ℕ) → p < np
+        → nameAt t pr p ++ boxed (formProp kind (propOf t vals (propRow pr p)) .vals) ≡ propText t pr vl kind p
+    unfolding propText valuesText
+    prop-text kind p h =
+        ap (λ (z : List ℕ). nameAt t pr p ++ z)
+        (boxed-boxes (normal kind (nameAt t pr p) (map rawOf (take (valCountAt pr p) (drop (firstValAt pr p) vals))))
+        ∙ ap (λ (z : List (List ℕ)). boxes (normal kind (nameAt t pr p) z)) (raws-at t vl nv (valuesAt t vl) (values-none t vl) (λ a m l. values-more t vl a m (omega arith)) (firstValAt pr p) (valCountAt pr p) (inside p h)))
 
-module _ (t vl : List ℕ) where
-  values-rows : (m a : ℕ) → a + m ≤ length vl / 2 → tabulate (λ v. slice (valFromAt vl v) (valToAt vl v) t) a m ≡ valuesAt t vl a m
-  unfolding tabulate valuesAt valueAt
-  values-rows zero a h = refl
-  values-rows (suc m) a h =
-      rw (lt-ltb a (length vl / 2) (omega arith))
-      (ap₂ (λ (x : List ℕ) (z : List (List ℕ)). x ∷ z) (sym (part-slice (valFromAt vl a) (valToAt vl a) t)) (values-rows m (suc a) (omega arith)))
-
-  module _ (nv : ℕ) (lent : nv ≤ length vl / 2) where
-    abbrev vals : List Val
-    vals = valsIn t vl nv
-
-    raw-values : (a m : ℕ) → a + m ≤ nv → map rawOf (take m (drop a vals)) ≡ valuesAt t vl a m
-    raw-values a m h =
-        ap (λ (z : List Val). map rawOf (take m (drop a z))) (map-tabulate (valRow vl) (valOf t) 0 nv)
-        ∙ ap (map rawOf) (tabulate-part (λ v. valOf t (valRow vl v)) a m nv h)
-        ∙ map-tabulate (λ v. valOf t (valRow vl v)) rawOf a m
-        ∙ values-rows m a (omega arith)
-
-    module _ (pr : List ℕ) (np : ℕ) (inside : (p : ℕ) → p < np → firstValAt pr p + valCountAt pr p ≤ nv) where
-      prop-text : (kind p : ℕ) → p < np
-          → nameAt t pr p ++ boxed (formProp kind (propOf t vals (propRow pr p)) .vals) ≡ propText t pr vl kind p
-      unfolding propText valuesText
-      prop-text kind p h =
-          ap (λ (z : List ℕ). nameAt t pr p ++ z)
-          (boxed-boxes (normal kind (nameAt t pr p) (map rawOf (take (valCountAt pr p) (drop (firstValAt pr p) vals))))
-          ∙ ap (λ (z : List (List ℕ)). boxes (normal kind (nameAt t pr p) z)) (raw-values (firstValAt pr p) (valCountAt pr p) (inside p h)))
-
-      pub node-text : (nd : List ℕ) (kind k : ℕ) → firstPropAt nd k + propCountAt nd k ≤ np
-          → writeProps (formNode kind (nodeOf (propsIn t pr vl np nv) (nodeRow nd k)) .props) ≡ propsText t nd pr vl kind k
-      unfolding propsText
-      node-text nd kind k h =
-          ap (λ (z : List Prop). writeProps (map (formProp kind) (take (propCountAt nd k) (drop (firstPropAt nd k) z)))) (map-tabulate (propRow pr) (propOf t vals) 0 np)
-          ∙ ap (λ (z : List Prop). writeProps (map (formProp kind) z)) (tabulate-part (λ p. propOf t vals (propRow pr p)) (firstPropAt nd k) (propCountAt nd k) np h)
-          ∙ ap writeProps (map-tabulate (λ p. propOf t vals (propRow pr p)) (formProp kind) (firstPropAt nd k) (propCountAt nd k))
-          ∙ write-joined (λ p. formProp kind (propOf t vals (propRow pr p))) (propText t pr vl kind) (propCountAt nd k) (firstPropAt nd k) (λ i l u. prop-text kind i (omega arith))
-          ∙ sym (texts-from (propText t pr vl kind) (firstPropAt nd k) (propCountAt nd k))
+    pub node-text : (nd : List ℕ) (kind k : ℕ) → firstPropAt nd k + propCountAt nd k ≤ np
+        → writeProps (formNode kind (nodeOf (propsIn t pr vl np nv) (nodeRow nd k)) .props) ≡ propsText t nd pr vl kind k
+    unfolding propsText
+    node-text nd kind k h =
+        ap (λ (z : List Prop). writeProps (map (formProp kind) (take (propCountAt nd k) (drop (firstPropAt nd k) z)))) (map-tabulate (propRow pr) (propOf t vals) 0 np)
+        ∙ ap (λ (z : List Prop). writeProps (map (formProp kind) z)) (tabulate-part (λ p. propOf t vals (propRow pr p)) (firstPropAt nd k) (propCountAt nd k) np h)
+        ∙ ap writeProps (map-tabulate (λ p. propOf t vals (propRow pr p)) (formProp kind) (firstPropAt nd k) (propCountAt nd k))
+        ∙ write-joined (λ p. formProp kind (propOf t vals (propRow pr p))) (propText t pr vl kind) (propCountAt nd k) (firstPropAt nd k) (λ i l u. prop-text kind i (omega arith))
+        ∙ sym (texts-from (propText t pr vl kind) (firstPropAt nd k) (propCountAt nd k))

@@ -6,6 +6,7 @@ use mathlib.Core.Path.{_≡_, sym, ap, _∙_}
 use native.Mathlib.Omega.{arith}
 use lib.Dec.{ltb}
 use lib.ListN.{length, take, drop, length-append}
+use Rattle.lists.proofs.Tests.{never}
 use Rattle.tables.specs.Record.{allNodes, allProps}
 use Rattle.tables.specs.declared.Counts.{Counts}
 use Rattle.fit.specs.Fit.{Fit}
@@ -15,10 +16,11 @@ use Rattle.serialize.specs.Write.{nameless}
 use Rattle.serialize.specs.declared.Written.{Written}
 use Rattle.serialize.specs.declared.Written.the-variants.{Wrote}
 
-answer-length : (f b s : Bool) (n : ℕ) (w : List ℕ) → Wrote n ≡ answer f b s w → n ≡ length w
-answer-length false b s n w h = let z : _≡_ {A = ℕ} 0 1 = cc in absurd (omega arith)
-answer-length true true s n w h = let z : _≡_ {A = ℕ} 0 1 = cc in absurd (omega arith)
-answer-length true false true n w h = let z : _≡_ {A = ℕ} 0 1 = cc in absurd (omega arith)
+-- an accepted writing has the length that is answered
+pub answer-length : (f b s : Bool) (n : ℕ) (w : List ℕ) → Wrote n ≡ answer f b s w → n ≡ length w
+answer-length false b s n w h = never cc
+answer-length true true s n w h = never cc
+answer-length true false true n w h = never cc
 answer-length true false false n w h = cc
 
 module _ (t : List ℕ) (used : ℕ) (c : Counts) (tr nd pr vl out out′ : List ℕ) (n : ℕ) where

@@ -1,18 +1,17 @@
 -- The trees of tables that fit: each root begins a stretch of nodes that ends at the next root, and its tree's game type is theirs. Assumes nothing.
-use Prim.Native.Nat.{ℕ, zero, suc, _+_, _-_, _≤_, _<_}
+use Prim.Native.Nat.{ℕ, zero, suc, _+_, _≤_, _<_, _-_}
 use mathlib.Core.List.{List}
 use mathlib.Core.Path.{_≡_, ap, _∙_, subst}
 use native.Mathlib.Omega.{arith}
 use borrow.Author.Tests.{eq-eqb, ne-eqb, eqb-true}
 use Rattle.tables.specs.Numbers.{none}
 use Rattle.tables.specs.declared.Counts.{Counts}
-use Rattle.fit.proofs.Cases.{same-or, below-or}
+use Rattle.fit.proofs.Cases.{below-or}
 use Rattle.fit.proofs.Clauses.{Clauses}
 use Rattle.fit.proofs.Each.{each-at}
-use Rattle.fit.proofs.RootRows.{root-in, root-rises, orphan-root, root-zero}
-use Rattle.fit.proofs.Rule.{rule-at}
+use Rattle.fit.proofs.RecordRows.{ruled, first-root}
+use Rattle.fit.proofs.RootRows.{root-in, root-rises, orphan-root}
 use Rattle.fit.specs.Columns.{rootAt, kindAt, parentAt, childAt, siblingAt}
-use Rattle.fit.specs.Locals.{Ruled}
 use Rattle.fit.specs.Nodes.{firstUnder, nextOf, childRight, siblingRight}
 use Rattle.serialize.specs.Walk.{rootsBelow, kindOver}
 use Rattle.serialize.proofs.TreeWalk.{Linking, Stretch}
@@ -38,13 +37,10 @@ module _ {t : List ℕ} {c : Counts} {tr nd pr vl : List ℕ} (fit : Clauses t c
   abbrev R : ℕ → ℕ
   R = rootAt tr
 
-  pub ruled : Ruled nd n
-  ruled = record { most = fit .held .few; rule = fit .parents }
-
   pub linking : Linking nd n
   linking =
       record {
-        ruled = ruled;
+        ruled = ruled fit;
         child = λ k l. eqb-true (childAt nd k) (firstUnder nd k 0 n) (each-at (childRight nd n) n k (fit .children) l);
         sibling = λ k l. eqb-true (siblingAt nd k) (nextOf nd n k) (each-at (siblingRight nd n) n k (fit .siblings) l);
       }
@@ -59,15 +55,6 @@ module _ {t : List ℕ} {c : Counts} {tr nd pr vl : List ℕ} (fit : Clauses t c
 
   roots-up : (r s : ℕ) → r ≤ s → s < m → R r ≤ R s
   roots-up r s h l = let e : r + (s - r) ≡ s = omega arith in subst (λ (z : ℕ). R r ≤ R z) e (roots-far (s - r) r (omega arith))
-
-  pub first-none : 0 < n → parentAt nd 0 ≡ none
-  first-none l = same-or (parentAt nd 0) none (λ e. e) (λ e. absurd (omega (arith, rule-at ruled 0 l e .0)))
-
-  pub first-root : 0 < m → R 0 ≡ 0
-  first-root l = root-zero tr nd m n (fit .roots) l (first-none (omega (arith, root-in tr nd m n (fit .roots) 0 l .0)))
-
-  pub no-trees : m ≡ 0 → n ≡ 0
-  no-trees e = below-or 0 n (λ l. absurd (omega (arith, orphan-root tr nd m n (fit .roots) 0 l (first-none l) .1))) (λ l. omega arith)
 
   module _ (i : ℕ) where
     -- a tree that another follows
@@ -105,7 +92,7 @@ module _ {t : List ℕ} {c : Counts} {tr nd pr vl : List ℕ} (fit : Clauses t c
 
   pub below-root : (i : ℕ) → i < m → rootsBelow nd (R i) ≡ i
   unfolding rootsBelow
-  below-root zero l = ap (rootsBelow nd) (first-root l)
+  below-root zero l = ap (rootsBelow nd) (first-root fit l)
   below-root (suc i) l =
       let x = stretch-next i l in
       let s = x .some in

@@ -1,5 +1,5 @@
 -- The walk: names, game types, properties and nodes. Assumes nothing.
-use Prim.Native.Nat.{ℕ, zero, suc, _+_, _-_, _/_, _^_, _≤_, _<_}
+use Prim.Native.Nat.{ℕ, zero, suc, _+_, _/_, _^_, _≤_, _<_, _-_}
 use mathlib.Core.Bool.{Bool, true, false, _&&_}
 use mathlib.Core.List.{List, [], _∷_, _++_}
 use mathlib.Core.Path.{_≡_, refl, sym, ap, ap₂, _∙_, subst}
@@ -24,8 +24,9 @@ use Rattle.fit.proofs.Rule.{rule-at, rule-before}
 use Rattle.fit.specs.Nodes.{parentRight}
 use Rattle.fit.specs.Locals.{Ruled}
 use Rattle.serialize.specs.Locals.{PropHeld, Placed, Above, NodesHeld}
-use Rattle.serialize.specs.Walk.{texts, rootsBelow, boxes, nameAt, valuesText, propText, propsText, begun, endsBefore, nodeBy, nodeText, linked, named}
-use Rattle.serialize.proofs.Writing.{writing-first, writing-is, writing-next, writing-last}
+use Rattle.serialize.specs.Walk.{texts, rootsBelow, nameAt, valuesText, propText, propsText, begun, endsBefore, nodeBy, nodeText, linked, named}
+use Rattle.form.specs.Boxes.{boxes}
+use Rattle.form.proofs.Writing.{writing-first, writing-is, writing-next, writing-last}
 
 -- the rule of the parents holds of fewer nodes too
 ruled-up : {nd : List ℕ} {n : ℕ} → Ruled nd n → (k : ℕ) → k ≤ n → Ruled nd k

@@ -13,14 +13,10 @@ use Rattle.tables.specs.Record.{Node, Tree, allNodes, allProps}
 use Rattle.tables.specs.declared.Counts.{Counts}
 use Rattle.tables.specs.declared.Reason.the-variants.{NoRoom, EmptyIdentifier, NotFitting}
 use Rattle.fit.specs.Fit.{Fit}
-use Rattle.fit.specs.Record.{rowsOf, recordOf}
+use Rattle.fit.specs.Record.{rowsOf, rawsOf, recordOf}
 use Rattle.serialize.specs.Write.{writeTrees, nameless}
 use Rattle.serialize.specs.declared.Written.{Written}
 use Rattle.serialize.specs.declared.Written.the-variants.{Wrote, Refused}
-
--- the raw bytes of a value
-abbrev pub rawOf : Val → List ℕ
-rawOf v = v .raw
 
 -- a value with these bytes that stands in no text yet
 abbrev pub placeless : List ℕ → Val
@@ -28,7 +24,7 @@ placeless r = record { from = 0; to = 0; raw = r }
 
 -- a property of a tree with game type k: its values in their normal form
 abbrev pub formProp : (k : ℕ) → Prop → Prop
-formProp k p = record { from = p .from; to = p .to; name = p .name; vals = map placeless (normal k (readIdentifier (p .name)) (map rawOf (p .vals))) }
+formProp k p = record { from = p .from; to = p .to; name = p .name; vals = map placeless (normal k (readIdentifier (p .name)) (rawsOf p)) }
 
 -- a node
 abbrev pub formNode : (k : ℕ) → Node → Node

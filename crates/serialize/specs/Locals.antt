@@ -1,5 +1,5 @@
 -- What the writer's own functions promise and ask of each other.
-use Prim.Native.Nat.{ℕ, suc, _+_, _-_, _/_, _<_, _≤_}
+use Prim.Native.Nat.{ℕ, suc, _+_, _/_, _<_, _≤_, _-_}
 use mathlib.Core.Bool.{true}
 use mathlib.Core.List.{List}
 use mathlib.Core.Path.{_≡_}
@@ -8,13 +8,6 @@ use Rattle.tables.specs.Numbers.{none}
 use Rattle.fit.specs.Columns.{parentAt, firstPropAt, propCountAt, nameFromAt, nameToAt}
 use Rattle.fit.specs.Locals.{Ruled}
 use Rattle.fit.specs.Nodes.{onPath}
-use Rattle.go.specs.Normal.{written}
-use Rattle.go.specs.Value.{valueBy}
-use Rattle.go.specs.declared.value.Shape.{Shape}
-
--- the values of a property of this shape in a Go tree, as they are written
-unfoldable pub formBy : Shape → List (List ℕ) → List (List ℕ)
-formBy s vs = let g = valueBy s vs in written (g .value) (g .marks) vs
 
 -- row p of the properties is there, and its identifier lies in the text
 pub record PropHeld (t pr : List ℕ) (p : ℕ) : Type 0 where

@@ -11,6 +11,7 @@ use Rattle.go.specs.Normal.{normal}
 use Rattle.go.specs.Rows.{valuesAt}
 use Rattle.tables.specs.Numbers.{none}
 use Rattle.fit.specs.Each.{each}
+use Rattle.form.specs.Boxes.{boxes}
 use Rattle.fit.specs.Columns.{kindAt, parentAt, childAt, siblingAt, firstPropAt, propCountAt, nameFromAt, nameToAt, firstValAt, valCountAt}
 
 -- the texts of 0, 1, .. below m, one after another
@@ -26,11 +27,6 @@ rootsBelow nd (suc k) = let r = rootsBelow nd k in pick (eqb (parentAt nd k) non
 -- the game type of node k's tree
 abbrev pub kindOver : (tr nd : List ℕ) → ℕ → ℕ
 kindOver tr nd k = kindAt tr (rootsBelow nd (suc k) - 1)
-
--- values in their brackets
-unfoldable pub boxes : List (List ℕ) → List ℕ
-boxes [] = []
-boxes (v ∷ vs) = 0x5b ∷ (v ++ (0x5d ∷ boxes vs))
 
 -- the read identifier of property p
 abbrev pub nameAt : (t pr : List ℕ) → ℕ → List ℕ

@@ -14,7 +14,7 @@ fn in_brackets(nodes: &[u32], k: usize) -> bool
     if parent == tables::NONE {
         return true;
     }
-    if crate::cell::wide(nodes[crate::cell::wide(parent) * tables::NODE_STRIDE + 1]) != k {
+    if lists::wide(nodes[lists::wide(parent) * tables::NODE_STRIDE + 1]) != k {
         return true;
     }
     nodes[k * tables::NODE_STRIDE + 2] != tables::NONE
@@ -50,7 +50,7 @@ pub fn put_ends(out: &mut [u8], at: usize, nodes: &[u32], k: usize, p: u32) -> u
     if k == 0 {
         return at;
     }
-    let top = crate::cell::wide(p);
+    let top = lists::wide(p);
     let mut j = k - 1;
     if j == top {
         return at;
@@ -58,7 +58,7 @@ pub fn put_ends(out: &mut [u8], at: usize, nodes: &[u32], k: usize, p: u32) -> u
     let mut to = at;
     loop {
         to = put_end(out, to, nodes, j);
-        let up = crate::cell::wide(nodes[j * tables::NODE_STRIDE]);
+        let up = lists::wide(nodes[j * tables::NODE_STRIDE]);
         if up == top {
             return to;
         }

@@ -1,7 +1,5 @@
 // The writer: a record in memory as text, points in one fixed order.
 mod brackets; // brackets.rt: the starts and ends of nodes
-mod cell; // cell.rt: cells of the tables
-mod form; // form.rt: values as they are written
 mod names; // names.rt: identifiers
 mod property; // property.rt: the properties of a node
 mod walk; // walk.rt: node by node along the links

@@ -47,8 +47,8 @@ pub fn names_good(text: &[u8], properties: &[u32], n: usize) -> bool
 {
     let mut k: usize = 0;
     while k < n {
-        let start = crate::cell::wide(properties[k * tables::PROPERTY_STRIDE]);
-        let end = crate::cell::wide(properties[k * tables::PROPERTY_STRIDE + 1]);
+        let start = lists::wide(properties[k * tables::PROPERTY_STRIDE]);
+        let end = lists::wide(properties[k * tables::PROPERTY_STRIDE + 1]);
         if !is_named(&text[start..end]) {
             return false;
         }

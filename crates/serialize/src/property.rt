@@ -16,13 +16,13 @@ fn put_property(
     requires { ⌜ PropHeld (now text) (now properties) p ⌝ }
     ensures { λ r. ⌜ Wrote (propText (now (text .entry)) (now (properties .entry)) (now (values .entry)) kind p) (now (out .entry)) at (now (out .exit)) r ⌝ }
 {
-    let start = crate::cell::wide(properties[p * tables::PROPERTY_STRIDE]);
-    let end = crate::cell::wide(properties[p * tables::PROPERTY_STRIDE + 1]);
-    let first = crate::cell::wide(properties[p * tables::PROPERTY_STRIDE + 2]);
-    let count = crate::cell::wide(properties[p * tables::PROPERTY_STRIDE + 3]);
+    let start = lists::wide(properties[p * tables::PROPERTY_STRIDE]);
+    let end = lists::wide(properties[p * tables::PROPERTY_STRIDE + 1]);
+    let first = lists::wide(properties[p * tables::PROPERTY_STRIDE + 2]);
+    let count = lists::wide(properties[p * tables::PROPERTY_STRIDE + 3]);
     let name = &text[start..end];
     let to = crate::names::put_letters(out, at, name);
-    crate::form::put_values(out, to, kind, name, text, values, first, count)
+    form::put_values(out, to, kind, name, text, values, first, count)
 }
 
 // The properties of node k.
@@ -39,8 +39,8 @@ pub fn put_properties(
     requires { ⌜ NodeHeld (now text) (now nodes) (now properties) k ⌝ }
     ensures { λ r. ⌜ Wrote (propsText (now (text .entry)) (now (nodes .entry)) (now (properties .entry)) (now (values .entry)) kind k) (now (out .entry)) at (now (out .exit)) r ⌝ }
 {
-    let first = crate::cell::wide(nodes[k * tables::NODE_STRIDE + 3]);
-    let count = crate::cell::wide(nodes[k * tables::NODE_STRIDE + 4]);
+    let first = lists::wide(nodes[k * tables::NODE_STRIDE + 3]);
+    let count = lists::wide(nodes[k * tables::NODE_STRIDE + 4]);
     let mut to = at;
     let mut i: usize = 0;
     while i < count {

@@ -4,10 +4,10 @@ use mathlib.Core.List.{List}
 use mathlib.Core.Path.{_≡_, sym, ap, ap₂, _∙_, subst}
 use lib.ListN.{take}
 use borrow.Author.Tests.{eq-eqb, ne-eqb}
-use Rattle.values.specs.declared.display.Kind.{Kind}
-use Rattle.values.specs.declared.display.Kind.the-variants.{Text, SimpleText}
+use Rattle.display.specs.declared.Kind.{Kind}
+use Rattle.display.specs.declared.Kind.the-variants.{Text, SimpleText}
 use Rattle.go.specs.declared.value.GoValue.{GoValue}
-use Rattle.fit.specs.declared.Accessed.{Accessed}
+use Rattle.access.specs.declared.Accessed.{Accessed}
 use Rattle.record.specs.Ask.{display, displayIn}
 use Rattle.record.specs.declared.Shown.{Shown}
 use Rattle.tables.specs.declared.Counts.{Counts}

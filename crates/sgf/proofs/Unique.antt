@@ -5,8 +5,8 @@ use Rattle.utf8.specs.declared.Trimmed.{Trimmed}
 use Rattle.utf8.specs.declared.Trimmed.the-variants.{NotUtf8, Blank, Kept}
 use Rattle.lexer.specs.declared.Step.{Step}
 use Rattle.lexer.specs.declared.Step.the-variants.{Start, End, Node, Property, Refused, Done}
-use Rattle.lexer.specs.declared.ValueStep.{ValueStep}
-use Rattle.lexer.specs.declared.ValueStep.the-variants.{Value, NoMore, Unclosed}
+use Rattle.scan.specs.declared.ValueStep.{ValueStep}
+use Rattle.scan.specs.declared.ValueStep.the-variants.{Value, NoMore, Unclosed}
 use Rattle.parser.specs.Read.{Answer}
 use Rattle.reader.specs.Lent.{Lent}
 use mathlib.Core.Bool.{Bool}
@@ -14,9 +14,9 @@ use mathlib.Core.List.{List}
 use Rattle.lists.proofs.Once.{once-is}
 use Rattle.lists.specs.Once.{Once}
 use Rattle.tables.specs.declared.Counts.{Counts}
-use Rattle.values.specs.declared.display.Kind.{Kind}
+use Rattle.display.specs.declared.Kind.{Kind}
 use Rattle.go.specs.declared.value.GoValue.{GoValue}
-use Rattle.fit.specs.declared.Accessed.{Accessed}
+use Rattle.access.specs.declared.Accessed.{Accessed}
 use Rattle.edit.specs.Edit.{Outcome}
 use Rattle.edit.specs.Lent as edit
 use Rattle.sgf.specs.Asked.{fitsShown, spanShown, goShown, DisplayShown}

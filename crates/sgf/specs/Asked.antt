@@ -7,10 +7,10 @@ use lib.Dec.{eqb}
 use Rattle.lists.specs.Pick.{pick}
 use Rattle.tables.specs.Numbers.{numberOf}
 use Rattle.tables.specs.declared.Counts.{Counts}
-use Rattle.fit.specs.declared.Accessed.{Accessed}
-use Rattle.fit.specs.declared.Accessed.the-variants.{Part, Refused}
-use Rattle.values.specs.declared.display.Kind.{Kind}
-use Rattle.values.specs.declared.display.Kind.the-variants.{Text, SimpleText}
+use Rattle.access.specs.declared.Accessed.{Accessed}
+use Rattle.access.specs.declared.Accessed.the-variants.{Part, Refused}
+use Rattle.display.specs.declared.Kind.{Kind}
+use Rattle.display.specs.declared.Kind.the-variants.{Text, SimpleText}
 use Rattle.go.specs.declared.value.GoValue.{GoValue}
 use Rattle.go.specs.declared.value.Value.{Value}
 use Rattle.go.specs.declared.value.Value.the-variants.{Other, Invalid, Pass, Move, Handicap, Points}

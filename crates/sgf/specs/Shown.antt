@@ -7,8 +7,8 @@ use Rattle.utf8.specs.declared.Trimmed.the-variants.{NotUtf8, Blank, Kept}
 use Rattle.lexer.specs.Token.{numberOf}
 use Rattle.lexer.specs.declared.Step.{Step}
 use Rattle.lexer.specs.declared.Step.the-variants.{Start, End, Node, Property, Refused, Done}
-use Rattle.lexer.specs.declared.ValueStep.{ValueStep}
-use Rattle.lexer.specs.declared.ValueStep.the-variants.{Value, NoMore, Unclosed}
+use Rattle.scan.specs.declared.ValueStep.{ValueStep}
+use Rattle.scan.specs.declared.ValueStep.the-variants.{Value, NoMore, Unclosed}
 use Rattle.tables.specs.Numbers.{numberOf as numberFor}
 use Rattle.tables.specs.declared.Reading.{Reading}
 use Rattle.tables.specs.declared.Reading.the-variants.{Accepted, Refused as Refuses}

@@ -1,20 +1,20 @@
 // The exported library: one C function an operation. Each only calls a proved operation and shows its answer as numbers; include/sgf.h says what a caller sees.
+use access::Accessed;
+use display::Kind;
 use edit::Edited;
-use fit::Accessed;
 use go::value::GoValue;
 use go::value::Value;
 use lexer::Step;
-use lexer::ValueStep;
 use record::Refusal;
 use record::Shown;
+use scan::ValueStep;
 use serialize::Written;
 use tables::Counts;
 use tables::Reading;
 use tables::Reason;
 use utf8::Trimmed;
-use values::display::Kind;
 ghost use mathlib.Core.Path.{_≡_};
-ghost use Rattle.lexer.specs.Scan.{valueAt};
+ghost use Rattle.scan.specs.Scan.{valueAt};
 ghost use Rattle.lexer.specs.Step.{nextAt};
 ghost use Rattle.utf8.specs.Trim.{trimmed};
 ghost use Rattle.tables.specs.declared.Reading.the-variants.{Accepted, Refused};
@@ -24,7 +24,7 @@ ghost use Rattle.edit.specs.declared.Edited.the-variants.{Changed, Refused as R
 ghost use Rattle.edit.specs.Lent.{outcomeOf};
 ghost use Rattle.edit.specs.Lent.{lent as held};
 ghost use Rattle.fit.specs.Fit.{Fit};
-ghost use Rattle.fit.specs.Access.{accessed};
+ghost use Rattle.access.specs.Access.{accessed};
 ghost use Rattle.go.specs.Rows.{valuesAt};
 ghost use Rattle.go.specs.Value.{goValue};
 ghost use Rattle.record.specs.Ask.{refusalNumber, goAnswer};
@@ -138,7 +138,7 @@ pub struct SgfValue {
 pub extern "C" fn sgf_next_value(text: &[u8], at: usize) -> SgfValue
     ensures { λ r. ⌜ ValueIs at (valueAt (now (text .entry)) at) (r .kind) (r .from) (r .to) (r .next) ⌝ }
 {
-    match lexer::next_value(text, at) {
+    match scan::next_value(text, at) {
         ValueStep::Value(a, e, n) => SgfValue {
             kind: 1,
             from: a,
@@ -290,7 +290,7 @@ pub extern "C" fn sgf_value(
 ) -> SgfSpan
     ensures { λ r. ⌜ r ≡ spanShown (accessed (now (text .entry)) used (countsFrom counts) (now (trees .entry)) (now (nodes .entry)) (now (properties .entry)) (now (values .entry)) k) ⌝ }
 {
-    match fit::access(
+    match access::access(
         text,
         used,
         counts_from(counts),

@@ -51,50 +51,61 @@ fn write_record(
     }
 }
 
-fn write_text(
-    name: &[u8],
-    text: &[u8],
-    trees: &mut [u32],
-    nodes: &mut [u32],
-    properties: &mut [u32],
-    values: &mut [u32],
-    out: &mut [u8],
-) -> Outcome {
-    if 65536 < text.len() {
-        return say_refused(name, 1, 0);
-    }
-    match reader::read(text, false, true, trees, nodes, properties, values) {
+// Rows enough for any text of 65,536 bytes.
+fn node_rows() -> [u32; 327680] {
+    [0u32; 327680]
+}
+
+fn property_rows() -> [u32; 87384] {
+    [0u32; 87384]
+}
+
+// Rows of two cells: those of trees, and of values.
+fn pair_rows() -> [u32; 65536] {
+    [0u32; 65536]
+}
+
+fn write_text(name: &[u8], text: &[u8], out: &mut [u8]) -> Outcome {
+    let mut trees = pair_rows();
+    let mut nodes = node_rows();
+    let mut properties = property_rows();
+    let mut values = pair_rows();
+    match reader::read(
+        text,
+        false,
+        true,
+        &mut trees,
+        &mut nodes,
+        &mut properties,
+        &mut values,
+    ) {
         Reading::Accepted(counts) => write_record(
             name,
             text,
             counts,
-            trees,
-            nodes,
-            properties,
-            values,
+            &trees,
+            &nodes,
+            &properties,
+            &values,
             out,
         ),
         Reading::Refused(reason, place) => say_refused(name, tables::number(reason), place),
     }
 }
 
-// The writing of an open file. The rows are enough for any text of 65,536 bytes.
+// One byte more than the longest text has.
+fn text_room() -> [u8; 65537] {
+    [0u8; 65537]
+}
+
+// The writing of an open file.
 fn write_open(name: &[u8], file: i32, out: &mut [u8]) -> Outcome {
-    let mut text = [0u8; 65537];
-    let mut trees = [0u32; 65536];
-    let mut nodes = [0u32; 327680];
-    let mut properties = [0u32; 87384];
-    let mut values = [0u32; 65536];
+    let mut text = text_room();
     let n = io::read_full(file, &mut text);
-    write_text(
-        name,
-        &text[..n],
-        &mut trees,
-        &mut nodes,
-        &mut properties,
-        &mut values,
-        out,
-    )
+    if 65536 < n {
+        return say_refused(name, 1, 0);
+    }
+    write_text(name, &text[..n], out)
 }
 
 // A folder opens, and the first read of it fails.
@@ -127,7 +138,8 @@ fn byte_at(out: &[u8], n: usize, at: usize) -> u32 {
     wide(out[at])
 }
 
-fn say_compared(left: &[u8], n: usize, right: &[u8], m: usize) {
+// Where two writings first differ; the first one's length where they do not before.
+fn differ_at(left: &[u8], n: usize, right: &[u8], m: usize) -> usize {
     let mut at = 0;
     while at < n {
         if byte_at(left, n, at) != byte_at(right, m, at) {
@@ -135,6 +147,11 @@ fn say_compared(left: &[u8], n: usize, right: &[u8], m: usize) {
         }
         at += 1;
     }
+    at
+}
+
+fn say_compared(left: &[u8], n: usize, right: &[u8], m: usize) {
+    let at = differ_at(left, n, right, m);
     if (at == n) & (n == m) {
         io::write_all(1, b"same\n");
         return;
@@ -157,16 +174,24 @@ fn compare(left_name: &[u8], right_name: &[u8], left: &mut [u8], right: &mut [u8
     say_compared(left, n, right, m);
 }
 
+fn out_room() -> [u8; 400000] {
+    [0u8; 400000]
+}
+
+fn compare_arguments() {
+    let mut left_name = io::buffer();
+    let mut right_name = io::buffer();
+    let n = os::arg(1, &mut left_name);
+    let m = os::arg(2, &mut right_name);
+    let mut left = out_room();
+    let mut right = out_room();
+    compare(&left_name[..n], &right_name[..m], &mut left, &mut right);
+}
+
 fn main() {
     if os::arg_count() != 3 {
         io::write_all(2, b"usage: sgf_same FILE FILE\n");
         return;
     }
-    let mut left_name = io::buffer();
-    let mut right_name = io::buffer();
-    let n = os::arg(1, &mut left_name);
-    let m = os::arg(2, &mut right_name);
-    let mut left = [0u8; 400000];
-    let mut right = [0u8; 400000];
-    compare(&left_name[..n], &right_name[..m], &mut left, &mut right);
+    compare_arguments();
 }

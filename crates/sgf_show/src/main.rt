@@ -8,7 +8,7 @@ use tables::Counts;
 use tables::Reading;
 use tables::Reason;
 
-fn say_count(words: &[u8], n: usize) {
+pub fn say_count(words: &[u8], n: usize) {
     io::write_all(1, words);
     io::print_decimal(1, n as u64);
 }
@@ -43,6 +43,16 @@ fn say_nodes(game: &[u8], root: usize, end: usize) {
     }
 }
 
+// The node behind a tree's nodes.
+fn tree_end(counts: Counts, trees: &[u32], tree: usize) -> usize
+    requires { ⌜ tree < counts .trees ⌝ }
+{
+    if tree + 1 < counts.trees {
+        return rows::tree_cell(trees, tree + 1, 0);
+    }
+    counts.nodes
+}
+
 fn say_tree(
     text: &[u8],
     counts: Counts,
@@ -55,10 +65,7 @@ fn say_tree(
     requires { ⌜ tree < counts .trees ⌝ }
 {
     let root = rows::tree_cell(trees, tree, 0);
-    let mut end = counts.nodes;
-    if tree + 1 < counts.trees {
-        end = rows::tree_cell(trees, tree + 1, 0);
-    }
+    let end = tree_end(counts, trees, tree);
     say_count(b"tree ", tree + 1);
     if rows::tree_cell(trees, tree, 1) == 0 {
         say_nodes(b": Go", root, end);
@@ -69,6 +76,14 @@ fn say_tree(
     }
 }
 
+fn say_counts(counts: Counts) {
+    say_count(b"trees ", counts.trees);
+    say_count(b", nodes ", counts.nodes);
+    say_count(b", properties ", counts.properties);
+    say_count(b", values ", counts.values);
+    io::write_all(1, b"\n");
+}
+
 fn say_record(
     text: &[u8],
     counts: Counts,
@@ -77,30 +92,42 @@ fn say_record(
     properties: &[u32],
     values: &[u32],
 ) {
-    say_count(b"trees ", counts.trees);
-    say_count(b", nodes ", counts.nodes);
-    say_count(b", properties ", counts.properties);
-    say_count(b", values ", counts.values);
-    io::write_all(1, b"\n");
+    say_counts(counts);
     for tree in 0..counts.trees {
         say_tree(text, counts, trees, nodes, properties, values, tree);
     }
 }
 
-fn show(
-    text: &[u8],
-    trees: &mut [u32],
-    nodes: &mut [u32],
-    properties: &mut [u32],
-    values: &mut [u32],
-) {
-    if 65536 < text.len() {
-        words::say_refused(text, Reason::TextTooLong, 0);
-        return;
-    }
-    match reader::read(text, false, true, trees, nodes, properties, values) {
+// Rows enough for any text of 65,536 bytes.
+fn node_rows() -> [u32; 327680] {
+    [0u32; 327680]
+}
+
+fn property_rows() -> [u32; 87384] {
+    [0u32; 87384]
+}
+
+// Rows of two cells: those of trees, and of values.
+fn pair_rows() -> [u32; 65536] {
+    [0u32; 65536]
+}
+
+fn show(text: &[u8]) {
+    let mut trees = pair_rows();
+    let mut nodes = node_rows();
+    let mut properties = property_rows();
+    let mut values = pair_rows();
+    match reader::read(
+        text,
+        false,
+        true,
+        &mut trees,
+        &mut nodes,
+        &mut properties,
+        &mut values,
+    ) {
         Reading::Accepted(counts) => {
-            say_record(text, counts, trees, nodes, properties, values);
+            say_record(text, counts, &trees, &nodes, &properties, &values);
         }
         Reading::Refused(reason, place) => {
             words::say_refused(text, reason, place);
@@ -108,19 +135,17 @@ fn show(
     }
 }
 
-// The rows are enough for any text of 65,536 bytes.
+// One byte more than the longest text has.
+fn text_room() -> [u8; 65537] {
+    [0u8; 65537]
+}
+
 fn main() {
-    let mut text = [0u8; 65537];
-    let mut trees = [0u32; 65536];
-    let mut nodes = [0u32; 327680];
-    let mut properties = [0u32; 87384];
-    let mut values = [0u32; 65536];
+    let mut text = text_room();
     let n = io::read_full(0, &mut text);
-    show(
-        &text[..n],
-        &mut trees,
-        &mut nodes,
-        &mut properties,
-        &mut values,
-    );
+    if 65536 < n {
+        words::say_refused(&text[..n], Reason::TextTooLong, 0);
+        return;
+    }
+    show(&text[..n]);
 }

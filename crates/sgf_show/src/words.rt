@@ -1,6 +1,36 @@
 // Refusals in words, with line and column where a number has a place.
 ghost use Prim.Native.Nat.{_+_, _≤_};
+use crate::say_count;
 use tables::Reason;
+
+fn say_other(reason: Reason) -> bool {
+    match reason {
+        Reason::UnexpectedProperty => io::write_all(
+            1,
+            b"a property outside a node, or more than one GM",
+        ),
+        Reason::InvalidGameType => io::write_all(1, b"a GM that is not one whole number"),
+        Reason::NoRoom => io::write_all(1, b"more rows than there is room for"),
+        _ => io::write_all(1, b"another reason"),
+    }
+}
+
+fn say_of_trees(reason: Reason) -> bool {
+    match reason {
+        Reason::UnexpectedGameTreeEnd => io::write_all(1, b"a ) without its ("),
+        Reason::UnexpectedEndOfData => io::write_all(
+            1,
+            b"a ( without its ), or a tree without a node",
+        ),
+        Reason::NoGameTrees => io::write_all(1, b"no game tree"),
+        Reason::TooDeep => io::write_all(1, b"more than 1,024 open trees"),
+        Reason::UnexpectedGameTreeStart => io::write_all(
+            1,
+            b"a variation before the first node of its tree",
+        ),
+        _ => say_other(reason),
+    }
+}
 
 fn say_meaning(reason: Reason) -> bool {
     match reason {
@@ -15,28 +45,11 @@ fn say_meaning(reason: Reason) -> bool {
             b"a character in a property identifier that is not ASCII",
         ),
         Reason::UnexpectedEndOfPropertyValue => io::write_all(1, b"a property value without its ]"),
-        Reason::UnexpectedGameTreeEnd => io::write_all(1, b"a ) without its ("),
-        Reason::UnexpectedEndOfData => io::write_all(
-            1,
-            b"a ( without its ), or a tree without a node",
-        ),
-        Reason::NoGameTrees => io::write_all(1, b"no game tree"),
-        Reason::TooDeep => io::write_all(1, b"more than 1,024 open trees"),
-        Reason::UnexpectedGameTreeStart => io::write_all(
-            1,
-            b"a variation before the first node of its tree",
-        ),
-        Reason::UnexpectedProperty => io::write_all(
-            1,
-            b"a property outside a node, or more than one GM",
-        ),
-        Reason::InvalidGameType => io::write_all(1, b"a GM that is not one whole number"),
-        Reason::NoRoom => io::write_all(1, b"more rows than there is room for"),
-        _ => io::write_all(1, b"another reason"),
+        _ => say_of_trees(reason),
     }
 }
 
-fn line_behind(b: u8, line: u64) -> u64
+fn line_behind(b: u8, line: usize) -> usize
     requires { ⌜ line ≤ 65537 ⌝ }
     ensures { λ r. ⌜ r ≤ line + 1 ⌝ }
 {
@@ -47,7 +60,7 @@ fn line_behind(b: u8, line: u64) -> u64
 }
 
 // The column behind a byte. Only the first byte of a character counts.
-fn column_behind(b: u8, column: u64) -> u64
+fn column_behind(b: u8, column: usize) -> usize
     requires { ⌜ column ≤ 65537 ⌝ }
     ensures { λ r. ⌜ r ≤ column + 1 ⌝ }
 {
@@ -76,20 +89,16 @@ fn say_spot(text: &[u8], place: usize)
         column = column_behind(b, column);
         i += 1;
     }
-    io::write_all(1, b" (line ");
-    io::print_decimal(1, line);
-    io::write_all(1, b", column ");
-    io::print_decimal(1, column);
+    say_count(b" (line ", line);
+    say_count(b", column ", column);
     io::write_all(1, b")");
 }
 
 // Numbers 2 to 5 have a place.
 pub fn say_refused(text: &[u8], reason: Reason, place: usize) {
     let number = tables::number(reason);
-    io::write_all(1, b"refused ");
-    io::print_decimal(1, number as u64);
-    io::write_all(1, b" at ");
-    io::print_decimal(1, place as u64);
+    say_count(b"refused ", number as usize);
+    say_count(b" at ", place);
     io::write_all(1, b": ");
     say_meaning(reason);
     if (2 <= number) & (number <= 5) {

@@ -40,12 +40,34 @@ fn say_written(
     }
 }
 
-// A node takes at least one byte of the text; a tree, a property and a value at least two each: these rows are enough for 65,536 bytes.
+// Rows enough for 65,536 bytes: a node takes at least one byte of the text; a tree, a property and a value at least two each.
+fn node_rows() -> [u32; 327680] {
+    [0u32; 327680]
+}
+
+fn property_rows() -> [u32; 131072] {
+    [0u32; 131072]
+}
+
+// Rows of two cells: those of trees, and of values.
+fn pair_rows() -> [u32; 65536] {
+    [0u32; 65536]
+}
+
+fn out_room() -> [u8; 400000] {
+    [0u8; 400000]
+}
+
+// One byte more than the longest text has.
+fn text_room() -> [u8; 65537] {
+    [0u8; 65537]
+}
+
 fn say_text(text: &[u8]) {
-    let mut trees = [0u32; 65536];
-    let mut nodes = [0u32; 327680];
-    let mut properties = [0u32; 131072];
-    let mut values = [0u32; 65536];
+    let mut trees = pair_rows();
+    let mut nodes = node_rows();
+    let mut properties = property_rows();
+    let mut values = pair_rows();
     match reader::read_strict(
         text,
         true,
@@ -55,7 +77,7 @@ fn say_text(text: &[u8]) {
         &mut values,
     ) {
         Reading::Accepted(counts) => {
-            let mut out = [0u8; 400000];
+            let mut out = out_room();
             say_written(text, counts, &trees, &nodes, &properties, &values, &mut out);
         }
         Reading::Refused(reason, place) => {
@@ -65,7 +87,7 @@ fn say_text(text: &[u8]) {
 }
 
 fn main() {
-    let mut input = [0u8; 65537];
+    let mut input = text_room();
     let n = io::read_full(0, &mut input);
     if 65536 < n {
         say_refused(1, 0);

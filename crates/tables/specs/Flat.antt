@@ -1,6 +1,7 @@
 -- The tables as they are lent: the numbers of the rows, one behind the other.
 use Prim.Native.Nat.{ℕ}
-use mathlib.Core.List.{List, [], _∷_}
+use mathlib.Core.List.{List, [], _∷_, _++_}
+use lib.ListN.{length, drop}
 use Rattle.tables.specs.Rows.{TreeRow, NodeRow, PropRow, ValRow}
 
 -- root, game type
@@ -22,3 +23,7 @@ flatProps (r ∷ rs) = r .from ∷ r .to ∷ r .first ∷ r .count ∷ flatProps
 abbrev pub flatVals : List ValRow → List ℕ
 flatVals [] = []
 flatVals (r ∷ rs) = r .from ∷ r .to ∷ flatVals rs
+
+-- numbers in front, and behind them what was lent
+abbrev pub over : List ℕ → List ℕ → List ℕ
+over xs t = xs ++ drop (length xs) t

@@ -8,6 +8,7 @@ use Rattle.lists.specs.Pick.{pick}
 use Rattle.lexer.specs.Token.{Val, Prop}
 use Rattle.tables.specs.Numbers.{none}
 use Rattle.tables.specs.Record.{Node, Tree, allNodes, allProps, allVals}
+use Rattle.tables.specs.declared.Counts.{Counts}
 
 -- a row of the tree table
 pub record TreeRow : Type 0 where
@@ -40,6 +41,10 @@ pub record Tables : Type 0 where
   pub nodes : List NodeRow
   pub props : List PropRow
   pub vals : List ValRow
+
+-- how many rows there are of each kind
+abbrev pub countsOf : Tables → Counts
+countsOf T = record { trees = length (T .trees); nodes = length (T .nodes); properties = length (T .props); values = length (T .vals) }
 
 -- the first of the nodes, numbered from k by their parents, whose parent is p and whose number is at least lo
 abbrev pub next : (p lo k : ℕ) → List ℕ → ℕ

@@ -1,7 +1,7 @@
 // One text in hex on each line of standard input; for each a line of standard output: what trimming keeps, the tokens with their spans, identifiers and read values in hex, and how the tokens end.
 use lexer::Cursor;
 use lexer::Step;
-use lexer::ValueStep;
+use scan::ValueStep;
 use utf8::Trimmed;
 ghost use Prim.Native.Nat.{_≤_};
 ghost use lib.ListN.{length};
@@ -25,25 +25,38 @@ fn digit_of(b: u8) -> u8
     16
 }
 
+// The byte that the two hex digits at a place spell; 256 where there are none.
+fn byte_at(line: &[u8], at: usize) -> u32
+    ensures { λ r. ⌜ r ≤ 256 ⌝ }
+{
+    if line.len() < 2 {
+        return 256;
+    }
+    if line.len() - 2 < at {
+        return 256;
+    }
+    let high = digit_of(line[at]);
+    let low = digit_of(line[at + 1]);
+    if high == 16 {
+        return 256;
+    }
+    if low == 16 {
+        return 256;
+    }
+    (high * 16 + low) as u32
+}
+
 // The bytes that a line of hex digits spells, as far as it does and there is room.
 fn decode(line: &[u8], bytes: &mut [u8]) -> usize
     ensures { λ r. ⌜ r ≤ length (now (bytes .exit)) ⌝ }
 {
     let mut n = 0;
     while n < bytes.len() {
-        let at = n * 2;
-        if line.len() <= at + 1 {
+        let b = byte_at(line, n * 2);
+        if b == 256 {
             break;
         }
-        let high = digit_of(line[at]);
-        let low = digit_of(line[at + 1]);
-        if high == 16 {
-            break;
-        }
-        if low == 16 {
-            break;
-        }
-        bytes[n] = high * 16 + low;
+        bytes[n] = b as u8;
         n += 1;
     }
     n
@@ -79,7 +92,7 @@ fn say_read(raw: &[u8]) {
 
 // Says the value that opens at a place and gives the place behind it; where none opens, the place itself.
 fn say_value(text: &[u8], at: usize) -> usize {
-    let ValueStep::Value(from, end, next) = lexer::next_value(text, at) else {
+    let ValueStep::Value(from, end, next) = scan::next_value(text, at) else {
         return at;
     };
     io::write_all(1, b" [");

@@ -4,11 +4,11 @@ use mathlib.Core.Path.{_≡_, refl, sym, ap, _∙_, subst}
 use mathlib.Core.Bool.{Bool, true, false}
 use mathlib.Core.List.{List, []}
 use Rattle.lexer.specs.Token.{done, broken, Lexed, lexAt}
-use Rattle.lexer.specs.Scan.{valuesAt}
+use Rattle.scan.specs.Scan.{valuesAt}
 use Rattle.lexer.specs.Step.{headAt}
 use Rattle.lexer.specs.declared.Fault.the-variants.{UnexpectedEndOfPropertyValue}
 use Rattle.lexer.specs.declared.Head.the-variants.{Name}
-use Rattle.lexer.proofs.Bounds.{never}
+use Rattle.lists.proofs.Tests.{never}
 use Rattle.trees.specs.Walks.{opts}
 use Rattle.trees.specs.Turns.{Closes, UnclosedIs}
 use Rattle.trees.specs.declared.State.{State}

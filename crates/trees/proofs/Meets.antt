@@ -3,9 +3,9 @@ use Prim.Native.Nat.{ℕ}
 use mathlib.Core.Path.{_≡_, ap, _∙_, subst}
 use mathlib.Core.List.{List}
 use Rattle.lexer.specs.Token.{lexAt}
-use Rattle.lexer.specs.Scan.{valuesAt}
+use Rattle.scan.specs.Scan.{valuesAt}
 use Rattle.lexer.specs.Step.{headAt, onValues, onHead, nextAt, stepOn}
-use Rattle.lexer.specs.declared.Close.{Close}
+use Rattle.scan.specs.declared.Close.{Close}
 use Rattle.lexer.specs.declared.Head.{Head}
 use Rattle.lexer.specs.declared.Head.the-variants.{Name}
 use Rattle.lexer.specs.declared.Step.{Step}

@@ -8,11 +8,12 @@ use lib.Seq.{slice}
 use Rattle.lists.specs.Put.{PutIs}
 use Rattle.lists.proofs.Put.{put-none, put-more}
 use Rattle.lexer.specs.Token.{Val}
-use Rattle.lexer.specs.Scan.{valueAt, valuesAt}
+use Rattle.scan.specs.Scan.{valueAt, valuesAt}
 use Rattle.lexer.specs.Step.{valsAt}
-use Rattle.lexer.specs.declared.ValueStep.the-variants.{Value, NoMore, Unclosed}
-use Rattle.lexer.proofs.Bounds.{value-is}
-use Rattle.lexer.proofs.Values.{values-more, values-none, values-unclosed, vals-more, vals-none}
+use Rattle.scan.specs.declared.ValueStep.the-variants.{Value, NoMore, Unclosed}
+use Rattle.scan.proofs.Bounds.{value-is}
+use Rattle.scan.proofs.Values.{values-more, values-none, values-unclosed}
+use Rattle.lexer.proofs.Listed.{vals-more, vals-none}
 use Rattle.tables.specs.Rows.{valRows}
 use Rattle.tables.specs.Flat.{flatVals}
 use Rattle.trees.specs.Turns.{Closes, TakenIs}

@@ -9,10 +9,10 @@ use lib.Seq.{slice}
 use Rattle.lists.specs.Pick.{pick}
 use Rattle.lists.specs.Put.{PutIs}
 use Rattle.lexer.specs.Token.{lexAt}
-use Rattle.lexer.specs.Scan.{valuesAt}
+use Rattle.scan.specs.Scan.{valuesAt}
 use Rattle.lexer.specs.Step.{valsAt}
-use Rattle.lexer.specs.declared.Close.{Close}
-use Rattle.lexer.specs.declared.Close.the-variants.{At, Open}
+use Rattle.scan.specs.declared.Close.{Close}
+use Rattle.scan.specs.declared.Close.the-variants.{At, Open}
 use Rattle.tables.specs.Numbers.{depthLimit, none}
 use Rattle.tables.specs.Rows.{valRows}
 use Rattle.tables.specs.Flat.{flatVals}

@@ -1,8 +1,8 @@
 // The tree of one slice, read from the tokens from a place on into the lent tables, strict or lenient. One token a turn, each byte scanned once where reading is strict.
-use lexer::Close;
 use lexer::Head;
 use lexer::Step;
-use lexer::ValueStep;
+use scan::Close;
+use scan::ValueStep;
 use tables::NONE;
 use tables::Reason;
 ghost use mathlib.Core.Path.{_≡_};
@@ -12,7 +12,7 @@ ghost use Prim.Native.Nat.{_+_, _*_, _≤_, _<_};
 ghost use lib.ListN.{length, set, getD};
 ghost use lib.Seq.{slice};
 ghost use Rattle.lists.specs.Put.{PutIs};
-ghost use Rattle.lexer.specs.Scan.{valuesAt};
+ghost use Rattle.scan.specs.Scan.{valuesAt};
 ghost use Rattle.tables.specs.Numbers.{textLimit, depthLimit, none};
 ghost use Rattle.parser.specs.Walk.{uppers};
 ghost use Rattle.trees.specs.Walks.{opts, Ready, WalkIs};
@@ -56,12 +56,6 @@ fn peek(stack: &[u32; 1024], d: usize) -> u32
     stack[d]
 }
 
-fn wide(x: u32) -> usize
-    ensures { λ r. ⌜ r ≡ x ⌝ }
-{
-    x as usize
-}
-
 // Is the list on top of the stack not empty: a node has children exactly where the node after it exists.
 fn may_open(stack: &[u32; 1024], depth: usize, base: usize, n: usize) -> bool
     requires { ⌜ depth ≤ 1024 ⌝ }
@@ -74,7 +68,7 @@ fn may_open(stack: &[u32; 1024], depth: usize, base: usize, n: usize) -> bool
     if x == NONE {
         return base < n;
     }
-    let y = wide(x);
+    let y = lists::wide(x);
     if n <= y {
         return false;
     }
@@ -136,7 +130,7 @@ fn take_values(s: &[u8], from: usize, v0: usize, vals: &mut [u32]) -> Taken
     let mut i = from;
     let mut v = v0;
     loop {
-        match lexer::next_value(s, i) {
+        match scan::next_value(s, i) {
             ValueStep::Value(a, e, next) => {
                 tables::put2(vals, v * 2, a as u32, e as u32);
                 v += 1;
@@ -181,7 +175,7 @@ fn skip_property(s: &[u8], mut w: State, k: usize) -> State
     ensures { λ r. ⌜ SkippedIs (now (s .entry)) w k r ⌝ }
 {
     w.drops = true;
-    let Close::At(e) = lexer::values_end(s, k) else {
+    let Close::At(e) = scan::values_end(s, k) else {
         return w;
     };
     w.at = e;
@@ -255,7 +249,7 @@ fn unclosed(s: &[u8], k: usize, lenient: bool) -> bool
     if !lenient {
         return false;
     }
-    match lexer::values_end(s, k) {
+    match scan::values_end(s, k) {
         Close::At(_) => false,
         Close::Open => true,
     }

@@ -8,6 +8,7 @@ use lib.ListN.{length, take, drop, getD, length-drop}
 use lib.Seq.{drop-drop}
 use Rattle.lists.specs.Pick.{pick}
 use Rattle.lists.proofs.Places.{drop-next}
+use Rattle.lists.proofs.Tests.{never}
 use Rattle.utf8.specs.declared.Trimmed.the-variants.{NotUtf8}
 use Rattle.utf8.specs.declared.Decoded.the-variants.{Character, Bad}
 use Rattle.utf8.specs.Text.{white, Ink, mark, whole, utfs}
@@ -25,7 +26,7 @@ by-width true l2 l3 l4 t w x e1 e2 e3 e4 h = let z : w ≡ 1 = cc in rw z (e1, c
 by-width false true l3 l4 t w x e1 e2 e3 e4 h = let z : w ≡ 2 = cc in rw z (e2, cc)
 by-width false false true l4 t w x e1 e2 e3 e4 h = let z : w ≡ 3 = cc in rw z (e3, cc)
 by-width false false false true t w x e1 e2 e3 e4 h = let z : w ≡ 4 = cc in rw z (e4, cc)
-by-width false false false false t w x e1 e2 e3 e4 h = let z : _≡_ {A = ℕ} 0 1 = cc in absurd (omega arith)
+by-width false false false false t w x e1 e2 e3 e4 h = never cc
 
 pub decoded-listed : (t : List ℕ) (w : ℕ) (x : Bool) → decoded t ≡ Character w x → (listed w t ≡ true) × (x ≡ white (scalar (take w t)))
 unfolding decoded
@@ -34,10 +35,10 @@ decoded-listed t w x h = by-width (listed 1 t) (listed 2 t) (listed 3 t) (listed
 none-listed : (l1 l2 l3 l4 : Bool) (t : List ℕ) → listed 1 t ≡ l1 → listed 2 t ≡ l2 → listed 3 t ≡ l3 → listed 4 t ≡ l4
     → pick l1 (ofWidth 1 t) (pick l2 (ofWidth 2 t) (pick l3 (ofWidth 3 t) (pick l4 (ofWidth 4 t) Bad))) ≡ Bad → (n : ℕ) → n ≤ 4 → listed n t ≡ false
 unfolding listed table
-none-listed true l2 l3 l4 t e1 e2 e3 e4 h n l = let z : _≡_ {A = ℕ} 0 1 = cc in absurd (omega arith)
-none-listed false true l3 l4 t e1 e2 e3 e4 h n l = let z : _≡_ {A = ℕ} 0 1 = cc in absurd (omega arith)
-none-listed false false true l4 t e1 e2 e3 e4 h n l = let z : _≡_ {A = ℕ} 0 1 = cc in absurd (omega arith)
-none-listed false false false true t e1 e2 e3 e4 h n l = let z : _≡_ {A = ℕ} 0 1 = cc in absurd (omega arith)
+none-listed true l2 l3 l4 t e1 e2 e3 e4 h n l = never cc
+none-listed false true l3 l4 t e1 e2 e3 e4 h n l = never cc
+none-listed false false true l4 t e1 e2 e3 e4 h n l = never cc
+none-listed false false false true t e1 e2 e3 e4 h n l = never cc
 none-listed false false false false t e1 e2 e3 e4 h zero l = refl
 none-listed false false false false t e1 e2 e3 e4 h (suc zero) l = e1
 none-listed false false false false t e1 e2 e3 e4 h (suc (suc zero)) l = e2

@@ -6,6 +6,7 @@ use mathlib.Core.Bool.{Bool, true, false}
 use mathlib.Core.List.{List, [], _∷_, _++_}
 use lib.Dec.{leb, eqb}
 use lib.ListN.{length}
+use Rattle.lists.proofs.Tests.{never}
 use Rattle.utf8.specs.Text.{within, white, Ink, mark, Range, Utf, whole, part, bad, first, utf, utfs}
 
 -- the place after the bytes
@@ -30,7 +31,7 @@ utfs-bad p o [] = refl
 utfs-bad p o (b ∷ bs) = utfs-bad p (suc o) bs
 
 pub bad-whole : (p : ℕ) (k : Ink) {A : Type 0} → bad p ≡ whole k → A
-bad-whole p k e = let z : _≡_ {A = ℕ} 0 1 = cc in absurd (omega arith)
+bad-whole p k e = never cc
 
 -- what holds of two machines between characters after a whole character, within one, and bad, holds of them after the same byte
 module _ (P : Utf → Utf → Type 0) (k k′ : Ink) (o o′ b : ℕ)

@@ -5,11 +5,9 @@ use Prim.Native.Nat.{ℕ}
 use Rattle.lists.specs.Once.{Once}
 use Rattle.lists.proofs.Once.{once-is}
 use Rattle.values.specs.Decimal.{decimalOf}
-use Rattle.values.specs.Display.{displayed, displayedIn}
 use Rattle.values.specs.Read.{readValue, nextRead}
 use Rattle.values.specs.Wrote.{Wrote}
 use Rattle.values.specs.declared.decimal.Number.{Number}
-use Rattle.values.specs.declared.display.Displayed.{Displayed}
 use Rattle.values.specs.declared.read.Step.{Step}
 
 pub next-read-once : (s : List ℕ) (at : ℕ) → Once (λ (r : Step). r ≡ nextRead s at)
@@ -22,7 +20,3 @@ decimal-once most s = once-is (decimalOf most (readValue s))
 -- of put_byte, put_bytes and put_decimal, whatever is put: the place after it, and all of the memory
 pub put-once : (w out : List ℕ) (at : ℕ) (x y : List ℕ) (n m : ℕ) → Wrote w out at x n → Wrote w out at y m → (x ≡ y) × (n ≡ m)
 put-once w out at x y n m p q = (p .bytes ∙ sym (q .bytes), p .place ∙ sym (q .place))
-
--- the answer, and all of the memory
-pub display-once : (text out : List ℕ) (r s : Displayed) (x y : List ℕ) → (r ≡ displayed text out) × (x ≡ displayedIn text out) → (s ≡ displayed text out) × (y ≡ displayedIn text out) → (r ≡ s) × (x ≡ y)
-display-once text out r s x y p q = (p .0 ∙ sym (q .0), p .1 ∙ sym (q .1))

@@ -1,6 +1,6 @@
 -- `edit::edit` meets its contract. Assumes nothing.
 use Rattle.edit.proofs.Given.{given, given-replaceable, given-new, given-end, given-names, given-values, edit-refused, edit-given}
-use Rattle.edit.proofs.Fitting.{fit-held}
+use Rattle.fit.proofs.Whole.{fit-lent as fit-held}
 use native.Mathlib.Omega.{arith}
 use mathlib.Core.Path.{sym, _∙_}
 use denote.Ref.{now}

@@ -12,24 +12,6 @@ Inv-loop s text₀ trees₀ nodes₀ properties₀ values₀ used₀ at₀ t10 t
 abbrev μ-loop : tie.MeasureT-loop
 μ-loop s text₀ trees₀ nodes₀ properties₀ values₀ used₀ at₀ t10 text trees nodes properties values used at = length s - at
 
--- src/main.rt:244:9
--- src/main.rt:246:5
--- src/main.rt:247:13
--- src/main.rt:249:13
--- src/main.rt:249:13
--- src/main.rt:249:13
--- src/main.rt:251:13
--- src/main.rt:252:13
--- src/main.rt:253:13
--- src/main.rt:254:13
--- src/main.rt:255:13
--- src/main.rt:248:9
--- src/main.rt:257:26
--- src/main.rt:257:9
--- src/main.rt:258:14
--- src/main.rt:246:5
--- src/main.rt:246:5
--- src/main.rt:238:1
 pub run-spec : {M : Type 1} → statement M
 run-spec =
     tie.close

@@ -1,6 +1,6 @@
 -- `fit::on_path` meets its contract. Assumes nothing.
-use Prim.Native.Nat.{_≤_}
-use mathlib.Core.Path.{_≡_, refl}
+use Prim.Native.Nat.{ℕ, _≤_}
+use mathlib.Core.Path.{_≡_, refl, sym, ap, _∙_}
 use native.Mathlib.Omega.{arith}
 use denote.Ref.{now}
 use borrow.Author.Needs.{needs}
@@ -19,16 +19,21 @@ loop-holds : tie.Need-loop-holds Inv-loop μ-loop
 loop-holds c = (search needs, refl)
 
 returns : tie.Need-returns Inv-loop μ-loop
-returns c = cc (climb-none _ _ _ (c .before .before .loop-test .taken) (c .if1 .taken))
+returns c = sym (climb-none _ _ _ (c .before .before .loop-test .taken) (c .if1 .taken)) ∙ c .before .before .before .loop .inv .1
 
 returns-2 : tie.Need-returns-2 Inv-loop μ-loop
-returns-2 c = let a = c .before .before .before .before .before .before .before .args in cc (climb-late (now (a .nodes)) _ _ (c .before .before .before .before .loop-test .taken) (let e = c .before .wide .ensures in omega arith))
+returns-2 c = let a = c .before .before .before .before .before .before .before .args in sym (climb-late (now (a .nodes)) _ _ (c .before .before .before .before .loop-test .taken) (let e = c .before .wide .ensures in omega arith)) ∙ c .before .before .before .before .before .loop .inv .1
 
 loop-again : tie.Need-loop-again Inv-loop μ-loop
-loop-again c = let a = c .before .before .before .before .before .before .before .args in (search needs, cc (climb-on (now (a .nodes)) _ _ (c .before .before .before .before .loop-test .taken) (c .before .before .if1 .left) (let e = c .before .wide .ensures in omega arith)))
+loop-again c = let a = c .before .before .before .before .before .before .before .args in (
+  search needs,
+  ap (λ (j : ℕ). onPath (now (a .nodes)) j (a .p)) (c .before .wide .ensures)
+      ∙ climb-on (now (a .nodes)) _ _ (c .before .before .before .before .loop-test .taken) (c .before .before .if1 .left) (let e = c .before .wide .ensures in omega arith)
+      ∙ c .before .before .before .before .before .loop .inv .1,
+)
 
 returns-3 : tie.Need-returns-3 Inv-loop μ-loop
-returns-3 c = let a = c .before .before .before .args in cc (climb-end (now (a .nodes)) _ _ (c .loop-test .left))
+returns-3 c = let a = c .before .before .before .args in climb-end (now (a .nodes)) _ _ (c .loop-test .left) ∙ c .before .loop .inv .1
 
 pub on-path-spec : {M : Type 1} → statement M
 on-path-spec =

@@ -1,4 +1,6 @@
 -- `fit::ranges_fit` meets its contract. Assumes nothing.
+use mathlib.Core.Path.{ap₂}
+use mathlib.Core.Bool.{_&&_}
 use borrow.Author.Needs.{needs}
 use Rattle.fit.specs.Ranges.{rangesFit}
 use Rattle.fit.proofs.ranges_fit.Statement.{statement}
@@ -6,7 +8,7 @@ use Rattle.fit.proofs.ranges_fit.Tie as tie
 
 returns : tie.Need-returns
 unfolding rangesFit
-returns c = cc
+returns c = ap₂ _&&_ (ap₂ _&&_ (c .before .before .ranges-follow .ensures) (c .before .ranges-follow2 .ensures)) (c .have-values .ensures)
 
 pub ranges-fit-spec : {M : Type 1} → statement M
 ranges-fit-spec =

@@ -1,7 +1,7 @@
 -- `record::display` meets its contract. Assumes nothing.
 use Rattle.record.proofs.Shows.{part-shown, part-shown-in}
 use Rattle.record.specs.Ask.{display, displayIn}
-use Rattle.fit.proofs.Whole.{access-inside}
+use Rattle.access.proofs.Inside.{access-inside}
 use denote.Ref.{now}
 use native.Mathlib.Omega.{arith}
 use mathlib.Core.Path.{sym, ap, _∙_}

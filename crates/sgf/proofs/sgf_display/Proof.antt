@@ -1,6 +1,6 @@
 -- `sgf::sgf_display` meets its contract. Assumes nothing.
 use Rattle.tables.specs.declared.Counts.{Counts}
-use Rattle.fit.specs.Access.{accessed}
+use Rattle.access.specs.Access.{accessed}
 use denote.Ref.{now}
 use Rattle.sgf.proofs.Asking.{display-shown}
 use Prim.Native.Nat.{ℕ}

@@ -2,7 +2,7 @@
 use mathlib.Core.Path.{sym, _∙_}
 use denote.Ref.{now}
 use native.Mathlib.Omega.{arith}
-use Rattle.lexer.proofs.Bounds.{ValueIs, value-is}
+use Rattle.scan.proofs.Bounds.{ValueIs, value-is}
 use borrow.Author.Needs.{needs}
 use Rattle.token_cases.proofs.say_value.Statement.{statement}
 use Rattle.token_cases.proofs.say_value.Tie as tie

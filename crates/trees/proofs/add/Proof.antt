@@ -5,8 +5,8 @@ use Rattle.lists.specs.Put.{PutIs}
 use mathlib.Core.List.{[], _∷_}
 use mathlib.Core.Path.{subst}
 use lib.ListN.{length}
-use Prim.Native.Nat.{suc}
-use Rattle.lexer.proofs.Values.{values-bounds, vals-count}
+use Rattle.scan.proofs.Values.{values-bounds}
+use Rattle.lexer.proofs.Listed.{vals-count}
 use denote.Ref.{now}
 use native.Mathlib.Omega.{arith}
 use borrow.Author.Needs.{needs}

@@ -4,9 +4,9 @@ use Prim.Native.Nat.{_-_}
 use lib.ListN.{length}
 use mathlib.Core.Path.{_≡_, sym, _∙_}
 use native.Mathlib.Omega.{arith}
-use Rattle.lexer.proofs.Bounds.{value-is}
-use Rattle.lexer.specs.declared.ValueStep.the-variants.{Value}
-use Rattle.lexer.specs.Scan.{valueAt}
+use Rattle.scan.proofs.Bounds.{value-is}
+use Rattle.scan.specs.declared.ValueStep.the-variants.{Value}
+use Rattle.scan.specs.Scan.{valueAt}
 use Rattle.trees.proofs.Takings.{Taking, taking-first, taking-more, taking-end, taking-unclosed}
 use borrow.Author.Needs.{needs}
 use Rattle.trees.proofs.take_values.Statement.{statement}

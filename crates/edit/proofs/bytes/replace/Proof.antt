@@ -5,23 +5,9 @@ use borrow.Author.Needs.{needs}
 use Rattle.edit.proofs.bytes.replace.Statement.{statement}
 use Rattle.edit.proofs.bytes.replace.Tie as tie
 
--- src/bytes.rt:63:14
--- src/bytes.rt:64:13
--- src/bytes.rt:66:9
--- src/bytes.rt:67:26
--- src/bytes.rt:67:42
--- src/bytes.rt:67:34
--- src/bytes.rt:67:9
--- src/bytes.rt:68:9
--- src/bytes.rt:69:9
--- src/bytes.rt:69:9
 returns : tie.Need-returns
 returns c = let g = c .before .before .before .before .before .before .before .before .before .before .before .before .before .before .before .args in replaced-left (now (g .buffer)) (now (g .new)) (g .used) (g .start) (g .end) (c .before .before .before .before .before .before .before .before .before .before .before .before .before .before .before .pre .within) _ _ _ (c .before .before .before .before .before .before .before .before .before .before .before .before .if1 .taken) (c .before .before .before .before .before .before .before .before .before .before .move-left .ensures) (c .before .before .before .before .before .before .zero-out .ensures) (c .before .before .copy-in .ensures)
 
--- src/bytes.rt:71:5
--- src/bytes.rt:72:5
--- src/bytes.rt:59:1
--- src/bytes.rt:59:1
 returns-2 : tie.Need-returns-2
 returns-2 c = let g = c .before .before .before .before .before .before .before .before .before .before .before .args in replaced-right (now (g .buffer)) (now (g .new)) (g .used) (g .start) (g .end) (c .before .before .before .before .before .before .before .before .before .before .before .pre .within) _ _ (c .before .before .before .before .before .before .before .before .before .before .before .pre .room) (c .before .before .before .before .before .before .before .before .if1 .left) (c .before .before .before .before .before .before .move-right .ensures) (c .before .before .copy-in2 .ensures)
 

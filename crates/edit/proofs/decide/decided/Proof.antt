@@ -1,6 +1,8 @@
 -- `decide::decided` meets its contract. Assumes nothing.
 use Rattle.edit.proofs.Judged.{decided-misfit, decided-beyond, decided-fixed, decided-weighed}
-use Rattle.edit.proofs.Fitting.{fit-held, fit-short, fit-names, fit-within}
+use Rattle.fit.proofs.Clauses.{fit-short, fit-names}
+use Rattle.fit.proofs.Whole.{fit-lent as fit-held}
+use Rattle.edit.proofs.Fitting.{fit-within}
 use Rattle.fit.proofs.Cases.{passed, refused}
 use lib.Seq.{length-take-le}
 use native.Mathlib.Omega.{arith}
@@ -10,44 +12,33 @@ use borrow.Author.Needs.{needs}
 use Rattle.edit.proofs.decide.decided.Statement.{statement}
 use Rattle.edit.proofs.decide.decided.Tie as tie
 
--- src/decide.rt:102:9
--- src/decide.rt:103:9
 returns : tie.Need-returns
 returns c = let a = c .before .before .before .before .before .before .before .before .args in decided-misfit (now (a .text)) (a .used) (a .counts) (now (a .trees)) (now (a .nodes)) (now (a .properties)) (now (a .values)) (a .k) (now (a .new)) (refused (c .before .fits2 .ensures) (c .if1 .taken))
 
--- src/decide.rt:106:9
 returns-2 : tie.Need-returns-2
 returns-2 c = let a = c .before .before .before .before .before .before .before .before .before .before .args in decided-beyond (now (a .text)) (a .used) (a .counts) (now (a .trees)) (now (a .nodes)) (now (a .properties)) (now (a .values)) (a .k) (now (a .new)) (passed (c .before .before .before .fits2 .ensures) (c .before .before .if1 .left)) (c .if2 .taken)
 
--- src/decide.rt:108:17
 slice-aggregate-is-fixed : tie.Need-slice-aggregate-is-fixed
 slice-aggregate-is-fixed c = let a = c .before .before .before .before .before .before .before .before .before .before .before .args in sym (length-take-le _ _ (fit-held (now (a .text)) (a .used) (a .counts) (now (a .trees)) (now (a .nodes)) (now (a .properties)) (now (a .values)) (passed (c .before .before .before .before .fits2 .ensures) (c .before .before .before .if1 .left)) .0))
 
--- src/decide.rt:108:8
 is-fixed-requires : tie.Need-is-fixed-requires
 is-fixed-requires c κs = let a = c .before .before .before .before .before .before .before .before .before .before .before .args in let f = fit-names (now (a .text)) (a .used) (a .counts) (now (a .trees)) (now (a .nodes)) (now (a .properties)) (now (a .values)) (passed (c .before .before .before .before .fits2 .ensures) (c .before .before .before .if1 .left)) in let e = length-take-le (a .used) (now (a .text)) (fit-held (now (a .text)) (a .used) (a .counts) (now (a .trees)) (now (a .nodes)) (now (a .properties)) (now (a .values)) (passed (c .before .before .before .before .fits2 .ensures) (c .before .before .before .if1 .left)) .0) in (fit-held (now (a .text)) (a .used) (a .counts) (now (a .trees)) (now (a .nodes)) (now (a .properties)) (now (a .values)) (passed (c .before .before .before .before .fits2 .ensures) (c .before .before .before .if1 .left)) .1 .properties, λ p l. (f p l .0, omega (arith, f p l .1, e)))
 
--- src/decide.rt:109:9
 returns-3 : tie.Need-returns-3
 returns-3 c = let a = c .before .before .before .before .before .before .before .before .before .before .before .before .before .args in decided-fixed (now (a .text)) (a .used) (a .counts) (now (a .trees)) (now (a .nodes)) (now (a .properties)) (now (a .values)) (a .k) (now (a .new)) (passed (c .before .before .before .before .before .before .fits2 .ensures) (c .before .before .before .before .before .if1 .left)) (c .before .before .before .if2 .left) (sym (c .if3 .taken) ∙ c .before .is-fixed .ensures)
 
--- src/decide.rt:111:9
 span-of-requires : tie.Need-span-of-requires
 span-of-requires c κs = let a = c .before .before .before .before .before .before .before .before .before .before .before .before .before .args in let h = fit-held (now (a .text)) (a .used) (a .counts) (now (a .trees)) (now (a .nodes)) (now (a .properties)) (now (a .values)) (passed (c .before .before .before .before .before .before .fits2 .ensures) (c .before .before .before .before .before .if1 .left)) .1 .values in omega (arith, c .before .before .before .if2 .left)
 
--- src/decide.rt:112:26
 sub-weighed : tie.Need-sub-weighed
 sub-weighed c = let a = c .before .before .before .before .before .before .before .before .before .before .before .before .before .before .before .args in let w = fit-within (now (a .text)) (a .used) (a .counts) (now (a .trees)) (now (a .nodes)) (now (a .properties)) (now (a .values)) (passed (c .before .before .before .before .before .before .before .before .fits2 .ensures) (c .before .before .before .before .before .before .before .if1 .left)) _ (c .before .before .before .before .before .if2 .left) in let o = w .order in let i = w .inside in let s = fit-short (now (a .text)) (a .used) (a .counts) (now (a .trees)) (now (a .nodes)) (now (a .properties)) (now (a .values)) (passed (c .before .before .before .before .before .before .before .before .fits2 .ensures) (c .before .before .before .before .before .before .before .if1 .left)) in omega (arith, c .before .span-of .ensures .0, c .before .span-of .ensures .1)
 
--- src/decide.rt:112:18
 sub-weighed-2 : tie.Need-sub-weighed-2
 sub-weighed-2 c = let a = c .before .before .before .before .before .before .before .before .before .before .before .before .before .before .before .args in let w = fit-within (now (a .text)) (a .used) (a .counts) (now (a .trees)) (now (a .nodes)) (now (a .properties)) (now (a .values)) (passed (c .before .before .before .before .before .before .before .before .fits2 .ensures) (c .before .before .before .before .before .before .before .if1 .left)) _ (c .before .before .before .before .before .if2 .left) in let o = w .order in let i = w .inside in let s = fit-short (now (a .text)) (a .used) (a .counts) (now (a .trees)) (now (a .nodes)) (now (a .properties)) (now (a .values)) (passed (c .before .before .before .before .before .before .before .before .fits2 .ensures) (c .before .before .before .before .before .before .before .if1 .left)) in omega (arith, c .before .span-of .ensures .0, c .before .span-of .ensures .1)
 
--- src/decide.rt:112:5
 weighed-requires : tie.Need-weighed-requires
 weighed-requires c κs = let a = c .before .before .before .before .before .before .before .before .before .before .before .before .before .before .before .args in let w = fit-within (now (a .text)) (a .used) (a .counts) (now (a .trees)) (now (a .nodes)) (now (a .properties)) (now (a .values)) (passed (c .before .before .before .before .before .before .before .before .fits2 .ensures) (c .before .before .before .before .before .before .before .if1 .left)) _ (c .before .before .before .before .before .if2 .left) in let o = w .order in let i = w .inside in let s = fit-short (now (a .text)) (a .used) (a .counts) (now (a .trees)) (now (a .nodes)) (now (a .properties)) (now (a .values)) (passed (c .before .before .before .before .before .before .before .before .fits2 .ensures) (c .before .before .before .before .before .before .before .if1 .left)) in omega (arith, c .before .span-of .ensures .0, c .before .span-of .ensures .1)
 
--- src/decide.rt:89:1
 returns-4 : tie.Need-returns-4
 returns-4 c = let a = c .before .before .before .before .before .before .before .before .before .before .before .before .before .before .before .before .args in decided-weighed (now (a .text)) (a .used) (a .counts) (now (a .trees)) (now (a .nodes)) (now (a .properties)) (now (a .values)) (a .k) (now (a .new)) (passed (c .before .before .before .before .before .before .before .before .before .fits2 .ensures) (c .before .before .before .before .before .before .before .before .if1 .left)) (c .before .before .before .before .before .before .if2 .left) (sym (c .before .before .before .if3 .left) ∙ c .before .before .before .before .is-fixed .ensures) (c .before .before .span-of .ensures .0) (c .before .before .span-of .ensures .1) (c .weighed .ensures)
 

@@ -14,22 +14,15 @@ Inv-loop value escaped₀ i₀ escaped i = closedFrom escaped (drop i value) ≡
 abbrev μ-loop : tie.MeasureT-loop
 μ-loop value escaped₀ i₀ escaped i = length value - i
 
--- src/decide.rt:24:5
 loop-holds : tie.Need-loop-holds Inv-loop μ-loop
 loop-holds c = refl
 
--- src/decide.rt:25:17
--- src/decide.rt:27:13
 returns : tie.Need-returns Inv-loop μ-loop
 returns c = closed-not _ _ _ (c .before .before .before .loop .inv) (c .before .before .loop-test .taken) (c .if1 .taken)
 
--- src/decide.rt:30:9
--- src/decide.rt:24:5
--- src/decide.rt:24:5
 loop-again : tie.Need-loop-again Inv-loop μ-loop
 loop-again c = closed-more _ _ _ (c .before .before .before .loop .inv) (c .before .before .loop-test .taken) (c .if1 .left)
 
--- src/decide.rt:19:1
 returns-2 : tie.Need-returns-2 Inv-loop μ-loop
 returns-2 c = closed-end _ _ _ (c .before .loop .inv) (c .loop-test .left)
 

@@ -12,54 +12,27 @@ Inv-loop text properties n k p₀ p = Owner text properties n k p
 abbrev μ-loop : tie.MeasureT-loop
 μ-loop text properties n k p₀ p = n - p
 
--- src/decide.rt:53:5
 loop-holds : tie.Need-loop-holds Inv-loop μ-loop
 loop-holds c = owner-first _ _ _ _
 
--- src/decide.rt:54:18
--- src/decide.rt:55:37
--- src/decide.rt:55:26
--- src/decide.rt:55:26
--- src/decide.rt:55:13
--- src/decide.rt:56:37
--- src/decide.rt:56:26
--- src/decide.rt:56:26
--- src/decide.rt:56:13
--- src/decide.rt:57:16
 add-if1 : tie.Need-add-if1 Inv-loop μ-loop
 add-if1 c = omega (arith, c .wide2 .ensures .1, c .before .before .wide .ensures .1)
 
--- src/decide.rt:58:30
--- src/decide.rt:58:30
--- src/decide.rt:58:17
--- src/decide.rt:59:39
--- src/decide.rt:59:28
--- src/decide.rt:59:28
--- src/decide.rt:59:17
--- src/decide.rt:60:26
 sub-is-gm : tie.Need-sub-is-gm Inv-loop μ-loop
 sub-is-gm c = let h = c .before .before .before .before .before .before .before .before .before .before .before .before .before .pre .1 _ (c .before .before .before .before .before .before .before .before .before .loop-test .taken) in omega (arith, c .before .before .wide3 .ensures .0, c .wide4 .ensures .0)
 
--- src/decide.rt:60:26
 part-is-gm-start : tie.Need-part-is-gm-start Inv-loop μ-loop
 part-is-gm-start c = let h = c .before .before .before .before .before .before .before .before .before .before .before .before .before .pre .1 _ (c .before .before .before .before .before .before .before .before .before .loop-test .taken) in omega (arith, c .before .before .wide3 .ensures .0, c .wide4 .ensures .0)
 
--- src/decide.rt:60:26
 part-is-gm-end : tie.Need-part-is-gm-end Inv-loop μ-loop
 part-is-gm-end c = let h = c .before .before .before .before .before .before .before .before .before .before .before .before .before .pre .1 _ (c .before .before .before .before .before .before .before .before .before .loop-test .taken) in omega (arith, c .before .before .wide3 .ensures .0, c .wide4 .ensures .0)
 
--- src/decide.rt:60:13
--- src/decide.rt:60:13
 returns : tie.Need-returns Inv-loop μ-loop
 returns c = owner-is _ _ _ _ (c .before .before .before .before .before .before .before .before .before .before .before .before .loop .inv) (c .before .before .before .before .before .before .before .before .before .before .before .loop-test .taken) (omega (arith, c .before .before .before .before .before .before .if1 .taken, c .before .before .before .before .before .before .before .before .before .wide .ensures .0, c .before .before .before .before .before .before .before .wide2 .ensures .0)) (c .before .before .before .before .wide3 .ensures .0) (c .before .before .wide4 .ensures .0) (c .is-gm .ensures)
 
--- src/decide.rt:62:9
--- src/decide.rt:53:5
--- src/decide.rt:53:5
 loop-again : tie.Need-loop-again Inv-loop μ-loop
 loop-again c = owner-more _ _ _ _ (c .before .before .before .before .before .before .loop .inv) (c .before .before .before .before .before .loop-test .taken) (omega (arith, c .if1 .left, c .before .before .before .wide .ensures .0, c .before .wide2 .ensures .0))
 
--- src/decide.rt:48:1
 returns-2 : tie.Need-returns-2 Inv-loop μ-loop
 returns-2 c = owner-none _ _ _ _ (c .before .loop .inv) (c .loop-test .left)
 

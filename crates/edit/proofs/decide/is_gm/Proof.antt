@@ -5,13 +5,9 @@ use borrow.Author.Needs.{needs}
 use Rattle.edit.proofs.decide.is_gm.Statement.{statement}
 use Rattle.edit.proofs.decide.is_gm.Tie as tie
 
--- src/decide.rt:40:9
 returns : tie.Need-returns
 returns c = gm-not (now (c .before .args .name)) (c .if1 .taken)
 
--- src/decide.rt:42:6
--- src/decide.rt:42:26
--- src/decide.rt:36:1
 returns-2 : tie.Need-returns-2
 returns-2 c = gm-two (now (c .before .before .before .args .name)) (c .before .before .if1 .left)
 

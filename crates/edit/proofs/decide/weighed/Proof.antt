@@ -6,27 +6,18 @@ use borrow.Author.Needs.{needs}
 use Rattle.edit.proofs.decide.weighed.Statement.{statement}
 use Rattle.edit.proofs.decide.weighed.Tie as tie
 
--- src/decide.rt:70:44
--- src/decide.rt:70:35
--- src/decide.rt:71:9
 returns : tie.Need-returns
 returns c = weighed-bad _ _ _ (sym (c .before .place .given .1) ∙ c .before .before .before .trim .ensures)
 
--- src/decide.rt:73:9
--- src/decide.rt:74:9
 returns-2 : tie.Need-returns-2
 returns-2 c = weighed-open _ _ _ (c .before .before .before .trim .ensures) (c .before .before .match .keys2) (sym (c .before .is-closed .ensures) ∙ not-true _ (c .if1 .taken))
 
--- src/decide.rt:76:18
--- src/decide.rt:78:9
 returns-3 : tie.Need-returns-3
 returns-3 c = weighed-long _ _ _ (c .before .before .before .before .trim .ensures) (c .before .before .before .match .keys2) (sym (c .before .before .is-closed .ensures) ∙ not-false _ (c .before .if1 .left)) (c .if2 .taken)
 
--- src/decide.rt:81:9
 returns-4 : tie.Need-returns-4
 returns-4 c = weighed-full _ _ _ (c .before .before .before .before .before .trim .ensures) (c .before .before .before .before .match .keys2) (sym (c .before .before .before .is-closed .ensures) ∙ not-false _ (c .before .before .if1 .left)) (c .before .if2 .left) (c .if3 .taken)
 
--- src/decide.rt:66:1
 returns-5 : tie.Need-returns-5
 returns-5 c = weighed-good _ _ _ (c .before .before .before .before .before .trim .ensures) (c .before .before .before .before .match .keys2) (sym (c .before .before .before .is-closed .ensures) ∙ not-false _ (c .before .before .if1 .left)) (c .before .if2 .left) (c .if3 .left)
 

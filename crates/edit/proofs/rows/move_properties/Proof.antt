@@ -14,39 +14,18 @@ Inv-loop properties₀ n start end m k₀ properties k = PropsMoving (startsAt s
 abbrev μ-loop : tie.MeasureT-loop
 μ-loop properties₀ n start end m k₀ properties k = n - k
 
--- src/rows.rt:50:5
 loop-holds : tie.Need-loop-holds Inv-loop μ-loop
 loop-holds c = props-none _ _ _ _ (c .before .pre .0)
 
--- src/rows.rt:51:18
--- src/rows.rt:52:47
--- src/rows.rt:52:47
--- src/rows.rt:52:13
 moved-start-requires : tie.Need-moved-start-requires Inv-loop μ-loop
 moved-start-requires c κs = let l = c .before .before .before .before .pre .1 _ (c .before .loop-test .taken) in let e = prop-from _ _ _ _ (c .before .before .loop .inv) in (c .before .before .before .before .pre .2, c .before .before .before .before .pre .3, c .before .before .before .before .pre .4, omega arith)
 
--- src/rows.rt:53:54
--- src/rows.rt:53:43
--- src/rows.rt:53:43
--- src/rows.rt:53:13
 moved-end-requires : tie.Need-moved-end-requires Inv-loop μ-loop
 moved-end-requires c κs = let l = c .before .before .before .before .before .before .pre .1 _ (c .before .before .before .loop-test .taken) in let e = prop-cell _ _ _ _ (c .before .before .before .before .loop .inv) 1 in (c .before .before .before .before .before .before .pre .2, c .before .before .before .before .before .before .pre .3, c .before .before .before .before .before .before .pre .4, omega arith)
 
--- src/rows.rt:54:32
--- src/rows.rt:54:21
--- src/rows.rt:54:21
--- src/rows.rt:55:32
--- src/rows.rt:55:21
--- src/rows.rt:55:21
--- src/rows.rt:56:9
--- src/rows.rt:57:9
--- src/rows.rt:50:5
--- src/rows.rt:50:5
 loop-again : tie.Need-loop-again Inv-loop μ-loop
 loop-again c = props-more _ _ _ _ (c .before .before .before .before .before .before .before .before .before .before .before .loop .inv) (c .before .before .before .before .before .before .before .before .before .before .loop-test .taken) (c .before .before .before .before .before .before .before .before .moved-start .ensures) (c .before .before .before .before .before .before .moved-end .ensures) refl refl (c .before .before .put4 .ensures)
 
--- src/rows.rt:45:1
--- src/rows.rt:45:1
 returns : tie.Need-returns Inv-loop μ-loop
 returns c = props-done _ _ _ _ (c .before .loop .inv) (c .loop-test .left)
 

@@ -13,33 +13,18 @@ Inv-loop values₀ n start end m k₀ values k = ValsMoving (startsAt start end 
 abbrev μ-loop : tie.MeasureT-loop
 μ-loop values₀ n start end m k₀ values k = n - k
 
--- src/rows.rt:67:5
 loop-holds : tie.Need-loop-holds Inv-loop μ-loop
 loop-holds c = vals-none _ _ _ _ (c .before .pre .0)
 
--- src/rows.rt:68:18
--- src/rows.rt:69:47
--- src/rows.rt:69:47
--- src/rows.rt:69:13
 moved-start-requires : tie.Need-moved-start-requires Inv-loop μ-loop
 moved-start-requires c κs = let l = c .before .before .before .before .pre .1 _ (c .before .loop-test .taken) in let e = val-from _ _ _ _ (c .before .before .loop .inv) in (c .before .before .before .before .pre .2, c .before .before .before .before .pre .3, c .before .before .before .before .pre .4, omega arith)
 
--- src/rows.rt:70:50
--- src/rows.rt:70:43
--- src/rows.rt:70:43
--- src/rows.rt:70:13
 moved-end-requires : tie.Need-moved-end-requires Inv-loop μ-loop
 moved-end-requires c κs = let l = c .before .before .before .before .before .before .pre .1 _ (c .before .before .before .loop-test .taken) in let e = val-cell _ _ _ _ (c .before .before .before .before .loop .inv) 1 in (c .before .before .before .before .before .before .pre .2, c .before .before .before .before .before .before .pre .3, c .before .before .before .before .before .before .pre .4, omega arith)
 
--- src/rows.rt:71:9
--- src/rows.rt:72:9
--- src/rows.rt:67:5
--- src/rows.rt:67:5
 loop-again : tie.Need-loop-again Inv-loop μ-loop
 loop-again c = vals-more _ _ _ _ (c .before .before .before .before .before .before .before .before .before .loop .inv) (c .before .before .before .before .before .before .before .before .loop-test .taken) (c .before .before .before .before .before .before .moved-start .ensures) (c .before .before .before .before .moved-end .ensures) (c .before .before .put2 .ensures)
 
--- src/rows.rt:62:1
--- src/rows.rt:62:1
 returns : tie.Need-returns Inv-loop μ-loop
 returns c = vals-done _ _ _ _ (c .before .loop .inv) (c .loop-test .left)
 

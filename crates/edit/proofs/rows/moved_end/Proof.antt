@@ -4,12 +4,9 @@ use borrow.Author.Needs.{needs}
 use Rattle.edit.proofs.rows.moved_end.Statement.{statement}
 use Rattle.edit.proofs.rows.moved_end.Tie as tie
 
--- src/rows.rt:39:9
 returns : tie.Need-returns
 returns c = rw (lt-ltb _ _ (c .if1 .taken))
 
--- src/rows.rt:41:5
--- src/rows.rt:34:1
 returns-2 : tie.Need-returns-2
 returns-2 c = rw (le-ltb _ _ (c .before .if1 .left)) (c .moved .ensures)
 

@@ -1,17 +1,15 @@
 -- `rows::moved_start` meets its contract. Assumes nothing.
+use native.Mathlib.Omega.{arith}
 use borrow.Author.Tests.{le-leb, lt-leb}
 use borrow.Author.Needs.{needs}
 use Rattle.edit.proofs.rows.moved_start.Statement.{statement}
 use Rattle.edit.proofs.rows.moved_start.Tie as tie
 
--- src/rows.rt:28:9
 returns : tie.Need-returns
-returns c = rw (le-leb _ _ (c .if1 .taken))
+returns c = let a = c .before .args in rw (le-leb (a .place) (a .start) (let t = c .if1 .taken in omega arith))
 
--- src/rows.rt:30:5
--- src/rows.rt:23:1
 returns-2 : tie.Need-returns-2
-returns-2 c = rw (lt-leb _ _ (c .before .if1 .left)) (c .moved .ensures)
+returns-2 c = let a = c .before .before .args in rw (lt-leb (a .place) (a .start) (let t = c .before .if1 .left in omega arith)) (c .moved .ensures)
 
 pub moved-start-spec : {M : Type 1} → statement M
 moved-start-spec = tie.close (tie.spec returns (λ c κs. search needs) returns-2)

@@ -11,13 +11,6 @@ Inv-loop s at i₀ i = (at ≤ i) × (i ≤ length s)
 abbrev μ-loop : tie.MeasureT-loop
 μ-loop s at i₀ i = length s - i
 
--- src/main.rt:194:5
--- src/main.rt:195:12
--- src/main.rt:198:9
--- src/main.rt:194:5
--- src/main.rt:194:5
--- src/main.rt:189:1
--- src/main.rt:189:1
 pub line-end-spec : {M : Type 1} → statement M
 line-end-spec =
     tie.close

@@ -13,26 +13,12 @@ Inv-loop line from text₀ n₀ text n = (n ≤ length text) × (length text ≡
 abbrev μ-loop : tie.MeasureT-loop
 μ-loop line from text₀ n₀ text n = length text - n
 
--- src/main.rt:74:5
--- src/main.rt:76:13
--- src/main.rt:76:13
--- src/main.rt:78:12
--- src/main.rt:79:13
--- src/main.rt:79:13
--- src/main.rt:81:24
--- src/main.rt:81:19
--- src/main.rt:81:9
--- src/main.rt:82:9
--- src/main.rt:74:5
 loop-less : tie.Need-loop-less Inv-loop μ-loop
 loop-less c = simp length-set (omega arith)
 
--- src/main.rt:74:5
 loop-again : tie.Need-loop-again Inv-loop μ-loop
 loop-again c = simp length-set (omega arith)
 
--- src/main.rt:70:1
--- src/main.rt:70:1
 pub load-spec : {M : Type 1} → statement M
 load-spec =
     tie.close

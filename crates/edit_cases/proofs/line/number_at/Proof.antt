@@ -11,17 +11,6 @@ Inv-loop line from value₀ i₀ value i = value ≤ 999999
 abbrev μ-loop : tie.MeasureT-loop
 μ-loop line from value₀ i₀ value i = length line - i
 
--- src/main.rt:147:5
--- src/main.rt:148:30
--- src/main.rt:148:13
--- src/main.rt:150:13
--- src/main.rt:153:13
--- src/main.rt:155:17
--- src/main.rt:155:17
--- src/main.rt:156:9
--- src/main.rt:147:5
--- src/main.rt:147:5
--- src/main.rt:144:1
 pub number-at-spec : {M : Type 1} → statement M
 number-at-spec =
     tie.close

@@ -11,22 +11,6 @@ Inv-loop rows stride at₀ at = Unit {0}
 abbrev μ-loop : tie.MeasureT-loop
 μ-loop rows stride at₀ at = length rows - at
 
--- src/main.rt:31:5
--- src/main.rt:32:12
--- src/main.rt:33:13
--- src/main.rt:36:13
--- src/main.rt:38:18
--- src/main.rt:38:18
--- src/main.rt:38:33
--- src/main.rt:38:28
--- src/main.rt:38:28
--- src/main.rt:38:9
--- src/main.rt:39:12
--- src/main.rt:40:13
--- src/main.rt:42:9
--- src/main.rt:31:5
--- src/main.rt:31:5
--- src/main.rt:29:1
 pub say-rows-spec : {M : Type 1} → statement M
 say-rows-spec =
     tie.close

@@ -6,7 +6,7 @@ use borrow.Author.Needs.{needs}
 use Rattle.values.proofs.Written.{wrote-length}
 use Rattle.values.specs.Read.{readIdentifier}
 use Rattle.go.proofs.Identifiers.{letter-past, letter-here, letter-on}
-use Rattle.serialize.proofs.Writing.{Writing, writing-first, writing-is, writing-next, writing-end}
+use Rattle.form.proofs.Writing.{Writing, writing-first, writing-is, writing-next, writing-end}
 use Rattle.serialize.proofs.names.put_letters.Statement.{statement}
 use Rattle.serialize.proofs.names.put_letters.Tie as tie
 

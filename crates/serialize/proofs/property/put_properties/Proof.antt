@@ -6,7 +6,7 @@ use Rattle.values.proofs.Written.{wrote-is, wrote-length}
 use Rattle.values.specs.Wrote.{Wrote}
 use Rattle.serialize.specs.Walk.{texts, propText}
 use Rattle.serialize.proofs.Walked.{node-property, properties-are}
-use Rattle.serialize.proofs.Writing.{texts-none, texts-more, texts-end}
+use Rattle.serialize.proofs.Texts.{texts-none, texts-more, texts-end}
 use Rattle.serialize.proofs.property.put_properties.Statement.{statement}
 use Rattle.serialize.proofs.property.put_properties.Tie as tie
 

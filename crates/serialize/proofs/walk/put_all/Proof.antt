@@ -7,7 +7,7 @@ use Rattle.values.proofs.Written.{wrote-is, wrote-length}
 use Rattle.values.specs.Wrote.{Wrote}
 use Rattle.serialize.specs.Walk.{texts, rootsBelow, nodeText}
 use Rattle.serialize.proofs.Walked.{roots-next, roots-some, nodes-up, nodes-above, node-typed, linked-wrote}
-use Rattle.serialize.proofs.Writing.{texts-none, texts-more, texts-end}
+use Rattle.serialize.proofs.Texts.{texts-none, texts-more, texts-end}
 use Rattle.serialize.proofs.walk.put_all.Statement.{statement}
 use Rattle.serialize.proofs.walk.put_all.Tie as tie
 

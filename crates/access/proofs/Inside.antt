@@ -1,0 +1,40 @@
+-- A value that is accessed lies in the text. Assumes nothing.
+use Prim.Native.Nat.{ℕ, _-_, _≤_}
+use mathlib.Core.Bool.{Bool, true, false}
+use mathlib.Core.List.{List}
+use mathlib.Core.Path.{_≡_, refl, sym, ap, _∙_}
+use native.Mathlib.Omega.{arith}
+use lib.Dec.{ltb}
+use lib.ListN.{length, take, drop}
+use borrow.Author.Tests.{ltb-true}
+use Rattle.lists.specs.Pick.{pick}
+use Rattle.lists.proofs.Tests.{never}
+use Rattle.tables.specs.declared.Counts.{Counts}
+use Rattle.tables.specs.declared.Reason.the-variants.{NoSuchNumber, NotFitting}
+use Rattle.access.specs.Access.{accessed, handed}
+use Rattle.fit.specs.Columns.{valFromAt, valToAt}
+use Rattle.fit.specs.Fit.{Fit}
+use Rattle.access.specs.declared.Accessed.{Accessed}
+use Rattle.access.specs.declared.Accessed.the-variants.{Part, Refused}
+use Rattle.fit.proofs.Lists.{part-slice}
+use Rattle.fit.proofs.Clauses.{fit-vals}
+use Rattle.fit.proofs.Whole.{fit-lent}
+
+module _ (t : List ℕ) (used : ℕ) (c : Counts) (tr nd pr vl : List ℕ) where
+  pub access-inside : (k a e : ℕ) → accessed t used c tr nd pr vl k ≡ Part a e → (a ≤ e) × (e ≤ length t)
+  unfolding accessed
+  access-inside k a e h = go (Fit t used c tr nd pr vl) (ltb k (c .values)) refl refl h
+    where
+      go : (f l : Bool) → Fit t used c tr nd pr vl ≡ f → ltb k (c .values) ≡ l
+          → pick f (pick l (Part (valFromAt vl k) (valToAt vl k)) (Refused NoSuchNumber)) (Refused NotFitting) ≡ Part a e → (a ≤ e) × (e ≤ length t)
+      go true true ef el q =
+          let x : valFromAt vl k ≡ a = cc in
+          let y : valToAt vl k ≡ e = cc in
+          let b = fit-vals t used c tr nd pr vl ef k (ltb-true k (c .values) el) in
+          (omega (arith, b .0), omega (arith, b .1, fit-lent t used c tr nd pr vl ef .0))
+      go true false ef el q = never cc
+      go false l ef el q = never cc
+
+-- the part that is lent is the part that is handed out
+pub part-handed : (t : List ℕ) {a e : ℕ} {x : Accessed} → x ≡ Part a e → take (e - a) (drop a t) ≡ handed t x
+part-handed t {a} {e} h = part-slice a e t ∙ ap (handed t) (sym h)

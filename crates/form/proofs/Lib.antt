@@ -1,0 +1,4 @@
+pub mod Boxed
+pub mod Forms
+pub mod Variants
+pub mod Writing

@@ -1,0 +1,20 @@
+-- `form::put_marked` meets its contract. Assumes nothing.
+use native.Mathlib.Omega.{arith}
+use borrow.Author.Needs.{needs}
+use Rattle.values.proofs.Written.{wrote-none, wrote-is}
+use Rattle.form.proofs.Boxed.{marked-point, unmarked-point}
+use Rattle.form.proofs.put_marked.Statement.{statement}
+use Rattle.form.proofs.put_marked.Tie as tie
+
+returns : tie.Need-returns
+returns c = wrote-is (marked-point (c .before .before .before .before .before .before .args .i) (c .before .before .before .before .if1 .taken)) (c .before .before .put-point .ensures)
+
+returns-2 : tie.Need-returns-2
+returns-2 c =
+    let args = c .before .before .args in
+    wrote-is (unmarked-point (args .i) (c .if1 .left)) (wrote-none (args .out .now) (args .at) (omega (arith, c .before .before .good)))
+
+pub put-marked-spec : {M : Type 1} → statement M
+put-marked-spec =
+    tie.close
+    (tie.spec (λ c. search needs) (λ c. search needs) (λ c κs. search needs) (λ c. search needs) returns returns-2)

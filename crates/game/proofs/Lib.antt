@@ -1,0 +1,4 @@
+pub mod GameValues
+pub mod Gather
+pub mod Unique
+pub mod Variants

@@ -1,0 +1,30 @@
+-- No second answer: of each public function, two answers that meet its contract are equal. Assumes nothing.
+use mathlib.Core.Path.{_≡_}
+use mathlib.Core.Bool.{Bool}
+use mathlib.Core.List.{List}
+use Prim.Native.Nat.{ℕ}
+use Rattle.lists.specs.Once.{Once}
+use Rattle.lists.proofs.Once.{once-is}
+use Rattle.scan.specs.Scan.{space, closeAt, skipAt, identAt, valueAt, valuesAt}
+use Rattle.scan.specs.declared.Close.{Close}
+use Rattle.scan.specs.declared.Ident.{Ident}
+use Rattle.scan.specs.declared.ValueStep.{ValueStep}
+
+pub is-space-once : (b : ℕ) → Once (λ (r : Bool). r ≡ space b)
+is-space-once b = once-is (space b)
+
+module _ (s : List ℕ) (i : ℕ) where
+  pub skip-space-once : Once (λ (r : ℕ). r ≡ skipAt s i)
+  skip-space-once = once-is (skipAt s i)
+
+  pub value-end-once : Once (λ (r : Close). r ≡ closeAt s i)
+  value-end-once = once-is (closeAt s i)
+
+  pub ident-end-once : Once (λ (r : Ident). r ≡ identAt s i)
+  ident-end-once = once-is (identAt s i)
+
+  pub next-value-once : Once (λ (r : ValueStep). r ≡ valueAt s i)
+  next-value-once = once-is (valueAt s i)
+
+  pub values-end-once : Once (λ (r : Close). r ≡ valuesAt s i)
+  values-end-once = once-is (valuesAt s i)

@@ -1,0 +1,19 @@
+-- `scan::runs::closes` meets its contract. Assumes nothing.
+use mathlib.Core.Bool.{false≢true}
+use denote.Ref.{now}
+use borrow.Author.Needs.{needs}
+use borrow.Author.Tests.{eqb-true}
+use Rattle.scan.proofs.Scans.{close-here}
+use Rattle.scan.proofs.runs.closes.Statement.{statement}
+use Rattle.scan.proofs.runs.closes.Tie as tie
+
+returns-2 : tie.Need-returns-2
+returns-2 c = λ e. close-here (now (c .before .before .args .s)) _ (c .before .if1 .left) (eqb-true _ _ e)
+
+pub closes-spec : {M : Type 1} → statement M
+closes-spec =
+    tie.close
+    (tie.spec
+    (λ c. λ e. absurd (false≢true e))
+    (λ c. search needs)
+    returns-2)

@@ -1,0 +1,138 @@
+// The scans of the token rules: white space, an identifier, a value and values, each from a place on.
+mod runs; // runs.rt: runs of bytes that a value's scan steps over
+
+ghost use mathlib.Core.Path.{_≡_};
+ghost use Rattle.scan.specs.Scan.{space, closeAt, skipAt, identAt, valueAt, valuesAt};
+
+// Where a scan for a closing bracket ends.
+pub enum Close {
+    At(usize),
+    Open,
+}
+
+// Where an identifier ends: at a `[`; or the text ends first; or a byte that is not ASCII comes first.
+pub enum Ident {
+    Opens(usize),
+    Missing,
+    Foreign,
+}
+
+// Space, tab, LF, FF or CR.
+pub fn is_space(b: u8) -> bool
+    ensures { λ r. ⌜ r ≡ space b ⌝ }
+{
+    (b == 32) | (b == 9) | (b == 10) | (b == 12) | (b == 13)
+}
+
+// The first place at or after `from` that is no white space.
+pub fn skip_space(s: &[u8], from: usize) -> usize
+    ensures { λ r. ⌜ r ≡ skipAt (now (s .entry)) from ⌝ }
+{
+    let mut i = from;
+    while i < s.len() {
+        if !is_space(s[i]) {
+            return i;
+        }
+        i += 1;
+    }
+    i
+}
+
+// The first unescaped `]` at or after `from`. Runs of plain bytes are tried at the start, behind an escape and each 16 bytes.
+pub fn value_end(s: &[u8], from: usize) -> Close
+    ensures { λ r. ⌜ r ≡ closeAt (now (s .entry)) from ⌝ }
+{
+    let mut i = from;
+    let mut escaped = false;
+    let mut again = from;
+    loop {
+        if s.len() <= i {
+            break Close::Open;
+        }
+        if escaped {
+            escaped = false;
+            i = runs::past_plain(s, i + 1);
+            again = i + 16;
+            continue;
+        }
+        let b = s[i];
+        if b == b']' {
+            break Close::At(i);
+        }
+        escaped = b == b'\\';
+        i += 1;
+        if (again <= i) & !escaped {
+            i = runs::past_plain(s, i);
+            again = i + 16;
+        }
+    }
+}
+
+// The `[` that ends the identifier at `from`.
+pub fn ident_end(s: &[u8], from: usize) -> Ident
+    ensures { λ r. ⌜ r ≡ identAt (now (s .entry)) from ⌝ }
+{
+    let mut i = from;
+    while i < s.len() {
+        let b = s[i];
+        if b == b'[' {
+            return Ident::Opens(i);
+        }
+        if 128 <= b {
+            return Ident::Foreign;
+        }
+        i += 1;
+    }
+    Ident::Missing
+}
+
+// A value of a property: its first place, the place of its `]`, and where the white space after it ends.
+pub enum ValueStep {
+    Value(usize, usize, usize),
+    NoMore,
+    Unclosed,
+}
+
+// The value whose `[` stands at `at`.
+pub fn next_value(s: &[u8], at: usize) -> ValueStep
+    ensures { λ r. ⌜ r ≡ valueAt (now (s .entry)) at ⌝ }
+{
+    if s.len() <= at {
+        return ValueStep::NoMore;
+    }
+    if s[at] != b'[' {
+        return ValueStep::NoMore;
+    }
+    let mut to = runs::past_short(s, at + 1);
+    if !runs::closes(s, to) {
+        let Close::At(far) = value_end(s, to) else {
+            return ValueStep::Unclosed;
+        };
+        to = far;
+    }
+    let next = skip_space(s, to + 1);
+    ValueStep::Value(at + 1, to, next)
+}
+
+// Past the values that stand from `from` on, and the white space after each.
+pub fn values_end(s: &[u8], from: usize) -> Close
+    ensures { λ r. ⌜ r ≡ valuesAt (now (s .entry)) from ⌝ }
+{
+    let mut i = from;
+    loop {
+        if s.len() <= i {
+            break Close::At(i);
+        }
+        if s[i] != b'[' {
+            break Close::At(i);
+        }
+        let mut to = runs::past_short(s, i + 1);
+        if !runs::closes(s, to) {
+            let Close::At(far) = value_end(s, to) else {
+                break Close::Open;
+            };
+            to = far;
+        }
+        i = skip_space(s, to + 1);
+    }
+}
