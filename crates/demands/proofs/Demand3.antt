@@ -3,7 +3,7 @@ use Prim.Native.Nat.{ℕ}
 use mathlib.Core.Bool.{Bool}
 use mathlib.Core.List.{List}
 use mathlib.Core.Path.{_≡_}
-use lib.ListN.{take}
+use lib.ListN.{length}
 use Rattle.tables.specs.Rows.{tables, countsOf}
 use Rattle.tables.specs.declared.Counts.{Counts}
 use Rattle.tables.specs.declared.Reading.the-variants.{Accepted}
@@ -11,8 +11,9 @@ use Rattle.fit.specs.Record.{rowsOf}
 use Rattle.parser.specs.Read.{read}
 use Rattle.reader.specs.Lent.{Lent, lent, ReadIs}
 use Rattle.fresh.specs.Calls.{Memory, heldIn, Calls}
-use Rattle.fresh.specs.Run.{strictly, Order, Fresh}
+use Rattle.fresh.specs.Run.{strictly, Order, Fresh, run}
 use Rattle.fresh.proofs.OnCode as code
+use Rattle.fresh.proofs.CallsRun as fitting
 use Rattle.demands.proofs.Rereadings.{read-fresh, reread}
 
 module _ (c : Bool) (s : Memory) where
@@ -34,3 +35,7 @@ module _ (c : Bool) (s : Memory) where
     pub fresh-reading : (xs : List Order) (s′ : Memory) → Calls s xs s′ → (before after : Lent) (k : Counts)
         → ReadIs (read (strictly c) (heldIn s′ .text)) before after (Accepted k) → rowsOf k (after .trees) (after .nodes) (after .props) (after .vals) ≡ heldIn s′ .rows
     fresh-reading xs s′ h before after k x = reread c s′ (code.calls-fresh c s s′ xs f h) before after k x
+
+-- tables that fit, of whatever reading, fit all along, and the calls do what the definition's run of edits does
+pub calls-run : (s s′ : Memory) (xs : List Order) → fitting.Fitting s → Calls s xs s′ → fitting.Fitting s′ × (heldIn s′ ≡ run (length (s .rest .buffer)) (heldIn s) xs)
+calls-run s s′ xs f k = (fitting.calls-fit s s′ xs f k, fitting.calls-run s s′ xs f k)

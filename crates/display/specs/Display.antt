@@ -1,12 +1,10 @@
 -- Text display: `format_text` and the replacements of `SimpleText`, over bytes of UTF-8.
 use Prim.Native.Nat.{ℕ, zero, suc}
-use mathlib.Core.Path.{_≡_}
-use mathlib.Core.Bool.{Bool, true, false, _&&_, _||_}
+use mathlib.Core.Bool.{Bool, _&&_, _||_}
 use mathlib.Core.List.{List, [], _∷_, _++_, map}
 use lib.Dec.{leb, eqb}
 use lib.ListN.{length, getD, drop}
 use Rattle.lists.specs.Pick.{pick}
-use Rattle.values.specs.Read.{readValue}
 use Rattle.display.specs.declared.Displayed.{Displayed}
 use Rattle.display.specs.declared.Displayed.the-variants.{Length, NoRoom}
 use Rattle.display.specs.declared.Kind.{Kind}
@@ -89,8 +87,3 @@ displayed text out = pick (leb (length text) (length out)) (Length (length text)
 -- the lent bytes after it: the text and then what was there, or all that was there
 unfoldable pub displayedIn : (text out : List ℕ) → List ℕ
 displayedIn text out = pick (leb (length text) (length out)) (text ++ drop (length text) out) out
-
--- the number of an answer
-abbrev pub displayNumber : Displayed → ℕ
-displayNumber (Length n) = 0
-displayNumber NoRoom = 14

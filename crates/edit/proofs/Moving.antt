@@ -73,9 +73,6 @@ module _ (f g : ℕ → ℕ) (pr : List ℕ) (n : ℕ) where
   props-none h = record { room = h; within = omega arith; put = put-none pr 0 }
 
   module _ {t : List ℕ} {k : ℕ} (x : PropsMoving t k) where
-    pub props-length : length t ≡ length pr
-    props-length = x .put .len
-
     pub prop-cell : (c : ℕ) → getD t (k * 4 + c) 0 ≡ getD pr (k * 4 + c) 0
     prop-cell c =
         let r = x .room in
@@ -131,9 +128,6 @@ module _ (f g : ℕ → ℕ) (vl : List ℕ) (n : ℕ) where
   vals-none h = record { room = h; within = omega arith; put = put-none vl 0 }
 
   module _ {t : List ℕ} {k : ℕ} (x : ValsMoving t k) where
-    pub vals-length : length t ≡ length vl
-    vals-length = x .put .len
-
     pub val-cell : (c : ℕ) → getD t (k * 2 + c) 0 ≡ getD vl (k * 2 + c) 0
     val-cell c =
         let r = x .room in

@@ -5,7 +5,6 @@ use mathlib.Core.List.{List, _++_}
 use lib.ListN.{length, take, replicate}
 use Rattle.lists.specs.Pick.{pick}
 use Rattle.tables.specs.Flat.{flatProps, flatVals, over}
-use Rattle.tables.specs.Numbers.{numberOf}
 use Rattle.tables.specs.declared.Counts.{Counts}
 use Rattle.tables.specs.declared.Reason.the-variants.{NotFitting}
 use Rattle.fit.specs.Fit.{Fit}
@@ -23,11 +22,6 @@ outcomeOf b used c tr nd pr vl k new =
 abbrev pub answers : Outcome → Edited
 answers (refuses r p) = Refused r p
 answers (gives t T) = Changed (length t)
-
--- the number given back
-abbrev pub editNumber : Edited → ℕ
-editNumber (Changed n) = 0
-editNumber (Refused r p) = numberOf r
 
 -- the new used text, and zeros up to the old used length
 abbrev pub cleared : List ℕ → ℕ → List ℕ

@@ -5,7 +5,6 @@ use mathlib.Core.Bool.{Bool, true, false}
 use mathlib.Core.List.{List, [], _∷_}
 use lib.ListN.{length}
 use borrow.Author.Tests.{eq-eqb}
-use Rattle.lists.proofs.Tests.{never}
 use Rattle.values.specs.Decimal.{decimal, decimalOf}
 use Rattle.values.specs.Read.{readValue}
 use Rattle.go.specs.Area.{letter, moveOf}
@@ -56,9 +55,6 @@ module _ (vs : List (List ℕ)) {g : GoValue} (e : g ≡ pointsOf vs) where
     pub set-points : pointsFrom 0 (g .marks) ≡ formBy ManyPoints vs
     unfolding written
     set-points = ap (λ (x : Value). written x (g .marks) vs) (sym h ∙ q) ∙ form-value ManyPoints vs by-points
-
-    pub set-marks : length (g .marks) ≡ 2704
-    set-marks = either-set (λ p. let z : Points ≡ Invalid = sym h ∙ q ∙ ap (λ (x : GoValue). x .value) p in never cc) (λ m l p k. ap length k ∙ l)
 
 -- ---- moves and numbers
 

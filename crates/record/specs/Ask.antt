@@ -59,11 +59,6 @@ pub record DisplayIs (t : List ℕ) (used : ℕ) (c : Counts) (tr nd pr vl : Lis
   pub is : r ≡ display t (accessed t used c tr nd pr vl k) kind out
   pub bytes : out′ ≡ displayIn t (accessed t used c tr nd pr vl k) kind out
 
--- its number
-abbrev pub shownNumber : Shown → ℕ
-shownNumber (Shows n) = 0
-shownNumber (NotShown r) = numberOf r
-
 -- no property
 abbrev pub noProp : Prop
 noProp = record { from = 0; to = 0; name = []; vals = [] }

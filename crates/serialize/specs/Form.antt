@@ -8,7 +8,6 @@ use lib.ListN.{length, drop, take}
 use Rattle.lexer.specs.Token.{Val, Prop}
 use Rattle.values.specs.Read.{readIdentifier}
 use Rattle.go.specs.Normal.{normal}
-use Rattle.tables.specs.Numbers.{numberOf}
 use Rattle.tables.specs.Record.{Node, Tree, allNodes, allProps}
 use Rattle.tables.specs.declared.Counts.{Counts}
 use Rattle.tables.specs.declared.Reason.the-variants.{NoRoom, EmptyIdentifier, NotFitting}
@@ -57,11 +56,6 @@ written t used c tr nd pr vl room = answerFor (Fit t used c tr nd pr vl) room (r
 abbrev pub output : Written → (w out : List ℕ) → List ℕ
 output (Wrote n) w out = w ++ drop n out
 output (Refused r) w out = out
-
--- the number given back
-abbrev pub writtenNumber : Written → ℕ
-writtenNumber (Wrote n) = 0
-writtenNumber (Refused r) = numberOf r
 
 -- the writer's answer and the lent bytes
 pub record WriteIs (t : List ℕ) (used : ℕ) (c : Counts) (tr nd pr vl out out′ : List ℕ) (r : Written) : Type 0 where
