@@ -79,7 +79,7 @@ pub fn move_properties(properties: &mut [u32], n: usize, start: usize, end: usiz
         let to = moved_end(start, end, m, properties[at + 1]);
         let first = properties[at + 2];
         let count = properties[at + 3];
-        tables::put4(properties, at, from, to, first, count);
+        cells::put4(properties, at, from, to, first, count);
         k += 1;
     }
 }
@@ -94,7 +94,7 @@ pub fn move_values(values: &mut [u32], n: usize, start: usize, end: usize, m: us
         let at = k * tables::VALUE_STRIDE;
         let from = moved_start(start, end, m, values[at]);
         let to = moved_end(start, end, m, values[at + 1]);
-        tables::put2(values, at, from, to);
+        cells::put2(values, at, from, to);
         k += 1;
     }
 }

@@ -10,7 +10,7 @@ use borrow.Author.Tests.{lt-ltb, le-ltb}
 use Rattle.lists.specs.Pick.{pick}
 use Rattle.values.specs.Wrote.{Wrote}
 use Rattle.values.proofs.Written.{wrote-is}
-use Rattle.go.specs.Area.{letter}
+use Rattle.points.specs.Area.{letter}
 use Rattle.go.specs.Normal.{pointText, pointsFrom}
 use Rattle.go.specs.Rows.{valueAt, valuesAt}
 use Rattle.go.proofs.Valued.{values-all, values-next, values-end}

@@ -7,16 +7,17 @@ use lib.ListN.{length}
 use borrow.Author.Tests.{eq-eqb}
 use Rattle.values.specs.Decimal.{decimal, decimalOf}
 use Rattle.values.specs.Read.{readValue}
-use Rattle.go.specs.Area.{letter, moveOf}
+use Rattle.points.specs.Area.{letter, moveOf}
 use Rattle.go.specs.Marks.{allGood, inSome, marksOf}
 use Rattle.go.specs.Normal.{pointsFrom, written, normal}
 use Rattle.go.specs.Rows.{valueAt, valuesAt}
-use Rattle.go.specs.Value.{shapeOf, handicapOf, unmarked, areasOf, pointsOf, valueBy, goValue}
+use Rattle.go.specs.Value.{shapeOf, unmarked, areasOf, pointsOf, valueBy, goValue}
+use Rattle.points.specs.Handicap.{handicapOf}
 use Rattle.go.specs.declared.value.GoValue.{GoValue}
 use Rattle.go.specs.declared.value.Shape.{Shape}
 use Rattle.go.specs.declared.value.Shape.the-variants.{OneMove, OneNumber, ManyPoints}
-use Rattle.go.specs.declared.value.Value.{Value}
-use Rattle.go.specs.declared.value.Value.the-variants.{Invalid, Pass, Move, Handicap, Points}
+use Rattle.points.specs.declared.Value.{Value}
+use Rattle.points.specs.declared.Value.the-variants.{Invalid, Pass, Move, Handicap, Points}
 use Rattle.go.proofs.Choosing.{move-count, number-count, move-one, number-one}
 use Rattle.go.proofs.Marked.{marks-all}
 use Rattle.go.proofs.Shapes.{Moved, Numbered, moves-moved, numbers-numbered, points-valid, points-invalid}

@@ -7,13 +7,13 @@ ghost use lib.ListN.{length};
 ghost use Rattle.lists.specs.Pick.{pick};
 ghost use Rattle.values.specs.Read.{readIdentifier};
 ghost use Rattle.values.specs.Wrote.{Wrote};
-ghost use Rattle.go.specs.Area.{letter};
+ghost use Rattle.points.specs.Area.{letter};
 ghost use Rattle.go.specs.Normal.{pointText, pointsFrom, normal};
 ghost use Rattle.go.specs.Rows.{valuesAt};
 ghost use Rattle.go.specs.declared.value.Shape.the-variants.{OneMove, OneNumber, ManyPoints};
 ghost use Rattle.form.specs.Boxes.{formBy, boxes};
 use go::value::Shape;
-use go::value::Value;
+use points::Value;
 use values::put::put_byte;
 use values::put::put_bytes;
 
@@ -127,7 +127,7 @@ fn put_move(
     if count != 1 {
         return put_raw(out, at, text, values, first, count);
     }
-    match go::point::read_move(go::rows::value_at(text, values, first, 0)) {
+    match points::read_move(go::rows::value_at(text, values, first, 0)) {
         Value::Pass => put_box(out, at, &text[..0]),
         Value::Move(x, y) => put_point(out, at, x, y),
         _ => put_raw(out, at, text, values, first, count),
@@ -148,7 +148,7 @@ fn put_number(
     if count != 1 {
         return put_raw(out, at, text, values, first, count);
     }
-    let Value::Handicap(n) = go::value::read_handicap(go::rows::value_at(text, values, first, 0))
+    let Value::Handicap(n) = points::read_handicap(go::rows::value_at(text, values, first, 0))
     else {
         return put_raw(out, at, text, values, first, count);
     };

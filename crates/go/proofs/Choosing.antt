@@ -1,19 +1,20 @@
 -- The Go value of a property by its game type, its shape and the number of its values. Assumes nothing.
 use Prim.Native.Nat.{ℕ, zero, suc, _+_, _-_, _^_}
 use mathlib.Core.Path.{_≡_, refl, sym, ap, _∙_}
-use mathlib.Core.List.{List, [], _∷_}
+use mathlib.Core.List.{List}
 use native.Mathlib.Omega.{arith}
 use borrow.Author.Tests.{eq-eqb, ne-eqb}
 use Rattle.values.specs.Read.{readValue}
 use Rattle.values.specs.Decimal.{decimalOf}
-use Rattle.go.specs.Area.{moveOf}
+use Rattle.points.specs.Area.{moveOf}
 use Rattle.go.specs.Rows.{valueAt, valuesAt}
-use Rattle.go.specs.Value.{shapeOf, handicapOf, oneBy, unmarked, valueBy, goValue}
+use Rattle.go.specs.Value.{shapeOf, oneBy, unmarked, valueBy, goValue}
+use Rattle.points.specs.Handicap.{handicapOf}
 use Rattle.go.specs.declared.value.GoValue.{GoValue}
 use Rattle.go.specs.declared.value.Shape.{Shape}
-use Rattle.go.specs.declared.value.Shape.the-variants.{OneMove, OneNumber, ManyPoints, Unread}
-use Rattle.go.specs.declared.value.Value.{Value}
-use Rattle.go.specs.declared.value.Value.the-variants.{Other, Invalid}
+use Rattle.go.specs.declared.value.Shape.the-variants.{OneMove, OneNumber}
+use Rattle.points.specs.declared.Value.{Value}
+use Rattle.points.specs.declared.Value.the-variants.{Other, Invalid}
 
 module _ (kind : ℕ) (identifier : List ℕ) (vs : List (List ℕ)) {r : GoValue} where
   pub value-unknown : (kind ≡ 0 → ⊥) → r ≡ unmarked Other → r ≡ goValue kind identifier vs

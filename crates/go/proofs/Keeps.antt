@@ -13,18 +13,18 @@ use Rattle.lists.proofs.Pick.{pick-elim}
 use Rattle.values.specs.Read.{readValue}
 use Rattle.values.specs.Decimal.{decimal}
 use Rattle.values.proofs.Safe.{Safe, decimal-safe}
-use Rattle.go.specs.Area.{areaOf}
+use Rattle.points.specs.Area.{areaOf}
 use Rattle.go.specs.Marks.{inRect, good, inArea, allGood, inSome, marksOf}
 use Rattle.go.specs.Normal.{pointsFrom, written, normal}
 use Rattle.go.specs.Value.{shapeOf, noMarks, areasOf, pointsOf, valueBy, goValue}
-use Rattle.go.specs.declared.point.Area.{Area}
-use Rattle.go.specs.declared.point.Area.the-variants.{Bad, Rect}
+use Rattle.points.specs.declared.Area.{Area}
+use Rattle.points.specs.declared.Area.the-variants.{Bad, Rect}
 use Rattle.go.specs.declared.value.GoValue.{GoValue}
 use Rattle.go.specs.declared.value.Shape.{Shape}
 use Rattle.go.specs.declared.value.Shape.the-variants.{OneMove, OneNumber, ManyPoints, Unread}
-use Rattle.go.specs.declared.value.Value.{Value}
-use Rattle.go.specs.declared.value.Value.the-variants.{Other, Invalid, Pass, Move, Handicap, Points}
-use Rattle.go.proofs.Letters.{point-safe}
+use Rattle.points.specs.declared.Value.{Value}
+use Rattle.points.specs.declared.Value.the-variants.{Other, Invalid, Pass, Move, Handicap, Points}
+use Rattle.points.proofs.Letters.{point-safe}
 use Rattle.go.proofs.Listed.{points-safe, points-some}
 use Rattle.go.proofs.Marked.{marks-all, marks-place}
 use Rattle.go.proofs.Sets.{Cornered, area-cornered}

@@ -1,9 +1,7 @@
 pub mod Adding
-pub mod Areas
 pub mod Choosing
 pub mod Identifiers
 pub mod Keeps
-pub mod Letters
 pub mod Listed
 pub mod Marked
 pub mod ReadBack

@@ -10,12 +10,12 @@ use borrow.Author.Tests.{eq-eqb, ne-eqb}
 use Rattle.lists.specs.All.{All}
 use Rattle.values.specs.Read.{readValue}
 use Rattle.values.proofs.Safe.{Safe}
-use Rattle.go.specs.Area.{areaOf}
-use Rattle.go.specs.Marks.{good, inArea, allGood, inSome, marksOf}
+use Rattle.points.specs.Area.{areaOf}
+use Rattle.go.specs.Marks.{good, inArea, allGood, inSome}
 use Rattle.go.specs.Normal.{pointText, pointsFrom}
 use Rattle.go.specs.Value.{marked, areasOf, pointsOf}
 use Rattle.go.proofs.Adding.{cell-is}
-use Rattle.go.proofs.Letters.{point-safe, area-back}
+use Rattle.points.proofs.Letters.{point-safe, area-back}
 use Rattle.go.proofs.Marked.{marks-are}
 
 module _ (i : ℕ) (h : i < 2704) where

@@ -3,20 +3,16 @@ use Prim.Native.Nat.{ℕ, zero, suc, _+_, _-_, _≤_, _<_}
 use mathlib.Core.Path.{_≡_, refl, sym, ap, _∙_, subst}
 use mathlib.Core.Bool.{Bool, true, false, _&&_, _||_, or-false, or-assoc, or-comm}
 use mathlib.Core.List.{List, [], _∷_}
-use native.Mathlib.Nat.{add-suc, suc-add}
 use native.Mathlib.Omega.{arith}
 use lib.Dec.{leb}
-use lib.ListN.{length, getD, replicate, getD-replicate, length-replicate, List·getD-eq-default}
+use lib.ListN.{length, getD, getD-replicate, length-replicate, List·getD-eq-default}
 use lib.Seq.{ext-getD}
 use borrow.Author.Tests.{leb-true, leb-false}
 use Rattle.values.specs.Read.{readValue}
-use Rattle.go.specs.Area.{areaOf}
+use Rattle.points.specs.Area.{areaOf}
 use Rattle.go.specs.Marks.{Adds, good, inArea, allGood, inSome, marksFrom, marksOf}
-use Rattle.go.specs.Rows.{valueAt, valuesAt}
 use Rattle.go.specs.Value.{noMarks, unmarked, marked, areasOf, pointsOf}
-use Rattle.go.specs.declared.value.GoValue.{GoValue}
-use Rattle.go.specs.declared.value.Value.the-variants.{Invalid, Points}
-use Rattle.go.proofs.Valued.{values-next, values-end}
+use Rattle.points.specs.declared.Value.the-variants.{Invalid}
 
 pub marks-length : (f : ℕ → Bool) (i n : ℕ) → length (marksFrom f i n) ≡ n
 unfolding marksFrom

@@ -9,16 +9,17 @@ use borrow.Author.Tests.{le-leb, ne-eqb}
 use Rattle.lists.specs.Pick.{pick}
 use Rattle.values.specs.Read.{readFrom}
 use Rattle.values.proofs.RoundTrip.{decimal-back}
-use Rattle.go.specs.Area.{moveOf}
+use Rattle.points.specs.Area.{moveOf}
 use Rattle.go.specs.Marks.{allGood, inSome, marksOf}
 use Rattle.go.specs.Normal.{written, normal}
-use Rattle.go.specs.Value.{shapeOf, handicapOf, noMarks, unmarked, areasOf, pointsOf, valueBy, goValue}
+use Rattle.go.specs.Value.{shapeOf, noMarks, unmarked, areasOf, pointsOf, valueBy, goValue}
+use Rattle.points.specs.Handicap.{handicapOf}
 use Rattle.go.specs.declared.value.GoValue.{GoValue}
 use Rattle.go.specs.declared.value.Shape.{Shape}
 use Rattle.go.specs.declared.value.Shape.the-variants.{OneMove, OneNumber, ManyPoints, Unread}
-use Rattle.go.specs.declared.value.Value.{Value}
-use Rattle.go.specs.declared.value.Value.the-variants.{Other, Invalid, Pass, Move, Handicap, Points}
-use Rattle.go.proofs.Letters.{move-back}
+use Rattle.points.specs.declared.Value.{Value}
+use Rattle.points.specs.declared.Value.the-variants.{Other, Invalid, Pass, Move, Handicap, Points}
+use Rattle.points.proofs.Letters.{move-back}
 use Rattle.go.proofs.Listed.{points-back}
 use Rattle.go.proofs.Marked.{marks-all}
 use Rattle.go.proofs.Shapes.{Moved, Numbered, moves, numbers, moves-moved, numbers-numbered, points-valid, points-invalid}

@@ -7,10 +7,10 @@ use lib.Dec.{leb, eqb}
 use borrow.Author.Tests.{leb-true}
 use Rattle.lists.specs.Pick.{pick}
 use Rattle.lists.proofs.Pick.{pick-elim}
-use Rattle.go.specs.Area.{letterOf, cornered, areaOf}
+use Rattle.points.specs.Area.{letterOf, cornered, areaOf}
 use Rattle.go.specs.Marks.{Adds, inRect, good, inArea}
-use Rattle.go.specs.declared.point.Area.{Area}
-use Rattle.go.specs.declared.point.Area.the-variants.{Bad, Rect}
+use Rattle.points.specs.declared.Area.{Area}
+use Rattle.points.specs.declared.Area.the-variants.{Bad, Rect}
 use Rattle.go.proofs.Adding.{adds-none}
 
 -- the corners of an area lie on the board, the first nowhere greater

@@ -1,32 +1,16 @@
 -- No second answer: of each public function, two answers that meet its contract are equal. Assumes nothing.
 use mathlib.Core.Path.{_≡_}
 use mathlib.Core.List.{List}
-use Prim.Native.Nat.{ℕ, _+_, _-_, _^_}
+use Prim.Native.Nat.{ℕ, _+_}
 use Rattle.lists.specs.Once.{Once}
 use Rattle.lists.proofs.Once.{once-is}
-use Rattle.values.specs.Read.{readValue, readIdentifier}
-use Rattle.values.specs.Decimal.{decimalOf}
-use Rattle.go.specs.Area.{letterOf, moveOf, areaOf}
+use Rattle.values.specs.Read.{readIdentifier}
 use Rattle.go.specs.Rows.{valueAt, valuesAt}
-use Rattle.go.specs.Value.{shapeOf, handicapOf, pointsOf, goValue}
-use Rattle.go.specs.declared.point.Area.{Area}
+use Rattle.go.specs.Value.{shapeOf, pointsOf, goValue}
 use Rattle.go.specs.declared.value.Shape.{Shape}
-use Rattle.go.specs.declared.value.Value.{Value}
 use Rattle.go.specs.declared.value.GoValue.{GoValue}
 
-pub letter-of-once : (b : ℕ) → Once (λ (r : ℕ). r ≡ letterOf b)
-letter-of-once b = once-is (letterOf b)
-
 module _ (s : List ℕ) where
-  pub read-move-once : Once (λ (r : Value). r ≡ moveOf (readValue s))
-  read-move-once = once-is (moveOf (readValue s))
-
-  pub read-area-once : Once (λ (r : Area). r ≡ areaOf (readValue s))
-  read-area-once = once-is (areaOf (readValue s))
-
-  pub read-handicap-once : Once (λ (r : Value). r ≡ handicapOf (decimalOf (2 ^ 63 - 1) (readValue s)))
-  read-handicap-once = once-is (handicapOf (decimalOf (2 ^ 63 - 1) (readValue s)))
-
   pub shape-of-once : Once (λ (r : Shape). r ≡ shapeOf (readIdentifier s))
   shape-of-once = once-is (shapeOf (readIdentifier s))
 

@@ -1,4 +1,3 @@
-pub mod Area
 pub mod Identifier
 pub mod Marks
 pub mod Normal

@@ -5,8 +5,8 @@ use mathlib.Core.Bool.{Bool, true, false, _&&_, _||_}
 use mathlib.Core.List.{List, [], _∷_}
 use lib.Dec.{leb, ltb}
 use lib.ListN.{length, getD}
-use Rattle.go.specs.declared.point.Area.{Area}
-use Rattle.go.specs.declared.point.Area.the-variants.{Bad, Rect}
+use Rattle.points.specs.declared.Area.{Area}
+use Rattle.points.specs.declared.Area.the-variants.{Bad, Rect}
 
 -- the first coordinate from x on and before x2, the second from y on and before y2
 unfoldable pub inRect : (x x2 y y2 : ℕ) → ℕ → Bool

@@ -1,14 +1,13 @@
 -- The normal form of a property's values: as they are written.
 use Prim.Native.Nat.{ℕ, suc, _/_, _%_}
-use mathlib.Core.Bool.{Bool, true, false}
+use mathlib.Core.Bool.{Bool}
 use mathlib.Core.List.{List, [], _∷_}
 use Rattle.lists.specs.Pick.{pick}
 use Rattle.values.specs.Decimal.{decimal}
-use Rattle.go.specs.Area.{letter}
+use Rattle.points.specs.Area.{letter}
 use Rattle.go.specs.Value.{goValue}
-use Rattle.go.specs.declared.value.GoValue.{GoValue}
-use Rattle.go.specs.declared.value.Value.{Value}
-use Rattle.go.specs.declared.value.Value.the-variants.{Other, Invalid, Pass, Move, Handicap, Points}
+use Rattle.points.specs.declared.Value.{Value}
+use Rattle.points.specs.declared.Value.the-variants.{Other, Invalid, Pass, Move, Handicap, Points}
 
 -- the two letters of a place
 abbrev pub pointText : ℕ → List ℕ

@@ -1,21 +1,20 @@
 -- The Go value of a property by its read identifier, in Go trees.
 use Prim.Native.Nat.{ℕ, _-_, _^_}
-use mathlib.Core.Bool.{Bool, true, false, _&&_, _||_}
+use mathlib.Core.Bool.{Bool, false, _&&_, _||_}
 use mathlib.Core.List.{List, [], _∷_, map}
-use lib.Dec.{leb, eqb}
+use lib.Dec.{eqb}
 use lib.ListN.{replicate}
 use Rattle.lists.specs.Pick.{pick}
 use Rattle.values.specs.Read.{readValue}
 use Rattle.values.specs.Decimal.{decimalOf}
-use Rattle.values.specs.declared.decimal.Number.{Number}
-use Rattle.values.specs.declared.decimal.Number.the-variants.{Bad, Plus, Minus}
-use Rattle.go.specs.Area.{moveOf, areaOf}
+use Rattle.points.specs.Area.{moveOf, areaOf}
+use Rattle.points.specs.Handicap.{handicapOf}
 use Rattle.go.specs.Marks.{allGood, inSome, marksOf}
-use Rattle.go.specs.declared.point.Area.{Area}
+use Rattle.points.specs.declared.Area.{Area}
 use Rattle.go.specs.declared.value.Shape.{Shape}
 use Rattle.go.specs.declared.value.Shape.the-variants.{OneMove, OneNumber, ManyPoints, Unread}
-use Rattle.go.specs.declared.value.Value.{Value}
-use Rattle.go.specs.declared.value.Value.the-variants.{Other, Invalid, Handicap, Points}
+use Rattle.points.specs.declared.Value.{Value}
+use Rattle.points.specs.declared.Value.the-variants.{Other, Invalid, Points}
 use Rattle.go.specs.declared.value.GoValue.{GoValue}
 
 -- B, W; HA; AB, AW, AE, TB, TW; any other
@@ -26,12 +25,6 @@ shapeOf (a ∷ b ∷ []) =
     pick (eqb a 0x48 && eqb b 0x41) OneNumber
     (pick ((eqb a 0x41 && (eqb b 0x42 || (eqb b 0x57 || eqb b 0x45))) || (eqb a 0x54 && (eqb b 0x42 || eqb b 0x57))) ManyPoints Unread)
 shapeOf (a ∷ b ∷ c ∷ r) = Unread
-
--- a number of stones, at least 2
-unfoldable pub handicapOf : Number → Value
-handicapOf Bad = Invalid
-handicapOf (Plus n) = pick (leb 2 n) (Handicap n) Invalid
-handicapOf (Minus n) = Invalid
 
 -- one value by f
 abbrev pub oneBy : (List ℕ → Value) → List (List ℕ) → Value

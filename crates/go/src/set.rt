@@ -1,16 +1,16 @@
 // The points that the values of a property stand for.
 ghost use mathlib.Core.Path.{_≡_};
-ghost use mathlib.Core.Bool.{Bool, false};
-ghost use Prim.Native.Nat.{ℕ, _+_, _*_, _≤_, _<_};
+ghost use mathlib.Core.Bool.{false};
+ghost use Prim.Native.Nat.{_+_, _*_, _≤_, _<_};
 ghost use lib.ListN.{length};
 ghost use Rattle.values.specs.Read.{readValue};
-ghost use Rattle.go.specs.Area.{areaOf};
+ghost use Rattle.points.specs.Area.{areaOf};
 ghost use Rattle.go.specs.Marks.{Adds, inRect, good, inArea};
-ghost use Rattle.go.specs.Rows.{valueAt, valuesAt};
+ghost use Rattle.go.specs.Rows.{valuesAt};
 ghost use Rattle.go.specs.Value.{pointsOf};
-use crate::point::Area;
 use crate::value::GoValue;
-use crate::value::Value;
+use points::Area;
+use points::Value;
 
 // Marks the points (x, from) to (x, to).
 fn mark_row(marks: &mut [bool; 2704], x: usize, from: usize, to: usize)
@@ -44,7 +44,7 @@ fn mark_value(marks: &mut [bool; 2704], value: &[u8]) -> bool
     requires { ⌜ length (now marks) ≡ 2704 ⌝ }
     ensures { λ r. ⌜ (r ≡ good (areaOf (readValue (now (value .entry))))) × Adds (inArea (areaOf (readValue (now (value .entry))))) (now (marks .entry)) (now (marks .exit)) ⌝ }
 {
-    match crate::point::read_area(value) {
+    match points::read_area(value) {
         Area::Bad => false,
         Area::Rect { x, y, x2, y2 } => {
             mark_rect(marks, x, y, x2, y2);

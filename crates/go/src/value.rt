@@ -1,24 +1,12 @@
 // The Go value of a property.
 ghost use mathlib.Core.Path.{_≡_};
 ghost use mathlib.Core.List.{[], _∷_};
-ghost use Prim.Native.Nat.{_-_, _^_};
-ghost use Rattle.values.specs.Read.{readValue, readIdentifier};
-ghost use Rattle.values.specs.Decimal.{decimalOf};
+ghost use Rattle.values.specs.Read.{readIdentifier};
 ghost use Rattle.go.specs.Identifier.{Letters};
 ghost use Rattle.go.specs.Rows.{valuesAt};
-ghost use Rattle.go.specs.Value.{shapeOf, handicapOf, unmarked, goValue};
-use values::decimal::Number;
+ghost use Rattle.go.specs.Value.{shapeOf, unmarked, goValue};
+use points::Value;
 use values::read::Step;
-
-// What a property stands for.
-pub enum Value {
-    Other,
-    Invalid,
-    Pass,
-    Move(u8, u8),
-    Handicap(u64),
-    Points,
-}
 
 // A value, and the points of a set: point (x, y) is marked at 52 * x + y.
 pub struct GoValue {
@@ -32,22 +20,6 @@ pub enum Shape {
     OneNumber,
     ManyPoints,
     Unread,
-}
-
-// The number of handicap stones that a value stands for.
-pub fn read_handicap(s: &[u8]) -> Value
-    ensures { λ r. ⌜ r ≡ handicapOf (decimalOf (2 ^ 63 - 1) (readValue (now (s .entry)))) ⌝ }
-{
-    match values::decimal::read_i64(s) {
-        Number::Bad => Value::Invalid,
-        Number::Minus(_) => Value::Invalid,
-        Number::Plus(n) => {
-            if n < 2 {
-                return Value::Invalid;
-            }
-            Value::Handicap(n)
-        }
-    }
 }
 
 // The next uppercase letter of an identifier.
@@ -136,14 +108,14 @@ pub fn go_value(
                 return unmarked_value(Value::Invalid);
             }
             let v = crate::rows::value_at(text, vals, first, 0);
-            unmarked_value(crate::point::read_move(v))
+            unmarked_value(points::read_move(v))
         }
         Shape::OneNumber => {
             if count != 1 {
                 return unmarked_value(Value::Invalid);
             }
             let v = crate::rows::value_at(text, vals, first, 0);
-            unmarked_value(read_handicap(v))
+            unmarked_value(points::read_handicap(v))
         }
     }
 }

@@ -8,8 +8,8 @@ use Rattle.lists.proofs.Tests.{never}
 use Rattle.go.proofs.ReadBack.{normal-value}
 use Rattle.go.specs.Normal.{normal, written}
 use Rattle.go.specs.Value.{goValue}
-use Rattle.go.specs.declared.value.Value.{Value}
-use Rattle.go.specs.declared.value.Value.the-variants.{Other, Invalid, Pass, Move, Handicap, Points}
+use Rattle.points.specs.declared.Value.{Value}
+use Rattle.points.specs.declared.Value.the-variants.{Other, Invalid, Pass, Move, Handicap, Points}
 use Rattle.lexer.specs.Token.{Prop}
 use Rattle.readback.proofs.FormProps.{raws-aside, raws-back}
 use Rattle.readback.specs.Back.{zProp, zNode, zTree}

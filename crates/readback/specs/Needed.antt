@@ -7,7 +7,7 @@ use Rattle.utf8.specs.Text.{white}
 use Rattle.scan.specs.Scan.{space}
 use Rattle.values.specs.Read.{readFrom, readIdentifier}
 use Rattle.values.specs.Decimal.{decimalOf, digitsFrom, digitOf}
-use Rattle.go.specs.Area.{areaOf, cornered, letterOf, letter}
+use Rattle.points.specs.Area.{areaOf, cornered, letterOf, letter}
 use Rattle.go.specs.Marks.{marksOf, marksFrom, inRect}
 use Rattle.go.specs.Normal.{normal, written, pointsFrom}
 use Rattle.go.specs.Value.{shapeOf, valueBy, goValue, pointsOf}

@@ -7,8 +7,8 @@ use Rattle.record.specs.Ask.{goOf}
 use Rattle.lexer.specs.Token.{Prop}
 use Rattle.values.specs.Read.{readIdentifier}
 use Rattle.go.specs.Normal.{normal}
-use Rattle.go.specs.declared.value.Value.{Value}
-use Rattle.go.specs.declared.value.Value.the-variants.{Other, Invalid, Pass, Move, Handicap, Points}
+use Rattle.points.specs.declared.Value.{Value}
+use Rattle.points.specs.declared.Value.the-variants.{Other, Invalid, Pass, Move, Handicap, Points}
 use Rattle.tables.specs.Record.{Node, Tree}
 use Rattle.tables.specs.Rows.{tables}
 use Rattle.parser.specs.Read.{accepted, read}

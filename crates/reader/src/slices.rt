@@ -73,7 +73,7 @@ fn read_trees(
                 ) {
                     Walked::Refused(reason) => return Total::Refused(reason),
                     Walked::Tree(next, node, property, value) => {
-                        tables::put2(trees, k * tables::TREE_STRIDE, n as u32, kind);
+                        cells::put2(trees, k * tables::TREE_STRIDE, n as u32, kind);
                         at = next;
                         n = node;
                         p = property;

@@ -14,7 +14,7 @@ use Rattle.display.specs.declared.Displayed.{Displayed}
 use Rattle.display.specs.declared.Displayed.the-variants.{Length, NoRoom}
 use Rattle.go.specs.Value.{unmarked, goValue}
 use Rattle.go.specs.declared.value.GoValue.{GoValue}
-use Rattle.go.specs.declared.value.Value.the-variants.{Other}
+use Rattle.points.specs.declared.Value.the-variants.{Other}
 use Rattle.tables.specs.Numbers.{numberOf}
 use Rattle.tables.specs.Record.{Tree, allProps}
 use Rattle.tables.specs.declared.Counts.{Counts}

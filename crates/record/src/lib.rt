@@ -3,7 +3,7 @@ use access::Accessed;
 use display::Displayed;
 use display::Kind;
 use go::value::GoValue;
-use go::value::Value;
+use points::Value;
 use tables::Counts;
 use tables::Reason;
 ghost use mathlib.Core.Path.{_≡_};

@@ -12,8 +12,8 @@ use Rattle.access.specs.declared.Accessed.the-variants.{Part, Refused}
 use Rattle.display.specs.declared.Kind.{Kind}
 use Rattle.display.specs.declared.Kind.the-variants.{Text, SimpleText}
 use Rattle.go.specs.declared.value.GoValue.{GoValue}
-use Rattle.go.specs.declared.value.Value.{Value}
-use Rattle.go.specs.declared.value.Value.the-variants.{Other, Invalid, Pass, Move, Handicap, Points}
+use Rattle.points.specs.declared.Value.{Value}
+use Rattle.points.specs.declared.Value.the-variants.{Other, Invalid, Pass, Move, Handicap, Points}
 use Rattle.record.specs.Ask.{display, displayIn, refusalNumber}
 use Rattle.record.specs.declared.Shown.{Shown}
 use Rattle.record.specs.declared.Shown.the-variants.{Shows, NotShown}

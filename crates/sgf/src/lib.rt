@@ -3,16 +3,16 @@ use access::Accessed;
 use display::Kind;
 use edit::Edited;
 use go::value::GoValue;
-use go::value::Value;
-use lexer::Step;
+use points::Value;
 use record::Refusal;
 use record::Shown;
-use scan::ValueStep;
 use serialize::Written;
+use shown::SgfToken;
+use shown::SgfTrim;
+use shown::SgfValue;
 use tables::Counts;
 use tables::Reading;
 use tables::Reason;
-use utf8::Trimmed;
 ghost use mathlib.Core.Path.{_≡_};
 ghost use Rattle.scan.specs.Scan.{valueAt};
 ghost use Rattle.lexer.specs.Step.{nextAt};
@@ -21,8 +21,7 @@ ghost use Rattle.tables.specs.declared.Reading.the-variants.{Accepted, Refused}
 ghost use Rattle.parser.specs.Read.{read};
 ghost use Rattle.reader.specs.Lent.{lent};
 ghost use Rattle.edit.specs.declared.Edited.the-variants.{Changed, Refused as Refuses};
-ghost use Rattle.edit.specs.Lent.{outcomeOf};
-ghost use Rattle.edit.specs.Lent.{lent as held};
+ghost use Rattle.edit.specs.Lent.{outcomeOf, lent as held};
 ghost use Rattle.fit.specs.Fit.{Fit};
 ghost use Rattle.access.specs.Access.{accessed};
 ghost use Rattle.go.specs.Rows.{valuesAt};
@@ -31,76 +30,15 @@ ghost use Rattle.record.specs.Ask.{refusalNumber, goAnswer};
 ghost use Rattle.values.specs.Read.{readIdentifier};
 ghost use Rattle.sgf.specs.Changed.{editShown, WriteShown, EditShown};
 ghost use Rattle.sgf.specs.Asked.{countsFrom, kindOf, fitsShown, spanShown, figuresShown, goShown, answerShown, DisplayShown};
-ghost use Rattle.sgf.specs.Shown.{TrimIs, TokenIs, ValueIs, readingShown, optionsOf, ReadShown};
-
-// Number 0 and what trimming keeps; or number 2 and the start of the first bad sequence.
-#[repr(C)]
-pub struct SgfTrim {
-    pub number: u32,
-    pub place: usize,
-    pub first: usize,
-    pub last: usize,
-}
+ghost use Rattle.sgf.specs.Shown.{readingShown, optionsOf, ReadShown};
+ghost use Rattle.shown.specs.Tokens.{TrimIs, TokenIs, ValueIs};
 
 // Is the text UTF-8, and what does trimming keep of it.
 #[no_mangle]
 pub extern "C" fn sgf_trim(text: &[u8]) -> SgfTrim
     ensures { λ r. ⌜ TrimIs (trimmed (now (text .entry))) (r .number) (r .place) (r .first) (r .last) ⌝ }
 {
-    match utf8::trim(text) {
-        Trimmed::NotUtf8(p) => SgfTrim {
-            number: 2,
-            place: p,
-            first: 0,
-            last: 0,
-        },
-        Trimmed::Blank => SgfTrim {
-            number: 0,
-            place: 0,
-            first: 0,
-            last: 0,
-        },
-        Trimmed::Kept(f, l) => SgfTrim {
-            number: 0,
-            place: 0,
-            first: f,
-            last: l,
-        },
-    }
-}
-
-// Kind 0 the end of the text, 1 `(`, 2 `)`, 3 `;`, 4 a property with its first `[`, 5 a fault with its number; and the span, whose end is the next place.
-#[repr(C)]
-pub struct SgfToken {
-    pub kind: u32,
-    pub number: u32,
-    pub from: usize,
-    pub opens: usize,
-    pub to: usize,
-}
-
-fn single(kind: u32, from: usize, to: usize) -> SgfToken
-    ensures { λ r. ⌜ (r .kind ≡ kind) × (r .number ≡ 0) × (r .from ≡ from) × (r .opens ≡ from) × (r .to ≡ to) ⌝ }
-{
-    SgfToken {
-        kind: kind,
-        number: 0,
-        from: from,
-        opens: from,
-        to: to,
-    }
-}
-
-fn faulty(number: u32, from: usize) -> SgfToken
-    ensures { λ r. ⌜ (r .kind ≡ 5) × (r .number ≡ number) × (r .from ≡ from) × (r .opens ≡ from) × (r .to ≡ from) ⌝ }
-{
-    SgfToken {
-        kind: 5,
-        number: number,
-        from: from,
-        opens: from,
-        to: from,
-    }
+    shown::trim(text)
 }
 
 // The next token from a place on.
@@ -108,29 +46,7 @@ fn faulty(number: u32, from: usize) -> SgfToken
 pub extern "C" fn sgf_token(text: &[u8], at: usize) -> SgfToken
     ensures { λ r. ⌜ TokenIs at (nextAt (now (text .entry)) at) (r .kind) (r .number) (r .from) (r .opens) (r .to) ⌝ }
 {
-    match lexer::next_token(text, at) {
-        Step::Start(i) => single(1, i, i + 1),
-        Step::End(i) => single(2, i, i + 1),
-        Step::Node(i) => single(3, i, i + 1),
-        Step::Property(i, k, e) => SgfToken {
-            kind: 4,
-            number: 0,
-            from: i,
-            opens: k,
-            to: e,
-        },
-        Step::Refused(f, i) => faulty(lexer::number(f), i),
-        Step::Done => single(0, at, at),
-    }
-}
-
-// Kind 0 no value opens there, 1 a value with its span and the next place, 2 a value that does not close.
-#[repr(C)]
-pub struct SgfValue {
-    pub kind: u32,
-    pub from: usize,
-    pub to: usize,
-    pub next: usize,
+    shown::token(text, at)
 }
 
 // The value of a property whose `[` stands at a place.
@@ -138,26 +54,7 @@ pub struct SgfValue {
 pub extern "C" fn sgf_next_value(text: &[u8], at: usize) -> SgfValue
     ensures { λ r. ⌜ ValueIs at (valueAt (now (text .entry)) at) (r .kind) (r .from) (r .to) (r .next) ⌝ }
 {
-    match scan::next_value(text, at) {
-        ValueStep::Value(a, e, n) => SgfValue {
-            kind: 1,
-            from: a,
-            to: e,
-            next: n,
-        },
-        ValueStep::NoMore => SgfValue {
-            kind: 0,
-            from: at,
-            to: at,
-            next: at,
-        },
-        ValueStep::Unclosed => SgfValue {
-            kind: 2,
-            from: at,
-            to: at,
-            next: at,
-        },
-    }
+    shown::next_value(text, at)
 }
 
 // Number 0 and the counts of used rows; or the number of a refusal and its place, the counts 0.

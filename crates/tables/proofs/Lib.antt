@@ -1,4 +1,3 @@
 pub mod Links
-pub mod Stores
 pub mod Unique
 pub mod Moved

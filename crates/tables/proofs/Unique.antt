@@ -10,9 +10,7 @@ use lib.ListN.{length, getD}
 use lib.Seq.{ext-getD}
 use borrow.Author.Tests.{leb-true, leb-false, ltb-true, ltb-false, eqb-true, eqb-false}
 use Rattle.lists.specs.Once.{Once}
-use Rattle.lists.specs.Put.{PutWhole}
 use Rattle.lists.proofs.Once.{once-is}
-use Rattle.lists.proofs.Put.{put-whole-once}
 use Rattle.lexer.specs.declared.Fault.{Fault}
 use Rattle.tables.specs.Links.{NoLink, LinkedFrom, HasRows, LinksIs}
 use Rattle.tables.specs.Numbers.{none, numberOf, reasonOf}
@@ -23,10 +21,6 @@ number-once r = once-is (numberOf r)
 
 pub fault-reason-once : (f : Fault) → Once (λ (r : Reason). r ≡ reasonOf f)
 fault-reason-once f = once-is (reasonOf f)
-
--- of put1, put2, put4 and put5, whatever is put
-pub put-once : (t : List ℕ) (at : ℕ) (vs : List ℕ) → Once (PutWhole t at vs)
-put-once t at vs x y p q = put-whole-once x y p q
 
 -- the links: a cell is one of a link, or it stays
 module _ (n : ℕ) (t x y : List ℕ) (p : LinkedFrom n t x 0) (q : LinkedFrom n t y 0) where

@@ -1,7 +1,5 @@
-// The four lent tables: their rows, the counts and numbers given back, rows put where there is room, and the links of the nodes.
+// The four lent tables: their rows, the counts and numbers given back, and the links of the nodes.
 ghost use mathlib.Core.Path.{_≡_};
-ghost use mathlib.Core.List.{[], _∷_};
-ghost use Rattle.lists.specs.Put.{PutWhole};
 ghost use Rattle.tables.specs.Links.{LinksIs};
 ghost use Rattle.tables.specs.Numbers.{numberOf, reasonOf};
 
@@ -96,56 +94,6 @@ pub fn fault_reason(fault: lexer::Fault) -> Reason
         lexer::Fault::UnexpectedEndOfPropertyIdentifier =>
             Reason::UnexpectedEndOfPropertyIdentifier,
         lexer::Fault::UnexpectedEndOfPropertyValue => Reason::UnexpectedEndOfPropertyValue,
-    }
-}
-
-// One number put at a place, where there is room.
-pub fn put1(t: &mut [u32], cell: usize, number: u32)
-    ensures { λ _. ⌜ PutWhole (now (t .entry)) cell (number ∷ []) (now (t .exit)) ⌝ }
-{
-    if cell < t.len() {
-        t[cell] = number;
-    }
-}
-
-// Two numbers put from a place on, where there is room for both.
-pub fn put2(t: &mut [u32], at: usize, first: u32, second: u32)
-    ensures { λ _. ⌜ PutWhole (now (t .entry)) at (first ∷ second ∷ []) (now (t .exit)) ⌝ }
-{
-    if at < t.len() {
-        if 1 < t.len() - at {
-            t[at] = first;
-            t[at + 1] = second;
-        }
-    }
-}
-
-// Four numbers put from a place on, where there is room for all.
-pub fn put4(t: &mut [u32], at: usize, from: u32, to: u32, first: u32, count: u32)
-    ensures { λ _. ⌜ PutWhole (now (t .entry)) at (from ∷ to ∷ first ∷ count ∷ []) (now (t .exit)) ⌝ }
-{
-    if at < t.len() {
-        if 3 < t.len() - at {
-            t[at] = from;
-            t[at + 1] = to;
-            t[at + 2] = first;
-            t[at + 3] = count;
-        }
-    }
-}
-
-// Five numbers put from a place on, where there is room for all.
-pub fn put5(t: &mut [u32], at: usize, parent: u32, child: u32, sibling: u32, first: u32, count: u32)
-    ensures { λ _. ⌜ PutWhole (now (t .entry)) at (parent ∷ child ∷ sibling ∷ first ∷ count ∷ []) (now (t .exit)) ⌝ }
-{
-    if at < t.len() {
-        if 4 < t.len() - at {
-            t[at] = parent;
-            t[at + 1] = child;
-            t[at + 2] = sibling;
-            t[at + 3] = first;
-            t[at + 4] = count;
-        }
     }
 }
 

@@ -112,7 +112,7 @@ fn node(mut w: State, i: usize, nodes: &mut [u32]) -> State
 {
     let n = w.nodes;
     let p = w.props;
-    tables::put5(nodes, n * 5, w.cur, NONE, NONE, p as u32, 0);
+    cells::put5(nodes, n * 5, w.cur, NONE, NONE, p as u32, 0);
     w.at = i + 1;
     w.cur = n as u32;
     w.nodes = n + 1;
@@ -132,7 +132,7 @@ fn take_values(s: &[u8], from: usize, v0: usize, vals: &mut [u32]) -> Taken
     loop {
         match scan::next_value(s, i) {
             ValueStep::Value(a, e, next) => {
-                tables::put2(vals, v * 2, a as u32, e as u32);
+                cells::put2(vals, v * 2, a as u32, e as u32);
                 v += 1;
                 i = next;
             }
@@ -161,8 +161,8 @@ fn add(
     let cell = w.nodes * 5 - 1;
     let taken = take_values(s, k, v, vals);
     let count = taken.next - v;
-    tables::put4(props, p * 4, i as u32, k as u32, v as u32, count as u32);
-    tables::put1(nodes, cell, (p + 1 - first) as u32);
+    cells::put4(props, p * 4, i as u32, k as u32, v as u32, count as u32);
+    cells::put1(nodes, cell, (p + 1 - first) as u32);
     w.at = taken.end;
     w.props = p + 1;
     w.vals = taken.next;
@@ -301,7 +301,7 @@ fn finish(lenient: bool, base: usize, w: State, at: usize, nodes: &mut [u32]) ->
     if !lenient {
         return Walked::Refused(Reason::UnexpectedEndOfData);
     }
-    tables::put5(nodes, n * 5, NONE, NONE, NONE, p as u32, 0);
+    cells::put5(nodes, n * 5, NONE, NONE, NONE, p as u32, 0);
     Walked::Tree(at, n + 1, p, v)
 }
 

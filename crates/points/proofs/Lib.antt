@@ -1,0 +1,3 @@
+pub mod Areas
+pub mod Letters
+pub mod Unique
