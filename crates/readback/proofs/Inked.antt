@@ -12,7 +12,8 @@ use Rattle.lists.proofs.Tests.{and-both}
 use Rattle.lists.specs.All.{All}
 use Rattle.lists.specs.Pick.{pick}
 use Rattle.parser.specs.Walk.{uppers}
-use Rattle.readback.proofs.WrittenProps.{Plain, letters-same, range}
+use Rattle.utf8.proofs.Tests.{within-true}
+use Rattle.readback.proofs.WrittenProps.{Plain, letters-same}
 use Rattle.readback.proofs.Written.{PlainNode, PlainTree}
 use Rattle.serialize.specs.Write.{Open, boxed, bracketed, ends, left, opened, shuts, writeNodes, writeProps, writeTrees}
 use Rattle.tables.specs.Numbers.{none}
@@ -57,7 +58,7 @@ fine-upper : (w : List ℕ) → uppers w ≡ true → Fine w
 fine-upper [] h = fine-nil
 fine-upper (b ∷ bs) h =
     let k = and-both (within 0x41 0x5a b) (uppers bs) h in
-    let r = range 0x41 0x5a b (k .0) in
+    let r = within-true 0x41 0x5a b (k .0) in
     fine-cons b bs (le-leb b 0x7f (omega (arith, r .1))) (fine-upper bs (k .1))
 
 abbrev pub Valid : Val → Type 0

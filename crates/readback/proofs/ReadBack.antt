@@ -19,7 +19,7 @@ use Rattle.parser.proofs.MovedKind.{GmStays}
 use Rattle.parser.specs.Read.{Answer, accepted, decoded, lexing, planted, read, refused}
 use Rattle.parser.specs.Split.{sliced, split, splitting}
 use Rattle.readback.proofs.Resplit.{Few, deepest, planted-written}
-use Rattle.readback.proofs.Regrow.{SoundTrees}
+use Rattle.readback.proofs.Regrow.{SoundTrees, raws-stay}
 use Rattle.readback.proofs.Written.{PlainTree, lex-written, tokTrees}
 use Rattle.serialize.specs.Write.{Open, boxed, bracketed, ends, left, opened, writeNodes, writeProps, writeTree, writeTrees}
 use Rattle.tables.proofs.Moved.{parents-move}
@@ -35,15 +35,11 @@ pub gm-same : (ts : List Tok) → All (OfTok (GmStays Z Z K)) ts
 gm-same [] = tt
 gm-same (t ∷ ts) = (one t, gm-same ts)
   where
-    every : (vs : List Val) → All (λ (v : Val). v .raw ≡ v .raw) vs
-    every [] = tt
-    every (v ∷ vs) = (refl, every vs)
-
     one : (t : Tok) → OfTok (GmStays Z Z K) t
     one (start o) = tt
     one (end o) = tt
     one (node o) = tt
-    one (prop p e) = λ _. every (p .vals)
+    one (prop p e) = λ _. raws-stay (p .vals)
 
 -- trees that can be written and read back, the limits aside
 pub record Form (ts : List Tree) : Type 0 where

@@ -23,6 +23,11 @@ use Rattle.tables.specs.Record.{Node, Tree}
 use Rattle.tables.specs.Rows.{parents}
 use Rattle.readback.specs.Back.{Z, K, zProp, zNode, zTree}
 
+-- values keep their raw bytes
+pub raws-stay : (vs : List Val) → All (λ (v : Val). v .raw ≡ v .raw) vs
+raws-stay [] = tt
+raws-stay (v ∷ vs) = (refl, raws-stay vs)
+
 abbrev rootOf : List Prop → Node
 rootOf qs = record { parent = none; props = qs }
 
@@ -96,11 +101,7 @@ module _ (r k : ℕ) (qs : List Prop) (ns : List Node) (s : Sound r k qs ns) whe
 
   fixed : (us : List Prop) → All (λ (p : Prop). All (λ (v : Val). v .raw ≡ v .raw) (p .vals)) us
   fixed [] = tt
-  fixed (u ∷ us) = (every (u .vals), fixed us)
-    where
-      every : (vs : List Val) → All (λ (v : Val). v .raw ≡ v .raw) vs
-      every [] = tt
-      every (v ∷ vs) = (refl, every vs)
+  fixed (u ∷ us) = (raws-stay (u .vals), fixed us)
 
   kind-run : kind slice ≡ is k
   kind-run =

@@ -1,12 +1,13 @@
 -- Reading back, the tokens: a written property is read as it is, places aside. Assumes nothing.
 use mathlib.Core.Path.{_≡_, refl, sym, ap, ap₂, _∙_, subst}
-use Prim.Native.Nat.{ℕ, suc, _≤_, _<_}
+use Prim.Native.Nat.{ℕ, suc, _<_}
 use native.Mathlib.Omega.{arith}
-use mathlib.Core.Bool.{Bool, true, false, _&&_, false≢true}
+use mathlib.Core.Bool.{true, false, false≢true}
 use mathlib.Core.List.{List, [], _∷_, _++_, map, append-assoc, append-nil, map-append}
 use lib.Dec.{leb, eqb}
 use lib.ListN.{length}
-use borrow.Author.Tests.{leb-true, lt-leb, ne-eqb}
+use borrow.Author.Tests.{lt-leb, ne-eqb}
+use Rattle.utf8.proofs.Tests.{within-true}
 use Rattle.lexer.proofs.Machine.{emits-append, ends-append, grown, over-value}
 use Rattle.lexer.specs.Closed.{closedFrom}
 use Rattle.lexer.specs.Move.{moveVal}
@@ -32,18 +33,10 @@ record Upper (b : ℕ) : Type 0 where
   bracket-no : eqb b 0x5b ≡ false
   ascii : leb 0x80 b ≡ false
 
-pub range : (lo hi b : ℕ) → within lo hi b ≡ true → (lo ≤ b) × (b ≤ hi)
-range lo hi b h = go (leb lo b) (leb b hi) refl refl h
-  where
-    go : (x y : Bool) → leb lo b ≡ x → leb b hi ≡ y → (x && y) ≡ true → (lo ≤ b) × (b ≤ hi)
-    go true true e f k = (leb-true lo b e, leb-true b hi f)
-    go true false e f k = absurd (false≢true k)
-    go false y e f k = absurd (false≢true k)
-
 upper : (b : ℕ) → within 0x41 0x5a b ≡ true → Upper b
 unfolding space
 upper b h =
-    let r = range 0x41 0x5a b h in
+    let r = within-true 0x41 0x5a b h in
     record {
       open-no = ne-eqb b 0x28 (λ e. omega (arith, r .0, r .1));
       close-no = ne-eqb b 0x29 (λ e. omega (arith, r .0, r .1));
