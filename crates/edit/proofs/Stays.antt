@@ -20,7 +20,7 @@ use Rattle.fit.specs.Fit.{Fit}
 use Rattle.fit.specs.Locals.{Held}
 use Rattle.fit.specs.Record.{propRow, valRow}
 use Rattle.fit.specs.Spans.{span, spans, ascending, plainName, nameRight, boxed, valueRight}
-use Rattle.fit.proofs.Cases.{same-or}
+use Rattle.lists.proofs.Tests.{same-or}
 use Rattle.fit.proofs.Clauses.{Clauses, fit-clauses, clauses-fit, fit-vals}
 use Rattle.fit.proofs.Each.{each-at, each-all}
 use Rattle.fit.proofs.Lying.{names-lie}

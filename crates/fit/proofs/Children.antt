@@ -10,7 +10,7 @@ use Rattle.tables.specs.Numbers.{none}
 use Rattle.fit.specs.Columns.{parentAt, childAt}
 use Rattle.fit.specs.Locals.{Ruled}
 use Rattle.fit.specs.Nodes.{onPath, firstUnder, childRight}
-use Rattle.fit.proofs.Cases.{same-or}
+use Rattle.lists.proofs.Tests.{same-or}
 use Rattle.fit.proofs.Path.{has-before, path-down, path-le}
 use Rattle.fit.proofs.Rule.{rule-before, on-between, parent-on}
 

@@ -11,7 +11,8 @@ use Rattle.fit.specs.Columns.{parentAt, siblingAt}
 use Rattle.fit.specs.Each.{each}
 use Rattle.fit.specs.Locals.{Next, Climbed}
 use Rattle.fit.specs.Nodes.{onPath, nextOf, siblingRight}
-use Rattle.fit.proofs.Cases.{same-or, either-bool, below-or, true-false}
+use Rattle.fit.proofs.Cases.{either-bool, below-or, true-false}
+use Rattle.lists.proofs.Tests.{same-or}
 use Rattle.fit.proofs.Children.{first-none, first-at}
 use Rattle.fit.proofs.Each.{each-fails}
 use Rattle.fit.proofs.Path.{has-before, has-none, path-self, path-up, path-out, path-down, path-le, path-not, path-trans}

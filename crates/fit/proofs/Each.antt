@@ -5,7 +5,8 @@ use mathlib.Core.Path.{_≡_, refl, sym, ap, _∙_, subst}
 use native.Mathlib.Numerals.{add-one}
 use native.Mathlib.Omega.{arith}
 use Rattle.fit.specs.Each.{each}
-use Rattle.fit.proofs.Cases.{same-or, and-left, and-right}
+use Rattle.fit.proofs.Cases.{and-left, and-right}
+use Rattle.lists.proofs.Tests.{same-or}
 
 pub each-none : (f : ℕ → Bool) → each 0 f ≡ true
 unfolding each

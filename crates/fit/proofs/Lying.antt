@@ -11,7 +11,8 @@ use Rattle.fit.specs.Columns.{nameFromAt, nameToAt, firstValAt, valCount
 use Rattle.fit.specs.Each.{tabulate, sum}
 use Rattle.fit.specs.Ranges.{gapless}
 use Rattle.fit.specs.Spans.{Span, span, valSpan, spans, ascending}
-use Rattle.fit.proofs.Cases.{same-or, below-or, and-left, and-right}
+use Rattle.fit.proofs.Cases.{below-or, and-left, and-right}
+use Rattle.lists.proofs.Tests.{same-or}
 use Rattle.fit.proofs.Ranges.{sum-next, gapless-first, gapless-sum}
 
 module _ (used : ℕ) where

@@ -9,7 +9,7 @@ use borrow.Author.Tests.{eq-eqb, ne-eqb, lt-ltb, le-ltb}
 use Rattle.tables.specs.Numbers.{none}
 use Rattle.fit.specs.Columns.{parentAt}
 use Rattle.fit.specs.Nodes.{onPath, parentRight}
-use Rattle.fit.proofs.Cases.{same-or}
+use Rattle.lists.proofs.Tests.{same-or}
 use Rattle.fit.proofs.Path.{path-up, path-out, path-not, path-self, has-parent, has-none, has-late}
 
 module _ (nd : List ℕ) (j p : ℕ) where

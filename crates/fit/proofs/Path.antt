@@ -9,7 +9,8 @@ use borrow.Author.Tests.{eq-eqb, ne-eqb, lt-ltb, le-ltb, eqb-false, ltb-true}
 use Rattle.tables.specs.Numbers.{none}
 use Rattle.fit.specs.Columns.{parentAt}
 use Rattle.fit.specs.Nodes.{hasParent, upward, onPath}
-use Rattle.fit.proofs.Cases.{same-or, either-bool, true-false}
+use Rattle.fit.proofs.Cases.{either-bool, true-false}
+use Rattle.lists.proofs.Tests.{same-or}
 
 module _ (nd : List ℕ) where
   pub has-before : (j : ℕ) → hasParent nd j ≡ true → (parentAt nd j < j) × (parentAt nd j ≡ none → ⊥)

@@ -4,10 +4,11 @@ use mathlib.Core.Bool.{true}
 use mathlib.Core.List.{List, [], _∷_}
 use mathlib.Core.Path.{_≡_, refl, sym, ap, _∙_}
 use lib.ListN.{length}
-use Rattle.lexer.specs.Token.{Val, Prop}
+use Rattle.lexer.specs.Token.{Prop}
 use Rattle.tables.specs.Record.{Node, Tree, allNodes, allProps, allVals}
-use Rattle.tables.specs.Rows.{Tables, tables, parents, nodeRows, propRows, valRows, countsOf}
+use Rattle.tables.specs.Rows.{Tables, tables, parents, nodeRows, propRows, countsOf}
 use Rattle.tables.specs.declared.Counts.{Counts}
+use Rattle.tables.proofs.Lengths.{prop-rows-length, val-rows-length}
 use Rattle.fit.specs.Columns.{firstPropAt, propCountAt, firstValAt, valCountAt}
 use Rattle.fit.specs.Each.{each, tabulate}
 use Rattle.fit.specs.Nodes.{childRight, siblingRight}
@@ -25,14 +26,6 @@ counts-of-rows c tr nd pr vl = simp tabulate-length
 node-rows-length : (qs : List ℕ) (k f : ℕ) (ns : List Node) → length (nodeRows qs k f ns) ≡ length ns
 node-rows-length qs k f [] = refl
 node-rows-length qs k f (n ∷ ns) = ap suc (node-rows-length qs (suc k) (f + length (n .props)) ns)
-
-prop-rows-length : (f : ℕ) (ps : List Prop) → length (propRows f ps) ≡ length ps
-prop-rows-length f [] = refl
-prop-rows-length f (p ∷ ps) = ap suc (prop-rows-length (f + length (p .vals)) ps)
-
-val-rows-length : (vs : List Val) → length (valRows vs) ≡ length vs
-val-rows-length [] = refl
-val-rows-length (v ∷ vs) = ap suc (val-rows-length vs)
 
 module _ (c : Counts) (tr nd pr vl : List ℕ) (ts : List Tree) (h : rowsOf c tr nd pr vl ≡ tables ts) where
   abbrev ns : List Node

@@ -15,7 +15,7 @@ use Rattle.fit.specs.Columns.{parentAt, childAt, siblingAt}
 use Rattle.fit.specs.Each.{each, tabulate}
 use Rattle.fit.specs.Nodes.{firstUnder, nextOf, childRight, siblingRight}
 use Rattle.fit.specs.Record.{nodeRow}
-use Rattle.fit.proofs.Cases.{same-or}
+use Rattle.lists.proofs.Tests.{same-or}
 use Rattle.fit.proofs.Each.{each-all}
 
 eqb-sym : (a b : ℕ) → eqb a b ≡ eqb b a

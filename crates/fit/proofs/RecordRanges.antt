@@ -15,7 +15,7 @@ use Rattle.fit.specs.Columns.{firstPropAt, propCountAt, firstValAt, valC
 use Rattle.fit.specs.Each.{sum, tabulate}
 use Rattle.fit.specs.Ranges.{gapless}
 use Rattle.fit.specs.Record.{nodeRow, propRow}
-use Rattle.fit.proofs.Cases.{same-or}
+use Rattle.lists.proofs.Tests.{same-or}
 use Rattle.fit.proofs.Each.{each-all}
 use Rattle.fit.proofs.Ranges.{sum-next}
 

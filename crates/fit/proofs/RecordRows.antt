@@ -15,7 +15,8 @@ use Rattle.fit.specs.Each.{sum, tabulate}
 use Rattle.fit.specs.Locals.{Ruled}
 use Rattle.fit.specs.Ranges.{gapless}
 use Rattle.fit.specs.Record.{treeRow, nodeRow, propRow, valRow, valOf, rawOf, propOf, nodeOf, treesOf, rowsOf, recordOf}
-use Rattle.fit.proofs.Cases.{same-or, below-or}
+use Rattle.fit.proofs.Cases.{below-or}
+use Rattle.lists.proofs.Tests.{same-or}
 use Rattle.fit.proofs.Clauses.{Clauses}
 use Rattle.fit.proofs.Lists.{part-slice}
 use Rattle.fit.proofs.Parts.{tabulate-length, map-tabulate, tabulate-part, joined, joined-part, joined-all}

@@ -8,12 +8,11 @@ use lib.Dec.{eqb}
 use borrow.Author.Tests.{eqb-true, eqb-false}
 use Rattle.lists.specs.Same.{same}
 use Rattle.lists.specs.Pick.{pick}
-use Rattle.lists.proofs.Tests.{and-both, never}
+use Rattle.lists.proofs.Tests.{and-both, never, same-or}
 use Rattle.tables.specs.Numbers.{none}
 use Rattle.fit.specs.Columns.{rootAt, parentAt}
 use Rattle.fit.specs.Each.{tabulate}
 use Rattle.fit.specs.Nodes.{orphans, rootsRight}
-use Rattle.fit.proofs.Cases.{same-or}
 
 -- lists that are the same are equal
 pub same-equal : (xs ys : List ℕ) → same xs ys ≡ true → xs ≡ ys

@@ -13,7 +13,7 @@ use Rattle.tables.specs.Numbers.{none}
 use Rattle.fit.specs.Columns.{rootAt, parentAt}
 use Rattle.fit.specs.Each.{tabulate}
 use Rattle.fit.specs.Nodes.{orphans}
-use Rattle.fit.proofs.Cases.{same-or}
+use Rattle.lists.proofs.Tests.{same-or}
 
 module _ (tr nd : List ℕ) (m n : ℕ) where
   abbrev pub rest : (r k : ℕ) → Bool

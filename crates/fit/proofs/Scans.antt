@@ -18,7 +18,8 @@ use Rattle.scan.specs.declared.Ident.{Ident}
 use Rattle.scan.specs.declared.Ident.the-variants.{Opens, Missing, Foreign}
 use Rattle.fit.specs.Columns.{nameFromAt, nameToAt, valFromAt, valToAt}
 use Rattle.fit.specs.Spans.{plainName, nameRight, boxed, valueRight}
-use Rattle.fit.proofs.Cases.{same-or, either-bool, below-or, true-false, and-left, and-right}
+use Rattle.fit.proofs.Cases.{either-bool, below-or, true-false, and-left, and-right}
+use Rattle.lists.proofs.Tests.{same-or}
 use Rattle.fit.proofs.Lists.{part-slice}
 
 -- ---- an identifier is plain where no `[` and no other byte than ASCII ends the scan

@@ -9,7 +9,8 @@ use Rattle.fit.specs.Columns.{parentAt}
 use Rattle.fit.specs.Each.{each}
 use Rattle.fit.specs.Locals.{Ruled, Next, Climbed}
 use Rattle.fit.specs.Nodes.{onPath, siblingRight}
-use Rattle.fit.proofs.Cases.{same-or, either-bool, true-false}
+use Rattle.fit.proofs.Cases.{either-bool, true-false}
+use Rattle.lists.proofs.Tests.{same-or}
 use Rattle.fit.proofs.Each.{each-all}
 use Rattle.fit.proofs.Path.{path-self, path-up}
 use Rattle.fit.proofs.Rule.{rule-has}

@@ -16,6 +16,7 @@ use Rattle.lexer.specs.Token.{Val, Prop}
 use Rattle.lexer.specs.Closed.{closed}
 use Rattle.lexer.specs.Move.{startsAt, endsAt, newRaw}
 use Rattle.lexer.proofs.Contents.{Denotes}
+use Rattle.tables.proofs.Lengths.{val-rows-length}
 use Rattle.tables.specs.Numbers.{textLimit}
 use Rattle.tables.specs.Record.{Tree, allNodes, allProps, allVals}
 use Rattle.tables.specs.Rows.{Tables, PropRow, ValRow, tables, propRows, valRows}
@@ -28,10 +29,6 @@ use Rattle.fresh.specs.Run.{strictly, Held, Order, after, run, Fresh}
 use Rattle.fresh.proofs.Numbered.{noVal, ownerOf, valueOf, newText, newTrees, edit-number}
 
 -- ---- rows and trees
-
-length-rows : (vs : List Val) → length (valRows vs) ≡ length vs
-length-rows [] = refl
-length-rows (v ∷ vs) = ap suc (length-rows vs)
 
 row-at : (vs : List Val) (k : ℕ) → spanAt (valRows vs) k ≡ record { from = getD vs k noVal .from; to = getD vs k noVal .to }
 row-at [] k = refl
@@ -98,7 +95,7 @@ module _ (c : Bool) (room : ℕ) (t : List ℕ) (ts : List Tree) (k : ℕ) (new 
       ap (λ (z : ValRow). outcome (ltb k (length (tables ts .vals))) (same (ownerName t (tables ts .props) k) GM) (utfs (whole blank) 0 new) (closed new)
       (ltb textLimit (length (pasted t z new))) (ltb room (length (pasted t z new))) (pasted t z new) (shifted (tables ts) z (length new))) span-is
       ∙ ap (λ (z : ℕ). outcome (ltb k z) (same (ownerName t (tables ts .props) k) GM) (utfs (whole blank) 0 new) (closed new)
-      (ltb textLimit (length U)) (ltb room (length U)) U (shifted (tables ts) Row0 (length new))) (length-rows (allVals (allProps (allNodes ts))))
+      (ltb textLimit (length U)) (ltb room (length U)) U (shifted (tables ts) Row0 (length new))) (val-rows-length (allVals (allProps (allNodes ts))))
       ∙ ap₂ (λ (z : List ℕ) (T : Tables). outcome (ltb k (length (allVals (allProps (allNodes ts))))) (same z GM) (utfs (whole blank) 0 new) (closed new)
       (ltb textLimit (length U)) (ltb room (length U)) U T) name-is (sym rows-is)
 

@@ -1,8 +1,9 @@
--- Tests that are Booleans: what a conjunction and a disjunction say; and what cannot be. Assumes nothing.
+-- Tests that are Booleans: what a conjunction and a disjunction say; what cannot be; and numbers that are equal or not. Assumes nothing.
 use Prim.Native.Nat.{ℕ}
 use mathlib.Core.Path.{_≡_, refl}
 use mathlib.Core.Bool.{Bool, true, false, _&&_, _||_, false≢true, true≢false}
 use native.Mathlib.Omega.{arith}
+use native.Mathlib.Decide.{ℕ-discrete}
 
 pub and-both : (x y : Bool) → x && y ≡ true → (x ≡ true) × (y ≡ true)
 and-both true y h = (refl, h)
@@ -19,3 +20,7 @@ or-neither false y h = (refl, h)
 -- two constructors are never equal: from such an equation (`cc` makes it), anything
 pub never {ℓ} : {X : Type ℓ} → _≡_ {A = ℕ} 0 1 → X
 never e = absurd (omega (arith, e))
+
+-- two numbers are equal or not
+pub same-or {ℓ} : {X : Type ℓ} (a b : ℕ) → (a ≡ b → X) → ((a ≡ b → ⊥) → X) → X
+same-or a b f g = elim (ℕ-discrete a b) [ yes h ↦ f h | no h ↦ g h ]

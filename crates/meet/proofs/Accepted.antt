@@ -13,8 +13,8 @@ use Rattle.utf8.specs.Text.{Ink, blank, Utf, whole, part, bad, utfs}
 use Rattle.lexer.specs.Token.{Tok, End, done, broken}
 use Rattle.tables.specs.Numbers.{textLimit, reasonOf}
 use Rattle.tables.specs.Record.{Tree}
-use Rattle.tables.specs.declared.Reason.{Reason}
 use Rattle.tables.specs.declared.Reason.the-variants.{TextTooLong, NotUtf8}
+use Rattle.parser.proofs.Answers.{not-both}
 use Rattle.parser.specs.Split.{Slices, no, slices, slicesOf}
 use Rattle.parser.specs.Slice.{sliceFrom, cut}
 use Rattle.parser.specs.Survey.{foundAs, counted}
@@ -23,7 +23,6 @@ use Rattle.parser.specs.Walk.{Opts}
 use Rattle.parser.specs.Read.{refused, accepted, Growing, growing, failing, growAll, answer, planted, parsed, lexing, lex, decoded, read}
 use Rattle.parser.proofs.Slices.{slices-cut}
 use Rattle.meet.proofs.Grown.{Grew, grow-all}
-use Rattle.lists.proofs.Tests.{never}
 
 -- what an acceptance says; `toks`: the tokens that the slices are cut from, all or none of the text's
 pub record Reading (op : Opts) (t : List ℕ) (ts : List Tree) : Type 0 where
@@ -57,9 +56,6 @@ cutting len l [] e = found-cut len l [] 0 e refl
 cutting len l ([] ∷ []) e = record { toks = []; from = inr refl; k = 1; few = omega arith; are = refl }
 cutting len l ((t ∷ ts) ∷ []) e = found-cut len l ((t ∷ ts) ∷ []) 1 e refl
 cutting len l (s ∷ u ∷ ss) e = found-cut len l (s ∷ u ∷ ss) (suc (suc (length ss))) e refl
-
-not-both : {A : Type 0} (r : Reason) (p : ℕ) (ts : List Tree) → refused r p ≡ accepted ts → A
-not-both r p ts e = never cc
 
 module _ (op : Opts) (t : List ℕ) (ts : List Tree) where
   of-planted : (l : List Tok) (ink : Ink) → utfs (whole blank) 0 t ≡ whole ink → length t ≤ textLimit → l ≡ lex ink t .toks

@@ -22,7 +22,8 @@ use Rattle.fit.proofs.Rows.{rows-of-flat}
 use Rattle.parser.specs.Walk.{Opts}
 use Rattle.parser.specs.Read.{accepted, read}
 use Rattle.reader.specs.Lent.{lent}
-use Rattle.reader.proofs.Rooms.{tree-count, prop-count, val-count, flat-nodes, Room}
+use Rattle.reader.proofs.Rooms.{tree-count, flat-nodes, Room}
+use Rattle.tables.proofs.Lengths.{prop-rows-length, val-rows-length}
 use Rattle.reader.proofs.Plants.{tree-length}
 use Rattle.trees.proofs.Flats.{prop-length, val-length}
 use Rattle.meet.proofs.Accepted.{Reading, reading-is}
@@ -106,8 +107,8 @@ flat-room ts a b c d =
     record {
       trees = omega (arith, length-append (flatTrees (T .trees)) a, tree-length ts, tree-count ts);
       nodes = omega (arith, length-append (flatNodes (T .nodes)) b, flat-nodes (T .nodes));
-      props = omega (arith, length-append (flatProps (T .props)) c, prop-length 0 (allProps (allNodes ts)), prop-count 0 (allProps (allNodes ts)));
-      vals = omega (arith, length-append (flatVals (T .vals)) d, val-length (allVals (allProps (allNodes ts))), val-count (allVals (allProps (allNodes ts))));
+      props = omega (arith, length-append (flatProps (T .props)) c, prop-length 0 (allProps (allNodes ts)), prop-rows-length 0 (allProps (allNodes ts)));
+      vals = omega (arith, length-append (flatVals (T .vals)) d, val-length (allVals (allProps (allNodes ts))), val-rows-length (allVals (allProps (allNodes ts))));
     }
 
 -- over a buffer

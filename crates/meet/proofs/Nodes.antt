@@ -15,7 +15,8 @@ use Rattle.fit.specs.Columns.{rootAt, kindAt, parentAt}
 use Rattle.fit.specs.Each.{each, tabulate}
 use Rattle.fit.specs.Nodes.{orphans, rootsRight, parentRight, kindRight}
 use Rattle.fit.specs.Record.{treeRow, nodeRow}
-use Rattle.fit.proofs.Cases.{same-or, below-or}
+use Rattle.fit.proofs.Cases.{below-or}
+use Rattle.lists.proofs.Tests.{same-or}
 use Rattle.fit.proofs.Each.{each-all}
 use Rattle.fit.proofs.Recorded.{Rooted}
 use Rattle.parser.specs.Slice.{sliceFrom}

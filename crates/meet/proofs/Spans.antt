@@ -19,7 +19,7 @@ use Rattle.fit.specs.Each.{each, tabulate}
 use Rattle.fit.specs.Ranges.{hasValue}
 use Rattle.fit.specs.Record.{propRow, valRow}
 use Rattle.fit.specs.Spans.{Span, span, valSpan, propSpans, spans, ascending, plainName, nameRight, boxed, valueRight}
-use Rattle.fit.proofs.Cases.{same-or}
+use Rattle.lists.proofs.Tests.{same-or}
 use Rattle.fit.proofs.Each.{each-all}
 use Rattle.parser.specs.Walk.{Opts}
 use Rattle.parser.specs.Read.{accepted, read}

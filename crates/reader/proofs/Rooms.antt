@@ -8,9 +8,8 @@ use lib.ListN.{length}
 use lib.Dec.{leb}
 use borrow.Author.Tests.{leb-true}
 use Rattle.lists.proofs.Tests.{never}
-use Rattle.lexer.specs.Token.{Val, Prop}
 use Rattle.tables.specs.Record.{Node, Tree}
-use Rattle.tables.specs.Rows.{treeRows, NodeRow, nodeRows, propRows, valRows}
+use Rattle.tables.specs.Rows.{treeRows, NodeRow, nodeRows}
 use Rattle.tables.specs.Flat.{flatNodes}
 use Rattle.tables.specs.declared.Counts.{Counts}
 use Rattle.reader.specs.Lent.{Lent, roomFor}
@@ -22,14 +21,6 @@ tree-count (t ∷ ts) = ap suc (tree-count ts)
 pub node-count : (ps : List ℕ) (k f : ℕ) (ns : List Node) → length (nodeRows ps k f ns) ≡ length ns
 node-count ps k f [] = refl
 node-count ps k f (n ∷ ns) = ap suc (node-count ps (suc k) (f + length (n .props)) ns)
-
-pub prop-count : (f : ℕ) (ps : List Prop) → length (propRows f ps) ≡ length ps
-prop-count f [] = refl
-prop-count f (p ∷ ps) = ap suc (prop-count (f + length (p .vals)) ps)
-
-pub val-count : (vs : List Val) → length (valRows vs) ≡ length vs
-val-count [] = refl
-val-count (v ∷ vs) = ap suc (val-count vs)
 
 pub flat-nodes : (rs : List NodeRow) → length (flatNodes rs) ≡ length rs * 5
 flat-nodes [] = refl

@@ -30,7 +30,8 @@ use Rattle.reader.specs.declared.slices.Total.the-variants.{Rows, Refuse
 use Rattle.reader.proofs.Parents.{Below, parents-below}
 use Rattle.reader.proofs.Linked.{linked-rows}
 use Rattle.reader.proofs.Plants.{tree-length}
-use Rattle.reader.proofs.Rooms.{tree-count, node-count, prop-count, val-count, flat-nodes, Room, room-true}
+use Rattle.reader.proofs.Rooms.{tree-count, node-count, flat-nodes, Room, room-true}
+use Rattle.tables.proofs.Lengths.{prop-rows-length, val-rows-length}
 
 -- the tables after a run on empty parts
 pub dry-kept : (l t : List ℕ) → length l ≡ 0 → l ++ drop 0 t ≡ t
@@ -66,8 +67,8 @@ module _ {X : Growing} {count n p v : ℕ} {b₀ a₀ : Lent} (G : GrownIs X cou
   counts-are =
       let e1 : length (treeRows (G .ts)) ≡ count = tree-count (G .ts) ∙ G .count-is in
       let e2 : length (nodeRows (parents (allNodes (G .ts))) 0 0 (allNodes (G .ts))) ≡ n = omega (arith, node-count (parents (allNodes (G .ts))) 0 0 (allNodes (G .ts)), G .stored .nodes) in
-      let e3 : length (propRows 0 (allProps (allNodes (G .ts)))) ≡ p = omega (arith, prop-count 0 (allProps (allNodes (G .ts))), G .stored .props) in
-      let e4 : length (valRows (allVals (allProps (allNodes (G .ts))))) ≡ v = omega (arith, val-count (allVals (allProps (allNodes (G .ts)))), G .stored .vals) in
+      let e3 : length (propRows 0 (allProps (allNodes (G .ts)))) ≡ p = omega (arith, prop-rows-length 0 (allProps (allNodes (G .ts))), G .stored .props) in
+      let e4 : length (valRows (allVals (allProps (allNodes (G .ts))))) ≡ v = omega (arith, val-rows-length (allVals (allProps (allNodes (G .ts)))), G .stored .vals) in
       rw (e1, e2, e3, e4)
 
   answer-is : answer X ≡ accepted (G .ts)

@@ -12,7 +12,7 @@ use Rattle.values.specs.Wrote.{Wrote}
 use Rattle.tables.specs.Numbers.{none}
 use Rattle.fit.specs.Columns.{parentAt, childAt, siblingAt}
 use Rattle.fit.specs.Nodes.{onPath}
-use Rattle.fit.proofs.Cases.{same-or}
+use Rattle.lists.proofs.Tests.{same-or}
 use Rattle.fit.proofs.Path.{has-before, path-down, path-le}
 use Rattle.fit.proofs.Rule.{rule-before}
 use Rattle.serialize.specs.Locals.{Placed, Above}

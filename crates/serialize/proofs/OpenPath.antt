@@ -8,7 +8,8 @@ use lib.Dec.{eqb}
 use borrow.Author.Tests.{eq-eqb, ne-eqb}
 use Rattle.lists.specs.Pick.{pick}
 use Rattle.tables.specs.Numbers.{none}
-use Rattle.fit.proofs.Cases.{same-or, true-false}
+use Rattle.fit.proofs.Cases.{true-false}
+use Rattle.lists.proofs.Tests.{same-or}
 use Rattle.fit.proofs.Path.{has-before, has-none, path-out, path-down}
 use Rattle.fit.specs.Columns.{parentAt}
 use Rattle.fit.specs.Nodes.{hasParent, onPath}

@@ -8,7 +8,8 @@ use lib.Dec.{eqb, leb}
 use borrow.Author.Tests.{eq-eqb, ne-eqb, le-leb}
 use Rattle.lists.specs.Pick.{pick}
 use Rattle.tables.specs.Numbers.{none}
-use Rattle.fit.proofs.Cases.{same-or, true-false}
+use Rattle.fit.proofs.Cases.{true-false}
+use Rattle.lists.proofs.Tests.{same-or}
 use Rattle.fit.proofs.Children.{first-none, first-at}
 use Rattle.fit.proofs.Path.{has-none, path-out}
 use Rattle.fit.proofs.Rule.{rule-before, off-on, parent-on}

@@ -17,7 +17,7 @@ use Rattle.go.specs.Normal.{normal}
 use Rattle.go.specs.Rows.{valuesAt}
 use Rattle.go.proofs.Identifiers.{letter-past, letter-here}
 use Rattle.fit.specs.Columns.{kindAt, parentAt, firstPropAt, propCountAt, nameFromAt, nameToAt, firstValAt, valCountAt}
-use Rattle.fit.proofs.Cases.{same-or}
+use Rattle.lists.proofs.Tests.{same-or}
 use Rattle.fit.proofs.Each.{each-at, each-all}
 use Rattle.fit.proofs.Lists.{part-slice}
 use Rattle.fit.proofs.Rule.{rule-at, rule-before}

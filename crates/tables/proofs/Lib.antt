@@ -1,3 +1,4 @@
+pub mod Lengths
 pub mod Links
-pub mod Unique
 pub mod Moved
+pub mod Unique

@@ -3,17 +3,14 @@ use mathlib.Core.Path.{_≡_, refl, sym, _∙_, subst}
 use mathlib.Core.List.{List}
 use Prim.Native.Nat.{ℕ, suc, _+_, _-_, _*_, _≤_, _<_}
 use native.Mathlib.Omega.{arith}
-use native.Mathlib.Decide.{ℕ-discrete}
 use lib.Dec.{eqb}
 use borrow.Author.Tests.{eq-eqb, ne-eqb, lt-ltb, le-ltb}
 use lib.ListN.{length, getD, set, length-set}
 use lib.Seq.{getD-set-same, getD-set-other}
+use Rattle.lists.proofs.Tests.{same-or}
 use Rattle.lists.specs.Pick.{pick}
 use Rattle.tables.specs.Numbers.{none}
 use Rattle.tables.specs.Links.{parentAt, childAt, least, LinkedFrom, HasRows, LinksIs}
-
-same-or {ℓ} : {X : Type ℓ} (a b : ℕ) → (a ≡ b → X) → ((a ≡ b → ⊥) → X) → X
-same-or a b f g = elim (ℕ-discrete a b) [ yes h ↦ f h | no h ↦ g h ]
 
 -- one node more: the definition's own step
 least-step : (t : List ℕ) (p j n : ℕ) → j < n → least t p j (n - j) ≡ pick (eqb (parentAt t j) p) j (least t p (suc j) (n - suc j))
