@@ -1,7 +1,7 @@
 -- Answers about a record in memory as they are shown. Assumes nothing.
 use Prim.Native.Nat.{ℕ}
 use mathlib.Core.List.{List}
-use mathlib.Core.Path.{_≡_, sym, ap, ap₂, _∙_, subst}
+use mathlib.Core.Path.{_≡_, ap, ap₂, _∙_, subst}
 use lib.ListN.{take}
 use borrow.Author.Tests.{eq-eqb, ne-eqb}
 use Rattle.display.specs.declared.Kind.{Kind}
@@ -32,11 +32,11 @@ pub kind-simple : {k : ℕ} → (k ≡ 0 → ⊥) → SimpleText ≡ kindOf k
 kind-simple {k} e = rw (ne-eqb k 0 e)
 
 -- what is shown of a display's answer, with the counts and the kind that a caller gives
-pub display-shown : {t : List ℕ} {a a′ : Accessed} {kind kind′ : Kind} {out out′ : List ℕ} {r s : Shown} {d : SgfDisplay} → a ≡ a′ → kind ≡ kind′ → r ≡ display t a kind out → out′ ≡ displayIn t a kind out
-    → r ≡ s → d ≡ displayShown s → DisplayShown t a′ kind′ out out′ d
-display-shown {t} {a} {a′} {kind} {kind′} {out} e k x b g d =
+pub display-shown : {t : List ℕ} {a a′ : Accessed} {kind kind′ : Kind} {out out′ : List ℕ} {r : Shown} {d : SgfDisplay} → a ≡ a′ → kind ≡ kind′ → r ≡ display t a kind out → out′ ≡ displayIn t a kind out
+    → d ≡ displayShown r → DisplayShown t a′ kind′ out out′ d
+display-shown {t} {a} {a′} {kind} {kind′} {out} e k x b d =
     record {
-      is = d ∙ ap displayShown (sym g ∙ x ∙ ap₂ (λ (w : Accessed) (y : Kind). display t w y out) e k);
+      is = d ∙ ap displayShown (x ∙ ap₂ (λ (w : Accessed) (y : Kind). display t w y out) e k);
       bytes = b ∙ ap₂ (λ (w : Accessed) (y : Kind). displayIn t w y out) e k;
     }
 
@@ -46,14 +46,14 @@ pub go-shown-is : (number : ℕ) (go : GoValue) {f : Figures} → f ≡ figuresS
 go-shown-is number go e = ap (λ (f : Figures). record { number = number; kind = f .kind; x = f .x; y = f .y; handicap = f .handicap; marks = go .marks }) e
 
 -- what is shown of a writing's answer, with the counts that a caller gives
-pub write-shown : {t : List ℕ} {used : ℕ} {c c′ : Counts} {tr nd pr vl out out′ : List ℕ} {r s : Written} {w : SgfWriting} → c ≡ c′ → WriteIs t used c tr nd pr vl out out′ r → r ≡ s → w ≡ writingShown s
+pub write-shown : {t : List ℕ} {used : ℕ} {c c′ : Counts} {tr nd pr vl out out′ : List ℕ} {r : Written} {w : SgfWriting} → c ≡ c′ → WriteIs t used c tr nd pr vl out out′ r → w ≡ writingShown r
     → WriteShown t used c′ tr nd pr vl out out′ w
-write-shown {t} {used} {c} {c′} {tr} {nd} {pr} {vl} {out} {out′} {r} {s} {w} e x g h =
+write-shown {t} {used} {c} {c′} {tr} {nd} {pr} {vl} {out} {out′} {r} {w} e x h =
     subst (λ (z : Counts). WriteShown t used z tr nd pr vl out out′ w) e
-    (record { is = h ∙ ap writingShown (sym g ∙ x .is); bytes = x .bytes ∙ ap (λ (z : Written). output z (writing (recordOf (take used t) (rowsOf c tr nd pr vl))) out) (x .is) })
+    (record { is = h ∙ ap writingShown (x .is); bytes = x .bytes ∙ ap (λ (z : Written). output z (writing (recordOf (take used t) (rowsOf c tr nd pr vl))) out) (x .is) })
 
 -- of an edit's
-pub edit-shown : {o o′ : Outcome} {used : ℕ} {counts : SgfCounts} {before after : Lent} {r s : Edited} {w : SgfEdit} → o ≡ o′ → EditIs o used before after r → r ≡ s → w ≡ editShown counts s
+pub edit-shown : {o o′ : Outcome} {used : ℕ} {counts : SgfCounts} {before after : Lent} {r : Edited} {w : SgfEdit} → o ≡ o′ → EditIs o used before after r → w ≡ editShown counts r
     → EditShown o′ used counts before after w
-edit-shown {o} {o′} {used} {counts} {before} {after} {r} {s} {w} e x g h =
-    subst (λ (z : Outcome). EditShown z used counts before after w) e (record { is = h ∙ ap (editShown counts) (sym g ∙ x .answer); memory = x .memory })
+edit-shown {o} {o′} {used} {counts} {before} {after} {r} {w} e x h =
+    subst (λ (z : Outcome). EditShown z used counts before after w) e (record { is = h ∙ ap (editShown counts) (x .answer); memory = x .memory })

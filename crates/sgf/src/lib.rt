@@ -12,15 +12,12 @@ use shown::SgfTrim;
 use shown::SgfValue;
 use tables::Counts;
 use tables::Reading;
-use tables::Reason;
 ghost use mathlib.Core.Path.{_≡_};
 ghost use Rattle.scan.specs.Scan.{valueAt};
 ghost use Rattle.lexer.specs.Step.{nextAt};
 ghost use Rattle.utf8.specs.Trim.{trimmed};
-ghost use Rattle.tables.specs.declared.Reading.the-variants.{Accepted, Refused};
 ghost use Rattle.parser.specs.Read.{read};
 ghost use Rattle.reader.specs.Lent.{lent};
-ghost use Rattle.edit.specs.declared.Edited.the-variants.{Changed, Refused as Refuses};
 ghost use Rattle.edit.specs.Lent.{outcomeOf, lent as held};
 ghost use Rattle.fit.specs.Fit.{Fit};
 ghost use Rattle.access.specs.Access.{accessed};
@@ -28,8 +25,8 @@ ghost use Rattle.go.specs.Rows.{valuesAt};
 ghost use Rattle.go.specs.Value.{goValue};
 ghost use Rattle.record.specs.Ask.{refusalNumber, goAnswer};
 ghost use Rattle.values.specs.Read.{readIdentifier};
-ghost use Rattle.sgf.specs.Changed.{editShown, WriteShown, EditShown};
-ghost use Rattle.sgf.specs.Asked.{countsFrom, kindOf, fitsShown, spanShown, figuresShown, goShown, answerShown, DisplayShown};
+ghost use Rattle.sgf.specs.Changed.{writingShown, editShown, WriteShown, EditShown};
+ghost use Rattle.sgf.specs.Asked.{countsFrom, kindOf, fitsShown, spanShown, displayShown, figuresShown, goShown, answerShown, DisplayShown};
 ghost use Rattle.sgf.specs.Shown.{readingShown, optionsOf, ReadShown};
 ghost use Rattle.shown.specs.Tokens.{TrimIs, TokenIs, ValueIs};
 
@@ -69,31 +66,28 @@ pub struct SgfReading {
     pub values: usize,
 }
 
-fn accepted(c: Counts) -> SgfReading
-    ensures { λ r. ⌜ r ≡ readingShown (Accepted c) ⌝ }
+fn reading_shown(reading: Reading) -> SgfReading
+    ensures { λ r. ⌜ r ≡ readingShown reading ⌝ }
 {
-    SgfReading {
-        number: 0,
-        reserved: 0,
-        place: 0,
-        trees: c.trees,
-        nodes: c.nodes,
-        properties: c.properties,
-        values: c.values,
-    }
-}
-
-fn refused(reason: Reason, place: usize) -> SgfReading
-    ensures { λ r. ⌜ r ≡ readingShown (Refused reason place) ⌝ }
-{
-    SgfReading {
-        number: tables::number(reason),
-        reserved: 0,
-        place: place,
-        trees: 0,
-        nodes: 0,
-        properties: 0,
-        values: 0,
+    match reading {
+        Reading::Accepted(c) => SgfReading {
+            number: 0,
+            reserved: 0,
+            place: 0,
+            trees: c.trees,
+            nodes: c.nodes,
+            properties: c.properties,
+            values: c.values,
+        },
+        Reading::Refused(reason, place) => SgfReading {
+            number: tables::number(reason),
+            reserved: 0,
+            place: place,
+            trees: 0,
+            nodes: 0,
+            properties: 0,
+            values: 0,
+        },
     }
 }
 
@@ -111,10 +105,7 @@ pub extern "C" fn sgf_read(
 {
     let lenient = options % 2 == 1;
     let convert = options / 2 % 2 == 0;
-    match reader::read(text, lenient, convert, trees, nodes, properties, values) {
-        Reading::Accepted(c) => accepted(c),
-        Reading::Refused(reason, place) => refused(reason, place),
-    }
+    reading_shown(reader::read(text, lenient, convert, trees, nodes, properties, values))
 }
 
 // Used rows of each table.
@@ -173,6 +164,25 @@ pub struct SgfSpan {
     pub to: usize,
 }
 
+fn span_shown(accessed: Accessed) -> SgfSpan
+    ensures { λ r. ⌜ r ≡ spanShown accessed ⌝ }
+{
+    match accessed {
+        Accessed::Part(a, e) => SgfSpan {
+            number: 0,
+            reserved: 0,
+            from: a,
+            to: e,
+        },
+        Accessed::Refused(reason) => SgfSpan {
+            number: tables::number(reason),
+            reserved: 0,
+            from: 0,
+            to: 0,
+        },
+    }
+}
+
 // The span of value k.
 #[no_mangle]
 pub extern "C" fn sgf_value(
@@ -187,7 +197,7 @@ pub extern "C" fn sgf_value(
 ) -> SgfSpan
     ensures { λ r. ⌜ r ≡ spanShown (accessed (now (text .entry)) used (countsFrom counts) (now (trees .entry)) (now (nodes .entry)) (now (properties .entry)) (now (values .entry)) k) ⌝ }
 {
-    match access::access(
+    span_shown(access::access(
         text,
         used,
         counts_from(counts),
@@ -196,20 +206,7 @@ pub extern "C" fn sgf_value(
         properties,
         values,
         k,
-    ) {
-        Accessed::Part(a, e) => SgfSpan {
-            number: 0,
-            reserved: 0,
-            from: a,
-            to: e,
-        },
-        Accessed::Refused(reason) => SgfSpan {
-            number: tables::number(reason),
-            reserved: 0,
-            from: 0,
-            to: 0,
-        },
-    }
+    ))
 }
 
 // Number 0 and the number of bytes displayed; or the number of a refusal and 0.
@@ -229,6 +226,23 @@ fn kind_of(kind: u32) -> Kind
     Kind::SimpleText
 }
 
+fn display_shown(shown: Shown) -> SgfDisplay
+    ensures { λ r. ⌜ r ≡ displayShown shown ⌝ }
+{
+    match shown {
+        Shown::Shows(n) => SgfDisplay {
+            number: 0,
+            reserved: 0,
+            length: n,
+        },
+        Shown::NotShown(reason) => SgfDisplay {
+            number: tables::number(reason),
+            reserved: 0,
+            length: 0,
+        },
+    }
+}
+
 // Displays value k in the output: kind 0 Text, any other SimpleText.
 #[no_mangle]
 pub extern "C" fn sgf_display(
@@ -245,7 +259,7 @@ pub extern "C" fn sgf_display(
 ) -> SgfDisplay
     ensures { λ r. ⌜ DisplayShown (now (text .entry)) (accessed (now (text .entry)) used (countsFrom counts) (now (trees .entry)) (now (nodes .entry)) (now (properties .entry)) (now (values .entry)) k) (kindOf kind) (now (out .entry)) (now (out .exit)) r ⌝ }
 {
-    match record::display(
+    display_shown(record::display(
         text,
         used,
         counts_from(counts),
@@ -256,18 +270,7 @@ pub extern "C" fn sgf_display(
         k,
         kind_of(kind),
         out,
-    ) {
-        Shown::Shows(n) => SgfDisplay {
-            number: 0,
-            reserved: 0,
-            length: n,
-        },
-        Shown::NotShown(reason) => SgfDisplay {
-            number: tables::number(reason),
-            reserved: 0,
-            length: 0,
-        },
-    }
+    ))
 }
 
 // A Go value: kind 0 other, 1 invalid, 2 a pass, 3 a move to x and y, 4 handicap stones, 5 the marked points; number 0 or a refusal's.
@@ -425,6 +428,23 @@ pub struct SgfWriting {
     pub length: usize,
 }
 
+fn writing_shown(written: Written) -> SgfWriting
+    ensures { λ r. ⌜ r ≡ writingShown written ⌝ }
+{
+    match written {
+        Written::Wrote(n) => SgfWriting {
+            number: 0,
+            reserved: 0,
+            length: n,
+        },
+        Written::Refused(reason) => SgfWriting {
+            number: tables::number(reason),
+            reserved: 0,
+            length: 0,
+        },
+    }
+}
+
 // Writes the record into the output, or changes nothing: 19, 15, 14.
 #[no_mangle]
 pub extern "C" fn sgf_write(
@@ -439,19 +459,16 @@ pub extern "C" fn sgf_write(
 ) -> SgfWriting
     ensures { λ r. ⌜ WriteShown (now (text .entry)) used (countsFrom counts) (now (trees .entry)) (now (nodes .entry)) (now (properties .entry)) (now (values .entry)) (now (out .entry)) (now (out .exit)) r ⌝ }
 {
-    let c = counts_from(counts);
-    match serialize::write(text, used, c, trees, nodes, properties, values, out) {
-        Written::Wrote(n) => SgfWriting {
-            number: 0,
-            reserved: 0,
-            length: n,
-        },
-        Written::Refused(reason) => SgfWriting {
-            number: tables::number(reason),
-            reserved: 0,
-            length: 0,
-        },
-    }
+    writing_shown(serialize::write(
+        text,
+        used,
+        counts_from(counts),
+        trees,
+        nodes,
+        properties,
+        values,
+        out,
+    ))
 }
 
 // Number 0, the new used length and the counts; or the number of a refusal and its place, all else 0.
@@ -467,33 +484,30 @@ pub struct SgfEdit {
     pub values: usize,
 }
 
-fn changed(used: usize, c: SgfCounts) -> SgfEdit
-    ensures { λ r. ⌜ r ≡ editShown c (Changed used) ⌝ }
+fn edit_shown(c: SgfCounts, edited: Edited) -> SgfEdit
+    ensures { λ r. ⌜ r ≡ editShown c edited ⌝ }
 {
-    SgfEdit {
-        number: 0,
-        reserved: 0,
-        place: 0,
-        used: used,
-        trees: c.trees,
-        nodes: c.nodes,
-        properties: c.properties,
-        values: c.values,
-    }
-}
-
-fn unchanged(reason: Reason, place: usize, c: SgfCounts) -> SgfEdit
-    ensures { λ r. ⌜ r ≡ editShown c (Refuses reason place) ⌝ }
-{
-    SgfEdit {
-        number: tables::number(reason),
-        reserved: 0,
-        place: place,
-        used: 0,
-        trees: 0,
-        nodes: 0,
-        properties: 0,
-        values: 0,
+    match edited {
+        Edited::Changed(n) => SgfEdit {
+            number: 0,
+            reserved: 0,
+            place: 0,
+            used: n,
+            trees: c.trees,
+            nodes: c.nodes,
+            properties: c.properties,
+            values: c.values,
+        },
+        Edited::Refused(reason, place) => SgfEdit {
+            number: tables::number(reason),
+            reserved: 0,
+            place: place,
+            used: 0,
+            trees: 0,
+            nodes: 0,
+            properties: 0,
+            values: 0,
+        },
     }
 }
 
@@ -512,19 +526,16 @@ pub extern "C" fn sgf_edit(
 ) -> SgfEdit
     ensures { λ r. ⌜ EditShown (outcomeOf (now (text .entry)) used (countsFrom counts) (now (trees .entry)) (now (nodes .entry)) (now (properties .entry)) (now (values .entry)) k (now (replacement .entry))) used counts (held (now (text .entry)) (now (properties .entry)) (now (values .entry))) (held (now (text .exit)) (now (properties .exit)) (now (values .exit))) r ⌝ }
 {
-    let c = counts_from(counts);
-    match edit::edit(
+    let edited = edit::edit(
         text,
         used,
-        c,
+        counts_from(counts),
         trees,
         nodes,
         properties,
         values,
         k,
         replacement,
-    ) {
-        Edited::Changed(n) => changed(n, counts),
-        Edited::Refused(reason, place) => unchanged(reason, place, counts),
-    }
+    );
+    edit_shown(counts, edited)
 }

@@ -3,29 +3,13 @@ use Rattle.tables.specs.declared.Counts.{Counts}
 use Rattle.access.specs.Access.{accessed}
 use denote.Ref.{now}
 use Rattle.sgf.proofs.Asking.{display-shown}
-use Prim.Native.Nat.{ℕ}
-use mathlib.Core.Path.{refl, ap}
+use mathlib.Core.Path.{ap}
 use borrow.Author.Needs.{needs}
 use Rattle.sgf.proofs.sgf_display.Statement.{statement}
 use Rattle.sgf.proofs.sgf_display.Tie as tie
 
 returns : tie.Need-returns
-returns c = display-shown (let a = c .before .before .before .before .before .before .before .before .before .before .before .before .before .before .before .args in ap (λ (z : Counts). accessed (now (a .text)) (a .used) z (now (a .trees)) (now (a .nodes)) (now (a .properties)) (now (a .values)) (a .k)) (c .before .before .before .before .before .before .before .before .counts-from .ensures)) (c .before .before .before .before .before .before .before .kind-of .ensures) (c .before .before .before .before .before .display .ensures .is) (c .before .before .before .before .before .display .ensures .bytes) (c .before .n .given .1) refl
-
-returns-2 : tie.Need-returns-2
-returns-2 c = display-shown (let a = c .before .before .before .before .before .before .before .before .before .before .before .before .before .before .before .before .args in ap (λ (z : Counts). accessed (now (a .text)) (a .used) z (now (a .trees)) (now (a .nodes)) (now (a .properties)) (now (a .values)) (a .k)) (c .before .before .before .before .before .before .before .before .before .counts-from .ensures)) (c .before .before .before .before .before .before .before .before .kind-of .ensures) (c .before .before .before .before .before .before .display .ensures .is) (c .before .before .before .before .before .before .display .ensures .bytes) (c .before .before .reason .given .1) (ap (λ (n : ℕ). record { number = n; reserved = 0; length = 0 }) (c .number .ensures))
+returns c = display-shown (let a = c .before .before .before .before .before .before .before .before .before .before .before .before .before .args in ap (λ (z : Counts). accessed (now (a .text)) (a .used) z (now (a .trees)) (now (a .nodes)) (now (a .properties)) (now (a .values)) (a .k)) (c .before .before .before .before .before .before .counts-from .ensures)) (c .before .before .before .before .before .kind-of .ensures) (c .before .before .before .display .ensures .is) (c .before .before .before .display .ensures .bytes) (c .display-shown .ensures)
 
 pub sgf-display-spec : {M : Type 1} → statement M
-sgf-display-spec =
-    tie.close
-    (tie.spec
-    (λ c κs. search needs)
-    (λ c κs. search needs)
-    (λ c κs. search needs)
-    (λ c. search needs)
-    (λ c. search needs)
-    (λ c κs. search needs)
-    (λ c. search needs)
-    returns
-    (λ c. search needs)
-    returns-2)
+sgf-display-spec = tie.close (tie.spec (λ c κs. search needs) (λ c κs. search needs) (λ c κs. search needs) (λ c κs. search needs) (λ c. search needs) returns)

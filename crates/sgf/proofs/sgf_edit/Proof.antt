@@ -9,26 +9,7 @@ use Rattle.sgf.proofs.sgf_edit.Statement.{statement}
 use Rattle.sgf.proofs.sgf_edit.Tie as tie
 
 returns : tie.Need-returns
-returns c = edit-shown (let a = c .before .before .before .before .before .before .before .before .before .before .before .before .before .before .before .before .before .before .before .before .before .args in ap (λ (z : Counts). outcomeOf (now (a .text)) (a .used) z (now (a .trees)) (now (a .nodes)) (now (a .properties)) (now (a .values)) (a .k) (now (a .replacement))) (c .before .before .before .before .before .before .before .before .before .before .before .before .before .before .counts-from .ensures)) (c .before .before .before .before .before .before .before .before .before .before .edit .ensures) (c .before .before .n .given .1) (c .changed .ensures)
-
-returns-2 : tie.Need-returns-2
-returns-2 c = edit-shown (let a = c .before .before .before .before .before .before .before .before .before .before .before .before .before .before .before .before .before .before .before .before .before .args in ap (λ (z : Counts). outcomeOf (now (a .text)) (a .used) z (now (a .trees)) (now (a .nodes)) (now (a .properties)) (now (a .values)) (a .k) (now (a .replacement))) (c .before .before .before .before .before .before .before .before .before .before .before .before .before .before .counts-from .ensures)) (c .before .before .before .before .before .before .before .before .before .before .edit .ensures) (c .before .before .reason .given .1) (c .unchanged .ensures)
+returns c = edit-shown (let a = c .before .before .before .before .before .before .before .before .before .before .before .before .before .before .before .before .before .before .args in ap (λ (z : Counts). outcomeOf (now (a .text)) (a .used) z (now (a .trees)) (now (a .nodes)) (now (a .properties)) (now (a .values)) (a .k) (now (a .replacement))) (c .before .before .before .before .before .before .before .before .before .before .counts-from .ensures)) (c .before .before .before .before .before .before .before .edit .ensures) (c .edit-shown .ensures)
 
 pub sgf-edit-spec : {M : Type 1} → statement M
-sgf-edit-spec =
-    tie.close
-    (tie.spec
-    (λ c κs. search needs)
-    (λ c κs. search needs)
-    (λ c. search needs)
-    (λ c κs. search needs)
-    (λ c. search needs)
-    (λ c κs. search needs)
-    (λ c. search needs)
-    (λ c. search needs)
-    (λ c. search needs)
-    returns
-    (λ c. search needs)
-    (λ c. search needs)
-    (λ c. search needs)
-    returns-2)
+sgf-edit-spec = tie.close (tie.spec (λ c κs. search needs) (λ c κs. search needs) (λ c κs. search needs) (λ c. search needs) (λ c. search needs) (λ c. search needs) returns)

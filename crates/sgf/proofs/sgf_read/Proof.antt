@@ -5,27 +5,7 @@ use Rattle.sgf.proofs.sgf_read.Statement.{statement}
 use Rattle.sgf.proofs.sgf_read.Tie as tie
 
 returns : tie.Need-returns
-returns c = read-shown (c .before .before .before .before .before .before .before .before .before .before .before .before .read .ensures) (c .before .before .c .given .1) (c .accepted .ensures)
-
-returns-2 : tie.Need-returns-2
-returns-2 c = read-shown (c .before .before .before .before .before .before .before .before .before .before .before .before .read .ensures) (c .before .before .reason .given .1) (c .refused .ensures)
+returns c = read-shown (c .before .before .before .before .before .before .before .before .before .read .ensures) (c .reading-shown .ensures)
 
 pub sgf-read-spec : {M : Type 1} → statement M
-sgf-read-spec =
-    tie.close
-    (tie.spec
-    (λ c κs. search needs)
-    (λ c. search needs)
-    (λ c κs. search needs)
-    (λ c. search needs)
-    (λ c κs. search needs)
-    (λ c. search needs)
-    (λ c. search needs)
-    (λ c. search needs)
-    (λ c. search needs)
-    returns
-    (λ c. search needs)
-    (λ c. search needs)
-    (λ c. search needs)
-    (λ c. search needs)
-    returns-2)
+sgf-read-spec = tie.close (tie.spec (λ c κs. search needs) (λ c κs. search needs) (λ c. search needs) (λ c. search needs) (λ c. search needs) (λ c. search needs) returns)

@@ -3,26 +3,13 @@ use Rattle.tables.specs.declared.Counts.{Counts}
 use Rattle.access.specs.Access.{accessed}
 use denote.Ref.{now}
 use Rattle.sgf.specs.Asked.{spanShown}
-use Prim.Native.Nat.{ℕ}
-use mathlib.Core.Path.{sym, ap, _∙_}
+use mathlib.Core.Path.{ap, _∙_}
 use borrow.Author.Needs.{needs}
 use Rattle.sgf.proofs.sgf_value.Statement.{statement}
 use Rattle.sgf.proofs.sgf_value.Tie as tie
 
 returns : tie.Need-returns
-returns c = ap spanShown (sym (c .before .a .given .1) ∙ c .before .before .before .access .ensures ∙ (let a = c .before .before .before .before .before .before .before .before .before .before .args in ap (λ (z : Counts). accessed (now (a .text)) (a .used) z (now (a .trees)) (now (a .nodes)) (now (a .properties)) (now (a .values)) (a .k)) (c .before .before .before .before .counts-from .ensures)))
-
-returns-2 : tie.Need-returns-2
-returns-2 c = ap (λ (n : ℕ). record { number = n; reserved = 0; from = 0; to = 0 }) (c .number .ensures) ∙ ap spanShown (sym (c .before .before .reason .given .1) ∙ c .before .before .before .before .access .ensures ∙ (let a = c .before .before .before .before .before .before .before .before .before .before .before .args in ap (λ (z : Counts). accessed (now (a .text)) (a .used) z (now (a .trees)) (now (a .nodes)) (now (a .properties)) (now (a .values)) (a .k)) (c .before .before .before .before .before .counts-from .ensures)))
+returns c = c .span-shown .ensures ∙ ap spanShown (c .before .access .ensures ∙ (let a = c .before .before .before .before .before .before .before .before .args in ap (λ (z : Counts). accessed (now (a .text)) (a .used) z (now (a .trees)) (now (a .nodes)) (now (a .properties)) (now (a .values)) (a .k)) (c .before .before .counts-from .ensures)))
 
 pub sgf-value-spec : {M : Type 1} → statement M
-sgf-value-spec =
-    tie.close
-    (tie.spec
-    (λ c κs. search needs)
-    (λ c κs. search needs)
-    (λ c. search needs)
-    (λ c. search needs)
-    (λ c κs. search needs)
-    returns
-    returns-2)
+sgf-value-spec = tie.close (tie.spec (λ c κs. search needs) (λ c κs. search needs) (λ c κs. search needs) returns)
