@@ -11,14 +11,14 @@ use borrow.Author.Tests.{le-leb, lt-leb, leb-true, leb-false}
 use Rattle.values.specs.Read.{readValue}
 use Rattle.display.specs.Display.{formatText, oneLine, shown, displayed, displayedIn}
 use Rattle.display.specs.Showing.{Shows}
-use Rattle.values.specs.Wrote.{Wrote}
+use Rattle.put.specs.Wrote.{Wrote}
 use Rattle.display.specs.declared.Kind.{Kind}
 use Rattle.display.specs.declared.Kind.the-variants.{Text, SimpleText}
 use Rattle.values.specs.declared.read.Step.{Step}
 use Rattle.values.specs.declared.read.Step.the-variants.{Byte, End}
 use Rattle.display.specs.declared.Displayed.the-variants.{Length, NoRoom}
-use Rattle.values.proofs.Lists.{sets-out}
-use Rattle.values.proofs.Written.{wrote-none, wrote-more, wrote-is, wrote-all}
+use Rattle.put.proofs.Lists.{sets-out}
+use Rattle.put.proofs.Written.{wrote-none, wrote-more, wrote-is, wrote-all}
 
 module _ (s : List ℕ) (at : ℕ) (r : Step) {kind : Kind} where
   pub shows-text : kind ≡ Text → Shows formatText s at r → Shows (shown kind) s at r

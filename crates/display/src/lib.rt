@@ -7,7 +7,7 @@ ghost use lib.ListN.{length, drop, getD};
 ghost use Rattle.values.specs.Read.{readValue};
 ghost use Rattle.display.specs.Display.{blank1, blank2, blank3, formatText, oneLine, shown, displayed, displayedIn};
 ghost use Rattle.display.specs.Showing.{Shows, Peeks, Begins, otherBreak, Past};
-ghost use Rattle.values.specs.Wrote.{Wrote};
+ghost use Rattle.put.specs.Wrote.{Wrote};
 use values::read::Step;
 
 pub enum Kind {
@@ -195,7 +195,7 @@ fn put_shown(kind: Kind, raw: &[u8], out: &mut [u8]) -> usize
         let Step::Byte(b, n) = next_shown(kind, raw, at) else {
             return to;
         };
-        to = values::put::put_byte(out, to, b);
+        to = put::put_byte(out, to, b);
         at = n;
     }
 }

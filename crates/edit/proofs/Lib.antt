@@ -1,13 +1,7 @@
-pub mod Apart
-pub mod Ascended
-pub mod Boxes
 pub mod Fitting
 pub mod Given
 pub mod Judged
-pub mod Left
 pub mod Moving
-pub mod Pasted
 pub mod Replaced
-pub mod Stays
 pub mod Tested
 pub mod Unique

@@ -7,7 +7,7 @@ use lib.ListN.{length, take, drop, length-append}
 use lib.Seq.{take-at, drop-at}
 use Rattle.lists.proofs.All.{all-append}
 use Rattle.lists.specs.All.{All}
-use Rattle.lexer.proofs.Contents.{Stands, Denotes}
+use Rattle.tokens.proofs.Contents.{Stands, Denotes}
 use Rattle.lexer.specs.Token.{Val, Prop}
 use Rattle.tables.specs.Record.{Node, Tree, allNodes, allProps, allVals}
 use Rattle.tables.specs.Rows.{tables, parents, treeRows, nodeRows, propRows, valRows}

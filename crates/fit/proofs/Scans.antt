@@ -9,7 +9,7 @@ use lib.ListN.{length, getD, take, drop, take-append-drop, List·getD-eq-default
 use lib.Seq.{slice, take-at, getD-at, getD-drop, drop-cons, drop-append-le, length-take-le, length-slice}
 use borrow.Author.Tests.{eq-eqb, ne-eqb, eqb-true, lt-ltb, le-ltb, leb-true, leb-false}
 use Rattle.lists.specs.Pick.{pick}
-use Rattle.lexer.proofs.Exactly.{CloseIs, close-is, close-exactly}
+use Rattle.tokens.proofs.Exactly.{CloseIs, close-is, close-exactly}
 use Rattle.lexer.specs.Closed.{closed}
 use Rattle.scan.specs.Scan.{closeAt, identFrom}
 use Rattle.scan.specs.declared.Close.{Close}

@@ -8,8 +8,8 @@ use lib.ListN.{length, getD, drop, drop-of-length-le}
 use lib.Seq.{drop-cons}
 use borrow.Author.Tests.{lt-ltb, le-ltb}
 use Rattle.lists.specs.Pick.{pick}
-use Rattle.values.specs.Wrote.{Wrote}
-use Rattle.values.proofs.Written.{wrote-is}
+use Rattle.put.specs.Wrote.{Wrote}
+use Rattle.put.proofs.Written.{wrote-is}
 use Rattle.points.specs.Area.{letter}
 use Rattle.go.specs.Normal.{pointText, pointsFrom}
 use Rattle.go.specs.Rows.{valueAt, valuesAt}

@@ -3,8 +3,8 @@ use Prim.Native.Nat.{ℕ, _+_, _^_, _<_}
 use mathlib.Core.Path.{_≡_, refl, sym, _∙_, subst}
 use mathlib.Core.List.{List, [], _++_, append-assoc, append-nil}
 use lib.ListN.{length}
-use Rattle.values.specs.Wrote.{Wrote}
-use Rattle.values.proofs.Written.{wrote-none, wrote-more, wrote-is}
+use Rattle.put.specs.Wrote.{Wrote}
+use Rattle.put.proofs.Written.{wrote-none, wrote-more, wrote-is}
 
 -- `rest` of the whole is left to write
 pub record Writing (whole rest out₀ : List ℕ) (at : ℕ) (out : List ℕ) (to : ℕ) : Type 0 where

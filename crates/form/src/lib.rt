@@ -6,7 +6,7 @@ ghost use Prim.Native.Nat.{_<_, _/_, _%_};
 ghost use lib.ListN.{length};
 ghost use Rattle.lists.specs.Pick.{pick};
 ghost use Rattle.values.specs.Read.{readIdentifier};
-ghost use Rattle.values.specs.Wrote.{Wrote};
+ghost use Rattle.put.specs.Wrote.{Wrote};
 ghost use Rattle.points.specs.Area.{letter};
 ghost use Rattle.go.specs.Normal.{pointText, pointsFrom, normal};
 ghost use Rattle.go.specs.Rows.{valuesAt};
@@ -14,8 +14,8 @@ ghost use Rattle.go.specs.declared.value.Shape.the-variants.{OneMove, OneNumber
 ghost use Rattle.form.specs.Boxes.{formBy, boxes};
 use go::value::Shape;
 use points::Value;
-use values::put::put_byte;
-use values::put::put_bytes;
+use put::put_byte;
+use put::put_bytes;
 
 // A value in its brackets.
 fn put_box(out: &mut [u8], at: usize, value: &[u8]) -> usize

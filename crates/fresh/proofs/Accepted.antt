@@ -7,9 +7,9 @@ use mathlib.Core.List.{List, List·Memᴰ}
 use lib.Dec.{ltb}
 use lib.ListN.{length, take, drop}
 use Rattle.fresh.specs.Run.{strictly}
-use Rattle.lexer.proofs.Inside.{OfVals}
-use Rattle.lexer.proofs.Invariant.{keep-rest}
-use Rattle.lexer.proofs.Starting.{Each, each-from, each-value}
+use Rattle.tokens.proofs.Inside.{OfVals}
+use Rattle.tokens.proofs.Invariant.{keep-rest}
+use Rattle.tokens.proofs.Starting.{Each, each-from, each-value}
 use Rattle.lexer.specs.Token.{End, Prop, Tok, Val, between, broken, done, end, lexFrom}
 use Rattle.lists.proofs.All.{all-mem}
 use Rattle.lists.specs.All.{All}

@@ -15,8 +15,8 @@ use Rattle.edit.specs.declared.Edited.the-variants.{Changed}
 use Rattle.fit.proofs.Whole.{fit-lent}
 use Rattle.edit.proofs.Given.{given}
 use Rattle.edit.proofs.Judged.{newText, newRows}
-use Rattle.edit.proofs.Left.{length-buffer-left}
-use Rattle.edit.proofs.Stays.{edit-stays}
+use Rattle.fresh.proofs.Left.{length-buffer-left}
+use Rattle.fresh.proofs.Stays.{edit-stays}
 use Rattle.fresh.specs.Calls.{Memory, heldIn, asked, next, Calls, none, call}
 use Rattle.fresh.specs.Run.{Held, Order, after, run}
 use Rattle.fresh.proofs.OnCode.{held-next}

@@ -15,7 +15,7 @@ use Rattle.utf8.specs.Text.{blank, Utf, whole, part, bad, utfs}
 use Rattle.lexer.specs.Token.{Val, Prop}
 use Rattle.lexer.specs.Closed.{closed}
 use Rattle.lexer.specs.Move.{startsAt, endsAt, newRaw}
-use Rattle.lexer.proofs.Contents.{Denotes}
+use Rattle.tokens.proofs.Contents.{Denotes}
 use Rattle.tables.proofs.Lengths.{val-rows-length}
 use Rattle.tables.specs.Numbers.{textLimit}
 use Rattle.tables.specs.Record.{Tree, allNodes, allProps, allVals}

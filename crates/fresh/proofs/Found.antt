@@ -9,8 +9,8 @@ use lib.ListN.{length, take, drop, length-take, length-drop}
 use lib.Seq.{take-append-add, drop-append-le}
 use Rattle.fresh.proofs.Accepted.{Between, all-between, on-trees}
 use Rattle.fresh.specs.Run.{strictly}
-use Rattle.lexer.proofs.Inside.{Inside, NotAt, OfVals, Only, inside, vals-map}
-use Rattle.lexer.proofs.Starting.{last}
+use Rattle.tokens.proofs.Inside.{Inside, NotAt, OfVals, Only, inside, vals-map}
+use Rattle.tokens.proofs.Starting.{last}
 use Rattle.lexer.specs.Closed.{closedFrom}
 use Rattle.lexer.specs.Token.{Prop, Tok, Val, between, ends, lexFrom, value}
 use Rattle.lists.proofs.All.{all-map}

@@ -1,8 +1,14 @@
 pub mod Accepted
+pub mod Apart
+pub mod Ascended
+pub mod Boxes
 pub mod CallsRun
 pub mod DemandThree
 pub mod Found
+pub mod Left
 pub mod Numbered
 pub mod OnCode
+pub mod Pasted
 pub mod Reread
+pub mod Stays
 pub mod Undo

@@ -14,7 +14,7 @@ use Rattle.edit.specs.declared.Edited.{Edited}
 use Rattle.edit.proofs.Given.{given}
 use Rattle.edit.proofs.Judged.{newText, newRows}
 use Rattle.fit.proofs.RecordFits.{counts-of-rows}
-use Rattle.edit.proofs.Left.{text-left, rows-left}
+use Rattle.fresh.proofs.Left.{text-left, rows-left}
 use Rattle.fresh.specs.Calls.{Memory, heldIn, asked, next, Calls, none, call}
 use Rattle.fresh.specs.Run.{strictly, Order, after, Fresh}
 use Rattle.fresh.proofs.DemandThree.{demand-three}

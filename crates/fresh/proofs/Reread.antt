@@ -10,12 +10,12 @@ use borrow.Author.Tests.{le-ltb}
 use Rattle.fresh.proofs.Accepted.{Accepted, accepted-is}
 use Rattle.fresh.proofs.Found.{Found, at-pre, bounds, ends-in, found, trimmed-parts}
 use Rattle.fresh.specs.Run.{strictly}
-use Rattle.lexer.proofs.Inside.{OfVals, Only}
-use Rattle.lexer.proofs.Invariant.{OfTok}
-use Rattle.lexer.proofs.Kept.{Kept, kept}
-use Rattle.lexer.proofs.Moved.{moveEnd, moveLexed}
-use Rattle.lexer.proofs.Replace.{ends-high, raw-other, replaced}
-use Rattle.lexer.proofs.Starting.{Each, last}
+use Rattle.tokens.proofs.Inside.{OfVals, Only}
+use Rattle.tokens.proofs.Invariant.{OfTok}
+use Rattle.tokens.proofs.Kept.{Kept, kept}
+use Rattle.tokens.proofs.Moved.{moveEnd, moveLexed}
+use Rattle.tokens.proofs.Replace.{ends-high, raw-other, replaced}
+use Rattle.tokens.proofs.Starting.{Each, last}
 use Rattle.lexer.specs.Closed.{closed, closedFrom}
 use Rattle.lexer.specs.Move.{endsAt, newRaw, startsAt}
 use Rattle.lexer.specs.Token.{End, Lexed, Prop, Tok, Val, between, done, end, ends, lexFrom, node, prop, start, value}

@@ -16,9 +16,9 @@ use Rattle.utf8.specs.Text.{Ink, blank, inked, Utf, whole, part, bad, utfs}
 use Rattle.lexer.specs.Token.{Val, Prop, lexFrom}
 use Rattle.lexer.specs.Closed.{closed}
 use Rattle.lexer.specs.Move.{startsAt, endsAt, newRaw, moveVal, moveProp}
-use Rattle.lexer.proofs.Contents.{Denotes, Stands}
-use Rattle.lexer.proofs.Proper.{Proper, HasProper, proper-tokens}
-use Rattle.lexer.proofs.Replace.{starts-low, ends-high}
+use Rattle.tokens.proofs.Contents.{Denotes, Stands}
+use Rattle.tokens.proofs.Proper.{Proper, HasProper, proper-tokens}
+use Rattle.tokens.proofs.Replace.{starts-low, ends-high}
 use Rattle.tables.specs.Numbers.{textLimit}
 use Rattle.tables.specs.Record.{Tree, allNodes, allProps, allVals}
 use Rattle.tables.specs.Rows.{Tables, tables}

@@ -14,7 +14,7 @@ use Rattle.lexer.specs.Token.{Prop, Tok, start, end, node, prop, Lexed, lexAt}
 use Rattle.lexer.specs.Step.{nextAt, valsAt, propAt, stepOn}
 use Rattle.lexer.specs.declared.Step.{Step}
 use Rattle.lexer.proofs.Step as step
-use Rattle.lexer.proofs.Join.{lex-next}
+use Rattle.tokens.proofs.Join.{lex-next}
 use Rattle.tables.specs.declared.Reason.the-variants.{UnexpectedProperty}
 use Rattle.parser.specs.Kind.{props, named, GM, kindProps, kind}
 use Rattle.parser.specs.Slice.{sliceFrom}

@@ -1,17 +1,3 @@
-pub mod Contents
-pub mod Exactly
-pub mod Faults
-pub mod Inside
-pub mod Invariant
-pub mod Join
-pub mod Kept
-pub mod Laws
 pub mod Listed
-pub mod Machine
-pub mod Moved
-pub mod Proper
-pub mod Replace
-pub mod Rest
-pub mod Starting
 pub mod Unique
 pub mod Within

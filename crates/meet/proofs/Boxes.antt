@@ -8,7 +8,7 @@ use Rattle.lists.specs.All.{All}
 use Rattle.lists.proofs.All.{all-append}
 use Rattle.lists.proofs.Places.{at-place, part-begins}
 use Rattle.lexer.specs.Token.{Val, Prop, between, lexFrom}
-use Rattle.lexer.proofs.Invariant.{OfTok, EachAt, Invariant, keep-rest}
+use Rattle.tokens.proofs.Invariant.{OfTok, EachAt, Invariant, keep-rest}
 
 module _ (t : List ℕ) where
   -- v stands after `[`

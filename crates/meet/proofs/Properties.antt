@@ -14,9 +14,9 @@ use Rattle.utf8.specs.Trim.{trimmed, shown}
 use Rattle.utf8.proofs.Extent.{trim-bounds}
 use Rattle.lexer.specs.Closed.{closedFrom}
 use Rattle.lexer.specs.Token.{Val, Prop, Tok, start, end, node, prop}
-use Rattle.lexer.proofs.Contents.{Stands, Denotes}
-use Rattle.lexer.proofs.Invariant.{OfTok}
-use Rattle.lexer.proofs.Proper.{Proper, HasProper}
+use Rattle.tokens.proofs.Contents.{Stands, Denotes}
+use Rattle.tokens.proofs.Invariant.{OfTok}
+use Rattle.tokens.proofs.Proper.{Proper, HasProper}
 use Rattle.tables.specs.Record.{Tree, allNodes, allProps, allVals}
 use Rattle.fit.specs.Spans.{ascending, plainName, boxed}
 use Rattle.parser.specs.Walk.{Opts}

@@ -8,8 +8,8 @@ use lib.ListN.{length, length-append, length-reverse, length-take, length-drop, 
 use Rattle.lists.specs.All.{All}
 use Rattle.utf8.specs.Text.{Ink, blank, inked, whole, utfs}
 use Rattle.lexer.specs.Token.{Tok, start, end, node, prop}
-use Rattle.lexer.proofs.Invariant.{OfTok}
-use Rattle.lexer.proofs.Proper.{HasProper, proper-tokens}
+use Rattle.tokens.proofs.Invariant.{OfTok}
+use Rattle.tokens.proofs.Proper.{HasProper, proper-tokens}
 use Rattle.tables.specs.Numbers.{none}
 use Rattle.tables.specs.Record.{Node, Tree, allNodes}
 use Rattle.parser.specs.Slice.{sliceFrom, restFrom}

@@ -11,7 +11,7 @@ use Rattle.lists.specs.All.{All}
 use Rattle.lists.proofs.All.{all-map}
 use Rattle.lexer.specs.Closed.{closed}
 use Rattle.lexer.specs.Token.{Val, Prop}
-use Rattle.lexer.proofs.Proper.{HasProper}
+use Rattle.tokens.proofs.Proper.{HasProper}
 use Rattle.tables.specs.Record.{Tree, allNodes, allProps, allVals}
 use Rattle.tables.specs.Rows.{PropRow, ValRow, propRows, valRows}
 use Rattle.fit.specs.Columns.{nameFromAt, nameToAt, valCountAt, valFromAt, valToAt}

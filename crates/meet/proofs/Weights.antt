@@ -9,8 +9,8 @@ use lib.ListN.{length, length-append}
 use Rattle.lists.specs.All.{All}
 use Rattle.lexer.specs.Token.{Val, Prop, Tok, start, end, node, prop, St, between, ident, value, after, fault, Out, starts, begins, values, afters, step, emits, ends, finish, lexFrom}
 use Rattle.scan.specs.Scan.{space}
-use Rattle.lexer.proofs.Invariant.{OfTok}
-use Rattle.lexer.proofs.Proper.{HasProper}
+use Rattle.tokens.proofs.Invariant.{OfTok}
+use Rattle.tokens.proofs.Proper.{HasProper}
 
 -- its identifier, and two brackets for each value
 abbrev pub propWeight : Prop → ℕ

@@ -9,8 +9,8 @@ use Rattle.lists.specs.All.{All}
 use Rattle.lists.specs.Pick.{pick}
 use Rattle.utf8.specs.Text.{Ink, blank, inked, Utf, whole, part, bad, utfs}
 use Rattle.lexer.specs.Token.{End, done, broken}
-use Rattle.lexer.proofs.Invariant.{OfTok}
-use Rattle.lexer.proofs.Contents.{Denotes, tokens-denote}
+use Rattle.tokens.proofs.Invariant.{OfTok}
+use Rattle.tokens.proofs.Contents.{Denotes, tokens-denote}
 use Rattle.tables.specs.Numbers.{textLimit}
 use Rattle.tables.specs.Record.{Tree, allNodes, allProps}
 use Rattle.tables.specs.declared.Reason.the-variants.{TextTooLong}

@@ -3,7 +3,7 @@ use Prim.Native.Nat.{ℕ, zero, suc}
 use mathlib.Core.Bool.{Bool, true, false, _||_}
 use mathlib.Core.List.{List, [], _∷_, reverse}
 use lib.Dec.{ltb}
-use Rattle.lexer.proofs.Invariant.{OfTok}
+use Rattle.tokens.proofs.Invariant.{OfTok}
 use Rattle.lexer.specs.Token.{Prop, Tok, end, node, prop, start}
 use Rattle.lists.proofs.All.{all-append, all-reverse, every}
 use Rattle.lists.specs.All.{All}

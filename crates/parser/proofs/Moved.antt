@@ -5,7 +5,7 @@ use mathlib.Core.Bool.{Bool, true, false, _||_}
 use mathlib.Core.List.{List, [], _∷_, map, map-append}
 use lib.Dec.{eqb}
 use lib.ListN.{length-map}
-use Rattle.lexer.proofs.Invariant.{OfTok}
+use Rattle.tokens.proofs.Invariant.{OfTok}
 use Rattle.lexer.specs.Move.{moveProp, moveTok}
 use Rattle.lexer.specs.Token.{Prop, Tok, end, node, prop, start}
 use Rattle.lists.specs.All.{All}

@@ -4,7 +4,7 @@ use Prim.Native.Nat.{ℕ, zero, suc}
 use mathlib.Core.Bool.{Bool, true, false}
 use mathlib.Core.List.{List, [], _∷_, map}
 use lib.ListN.{drop}
-use Rattle.lexer.proofs.Invariant.{OfTok}
+use Rattle.tokens.proofs.Invariant.{OfTok}
 use Rattle.lexer.specs.Move.{moveProp, moveTok, moveVal}
 use Rattle.lexer.specs.Token.{Prop, Tok, Val, end, node, prop, start, values}
 use Rattle.lists.specs.All.{All}

@@ -8,7 +8,7 @@ use Rattle.lexer.specs.Token.{Lexed, lexAt}
 use Rattle.lexer.specs.Step.{nextAt, stepOn}
 use Rattle.lexer.specs.declared.Step.{Step}
 use Rattle.lexer.specs.declared.Step.the-variants.{Start, End, Node, Property, Refused, Done}
-use Rattle.lexer.proofs.Join.{lex-next}
+use Rattle.tokens.proofs.Join.{lex-next}
 use Rattle.lexer.proofs.Within.{Within, next-within}
 
 module _ (u : List ℕ) where

@@ -2,7 +2,7 @@
 use mathlib.Core.Path.{_≡_, refl, sym, ap, _∙_}
 use Prim.Native.Nat.{ℕ}
 use mathlib.Core.List.{List, [], _∷_, _++_, map, append-assoc, append-nil, map-append}
-use Rattle.lexer.proofs.Machine.{emits-append, ends-append}
+use Rattle.tokens.proofs.Machine.{emits-append, ends-append}
 use Rattle.lexer.specs.Token.{St, Tok, after, between, emits, end, ends, fault, ident, node, prop, start, value}
 use Rattle.scan.specs.Scan.{space}
 use Rattle.utf8.proofs.Steps.{place}

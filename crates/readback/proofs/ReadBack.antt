@@ -9,7 +9,7 @@ use lib.Seq.{take-length}
 use borrow.Author.Tests.{le-ltb}
 use Rattle.fresh.proofs.Reread.{in-textLimit}
 use Rattle.fresh.specs.Run.{strictly}
-use Rattle.lexer.proofs.Invariant.{OfTok}
+use Rattle.tokens.proofs.Invariant.{OfTok}
 use Rattle.lexer.specs.Move.{moveVal}
 use Rattle.lexer.specs.Token.{End, Lexed, Prop, Tok, Val, done, end, lexFrom, node, prop, start}
 use Rattle.lists.specs.All.{All}

@@ -9,7 +9,7 @@ use lib.ListN.{length, length-reverse, length-drop, length-take, take, drop}
 use borrow.Author.Tests.{ltb-false}
 use Rattle.fresh.proofs.Accepted.{Accepted, accepted-is}
 use Rattle.fresh.specs.Run.{strictly}
-use Rattle.lexer.proofs.Proper.{HasProper, Proper, proper-tokens}
+use Rattle.tokens.proofs.Proper.{HasProper, Proper, proper-tokens}
 use Rattle.lexer.specs.Token.{Prop, Tok, Val, lexFrom}
 use Rattle.lists.proofs.All.{all-map}
 use Rattle.lists.specs.All.{All}

@@ -8,7 +8,7 @@ use lib.Dec.{leb, eqb}
 use lib.ListN.{length}
 use borrow.Author.Tests.{lt-leb, ne-eqb}
 use Rattle.utf8.proofs.Tests.{within-true}
-use Rattle.lexer.proofs.Machine.{emits-append, ends-append, grown, over-value}
+use Rattle.tokens.proofs.Machine.{emits-append, ends-append, grown, over-value}
 use Rattle.lexer.specs.Closed.{closedFrom}
 use Rattle.lexer.specs.Move.{moveVal}
 use Rattle.lexer.specs.Token.{Out, Prop, St, Tok, Val, after, between, emits, ends, fault, ident, prop, silent, starts, step, value}

@@ -8,7 +8,7 @@ use lib.Dec.{eqb}
 use lib.ListN.{length}
 use borrow.Author.Tests.{eq-eqb, ne-eqb}
 use Rattle.lists.specs.Pick.{pick}
-use Rattle.values.specs.Wrote.{Wrote}
+use Rattle.put.specs.Wrote.{Wrote}
 use Rattle.tables.specs.Numbers.{none}
 use Rattle.fit.specs.Columns.{parentAt, childAt, siblingAt}
 use Rattle.fit.specs.Nodes.{onPath}

@@ -5,8 +5,8 @@ use mathlib.Core.List.{List, _++_}
 use native.Mathlib.Numerals.{add-one}
 use native.Mathlib.Omega.{arith}
 use lib.ListN.{length}
-use Rattle.values.specs.Wrote.{Wrote}
-use Rattle.values.proofs.Written.{wrote-none, wrote-more, wrote-is}
+use Rattle.put.specs.Wrote.{Wrote}
+use Rattle.put.proofs.Written.{wrote-none, wrote-more, wrote-is}
 use Rattle.serialize.specs.Walk.{texts}
 
 pub texts-none : (f : ℕ → List ℕ) (out : List ℕ) (at : ℕ) → at < 2 ^ 64 → Wrote (texts f 0) out at out at

@@ -10,8 +10,8 @@ use lib.ListN.{length, getD, take, drop, List·getD-eq-default}
 use borrow.Author.Tests.{eq-eqb, ne-eqb, lt-ltb}
 use Rattle.lists.proofs.Pick.{pick-elim}
 use Rattle.values.specs.Read.{readIdentifier}
-use Rattle.values.specs.Wrote.{Wrote}
-use Rattle.values.proofs.Written.{wrote-more}
+use Rattle.put.specs.Wrote.{Wrote}
+use Rattle.put.proofs.Written.{wrote-more}
 use Rattle.tables.specs.Numbers.{none}
 use Rattle.go.specs.Normal.{normal}
 use Rattle.go.specs.Rows.{valuesAt}

@@ -8,9 +8,9 @@ use lib.Dec.{ltb}
 use lib.ListN.{length, take, drop}
 use lib.Seq.{length-take-le}
 use borrow.Author.Tests.{lt-ltb, le-ltb, not-true, not-false}
-use Rattle.values.specs.Wrote.{Wrote}
-use Rattle.values.proofs.Lists.{sets-out}
-use Rattle.values.proofs.Written.{wrote-all}
+use Rattle.put.specs.Wrote.{Wrote}
+use Rattle.put.proofs.Lists.{sets-out}
+use Rattle.put.proofs.Written.{wrote-all}
 use Rattle.tables.specs.Record.{Tree, allNodes, allProps}
 use Rattle.tables.specs.declared.Counts.{Counts}
 use Rattle.tables.specs.declared.Reason.the-variants.{NoRoom, EmptyIdentifier, NotFitting}

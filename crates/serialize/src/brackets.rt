@@ -1,9 +1,9 @@
 // The brackets of nodes.
 ghost use mathlib.Core.Path.{_≡_};
-ghost use Rattle.values.specs.Wrote.{Wrote};
+ghost use Rattle.put.specs.Wrote.{Wrote};
 ghost use Rattle.serialize.specs.Locals.{Placed, Above};
 ghost use Rattle.serialize.specs.Walk.{inBrackets, shut, begun, endsBefore};
-use values::put::put_byte;
+use put::put_byte;
 
 // Whether node k stands in brackets.
 fn in_brackets(nodes: &[u32], k: usize) -> bool

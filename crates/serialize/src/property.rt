@@ -1,5 +1,5 @@
 // The properties of a node.
-ghost use Rattle.values.specs.Wrote.{Wrote};
+ghost use Rattle.put.specs.Wrote.{Wrote};
 ghost use Rattle.serialize.specs.Locals.{PropHeld, NodeHeld};
 ghost use Rattle.serialize.specs.Walk.{propText, propsText};
 

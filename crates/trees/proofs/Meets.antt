@@ -9,7 +9,7 @@ use Rattle.scan.specs.declared.Close.{Close}
 use Rattle.lexer.specs.declared.Head.{Head}
 use Rattle.lexer.specs.declared.Head.the-variants.{Name}
 use Rattle.lexer.specs.declared.Step.{Step}
-use Rattle.lexer.proofs.Join.{lex-next}
+use Rattle.tokens.proofs.Join.{lex-next}
 use Rattle.lexer.proofs.Within.{HeadWithin, head-within, Within, next-within}
 
 module _ (u : List ℕ) (i : ℕ) where

@@ -1,9 +1,7 @@
 pub mod Bounds
 pub mod Digits
-pub mod Lists
 pub mod RoundTrip
 pub mod Safe
 pub mod Spelling
 pub mod Steps
-pub mod Written
 pub mod Unique

@@ -1,5 +1,4 @@
-// Read values, decimals, text display, and bytes written into lent memory.
+// Read values, and decimals in them and written.
 pub mod decimal; // decimal.rt: numbers in read values
-pub mod put; // put.rt: bytes put into lent memory
 pub mod read; // read.rt: the read value of raw bytes, one byte at a time
 pub mod spell; // spell.rt: numbers written

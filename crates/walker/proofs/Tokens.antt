@@ -4,7 +4,7 @@ use mathlib.Core.Path.{_≡_, refl, ap, sym, _∙_}
 use mathlib.Core.List.{List}
 use Rattle.lexer.specs.Token.{lexAt}
 use Rattle.lexer.specs.Step.{behind, stepOn, SteppedIs}
-use Rattle.lexer.proofs.Join.{lex-next}
+use Rattle.tokens.proofs.Join.{lex-next}
 use Rattle.lexer.specs.declared.Step.{Step}
 use Rattle.lexer.specs.declared.Step.the-variants.{Start, End, Node, Property, Refused, Done}
 use Rattle.walker.specs.Walk.{gives}

@@ -7,7 +7,7 @@ use lib.ListN.{length}
 use Rattle.display.specs.Display.{shown}
 use Rattle.display.specs.Showing.{Shows}
 use Rattle.display.proofs.Displays.{Displaying, display-first, display-next, display-end}
-use Rattle.values.proofs.Written.{wrote-length}
+use Rattle.put.proofs.Written.{wrote-length}
 use Rattle.display.proofs.put_shown.Statement.{statement}
 use Rattle.display.proofs.put_shown.Tie as tie
 

@@ -1,7 +1,7 @@
 -- `form::put_marked` meets its contract. Assumes nothing.
 use native.Mathlib.Omega.{arith}
 use borrow.Author.Needs.{needs}
-use Rattle.values.proofs.Written.{wrote-none, wrote-is}
+use Rattle.put.proofs.Written.{wrote-none, wrote-is}
 use Rattle.form.proofs.Boxed.{marked-point, unmarked-point}
 use Rattle.form.proofs.put_marked.Statement.{statement}
 use Rattle.form.proofs.put_marked.Tie as tie

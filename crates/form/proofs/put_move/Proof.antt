@@ -2,7 +2,7 @@
 use mathlib.Core.Path.{ap}
 use native.Mathlib.Omega.{arith}
 use borrow.Author.Needs.{needs}
-use Rattle.values.proofs.Written.{wrote-is}
+use Rattle.put.proofs.Written.{wrote-is}
 use Rattle.form.specs.Boxes.{boxes}
 use Rattle.form.proofs.Forms.{move-many, move-pass, move-point, move-inside, move-raw, moved}
 use Rattle.form.proofs.Variants.{not-moved}

@@ -4,7 +4,7 @@ use mathlib.Core.Path.{_≡_}
 use native.Mathlib.Omega.{arith}
 use lib.ListN.{length, drop}
 use borrow.Author.Needs.{needs}
-use Rattle.values.proofs.Written.{wrote-length}
+use Rattle.put.proofs.Written.{wrote-length}
 use Rattle.go.specs.Normal.{pointsFrom}
 use Rattle.form.specs.Boxes.{boxes}
 use Rattle.form.proofs.Boxed.{points-next, points-end}

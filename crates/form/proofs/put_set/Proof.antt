@@ -1,7 +1,7 @@
 -- `form::put_set` meets its contract. Assumes nothing.
 use mathlib.Core.Path.{refl, ap}
 use borrow.Author.Needs.{needs}
-use Rattle.values.proofs.Written.{wrote-is}
+use Rattle.put.proofs.Written.{wrote-is}
 use Rattle.go.specs.Rows.{valuesAt}
 use Rattle.form.specs.Boxes.{boxes}
 use Rattle.form.proofs.Forms.{set-raw, set-points}

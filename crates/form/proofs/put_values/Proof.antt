@@ -1,7 +1,7 @@
 -- `form::put_values` meets its contract. Assumes nothing.
 use mathlib.Core.Path.{sym, ap, _∙_}
 use borrow.Author.Needs.{needs}
-use Rattle.values.proofs.Written.{wrote-is}
+use Rattle.put.proofs.Written.{wrote-is}
 use Rattle.values.specs.Read.{readIdentifier}
 use Rattle.go.proofs.ReadBack.{normal-unknown, normal-other}
 use Rattle.go.specs.Rows.{valuesAt}

@@ -2,7 +2,7 @@
 use mathlib.Core.Path.{_≡_, sym, _∙_}
 use native.Mathlib.Omega.{arith}
 use borrow.Author.Needs.{needs}
-use Rattle.values.proofs.Written.{wrote-none, wrote-is, wrote-length}
+use Rattle.put.proofs.Written.{wrote-none, wrote-is, wrote-length}
 use Rattle.serialize.specs.Locals.{Above}
 use Rattle.serialize.proofs.Climbs.{Ends, ends-none, ends-self, ends-first, ends-placed, ends-before, ends-done, ends-more}
 use Rattle.serialize.proofs.brackets.put_ends.Statement.{statement}

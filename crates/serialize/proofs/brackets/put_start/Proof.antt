@@ -1,7 +1,7 @@
 -- `brackets::put_start` meets its contract. Assumes nothing.
 use native.Mathlib.Omega.{arith}
 use borrow.Author.Needs.{needs}
-use Rattle.values.proofs.Written.{wrote-none, wrote-is}
+use Rattle.put.proofs.Written.{wrote-none, wrote-is}
 use Rattle.serialize.proofs.Climbs.{begun-by}
 use Rattle.serialize.proofs.brackets.put_start.Statement.{statement}
 use Rattle.serialize.proofs.brackets.put_start.Tie as tie

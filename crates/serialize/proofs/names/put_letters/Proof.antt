@@ -3,7 +3,7 @@ use Prim.Native.Nat.{_-_}
 use native.Mathlib.Omega.{arith}
 use lib.ListN.{length, drop}
 use borrow.Author.Needs.{needs}
-use Rattle.values.proofs.Written.{wrote-length}
+use Rattle.put.proofs.Written.{wrote-length}
 use Rattle.values.specs.Read.{readIdentifier}
 use Rattle.go.proofs.Identifiers.{letter-past, letter-here, letter-on}
 use Rattle.form.proofs.Writing.{Writing, writing-first, writing-is, writing-next, writing-end}

@@ -2,8 +2,8 @@
 use Prim.Native.Nat.{_+_, _-_, _≤_}
 use native.Mathlib.Omega.{arith}
 use borrow.Author.Needs.{needs}
-use Rattle.values.proofs.Written.{wrote-is, wrote-length}
-use Rattle.values.specs.Wrote.{Wrote}
+use Rattle.put.proofs.Written.{wrote-is, wrote-length}
+use Rattle.put.specs.Wrote.{Wrote}
 use Rattle.serialize.specs.Walk.{texts, propText}
 use Rattle.serialize.proofs.Walked.{node-property, properties-are}
 use Rattle.serialize.proofs.Texts.{texts-none, texts-more, texts-end}

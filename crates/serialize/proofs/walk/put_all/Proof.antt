@@ -3,8 +3,8 @@ use Prim.Native.Nat.{_-_, _≤_}
 use mathlib.Core.Path.{_≡_, refl}
 use native.Mathlib.Omega.{arith}
 use borrow.Author.Needs.{needs}
-use Rattle.values.proofs.Written.{wrote-is, wrote-length}
-use Rattle.values.specs.Wrote.{Wrote}
+use Rattle.put.proofs.Written.{wrote-is, wrote-length}
+use Rattle.put.specs.Wrote.{Wrote}
 use Rattle.serialize.specs.Walk.{texts, rootsBelow, nodeText}
 use Rattle.serialize.proofs.Walked.{roots-next, roots-some, nodes-up, nodes-above, node-typed, linked-wrote}
 use Rattle.serialize.proofs.Texts.{texts-none, texts-more, texts-end}
