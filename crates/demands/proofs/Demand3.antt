@@ -1,5 +1,4 @@
 -- Demand 3, editable: after any run of edits, refused ones between them, text and tables are what a fresh strict reading of the new bytes gives. Assumes nothing.
-use Prim.Native.Nat.{ℕ}
 use mathlib.Core.Bool.{Bool}
 use mathlib.Core.List.{List}
 use mathlib.Core.Path.{_≡_}

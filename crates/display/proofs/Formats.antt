@@ -1,12 +1,12 @@
 -- `format_text`, item by item. Assumes nothing.
-use Prim.Native.Nat.{ℕ, zero, suc, _+_, _≤_, _<_}
+use Prim.Native.Nat.{ℕ, zero, suc, _+_}
 use mathlib.Core.Path.{_≡_, refl, sym, ap, _∙_}
 use mathlib.Core.Bool.{Bool, true, false}
 use mathlib.Core.List.{List, [], _∷_, _++_}
 use native.Mathlib.Omega.{arith}
 use lib.Dec.{eqb}
-use lib.ListN.{length, getD, drop}
-use borrow.Author.Tests.{eq-eqb, ne-eqb}
+use lib.ListN.{getD, drop}
+use borrow.Author.Tests.{ne-eqb}
 use Rattle.lists.specs.Pick.{pick}
 use Rattle.display.specs.Display.{blank1, blank2, blank3, item, plain, removed, escaped, itemOf, formatFrom, formatText}
 use Rattle.display.specs.Showing.{otherBreak}

@@ -1,14 +1,14 @@
 -- The cursor over `format_text`: from here as from the start. Assumes nothing.
-use Prim.Native.Nat.{ℕ, _≤_, _<_}
+use Prim.Native.Nat.{ℕ, _≤_}
 use mathlib.Core.Path.{_≡_, sym, ap, _∙_}
-use mathlib.Core.List.{List, [], _∷_}
+use mathlib.Core.List.{List, _∷_}
 use native.Mathlib.Omega.{arith}
-use lib.ListN.{length, drop}
+use lib.ListN.{drop}
 use Rattle.values.specs.Read.{readValue}
 use Rattle.display.specs.Display.{formatText}
 use Rattle.display.specs.Showing.{Shows, Begins, otherBreak, Past}
 use Rattle.values.specs.declared.read.Step.the-variants.{Byte, End}
-use Rattle.values.proofs.Steps.{Steps, read-cons}
+use Rattle.values.proofs.Steps.{Steps}
 use Rattle.display.proofs.Formats.{format-empty, format-last, format-shown, format-removed}
 
 -- nothing that is shown stands between `from` and `at`

@@ -1,9 +1,8 @@
 // Text display: `format_text` and `SimpleText`, over read values and with no copy.
 ghost use mathlib.Core.Path.{_≡_};
-ghost use mathlib.Core.List.{List};
-ghost use Prim.Native.Nat.{ℕ, _≤_, _<_};
+ghost use Prim.Native.Nat.{_<_};
 ghost use lib.Dec.{leb};
-ghost use lib.ListN.{length, drop, getD};
+ghost use lib.ListN.{length};
 ghost use Rattle.values.specs.Read.{readValue};
 ghost use Rattle.display.specs.Display.{blank1, blank2, blank3, formatText, oneLine, shown, displayed, displayedIn};
 ghost use Rattle.display.specs.Showing.{Shows, Peeks, Begins, otherBreak, Past};

@@ -11,9 +11,10 @@ use borrow.Author.Tests.{eq-eqb, ne-eqb, eqb-true, lt-ltb, le-ltb, leb-true, leb
 use Rattle.lists.specs.Pick.{pick}
 use Rattle.tokens.proofs.Exactly.{CloseIs, close-is, close-exactly}
 use Rattle.lexer.specs.Closed.{closed}
-use Rattle.scan.specs.Scan.{closeAt, identFrom}
-use Rattle.scan.specs.declared.Close.{Close}
-use Rattle.scan.specs.declared.Close.the-variants.{At, Open}
+use Rattle.scan.specs.Scan.{identFrom}
+use Rattle.close.specs.Close.{closeAt}
+use Rattle.close.specs.declared.Close.{Close}
+use Rattle.close.specs.declared.Close.the-variants.{At, Open}
 use Rattle.scan.specs.declared.Ident.{Ident}
 use Rattle.scan.specs.declared.Ident.the-variants.{Opens, Missing, Foreign}
 use Rattle.fit.specs.Columns.{nameFromAt, nameToAt, valFromAt, valToAt}

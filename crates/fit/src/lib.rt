@@ -380,9 +380,9 @@ fn is_boxed(text: &[u8], start: usize, end: usize) -> bool
     if text[start - 1] != b'[' {
         return false;
     }
-    match scan::value_end(text, start) {
-        scan::Close::At(place) => place == end,
-        scan::Close::Open => false,
+    match close::value_end(text, start) {
+        close::Close::At(place) => place == end,
+        close::Close::Open => false,
     }
 }
 

@@ -11,7 +11,7 @@ use Rattle.lexer.specs.Step.{valsOn, valsBy, valsAt}
 use Rattle.scan.proofs.Bounds.{value-is}
 use Rattle.lists.proofs.Tests.{never}
 use Rattle.scan.proofs.Values.{values-more, values-unclosed, values-none}
-use Rattle.scan.specs.declared.Close.the-variants.{At, Open}
+use Rattle.close.specs.declared.Close.the-variants.{At, Open}
 use Rattle.scan.specs.declared.ValueStep.{ValueStep}
 use Rattle.scan.specs.declared.ValueStep.the-variants.{Value, NoMore, Unclosed}
 

@@ -12,8 +12,8 @@ use Rattle.lexer.specs.Step.{onIdent, headFrom, headAt, onValues, onHead
 use Rattle.scan.proofs.Bounds.{skip-bounds, ident-bounds, opens-not-none}
 use Rattle.scan.proofs.Values.{values-bounds, values-forward}
 use Rattle.lexer.proofs.Listed.{vals-count}
-use Rattle.scan.specs.declared.Close.{Close}
-use Rattle.scan.specs.declared.Close.the-variants.{At, Open}
+use Rattle.close.specs.declared.Close.{Close}
+use Rattle.close.specs.declared.Close.the-variants.{At, Open}
 use Rattle.scan.specs.declared.Ident.{Ident}
 use Rattle.scan.specs.declared.Ident.the-variants.{Opens, Missing, Foreign}
 use Rattle.lexer.specs.declared.Head.{Head}

@@ -77,8 +77,8 @@ fn property(s: &[u8], from: usize, opens: usize) -> Step
     ensures { λ r. ⌜ r ≡ onValues from opens (valuesAt (now (s .entry)) opens) ⌝ }
 {
     match scan::values_end(s, opens) {
-        scan::Close::At(e) => Step::Property(from, opens, e),
-        scan::Close::Open => Step::Refused(Fault::UnexpectedEndOfPropertyValue, from),
+        close::Close::At(e) => Step::Property(from, opens, e),
+        close::Close::Open => Step::Refused(Fault::UnexpectedEndOfPropertyValue, from),
     }
 }
 

@@ -7,7 +7,7 @@ use lib.ListN.{length}
 use Rattle.lists.specs.All.{All}
 use Rattle.lexer.specs.Token.{Tok, end, End, done, broken, Lexed, lexed, lexAt}
 use Rattle.tables.specs.Numbers.{reasonOf}
-use Rattle.parser.specs.Split.{Splitting, splitting, split, Slices, no, slices, slicesOf}
+use Rattle.parser.specs.Split.{splitting, split, Slices, no, slices, slicesOf}
 use Rattle.parser.specs.declared.Survey.{Survey}
 use Rattle.parser.specs.declared.Survey.the-variants.{Refused, Slices as found, Empty}
 use Rattle.parser.specs.declared.Stop.{Stop}

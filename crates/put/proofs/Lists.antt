@@ -1,5 +1,5 @@
 -- Elements stored one by one from a place on: joined, and beyond the end. Assumes nothing.
-use Prim.Native.Nat.{ℕ, zero, suc, _+_, _-_, _≤_, _<_, min}
+use Prim.Native.Nat.{ℕ, suc, _+_, _-_, _≤_, _<_, min}
 use mathlib.Core.Path.{_≡_, refl, sym, ap, _∙_}
 use mathlib.Core.Bool.{Bool, true, false}
 use mathlib.Core.List.{List, [], _∷_, _++_}
@@ -7,7 +7,7 @@ use native.Mathlib.Nat.{add-zero, add-suc, suc-add}
 use native.Mathlib.Numerals.{add-one}
 use native.Mathlib.Omega.{arith}
 use lib.Dec.{leb}
-use lib.ListN.{length, take, drop, getD, set, length-set, take-append-drop}
+use lib.ListN.{length, take, drop, getD, set, take-append-drop}
 use lib.Seq.{sets, set-out, take-suc, take-all, length-take-le, length-sets}
 use borrow.Author.Tests.{leb-true, leb-false}
 

@@ -2,11 +2,11 @@
 use Prim.Native.Nat.{ℕ, _+_, _-_, _^_, _≤_, _<_, min}
 use mathlib.Core.Path.{_≡_, refl, sym, ap, _∙_, subst}
 use mathlib.Core.Bool.{Bool, true, false}
-use mathlib.Core.List.{List, [], _∷_, _++_, append-assoc}
+use mathlib.Core.List.{List, [], _++_}
 use native.Mathlib.Omega.{arith}
 use lib.Dec.{leb}
-use lib.ListN.{length, drop, set, length-append}
-use lib.Seq.{sets, sets-eq, set-out, length-sets}
+use lib.ListN.{length, drop, length-append}
+use lib.Seq.{sets, sets-eq, length-sets}
 use borrow.Author.Tests.{leb-true, leb-false}
 use Rattle.put.specs.Wrote.{Wrote}
 use Rattle.put.proofs.Lists.{sets-append, sets-out}

@@ -6,7 +6,6 @@ use mathlib.Core.Logic.{_⊎_, inl, inr}
 use mathlib.Core.List.{List, [], _∷_, reverse, reverse-reverse}
 use native.Mathlib.Omega.{arith}
 use lib.ListN.{length}
-use Rattle.lists.specs.Pick.{pick}
 use Rattle.lists.specs.All.{All}
 use Rattle.lists.proofs.All.{all-append, all-map, all-reverse}
 use Rattle.lists.proofs.Pick.{pick-elim}
@@ -16,7 +15,7 @@ use Rattle.tables.specs.Record.{Node, Tree, allNodes}
 use Rattle.tables.specs.declared.Reason.{Reason}
 use Rattle.parser.specs.Walk.{Opts, Gate, shut, takes, skips, Walk, walk, halted, stopped, children, uppers, refuse, opens, closes, adds, gated, walks, walked}
 use Rattle.parser.specs.Kind.{Kind, is, unkind, kind}
-use Rattle.parser.specs.Read.{Growing, growing, failing, rooted, grown, kinded, grows, growAll}
+use Rattle.parser.specs.Read.{Growing, growing, failing, rooted, grown, kinded, growAll}
 
 -- none, or one of n nodes
 abbrev NodeOf : ℕ → ℕ → Type 0

@@ -5,8 +5,8 @@ use mathlib.Core.List.{List}
 use Prim.Native.Nat.{ℕ}
 use Rattle.lists.specs.Once.{Once}
 use Rattle.lists.proofs.Once.{once-is}
-use Rattle.scan.specs.Scan.{space, closeAt, skipAt, identAt, valueAt, valuesAt}
-use Rattle.scan.specs.declared.Close.{Close}
+use Rattle.scan.specs.Scan.{space, skipAt, identAt, valueAt, valuesAt}
+use Rattle.close.specs.declared.Close.{Close}
 use Rattle.scan.specs.declared.Ident.{Ident}
 use Rattle.scan.specs.declared.ValueStep.{ValueStep}
 
@@ -16,9 +16,6 @@ is-space-once b = once-is (space b)
 module _ (s : List ℕ) (i : ℕ) where
   pub skip-space-once : Once (λ (r : ℕ). r ≡ skipAt s i)
   skip-space-once = once-is (skipAt s i)
-
-  pub value-end-once : Once (λ (r : Close). r ≡ closeAt s i)
-  value-end-once = once-is (closeAt s i)
 
   pub ident-end-once : Once (λ (r : Ident). r ≡ identAt s i)
   ident-end-once = once-is (identAt s i)

@@ -9,7 +9,7 @@ use Rattle.lists.proofs.Run.{run-more, run-done}
 use Rattle.scan.specs.Scan.{onValue, valueAt, valuesAt}
 use Rattle.scan.proofs.Bounds.{value-is}
 use Rattle.lists.proofs.Tests.{never}
-use Rattle.scan.specs.declared.Close.the-variants.{At, Open}
+use Rattle.close.specs.declared.Close.the-variants.{At, Open}
 use Rattle.scan.specs.declared.ValueStep.{ValueStep}
 use Rattle.scan.specs.declared.ValueStep.the-variants.{Value, NoMore, Unclosed}
 

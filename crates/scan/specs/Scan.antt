@@ -1,13 +1,14 @@
 -- What the scans of the token rules find, over the list of a text's bytes.
 use Prim.Native.Nat.{ℕ, suc, _+_}
-use mathlib.Core.Bool.{Bool, true, false, _||_}
+use mathlib.Core.Bool.{Bool, _||_}
 use mathlib.Core.List.{List, [], _∷_}
 use lib.Dec.{eqb, leb}
 use lib.ListN.{length, drop, getD}
 use Rattle.lists.specs.Pick.{pick}
 use Rattle.lists.specs.Run.{Next, more, done, run}
-use Rattle.scan.specs.declared.Close.{Close}
-use Rattle.scan.specs.declared.Close.the-variants.{At, Open}
+use Rattle.close.specs.Close.{closeAt}
+use Rattle.close.specs.declared.Close.{Close}
+use Rattle.close.specs.declared.Close.the-variants.{At, Open}
 use Rattle.scan.specs.declared.Ident.{Ident}
 use Rattle.scan.specs.declared.Ident.the-variants.{Opens, Missing, Foreign}
 use Rattle.scan.specs.declared.ValueStep.{ValueStep}
@@ -16,16 +17,6 @@ use Rattle.scan.specs.declared.ValueStep.the-variants.{Value, NoMore, Un
 -- white space between tokens: space, tab, LF, FF, CR
 unfoldable pub space : ℕ → Bool
 space b = eqb b 0x20 || eqb b 0x9 || eqb b 0xa || eqb b 0xc || eqb b 0xd
-
--- of the bytes that stand from place i on: the first `]` that no backslash escapes; `true`: the byte before escapes this one
-unfoldable pub closeFrom : Bool → ℕ → List ℕ → Close
-closeFrom e i [] = Open
-closeFrom true i (b ∷ s) = closeFrom false (i + 1) s
-closeFrom false i (b ∷ s) = pick (eqb b 0x5d) (At i) (closeFrom (eqb b 0x5c) (i + 1) s)
-
--- the same of a text
-abbrev pub closeAt : List ℕ → ℕ → Close
-closeAt s i = closeFrom false i (drop i s)
 
 -- of the bytes that stand from place i on: the first that is no white space
 unfoldable pub skipFrom : ℕ → List ℕ → ℕ

@@ -1,14 +1,7 @@
 // The scans of the token rules: white space, an identifier, a value and values, each from a place on.
-mod runs; // runs.rt: runs of bytes that a value's scan steps over
-
+use close::Close;
 ghost use mathlib.Core.Path.{_≡_};
-ghost use Rattle.scan.specs.Scan.{space, closeAt, skipAt, identAt, valueAt, valuesAt};
-
-// Where a scan for a closing bracket ends.
-pub enum Close {
-    At(usize),
-    Open,
-}
+ghost use Rattle.scan.specs.Scan.{space, skipAt, identAt, valueAt, valuesAt};
 
 // Where an identifier ends: at a `[`; or the text ends first; or a byte that is not ASCII comes first.
 pub enum Ident {
@@ -36,36 +29,6 @@ pub fn skip_space(s: &[u8], from: usize) -> usize
         i += 1;
     }
     i
-}
-
-// The first unescaped `]` at or after `from`. Runs of plain bytes are tried at the start, behind an escape and each 16 bytes.
-pub fn value_end(s: &[u8], from: usize) -> Close
-    ensures { λ r. ⌜ r ≡ closeAt (now (s .entry)) from ⌝ }
-{
-    let mut i = from;
-    let mut escaped = false;
-    let mut again = from;
-    loop {
-        if s.len() <= i {
-            break Close::Open;
-        }
-        if escaped {
-            escaped = false;
-            i = runs::past_plain(s, i + 1);
-            again = i + 16;
-            continue;
-        }
-        let b = s[i];
-        if b == b']' {
-            break Close::At(i);
-        }
-        escaped = b == b'\\';
-        i += 1;
-        if (again <= i) & !escaped {
-            i = runs::past_plain(s, i);
-            again = i + 16;
-        }
-    }
 }
 
 // The `[` that ends the identifier at `from`.
@@ -103,13 +66,9 @@ pub fn next_value(s: &[u8], at: usize) -> ValueStep
     if s[at] != b'[' {
         return ValueStep::NoMore;
     }
-    let mut to = runs::past_short(s, at + 1);
-    if !runs::closes(s, to) {
-        let Close::At(far) = value_end(s, to) else {
-            return ValueStep::Unclosed;
-        };
-        to = far;
-    }
+    let Close::At(to) = close::value_end(s, at + 1) else {
+        return ValueStep::Unclosed;
+    };
     let next = skip_space(s, to + 1);
     ValueStep::Value(at + 1, to, next)
 }
@@ -126,13 +85,9 @@ pub fn values_end(s: &[u8], from: usize) -> Close
         if s[i] != b'[' {
             break Close::At(i);
         }
-        let mut to = runs::past_short(s, i + 1);
-        if !runs::closes(s, to) {
-            let Close::At(far) = value_end(s, to) else {
-                break Close::Open;
-            };
-            to = far;
-        }
+        let Close::At(to) = close::value_end(s, i + 1) else {
+            break Close::Open;
+        };
         i = skip_space(s, to + 1);
     }
 }

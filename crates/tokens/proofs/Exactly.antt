@@ -9,11 +9,12 @@ use lib.Dec.{eqb, leb}
 use borrow.Author.Tests.{eqb-true, eqb-false, ne-eqb, leb-true, leb-false, le-leb, lt-leb}
 use Rattle.lists.specs.Pick.{pick}
 use Rattle.lists.specs.All.{All}
-use Rattle.scan.specs.Scan.{closeFrom, identFrom}
+use Rattle.scan.specs.Scan.{identFrom}
+use Rattle.close.specs.Close.{closeFrom}
 use Rattle.lexer.specs.Closed.{closedFrom}
 use Rattle.lists.proofs.Tests.{never}
-use Rattle.scan.specs.declared.Close.{Close}
-use Rattle.scan.specs.declared.Close.the-variants.{At, Open}
+use Rattle.close.specs.declared.Close.{Close}
+use Rattle.close.specs.declared.Close.the-variants.{At, Open}
 use Rattle.scan.specs.declared.Ident.{Ident}
 use Rattle.scan.specs.declared.Ident.the-variants.{Opens, Missing, Foreign}
 

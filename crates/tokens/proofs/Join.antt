@@ -11,15 +11,17 @@ use lib.Dec.{eqb, ltb}
 use borrow.Author.Tests.{ne-eqb, eq-eqb, eqb-true, eqb-false, ltb-true, ltb-false}
 use Rattle.lists.proofs.Pick.{pick-elim}
 use Rattle.lexer.specs.Token.{Val, Tok, start, end, node, prop, between, ident, value, after, Out, silent, step, Lexed, lexed, lexAt, done, broken}
-use Rattle.scan.specs.Scan.{space, closeAt, skipAt, identAt, valuesAt}
+use Rattle.scan.specs.Scan.{space, skipAt, identAt, valuesAt}
+use Rattle.close.specs.Close.{closeAt}
 use Rattle.lexer.specs.Step.{onIdent, headFrom, headAt, onValues, onHead, nextAt, valsAt, propAt, stepOn}
-use Rattle.scan.proofs.Bounds.{past, close-bounds, skip-bounds, skip-within, ident-bounds, value-on, value-open, value-none}
+use Rattle.close.proofs.Bounds.{close-bounds}
+use Rattle.scan.proofs.Bounds.{past, skip-bounds, skip-within, ident-bounds, value-on, value-open, value-none}
 use Rattle.scan.proofs.Values.{values-more, values-unclosed, values-none}
 use Rattle.lexer.proofs.Listed.{vals-more, vals-none}
 use Rattle.tokens.proofs.Rest.{rest, step-at, end-at, identOn, ident-rest, made, closeOn, value-rest, skip-rest, between-skips, after-skips, skip-stops}
 use Rattle.lexer.specs.declared.Fault.the-variants.{UnexpectedEndOfPropertyValue}
-use Rattle.scan.specs.declared.Close.{Close}
-use Rattle.scan.specs.declared.Close.the-variants.{At, Open}
+use Rattle.close.specs.declared.Close.{Close}
+use Rattle.close.specs.declared.Close.the-variants.{At, Open}
 use Rattle.scan.specs.declared.Ident.{Ident}
 use Rattle.scan.specs.declared.Ident.the-variants.{Opens, Missing, Foreign}
 use Rattle.lexer.specs.declared.Head.{Head}

@@ -10,7 +10,8 @@ use Rattle.utf8.proofs.Steps.{place}
 use Rattle.lexer.specs.Token.{Val, St, between, value, emits, ends, lexFrom, lexAt, broken}
 use Rattle.lexer.specs.Closed.{closedFrom}
 use Rattle.lexer.specs.Move.{startsAt, endsAt, newRaw}
-use Rattle.scan.specs.Scan.{identFrom, closeFrom}
+use Rattle.scan.specs.Scan.{identFrom}
+use Rattle.close.specs.Close.{closeFrom}
 use Rattle.lexer.specs.Step.{nextAt, stepOn}
 use Rattle.tokens.proofs.Machine as machine
 use Rattle.tokens.proofs.Join as join
@@ -23,7 +24,7 @@ use Rattle.tokens.proofs.Replace as replace
 use Rattle.tokens.proofs.Exactly as exactly
 use Rattle.tokens.proofs.Faults as faults
 use Rattle.lexer.specs.declared.Fault.{Fault}
-use Rattle.scan.specs.declared.Close.{Close}
+use Rattle.close.specs.declared.Close.{Close}
 use Rattle.scan.specs.declared.Ident.{Ident}
 use Rattle.lexer.specs.declared.Step.the-variants.{Refused}
 

@@ -10,8 +10,8 @@ use Rattle.lists.specs.Pick.{pick}
 use Rattle.lexer.specs.Token.{prop, lexed, lexAt}
 use Rattle.scan.specs.Scan.{valuesAt}
 use Rattle.lexer.specs.Step.{valsAt, propAt, headAt}
-use Rattle.scan.specs.declared.Close.{Close}
-use Rattle.scan.specs.declared.Close.the-variants.{At, Open}
+use Rattle.close.specs.declared.Close.{Close}
+use Rattle.close.specs.declared.Close.the-variants.{At, Open}
 use Rattle.lexer.specs.declared.Head.the-variants.{Name}
 use Rattle.lexer.specs.declared.Step.the-variants.{Property}
 use Rattle.lexer.proofs.Within.{Within}

@@ -5,7 +5,7 @@ use mathlib.Core.List.{List}
 use Rattle.lexer.specs.Token.{lexAt}
 use Rattle.scan.specs.Scan.{valuesAt}
 use Rattle.lexer.specs.Step.{headAt, onValues, onHead, nextAt, stepOn}
-use Rattle.scan.specs.declared.Close.{Close}
+use Rattle.close.specs.declared.Close.{Close}
 use Rattle.lexer.specs.declared.Head.{Head}
 use Rattle.lexer.specs.declared.Head.the-variants.{Name}
 use Rattle.lexer.specs.declared.Step.{Step}

@@ -5,7 +5,7 @@ use mathlib.Core.Bool.{Bool, true, false, _||_}
 use mathlib.Core.List.{List}
 use lib.Seq.{slice}
 use Rattle.scan.specs.Scan.{valuesAt}
-use Rattle.scan.specs.declared.Close.the-variants.{At}
+use Rattle.close.specs.declared.Close.the-variants.{At}
 use Rattle.tables.specs.declared.Reason.{Reason}
 use Rattle.tables.specs.declared.Reason.the-variants.{UnexpectedProperty}
 use Rattle.parser.specs.Walk.{Gate, shut, takes, skips, uppers}

@@ -11,8 +11,8 @@ use Rattle.lists.specs.Put.{PutIs}
 use Rattle.lexer.specs.Token.{lexAt}
 use Rattle.scan.specs.Scan.{valuesAt}
 use Rattle.lexer.specs.Step.{valsAt}
-use Rattle.scan.specs.declared.Close.{Close}
-use Rattle.scan.specs.declared.Close.the-variants.{At, Open}
+use Rattle.close.specs.declared.Close.{Close}
+use Rattle.close.specs.declared.Close.the-variants.{At, Open}
 use Rattle.tables.specs.Numbers.{depthLimit, none}
 use Rattle.tables.specs.Rows.{valRows}
 use Rattle.tables.specs.Flat.{flatVals}

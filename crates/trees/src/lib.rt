@@ -1,7 +1,7 @@
 // The tree of one slice, read from the tokens from a place on into the lent tables, strict or lenient. One token a turn, each byte scanned once where reading is strict.
+use close::Close;
 use lexer::Head;
 use lexer::Step;
-use scan::Close;
 use scan::ValueStep;
 use tables::NONE;
 use tables::Reason;

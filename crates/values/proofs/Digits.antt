@@ -1,18 +1,17 @@
 -- Digits, one byte of the read value at a time, over the bound `most`. Assumes nothing.
 use Prim.Native.Nat.{ℕ, _+_, _*_, _≤_, _<_}
 use mathlib.Core.Path.{_≡_, refl}
-use mathlib.Core.Bool.{Bool, true, false, _&&_, and-false}
+use mathlib.Core.Bool.{Bool, true, false, and-false}
 use mathlib.Core.List.{List, [], _∷_}
 use native.Mathlib.Omega.{arith}
 use lib.Dec.{leb}
 use lib.ListN.{drop}
-use borrow.Author.Tests.{lt-leb, le-leb, leb-true, eq-eqb, ne-eqb}
+use borrow.Author.Tests.{lt-leb, le-leb, eq-eqb, ne-eqb}
 use Rattle.lists.specs.Pick.{pick}
-use Rattle.lists.proofs.Pick.{pick-elim}
 use Rattle.values.specs.Read.{readValue}
 use Rattle.values.specs.Decimal.{signed, digitOf, digitsFrom, decimalOf}
 use Rattle.values.specs.declared.decimal.Number.{Number}
-use Rattle.values.specs.declared.decimal.Number.the-variants.{Bad, Plus, Minus}
+use Rattle.values.specs.declared.decimal.Number.the-variants.{Bad}
 use Rattle.values.specs.declared.read.Step.the-variants.{Byte, End}
 use Rattle.values.proofs.Steps.{Steps}
 

@@ -2,7 +2,7 @@
 use borrow.Author.Tests.{not-true}
 use mathlib.Core.Bool.{true, false, true≢false}
 use mathlib.Core.Path.{_≡_, sym, _∙_}
-use Rattle.scan.specs.declared.Close.the-variants.{At, Open}
+use Rattle.close.specs.declared.Close.the-variants.{At, Open}
 use Rattle.lists.proofs.Tests.{never}
 use borrow.Author.Needs.{needs}
 use Rattle.trees.proofs.unclosed.Statement.{statement}

@@ -1,4 +1,4 @@
--- `scan::runs::past_short` meets its contract. The loop's invariant: the scan may go on from here. Assumes nothing.
+-- `close::runs::past_short` meets its contract. The loop's invariant: the scan may go on from here. Assumes nothing.
 use Prim.Native.Nat.{_-_, _≤_}
 use mathlib.Core.Path.{sym, _∙_}
 use mathlib.Core.Logic.{⊎-elim}
@@ -7,10 +7,10 @@ use lib.ListN.{length}
 use denote.Ref.{now}
 use borrow.Author.Needs.{needs}
 use borrow.Author.Tests.{not-false}
-use Rattle.scan.specs.Run.{LeadsTo}
-use Rattle.scan.proofs.Leads.{leads-none, leads-on, leads-one}
-use Rattle.scan.proofs.runs.past_short.Statement.{statement}
-use Rattle.scan.proofs.runs.past_short.Tie as tie
+use Rattle.close.specs.Run.{LeadsTo}
+use Rattle.close.proofs.Leads.{leads-none, leads-on, leads-one}
+use Rattle.close.proofs.runs.past_short.Statement.{statement}
+use Rattle.close.proofs.runs.past_short.Tie as tie
 
 abbrev Inv-loop : tie.InvT-loop
 Inv-loop s from stop i₀ i = (stop ≤ length s) × LeadsTo s from i

@@ -3,9 +3,9 @@ ghost use mathlib.Core.Path.{_≡_};
 ghost use mathlib.Core.Bool.{true};
 ghost use Prim.Native.Nat.{ℕ, _+_, _≤_, _<_};
 ghost use lib.ListN.{length, getD};
-ghost use Rattle.scan.specs.declared.Close.the-variants.{At};
-ghost use Rattle.scan.specs.Scan.{closeAt};
-ghost use Rattle.scan.specs.Run.{plain, LeadsTo};
+ghost use Rattle.close.specs.declared.Close.the-variants.{At};
+ghost use Rattle.close.specs.Close.{closeAt};
+ghost use Rattle.close.specs.Run.{plain, LeadsTo};
 
 // Neither `]` nor a backslash.
 fn is_plain(b: u8) -> bool

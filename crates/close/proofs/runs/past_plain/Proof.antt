@@ -1,14 +1,14 @@
--- `scan::runs::past_plain` meets its contract. The loop's invariant: the scan may go on from here. Assumes nothing.
+-- `close::runs::past_plain` meets its contract. The loop's invariant: the scan may go on from here. Assumes nothing.
 use Prim.Native.Nat.{_-_}
 use native.Mathlib.Omega.{arith}
 use lib.ListN.{length}
 use denote.Ref.{now}
 use borrow.Author.Needs.{needs}
 use borrow.Author.Tests.{not-false}
-use Rattle.scan.specs.Run.{LeadsTo}
-use Rattle.scan.proofs.Leads.{leads-none, leads-on, leads-plain}
-use Rattle.scan.proofs.runs.past_plain.Statement.{statement}
-use Rattle.scan.proofs.runs.past_plain.Tie as tie
+use Rattle.close.specs.Run.{LeadsTo}
+use Rattle.close.proofs.Leads.{leads-none, leads-on, leads-plain}
+use Rattle.close.proofs.runs.past_plain.Statement.{statement}
+use Rattle.close.proofs.runs.past_plain.Tie as tie
 
 abbrev Inv-loop : tie.InvT-loop
 Inv-loop s from i₀ i = LeadsTo s from i

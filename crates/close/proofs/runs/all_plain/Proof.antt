@@ -1,4 +1,4 @@
--- `scan::runs::all_plain` meets its contract. The loop's invariant: as long as the flag holds, all bytes so far are plain. Assumes nothing.
+-- `close::runs::all_plain` meets its contract. The loop's invariant: as long as the flag holds, all bytes so far are plain. Assumes nothing.
 use mathlib.Core.Path.{_≡_, sym, _∙_}
 use mathlib.Core.Bool.{true}
 use Prim.Native.Nat.{ℕ, _+_, _-_, _≤_, _<_}
@@ -8,9 +8,9 @@ use denote.Ref.{now}
 use borrow.Author.Count.{below-more}
 use borrow.Author.Needs.{needs}
 use Rattle.lists.proofs.Tests.{and-both}
-use Rattle.scan.specs.Run.{plain}
-use Rattle.scan.proofs.runs.all_plain.Statement.{statement}
-use Rattle.scan.proofs.runs.all_plain.Tie as tie
+use Rattle.close.specs.Run.{plain}
+use Rattle.close.proofs.runs.all_plain.Statement.{statement}
+use Rattle.close.proofs.runs.all_plain.Tie as tie
 
 abbrev Inv-loop : tie.InvT-loop
 Inv-loop s i n all₀ k₀ all k = (k ≤ n) × (all ≡ true → (m : ℕ) → m < k → plain (getD s (i + m) 0) ≡ true)

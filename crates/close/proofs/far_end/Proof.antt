@@ -1,4 +1,4 @@
--- `scan::value_end` meets its contract. The loop's invariant: the scan that goes on from here, with the flag as it is, finds what the scan from the start finds.
+-- `close::far_end` meets its contract. The loop's invariant: the scan that goes on from here, with the flag as it is, finds what the scan from the start finds.
 -- Assumes nothing.
 use Prim.Native.Nat.{_+_, _-_}
 use mathlib.Core.Path.{_≡_, ap, sym, _∙_}
@@ -10,10 +10,10 @@ use lib.ListN.{length, drop, getD}
 use borrow.Author.Needs.{needs}
 use borrow.Author.Tests.{not-true}
 use Rattle.lists.proofs.Tests.{and-both}
-use Rattle.scan.proofs.Scans.{close-past, close-escaped, close-here, close-on}
-use Rattle.scan.specs.Scan.{closeFrom, closeAt}
-use Rattle.scan.proofs.value_end.Statement.{statement}
-use Rattle.scan.proofs.value_end.Tie as tie
+use Rattle.close.proofs.Steps.{close-past, close-escaped, close-here, close-on}
+use Rattle.close.specs.Close.{closeFrom, closeAt}
+use Rattle.close.proofs.far_end.Statement.{statement}
+use Rattle.close.proofs.far_end.Tie as tie
 
 abbrev Inv-loop : tie.InvT-loop
 Inv-loop s from i₀ escaped₀ again₀ i escaped again = closeFrom escaped i (drop i s) ≡ closeAt s from
@@ -98,8 +98,8 @@ returns-2 c =
     ∙ ap (λ (e : Bool). closeFrom e (l .i) (drop (l .i) s)) (sym (c .before .before .if2 .left))
     ∙ l .inv
 
-pub value-end-spec : {M : Type 1} → statement M
-value-end-spec =
+pub far-end-spec : {M : Type 1} → statement M
+far-end-spec =
     tie.close
     (tie.spec
     Inv-loop

@@ -8,9 +8,9 @@ use lib.Dec.{eqb}
 use lib.ListN.{length, drop, getD}
 use borrow.Author.Tests.{not-true, eqb-false}
 use Rattle.lists.proofs.Tests.{and-both}
-use Rattle.scan.proofs.Scans.{close-on}
-use Rattle.scan.specs.Scan.{closeFrom, closeAt}
-use Rattle.scan.specs.Run.{plain, LeadsTo}
+use Rattle.close.proofs.Steps.{close-on}
+use Rattle.close.specs.Close.{closeFrom, closeAt}
+use Rattle.close.specs.Run.{plain, LeadsTo}
 
 -- one byte
 pub close-plain : (s : List ℕ) (i : ℕ) → i < length s → plain (getD s i 0) ≡ true → closeAt s (i + 1) ≡ closeAt s i

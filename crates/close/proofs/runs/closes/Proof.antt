@@ -1,11 +1,11 @@
--- `scan::runs::closes` meets its contract. Assumes nothing.
+-- `close::runs::closes` meets its contract. Assumes nothing.
 use mathlib.Core.Bool.{false≢true}
 use denote.Ref.{now}
 use borrow.Author.Needs.{needs}
 use borrow.Author.Tests.{eqb-true}
-use Rattle.scan.proofs.Scans.{close-here}
-use Rattle.scan.proofs.runs.closes.Statement.{statement}
-use Rattle.scan.proofs.runs.closes.Tie as tie
+use Rattle.close.proofs.Steps.{close-here}
+use Rattle.close.proofs.runs.closes.Statement.{statement}
+use Rattle.close.proofs.runs.closes.Tie as tie
 
 returns-2 : tie.Need-returns-2
 returns-2 c = λ e. close-here (now (c .before .before .args .s)) _ (c .before .if1 .left) (eqb-true _ _ e)

@@ -5,7 +5,7 @@ use mathlib.Core.Bool.{Bool, _&&_, not}
 use mathlib.Core.List.{List}
 use lib.Dec.{eqb}
 use lib.ListN.{length}
-use Rattle.scan.specs.Scan.{closeAt}
+use Rattle.close.specs.Close.{closeAt}
 
 -- neither `]` nor a backslash
 abbrev pub plain : ℕ → Bool

@@ -1,0 +1,4 @@
+pub mod Bounds
+pub mod Leads
+pub mod Steps
+pub mod Unique

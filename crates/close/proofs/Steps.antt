@@ -1,0 +1,28 @@
+-- The definition of a scan for a closing bracket at an offset of a text, one step at a time. Assumes nothing.
+use Prim.Native.Nat.{ℕ, _+_, _≤_, _<_}
+use mathlib.Core.Path.{_≡_}
+use mathlib.Core.Bool.{Bool, true, false}
+use mathlib.Core.List.{List}
+use lib.ListN.{length, drop, getD, drop-of-length-le}
+use lib.Dec.{eqb}
+use borrow.Author.Tests.{eq-eqb, ne-eqb}
+use Rattle.lists.proofs.Places.{drop-next}
+use Rattle.close.specs.Close.{closeFrom}
+use Rattle.close.specs.declared.Close.the-variants.{At, Open}
+
+pub close-past : (e : Bool) (s : List ℕ) (i : ℕ) → length s ≤ i → closeFrom e i (drop i s) ≡ Open
+unfolding closeFrom
+close-past e s i h = rw drop-of-length-le
+
+module _ (s : List ℕ) (i : ℕ) (h : i < length s) where
+  pub close-escaped : closeFrom true i (drop i s) ≡ closeFrom false (i + 1) (drop (i + 1) s)
+  unfolding closeFrom
+  close-escaped = rw (drop-next s i)
+
+  pub close-here : getD s i 0 ≡ 93 → closeFrom false i (drop i s) ≡ At i
+  unfolding closeFrom
+  close-here q = rw (drop-next s i, eq-eqb (getD s i 0) 93 q)
+
+  pub close-on : (getD s i 0 ≡ 93 → ⊥) → closeFrom false i (drop i s) ≡ closeFrom (eqb (getD s i 0) 92) (i + 1) (drop (i + 1) s)
+  unfolding closeFrom
+  close-on n = rw (drop-next s i, ne-eqb (getD s i 0) 93 n)
