@@ -7,6 +7,7 @@ use native.Mathlib.Omega.{arith}
 use lib.ListN.{length}
 use lib.Seq.{slice}
 use Rattle.lists.specs.Pick.{pick}
+use Rattle.lists.proofs.Tests.{never}
 use Rattle.lexer.specs.Token.{prop, lexed, lexAt}
 use Rattle.scan.specs.Scan.{valuesAt}
 use Rattle.lexer.specs.Step.{valsAt, propAt, headAt}
@@ -18,27 +19,18 @@ use Rattle.lexer.proofs.Within.{Within}
 use Rattle.tables.specs.Record.{Node}
 use Rattle.tables.specs.declared.Reason.{Reason}
 use Rattle.tables.specs.declared.Reason.the-variants.{UnexpectedProperty, InvalidFF4Property}
-use Rattle.parser.specs.Walk.{Opts, Gate, Walk, walk, stopped, takes, skips, refuse, adds, gated, uppers, walked}
+use Rattle.parser.specs.Walk.{Gate, Walk, walk, stopped, takes, skips, refuse, adds, gated, uppers, walked}
 use Rattle.parser.specs.Slice.{sliceFrom, Shallow}
 use Rattle.trees.specs.Walks.{opts, walkOf, Stored}
-use Rattle.trees.specs.Turns.{stackOf, gateOf, added, dropped, Closes, AddIs, SkippedIs, KeptIs, GateIs, TurnIs}
+use Rattle.trees.specs.Turns.{stackOf, gateOf, added, dropped, Closes, AddIs, SkippedIs, gateAct, propAct}
 use Rattle.trees.specs.declared.State.{State}
-use Rattle.trees.specs.declared.Turn.{Turn}
-use Rattle.trees.specs.declared.Turn.the-variants.{On, Stop}
+use Rattle.trees.specs.declared.Act.the-variants.{Add, Skip, Stop}
 use Rattle.trees.proofs.Stored.{stored-prop}
 use Rattle.trees.proofs.Lines.{Line, line-prop}
 use Rattle.trees.proofs.Behind.{skipping-prop}
 use Rattle.trees.proofs.Meets.{step-meets, step-lies, name-next}
-use Rattle.trees.proofs.Turned.{gate-takes, gate-skips, turn-ends}
+use Rattle.trees.proofs.Acts.{gate-takes, gate-skips}
 use Rattle.trees.proofs.Walking.{Walking, Last, onto, shallow-onto, refuse-stays}
-
--- tables that are kept
-pub walking-kept : {op : Opts} {u : List ℕ} {from base p0 v0 : ℕ} {t₀ q₀ w₀ t q w t′ q′ w′ a : List ℕ} {st : State} → Walking op u from base p0 v0 t₀ q₀ w₀ t q w a st → KeptIs t q w t′ q′ w′
-    → Walking op u from base p0 v0 t₀ q₀ w₀ t′ q′ w′ a st
-walking-kept {op} {u} {from} {base} {p0} {v0} {t₀} {q₀} {w₀} {t} {q} {w} {t′} {q′} {w′} {a} {st} x k =
-    subst⁻¹ (λ (l : List ℕ). Walking op u from base p0 v0 t₀ q₀ w₀ l q′ w′ a st) (k .nodes)
-    (subst⁻¹ (λ (l : List ℕ). Walking op u from base p0 v0 t₀ q₀ w₀ t l w′ a st) (k .props)
-    (subst⁻¹ (λ (l : List ℕ). Walking op u from base p0 v0 t₀ q₀ w₀ t q l a st) (k .vals) x))
 
 module _ {len con : Bool} {u : List ℕ} {from base p0 v0 : ℕ} {t₀ q₀ w₀ t q w a : List ℕ} {st : State} (x : Walking (opts len con) u from base p0 v0 t₀ q₀ w₀ t q w a st) (i k : ℕ)
     (g : headAt u (st .at) ≡ Name i k) where
@@ -144,50 +136,62 @@ module _ {len con : Bool} {u : List ℕ} {from base p0 v0 : ℕ} {t₀ q₀ w₀
       by true n ns = refl
       by false n ns = refl
 
-  pub walking-property : {r : Turn} {t′ q′ w′ : List ℕ} → TurnIs len con u st i k t q w r t′ q′ w′ → {y : State} → r ≡ On y → Walking (opts len con) u from base p0 v0 t₀ q₀ w₀ t′ q′ w′ a y
-  unfolding TurnIs
-  walking-property {r} {t′} {q′} {w′} z {y} e = go (st .follows) (st .drops) (con || uppers (slice i k u)) len refl refl refl refl (subst (λ (r : Turn). TurnIs len con u st i k t q w r t′ q′ w′) e z)
+  -- a property that is added was let in
+  pub adds-follows : propAct len con u st i k ≡ Add i k → st .follows ≡ true
+  unfolding propAct
+  adds-follows = go (st .follows) (st .drops) (con || uppers (slice i k u)) len
     where
-      W : Type 0
-      W = Walking (opts len con) u from base p0 v0 t₀ q₀ w₀ t′ q′ w′ a y
+      go : (f d o l : Bool) → gateAct (gateOf f d) o l i k ≡ Add i k → f ≡ true
+      go false d o l e = never (cc)
+      go true d o l e = refl
 
-      dropped-on : SkippedIs u st k y × KeptIs t q w t′ q′ w′ → Walking (opts len con) u from base p0 v0 t₀ q₀ w₀ t q w a (dropped st (y .at)) → W
-      dropped-on z v = walking-kept (subst⁻¹ (Walking (opts len con) u from base p0 v0 t₀ q₀ w₀ t q w a) (z .0 .is) v) (z .1)
+  pub walking-added : propAct len con u st i k ≡ Add i k → {y : State} {t′ q′ w′ : List ℕ} → AddIs u st i k t q w y t′ q′ w′ → Walking (opts len con) u from base p0 v0 t₀ q₀ w₀ t′ q′ w′ a y
+  unfolding propAct
+  walking-added e {y} {t′} {q′} {w′} z = go (st .follows) (st .drops) (con || uppers (slice i k u)) len refl refl refl e
+    where
+      go : (f d o l : Bool) → st .follows ≡ f → st .drops ≡ d → (con || uppers (slice i k u)) ≡ o → gateAct (gateOf f d) o l i k ≡ Add i k → Walking (opts len con) u from base p0 v0 t₀ q₀ w₀ t′ q′ w′ a y
+      go false d o l ef ed eo e = never (cc)
+      go true true o l ef ed eo e = never (cc)
+      go true false true l ef ed eo e = subst⁻¹ (λ (r : State). Walking (opts len con) u from base p0 v0 t₀ q₀ w₀ t′ q′ w′ a r) (z .is) (walking-add (z .ends) ef ed eo z)
+      go true false false true ef ed eo e = never (cc)
+      go true false false false ef ed eo e = never (cc)
 
-      go : (f d o l : Bool) → st .follows ≡ f → st .drops ≡ d → (con || uppers (slice i k u)) ≡ o → len ≡ l → GateIs (gateOf f d) o l u st i k t q w (On y) t′ q′ w′ → W
-      go false d o l ef ed eo el z = absurd z
-      go true true o l ef ed eo el z = dropped-on z (walking-drop (z .0 .ends) ef (reaches (z .0 .ends) (gate-skips st ef ed)))
-      go true false true l ef ed eo el z = subst⁻¹ (λ (r : State). Walking (opts len con) u from base p0 v0 t₀ q₀ w₀ t′ q′ w′ a r) (z .is) (walking-add (z .ends) ef ed eo z)
-      go true false false true ef ed eo el z =
-          dropped-on z (walking-drop (z .0 .ends) ef
-          (not-taken (z .0 .ends) ef ed eo ∙ ap (λ (c : Bool). Behind (z .0 .ends) (pick c (walk (st .cur) (stackOf a (st .depth)) skips (x .ns)) (stopped InvalidFF4Property))) el))
-      go true false false false ef ed eo el z = absurd z
+  pub walking-skipped : propAct len con u st i k ≡ Skip k → {y : State} → SkippedIs u st k y → Walking (opts len con) u from base p0 v0 t₀ q₀ w₀ t q w a y
+  unfolding propAct
+  walking-skipped e {y} z = subst⁻¹ (Walking (opts len con) u from base p0 v0 t₀ q₀ w₀ t q w a) (z .is) (go (st .follows) (st .drops) (con || uppers (slice i k u)) len refl refl refl refl e)
+    where
+      go : (f d o l : Bool) → st .follows ≡ f → st .drops ≡ d → (con || uppers (slice i k u)) ≡ o → len ≡ l → gateAct (gateOf f d) o l i k ≡ Skip k → Walking (opts len con) u from base p0 v0 t₀ q₀ w₀ t q w a (dropped st (y .at))
+      go false d o l ef ed eo el e = never (cc)
+      go true true o l ef ed eo el e = walking-drop (z .ends) ef (reaches (z .ends) (gate-skips st ef ed))
+      go true false true l ef ed eo el e = never (cc)
+      go true false false true ef ed eo el e =
+          walking-drop (z .ends) ef
+          (not-taken (z .ends) ef ed eo ∙ ap (λ (c : Bool). Behind (z .ends) (pick c (walk (st .cur) (stackOf a (st .depth)) skips (x .ns)) (stopped InvalidFF4Property))) el)
+      go true false false false ef ed eo el e = never (cc)
 
-  -- and it moves on
-  pub property-moves : {r : Turn} (t′ q′ w′ : List ℕ) → TurnIs len con u st i k t q w r t′ q′ w′ → {y : State} → r ≡ On y → (st .at < y .at) × (y .at ≤ length u)
-  property-moves t′ q′ w′ z {y} e =
-      let b = lies (turn-ends len con u st i k t q w t′ q′ w′ y (subst (λ (r : Turn). TurnIs len con u st i k t q w r t′ q′ w′) e z)) in
-      (omega arith, b .4)
+  -- a property that closes moves on
+  pub property-moves : {e : ℕ} → valuesAt u k ≡ At e → (st .at < e) × (e ≤ length u)
+  property-moves h = let b = lies h in (omega arith, b .4)
 
-  pub property-stops : Closes u k → (r : Reason) (t₁ q₁ w₁ t′ q′ w′ : List ℕ) → TurnIs len con u st i k t₁ q₁ w₁ (Stop r) t′ q′ w′ → walkOf (opts len con) base (lexAt u from .toks) ≡ refuse len r (x .ns)
-  unfolding TurnIs
-  property-stops c r t₁ q₁ w₁ t′ q′ w′ z = closed (valuesAt u k) refl
+  pub property-stops : Closes u k → (r : Reason) → propAct len con u st i k ≡ Stop r → walkOf (opts len con) base (lexAt u from .toks) ≡ refuse len r (x .ns)
+  unfolding propAct
+  property-stops c r z = closed (valuesAt u k) refl
     where
       W : Type 0
       W = walkOf (opts len con) base (lexAt u from .toks) ≡ refuse len r (x .ns)
 
-      go : {e : ℕ} → valuesAt u k ≡ At e → (f d o l : Bool) → st .follows ≡ f → st .drops ≡ d → (con || uppers (slice i k u)) ≡ o → len ≡ l → GateIs (gateOf f d) o l u st i k t₁ q₁ w₁ (Stop r) t′ q′ w′ → W
+      go : {e : ℕ} → valuesAt u k ≡ At e → (f d o l : Bool) → st .follows ≡ f → st .drops ≡ d → (con || uppers (slice i k u)) ≡ o → len ≡ l → gateAct (gateOf f d) o l i k ≡ Stop r → W
       go h false d o l ef ed eo el z =
-          reaches h (ap (λ (c : Bool). gateOf c (st .drops)) ef) ∙ stays h UnexpectedProperty ∙ ap (λ (y : Reason). refuse len y (x .ns)) (sym (z .0))
-      go h true true o l ef ed eo el z = absurd z
-      go h true false true l ef ed eo el z = absurd z
-      go h true false false true ef ed eo el z = absurd z
+          reaches h (ap (λ (c : Bool). gateOf c (st .drops)) ef) ∙ stays h UnexpectedProperty ∙ ap (λ (y : Reason). refuse len y (x .ns)) (cc)
+      go h true true o l ef ed eo el z = never (cc)
+      go h true false true l ef ed eo el z = never (cc)
+      go h true false false true ef ed eo el z = never (cc)
       go h true false false false ef ed eo el z =
           not-taken h ef ed eo
           ∙ ap (λ (c : Bool). Behind h (pick c (walk (st .cur) (stackOf a (st .depth)) skips (x .ns)) (stopped InvalidFF4Property))) el
           ∙ ap (λ (c : Bool). Behind h (refuse c InvalidFF4Property (x .ns))) (sym el)
           ∙ stays h InvalidFF4Property
-          ∙ ap (λ (y : Reason). refuse len y (x .ns)) (sym (z .0))
+          ∙ ap (λ (y : Reason). refuse len y (x .ns)) (cc)
 
       closed : (v : Close) → valuesAt u k ≡ v → W
       closed (At e) h = go h (st .follows) (st .drops) (con || uppers (slice i k u)) len refl refl refl refl z

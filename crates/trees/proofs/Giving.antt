@@ -8,33 +8,32 @@ use lib.ListN.{length, length-reverse}
 use lib.Dec.{eqb}
 use borrow.Author.Tests.{eqb-true, eqb-false}
 use Rattle.lists.specs.Put.{PutIs}
-use Rattle.lexer.specs.Token.{Tok, lexAt}
+use Rattle.lexer.specs.Token.{Tok, Lexed, lexAt}
 use Rattle.lexer.specs.Step.{headAt}
-use Rattle.lexer.specs.declared.Head.the-variants.{End, Name}
+use Rattle.lexer.specs.declared.Head.{Head}
+use Rattle.lexer.specs.declared.Head.the-variants.{Start, End, Node, Name, Refused, Done}
 use Rattle.tables.specs.Numbers.{none}
-use Rattle.tables.specs.Record.{Node, Tree}
+use Rattle.tables.specs.Record.{Node as Noded, Tree}
 use Rattle.tables.specs.declared.Reason.{Reason}
 use Rattle.tables.specs.declared.Reason.the-variants.{UnexpectedEndOfData}
 use Rattle.parser.specs.Walk.{Opts, Gate, Walk, walk, refuse, walked}
 use Rattle.parser.specs.Slice.{sliceFrom}
 use Rattle.parser.specs.Read.{growing, rooted, grown}
 use Rattle.trees.specs.Walks.{opts, walkOf, Stored, TreeIs, WalkIs}
-use Rattle.trees.specs.Turns.{Closes, TurnIs, BehindIs, RootBy, RootIs, StopIs}
+use Rattle.trees.specs.Turns.{StopAt, OverAt, BehindIs, RootBy, RootIs, StopIs}
 use Rattle.trees.specs.declared.State.{State}
-use Rattle.trees.specs.declared.Turn.{Turn}
-use Rattle.trees.specs.declared.Turn.the-variants.{Stop}
 use Rattle.trees.specs.declared.Walked.{Walked}
 use Rattle.trees.specs.declared.Walked.the-variants.{Tree as tree, Refused as refused}
 use Rattle.trees.proofs.Stored.{stored-node}
 use Rattle.trees.proofs.Behind.{skipping-first, skipping-last, skipping-over, skipping-behind}
 use Rattle.trees.proofs.Meets.{head-meets, head-lies}
 use Rattle.trees.proofs.Walking.{Walking, held, count}
-use Rattle.trees.proofs.Turned.{turn-kept}
-use Rattle.trees.proofs.Arms.{end-last}
-use Rattle.trees.proofs.Adding.{walking-kept, property-stops}
+use Rattle.trees.proofs.Arms.{start-stops, end-stops, end-last}
+use Rattle.trees.proofs.Adding.{property-stops}
+use Rattle.trees.proofs.Faults.{unclosed-over}
 
 -- the tree of some nodes, and of none
-rooted-some : (len : Bool) (base k : ℕ) (ns : List Node) (ts : List Tree) → (length ns ≡ 0 → ⊥) → rooted len base k ns ts ≡ growing (base + length (reverse ns)) (record { root = base; kind = k; nodes = reverse ns } ∷ ts)
+rooted-some : (len : Bool) (base k : ℕ) (ns : List Noded) (ts : List Tree) → (length ns ≡ 0 → ⊥) → rooted len base k ns ts ≡ growing (base + length (reverse ns)) (record { root = base; kind = k; nodes = reverse ns } ∷ ts)
 rooted-some len base k [] ts h = absurd (h refl)
 rooted-some len base k (n ∷ ns) ts h = ap (λ (z : ℕ). growing (base + z) (record { root = base; kind = k; nodes = reverse (n ∷ ns) } ∷ ts)) (sym (length-reverse (n ∷ ns)))
 
@@ -86,10 +85,10 @@ module _ {op : Opts} {u : List ℕ} {from base p0 v0 : ℕ} {t₀ q₀ w₀ t q 
           tree = λ k ts.
               s k ts
               ∙ ap (λ (z : Bool). rooted z base k (x .ns) ts) l
-              ∙ ap (λ (z : List Node). rooted true base k z ts) n
+              ∙ ap (λ (z : List Noded). rooted true base k z ts) n
               ∙ ap (λ (z : ℕ). growing z (record { root = base; kind = k; nodes = record { parent = none; props = [] } ∷ [] } ∷ ts)) (sym one);
           stored =
-              stored-node [] (subst (λ (z : List Node). Stored base p0 v0 (reverse z) t₀ q₀ w₀ t q w (st .nodes) (st .props) (st .vals)) n (x .stored)) none p;
+              stored-node [] (subst (λ (z : List Noded). Stored base p0 v0 (reverse z) t₀ q₀ w₀ t q w (st .nodes) (st .props) (st .vals)) n (x .stored)) none p;
           more = omega arith;
           rest = r .rest;
           ends = r .ends;
@@ -104,7 +103,7 @@ module _ {op : Opts} {u : List ℕ} {from base p0 v0 : ℕ} {t₀ q₀ w₀ t q 
     gives-refused l h =
         let c = count x in
         let n : x .ns ≡ [] = empty (x .ns) (omega arith) in
-        (l, λ k ts. s k ts ∙ ap (λ (z : Bool). rooted z base k (x .ns) ts) l ∙ ap (λ (z : List Node). rooted false base k z ts) n)
+        (l, λ k ts. s k ts ∙ ap (λ (z : Bool). rooted z base k (x .ns) ts) l ∙ ap (λ (z : List Noded). rooted false base k z ts) n)
 
     gives-finished : (r : Walked) (t′ : List ℕ) → RootIs (op .lenient) base st o t r t′ → WalkIs op u from base p0 v0 t₀ q₀ w₀ t′ q w r
     gives-finished r t′ = go (eqb (st .nodes) base) (op .lenient) refl refl
@@ -148,11 +147,36 @@ module _ {op : Opts} {u : List ℕ} {from base p0 v0 : ℕ} {t₀ q₀ w₀ t q 
       let b = head-lies u (st .at) g in
       gives (end-last x g h) (skipping-last (skipping-first u (st .at) (st .depth) (x .skip .inside)) (b .0) (b .1) (head-meets u (st .at) g) (omega arith)) r t′ y
 
--- a property stops the tree
-pub gives-property : {len con : Bool} {u : List ℕ} {from base p0 v0 : ℕ} {t₀ q₀ w₀ t q w a : List ℕ} {st : State} → Walking (opts len con) u from base p0 v0 t₀ q₀ w₀ t q w a st
-    → (i k : ℕ) → headAt u (st .at) ≡ Name i k → Closes u k → {y : Turn} (t′ q′ w′ : List ℕ) → TurnIs len con u st i k t q w y t′ q′ w′ → {reason : Reason} → y ≡ Stop reason
-    → (r : Walked) (t″ : List ℕ) → StopIs len u base st reason t′ r t″ → WalkIs (opts len con) u from base p0 v0 t₀ q₀ w₀ t″ q′ w′ r
-gives-property {len} {con} {u} {t = t} {q = q} {w = w} {st = st} x i k g c t′ q′ w′ z {reason} e r t″ s =
-    let z′ = subst (λ (y : Turn). TurnIs len con u st i k t q w y t′ q′ w′) e z in
-    let x′ = walking-kept x (turn-kept len con u st i k t q w t′ q′ w′ reason z′) in
-    gives-stop x′ reason (property-stops x′ i k g c reason t q w t′ q′ w′ z′) r t″ s
+module _ {len con : Bool} {u : List ℕ} {from base p0 v0 : ℕ} {t₀ q₀ w₀ t q w a : List ℕ} {st : State} (x : Walking (opts len con) u from base p0 v0 t₀ q₀ w₀ t q w a st) where
+  -- the next token stops the tree
+  pub gives-stopped : (reason : Reason) → StopAt len con u base st a reason (headAt u (st .at)) → (r : Walked) (t′ : List ℕ) → StopIs len u base st reason t r t′ → WalkIs (opts len con) u from base p0 v0 t₀ q₀ w₀ t′ q w r
+  gives-stopped reason z = gives-stop x reason (go (headAt u (st .at)) refl z)
+    where
+      W : Reason → Type 0
+      W y = walkOf (opts len con) base (lexAt u from .toks) ≡ refuse len y (x .ns)
+
+      go : (h : Head) → headAt u (st .at) ≡ h → StopAt len con u base st a reason h → W reason
+      go (Start i) g z = subst⁻¹ W (z .0) (start-stops x g refl (z .1))
+      go (End i) g z = subst⁻¹ W (z .0) (end-stops x g (z .1))
+      go (Node i) g z = absurd z
+      go (Name i k) g z = property-stops x i k g (z .0) reason (z .1)
+      go (Refused f i) g z = absurd z
+      go Done g z = absurd z
+
+  -- the slice ends before o
+  pub gives-ended : (o : ℕ) → OverAt u st o (headAt u (st .at)) → (r : Walked) (t′ : List ℕ) → RootIs len base st o t r t′ → WalkIs (opts len con) u from base p0 v0 t₀ q₀ w₀ t′ q w r
+  gives-ended o z r t′ y = go (headAt u (st .at)) refl z
+    where
+      W : Type 0
+      W = WalkIs (opts len con) u from base p0 v0 t₀ q₀ w₀ t′ q w r
+
+      over : lexAt u (st .at) .toks ≡ [] → o ≡ st .at → W
+      over h e = gives-over x h r t′ (subst (λ (z : ℕ). RootIs len base st z t r t′) e y)
+
+      go : (h : Head) → headAt u (st .at) ≡ h → OverAt u st o h → W
+      go (Start i) g z = absurd z
+      go (End i) g z = gives-last x g (z .0) r t′ (subst (λ (z : ℕ). RootIs len base st z t r t′) (z .1) y)
+      go (Node i) g z = absurd z
+      go (Name i k) g z = over (unclosed-over u (st .at) i k g (z .0)) (z .1)
+      go (Refused f i) g z = over (ap (λ (z : Lexed). z .toks) (head-meets u (st .at) g)) z
+      go Done g z = over (ap (λ (z : Lexed). z .toks) (head-meets u (st .at) g)) z

@@ -1,3 +1,4 @@
+pub mod Acts
 pub mod Adding
 pub mod Arms
 pub mod Behind
@@ -10,6 +11,5 @@ pub mod Meets
 pub mod Stacks
 pub mod Stored
 pub mod Takings
-pub mod Turned
 pub mod Uppers
 pub mod Walking

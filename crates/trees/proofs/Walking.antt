@@ -5,7 +5,7 @@ use mathlib.Core.Bool.{Bool, true, false, false≢true}
 use mathlib.Core.List.{List, [], _∷_, reverse, reverse-cons}
 use native.Mathlib.Omega.{arith}
 use lib.ListN.{length, length-append, length-reverse}
-use Rattle.lexer.specs.Token.{Tok, start, end, node, Lexed, lexAt}
+use Rattle.lexer.specs.Token.{Tok, Lexed, lexAt}
 use Rattle.tables.specs.Numbers.{depthLimit}
 use Rattle.tables.specs.Record.{Node, allProps}
 use Rattle.tables.specs.declared.Reason.{Reason}

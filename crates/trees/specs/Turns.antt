@@ -1,5 +1,5 @@
 -- What the steps of the walk do, in the code's own terms. Nothing public is stated by these.
-use Prim.Native.Nat.{ℕ, zero, suc, _+_, _-_, _*_, _≤_}
+use Prim.Native.Nat.{ℕ, zero, suc, _+_, _-_, _*_, _≤_, _<_}
 use mathlib.Core.Path.{_≡_}
 use mathlib.Core.Bool.{Bool, true, false, _||_}
 use mathlib.Core.List.{List, [], _∷_}
@@ -10,20 +10,22 @@ use Rattle.lists.specs.Pick.{pick}
 use Rattle.lists.specs.Put.{PutIs}
 use Rattle.lexer.specs.Token.{lexAt}
 use Rattle.scan.specs.Scan.{valuesAt}
-use Rattle.lexer.specs.Step.{valsAt}
-use Rattle.close.specs.declared.Close.{Close}
-use Rattle.close.specs.declared.Close.the-variants.{At, Open}
+use Rattle.lexer.specs.Step.{valsAt, headAt}
+use Rattle.lexer.specs.declared.Head.{Head}
+use Rattle.lexer.specs.declared.Head.the-variants.{Start as start, End as end, Node as node, Name as name, Refused as refused, Done as done}
+use Rattle.scan.specs.declared.Close.{Close}
+use Rattle.scan.specs.declared.Close.the-variants.{At, Open}
 use Rattle.tables.specs.Numbers.{depthLimit, none}
 use Rattle.tables.specs.Rows.{valRows}
 use Rattle.tables.specs.Flat.{flatVals}
 use Rattle.tables.specs.declared.Reason.{Reason}
-use Rattle.tables.specs.declared.Reason.the-variants.{UnexpectedEndOfData, UnexpectedProperty, InvalidFF4Property}
+use Rattle.tables.specs.declared.Reason.the-variants.{UnexpectedEndOfData, UnexpectedGameTreeStart, UnexpectedGameTreeEnd, UnexpectedProperty, InvalidFF4Property}
 use Rattle.parser.specs.Walk.{Gate, shut, takes, skips, uppers}
 use Rattle.parser.specs.Slice.{restFrom}
 use Rattle.trees.specs.declared.State.{State}
 use Rattle.trees.specs.declared.Taken.{Taken}
-use Rattle.trees.specs.declared.Turn.{Turn}
-use Rattle.trees.specs.declared.Turn.the-variants.{On, Stop}
+use Rattle.trees.specs.declared.Act.{Act}
+use Rattle.trees.specs.declared.Act.the-variants.{Start, End, Node, Add, Skip, Stop, Over}
 use Rattle.trees.specs.declared.Walked.{Walked}
 use Rattle.trees.specs.declared.Walked.the-variants.{Tree, Refused}
 
@@ -127,28 +129,47 @@ pub record SkippedIs (u : List ℕ) (st : State) (k : ℕ) (r : State) : Type 0 
   pub ends : valuesAt u k ≡ At (r .at)
   pub is : r ≡ dropped st (r .at)
 
--- no table changes
-pub record KeptIs (t q w t′ q′ w′ : List ℕ) : Type 0 where
-  pub nodes : t′ ≡ t
-  pub props : q′ ≡ q
-  pub vals : w′ ≡ w
+-- ---- what the next token asks for
 
--- a property, by the gate, by whether its identifier may be taken, and by leniency
-abbrev pub GateIs : Gate → (ok len : Bool) (u : List ℕ) → State → (i k : ℕ) (t q w : List ℕ) → Turn → (t′ q′ w′ : List ℕ) → Type 0
-GateIs shut ok len u st i k t q w (On x) t′ q′ w′ = ⊥
-GateIs shut ok len u st i k t q w (Stop r) t′ q′ w′ = (r ≡ UnexpectedProperty) × KeptIs t q w t′ q′ w′
-GateIs skips ok len u st i k t q w (On x) t′ q′ w′ = SkippedIs u st k x × KeptIs t q w t′ q′ w′
-GateIs skips ok len u st i k t q w (Stop r) t′ q′ w′ = ⊥
-GateIs takes true len u st i k t q w (On x) t′ q′ w′ = AddIs u st i k t q w x t′ q′ w′
-GateIs takes true len u st i k t q w (Stop r) t′ q′ w′ = ⊥
-GateIs takes false true u st i k t q w (On x) t′ q′ w′ = SkippedIs u st k x × KeptIs t q w t′ q′ w′
-GateIs takes false true u st i k t q w (Stop r) t′ q′ w′ = ⊥
-GateIs takes false false u st i k t q w (On x) t′ q′ w′ = ⊥
-GateIs takes false false u st i k t q w (Stop r) t′ q′ w′ = (r ≡ InvalidFF4Property) × KeptIs t q w t′ q′ w′
+-- a property that closes, by the gate, by whether its identifier may be taken, and by leniency
+abbrev pub gateAct : Gate → (ok len : Bool) (i k : ℕ) → Act
+gateAct shut ok len i k = Stop UnexpectedProperty
+gateAct skips ok len i k = Skip k
+gateAct takes true len i k = Add i k
+gateAct takes false true i k = Skip k
+gateAct takes false false i k = Stop InvalidFF4Property
 
--- a property of the text
-unfoldable pub TurnIs : (len con : Bool) (u : List ℕ) → State → (i k : ℕ) (t q w : List ℕ) → Turn → (t′ q′ w′ : List ℕ) → Type 0
-TurnIs len con u st i k t q w r t′ q′ w′ = GateIs (gateOf (st .follows) (st .drops)) (con || uppers (slice i k u)) len u st i k t q w r t′ q′ w′
+-- a property of the text that closes
+unfoldable pub propAct : (len con : Bool) (u : List ℕ) → State → (i k : ℕ) → Act
+propAct len con u st i k = gateAct (gateOf (st .follows) (st .drops)) (con || uppers (slice i k u)) len i k
+
+-- where the tree stops, by the token
+abbrev pub StopAt : (len con : Bool) (u : List ℕ) (base : ℕ) → State → (a : List ℕ) → Reason → Head → Type 0
+StopAt len con u base st a r (start i) = (r ≡ UnexpectedGameTreeStart) × (mayOpen base (st .nodes) (stackOf a (st .depth)) ≡ false)
+StopAt len con u base st a r (end i) = (r ≡ UnexpectedGameTreeEnd) × (st .depth ≡ 0)
+StopAt len con u base st a r (node i) = ⊥
+StopAt len con u base st a r (name i k) = Closes u k × (propAct len con u st i k ≡ Stop r)
+StopAt len con u base st a r (refused f i) = ⊥
+StopAt len con u base st a r done = ⊥
+
+-- where the slice ends before o, by the token
+abbrev pub OverAt : List ℕ → State → (o : ℕ) → Head → Type 0
+OverAt u st o (start i) = ⊥
+OverAt u st o (end i) = (st .depth ≡ 1) × (o ≡ i + 1)
+OverAt u st o (node i) = ⊥
+OverAt u st o (name i k) = (valuesAt u k ≡ Open) × (o ≡ st .at)
+OverAt u st o (refused f i) = o ≡ st .at
+OverAt u st o done = o ≡ st .at
+
+-- the next token asks for it
+abbrev pub ActIs : (len con : Bool) (u : List ℕ) (base : ℕ) → State → (a : List ℕ) → Act → Type 0
+ActIs len con u base st a (Start i) = (headAt u (st .at) ≡ start i) × (mayOpen base (st .nodes) (stackOf a (st .depth)) ≡ true)
+ActIs len con u base st a (End i) = (headAt u (st .at) ≡ end i) × (1 < st .depth)
+ActIs len con u base st a (Node i) = headAt u (st .at) ≡ node i
+ActIs len con u base st a (Add i k) = (headAt u (st .at) ≡ name i k) × Closes u k × (propAct len con u st i k ≡ Add i k)
+ActIs len con u base st a (Skip k) = (i : ℕ) × (headAt u (st .at) ≡ name i k) × Closes u k × (propAct len con u st i k ≡ Skip k)
+ActIs len con u base st a (Stop r) = StopAt len con u base st a r (headAt u (st .at))
+ActIs len con u base st a (Over o) = OverAt u st o (headAt u (st .at))
 
 -- ---- the end of the slice
 

@@ -6,17 +6,18 @@ use scan::ValueStep;
 use tables::NONE;
 use tables::Reason;
 ghost use mathlib.Core.Path.{_≡_};
-ghost use mathlib.Core.Bool.{true, _||_};
+ghost use mathlib.Core.Bool.{false, _||_};
 ghost use mathlib.Core.List.{[], _∷_};
 ghost use Prim.Native.Nat.{_+_, _*_, _≤_, _<_};
 ghost use lib.ListN.{length, set, getD};
 ghost use lib.Seq.{slice};
 ghost use Rattle.lists.specs.Put.{PutIs};
 ghost use Rattle.scan.specs.Scan.{valuesAt};
+ghost use Rattle.lexer.specs.Token.{done, lexAt};
 ghost use Rattle.tables.specs.Numbers.{textLimit, depthLimit, none};
 ghost use Rattle.parser.specs.Walk.{uppers};
 ghost use Rattle.trees.specs.Walks.{opts, Ready, WalkIs};
-ghost use Rattle.trees.specs.Turns.{rowLimit, Small, stackOf, mayOpen, begun, shutAt, ended, noded, Closes, UnclosedIs, TakenIs, AddIs, SkippedIs, TurnIs, BehindIs, RootIs, StopIs};
+ghost use Rattle.trees.specs.Turns.{rowLimit, Small, stackOf, mayOpen, begun, shutAt, ended, noded, Closes, UnclosedIs, TakenIs, AddIs, SkippedIs, propAct, ActIs, BehindIs, RootIs, StopIs};
 
 // What a walk gives: the place behind the slice and the next row of each table (nodes, properties, values); or why there is no tree.
 pub enum Walked {
@@ -37,10 +38,15 @@ struct State {
     drops: bool,
 }
 
-// What a property leads to: the next token, or the tree stops.
-enum Turn {
-    On(State),
+// What the next token asks for: a start, an end that leaves a tree open, a node, a property to add or to drop; or the tree stops, or its slice ends before a place.
+enum Act {
+    Start(usize),
+    End(usize),
+    Node(usize),
+    Add(usize, usize),
+    Skip(usize),
     Stop(Reason),
+    Over(usize),
 }
 
 // The next row of the values, and where the values end.
@@ -212,34 +218,24 @@ fn named(s: &[u8], from: usize, to: usize, convert: bool) -> bool
     plain(s, from, to)
 }
 
-// A property that closes: it is added, dropped, or stops the tree.
-fn property(
-    s: &[u8],
-    lenient: bool,
-    convert: bool,
-    w: State,
-    i: usize,
-    k: usize,
-    nodes: &mut [u32],
-    props: &mut [u32],
-    vals: &mut [u32],
-) -> Turn
-    requires { ⌜ Small w × (length (now s) ≤ textLimit) × (i ≤ k) × (k ≤ length (now s)) × (w .follows ≡ true → (0 < w .nodes) × (w .first ≤ w .props)) × Closes (now s) k ⌝ }
-    ensures { λ r. ⌜ TurnIs lenient convert (now (s .entry)) w i k (now (nodes .entry)) (now (props .entry)) (now (vals .entry)) r (now (nodes .exit)) (now (props .exit)) (now (vals .exit)) ⌝ }
+// What a property that closes asks for: it is added, dropped, or stops the tree.
+fn property(s: &[u8], lenient: bool, convert: bool, w: State, i: usize, k: usize) -> Act
+    requires { ⌜ k ≤ length (now s) ⌝ }
+    ensures { λ r. ⌜ r ≡ propAct lenient convert (now (s .entry)) w i k ⌝ }
 {
     if !w.follows {
-        return Turn::Stop(Reason::UnexpectedProperty);
+        return Act::Stop(Reason::UnexpectedProperty);
     }
     if w.drops {
-        return Turn::On(skip_property(s, w, k));
+        return Act::Skip(k);
     }
     if named(s, i, k, convert) {
-        return Turn::On(add(s, w, i, k, nodes, props, vals));
+        return Act::Add(i, k);
     }
     if lenient {
-        return Turn::On(skip_property(s, w, k));
+        return Act::Skip(k);
     }
-    Turn::Stop(Reason::InvalidFF4Property)
+    Act::Stop(Reason::InvalidFF4Property)
 }
 
 // Does a value of the property not close. Only lenient reading looks: strict reading has looked before.
@@ -252,6 +248,39 @@ fn unclosed(s: &[u8], k: usize, lenient: bool) -> bool
     match scan::values_end(s, k) {
         Close::At(_) => false,
         Close::Open => true,
+    }
+}
+
+// What the next token asks for.
+fn look(s: &[u8], lenient: bool, convert: bool, base: usize, w: State, stack: &[u32; 1024]) -> Act
+    requires { ⌜ (length (now s) ≤ textLimit) × (w .depth ≤ depthLimit) × (lenient ≡ false → lexAt (now s) (w .at) .end ≡ done) ⌝ }
+    ensures { λ r. ⌜ ActIs lenient convert (now (s .entry)) base w (now (stack .entry)) r ⌝ }
+{
+    match lexer::next_head(s, w.at) {
+        Head::Start(i) => {
+            if may_open(stack, w.depth, base, w.nodes) {
+                return Act::Start(i);
+            }
+            Act::Stop(Reason::UnexpectedGameTreeStart)
+        }
+        Head::End(i) => {
+            if w.depth == 0 {
+                return Act::Stop(Reason::UnexpectedGameTreeEnd);
+            }
+            if w.depth == 1 {
+                return Act::Over(i + 1);
+            }
+            Act::End(i)
+        }
+        Head::Node(i) => Act::Node(i),
+        Head::Name(i, k) => {
+            if unclosed(s, k, lenient) {
+                return Act::Over(w.at);
+            }
+            property(s, lenient, convert, w, i, k)
+        }
+        Head::Refused(_, _) => Act::Over(w.at),
+        Head::Done => Act::Over(w.at),
     }
 }
 
@@ -353,36 +382,14 @@ pub fn walk_tree(
     let mut stack = [0u32; 1024];
     let mut w = begin(from, base, p0, v0);
     loop {
-        match lexer::next_head(s, w.at) {
-            Head::Start(i) => {
-                if !may_open(&stack, w.depth, base, w.nodes) {
-                    return stop(s, lenient, base, w, Reason::UnexpectedGameTreeStart, nodes);
-                }
-                w = start(w, i, &mut stack);
-            }
-            Head::End(i) => {
-                if w.depth == 0 {
-                    return stop(s, lenient, base, w, Reason::UnexpectedGameTreeEnd, nodes);
-                }
-                if w.depth == 1 {
-                    return finish(lenient, base, w, i + 1, nodes);
-                }
-                w = end(w, i, &stack);
-            }
-            Head::Node(i) => {
-                w = node(w, i, nodes);
-            }
-            Head::Name(i, k) => {
-                if unclosed(s, k, lenient) {
-                    return finish(lenient, base, w, w.at, nodes);
-                }
-                match property(s, lenient, convert, w, i, k, nodes, props, vals) {
-                    Turn::On(x) => w = x,
-                    Turn::Stop(reason) => return stop(s, lenient, base, w, reason, nodes),
-                }
-            }
-            Head::Refused(_, _) => return finish(lenient, base, w, w.at, nodes),
-            Head::Done => return finish(lenient, base, w, w.at, nodes),
+        match look(s, lenient, convert, base, w, &stack) {
+            Act::Start(i) => w = start(w, i, &mut stack),
+            Act::End(i) => w = end(w, i, &stack),
+            Act::Node(i) => w = node(w, i, nodes),
+            Act::Add(i, k) => w = add(s, w, i, k, nodes, props, vals),
+            Act::Skip(k) => w = skip_property(s, w, k),
+            Act::Stop(reason) => return stop(s, lenient, base, w, reason, nodes),
+            Act::Over(at) => return finish(lenient, base, w, at, nodes),
         }
     }
 }
