@@ -5,13 +5,13 @@ use mathlib.Core.Bool.{Bool, true, false}
 use mathlib.Core.List.{List, [], _∷_}
 use native.Mathlib.Omega.{arith}
 use lib.ListN.{length}
+use lib.Seq.{take-length}
 use Rattle.lists.proofs.Tests.{never}
 use Rattle.lexer.specs.Token.{End, done, broken, Lexed, lexAt}
 use Rattle.tables.specs.Numbers.{textLimit}
 use Rattle.tables.specs.declared.Reason.{Reason}
 use Rattle.tables.specs.declared.Reading.{Reading}
-use Rattle.tables.specs.declared.Reading.the-variants.{Refused as refusedReading}
-use Rattle.parser.specs.Split.{Slices, no, slices, slicesOf}
+use Rattle.parser.specs.Split.{Slices as Sliced, no, slices, slicesOf}
 use Rattle.parser.specs.Slice.{sliceFrom, restFrom, cut, Shallow}
 use Rattle.parser.specs.Survey.{counted, strictly, surveyOf}
 use Rattle.parser.specs.declared.Survey.{Survey}
@@ -22,10 +22,8 @@ use Rattle.parser.proofs.Tokens.{tokens-few}
 use Rattle.trees.specs.Walks.{opts}
 use Rattle.reader.specs.Lent.{Lent, ReadIs}
 use Rattle.reader.specs.Slices.{readOf, SlicesReady}
-
--- the answer of the tokens from a place on
-abbrev pub tokensAnswer : Bool → Bool → Lexed → Answer
-tokensAnswer len con l = lexing (opts len con) len (l .end) (l .toks)
+use Rattle.reader.specs.Plans.{PlanIs, tokensAnswer}
+use Rattle.reader.specs.declared.Plan.the-variants.{Slices}
 
 pub read-as : {A B : Answer} → A ≡ B → {b a : Lent} {r : Reading} → ReadIs B b a r → ReadIs A b a r
 read-as {A} {B} e {b} {a} {r} x = subst⁻¹ (λ (z : Answer). ReadIs z b a r) e x
@@ -47,14 +45,14 @@ survey-of false l {x} h e = go (l .end) refl e
     go done q w = ((λ z. q), w)
     go (broken f s) q w = absurd (h _ _ (sym w))
 
-counted-empty : (s : Slices) → counted s ≡ Empty → s ≡ slices ([] ∷ [])
+counted-empty : (s : Sliced) → counted s ≡ Empty → s ≡ slices ([] ∷ [])
 counted-empty (no r) e = never (cc)
 counted-empty (slices []) e = never (cc)
 counted-empty (slices ([] ∷ [])) e = refl
 counted-empty (slices ((t ∷ ts) ∷ [])) e = never (cc)
 counted-empty (slices (s ∷ u ∷ ss)) e = never (cc)
 
-counted-refused : (s : Slices) (r : Reason) (p : ℕ) → counted s ≡ Refused r p → (s ≡ no r) × (p ≡ 0)
+counted-refused : (s : Sliced) (r : Reason) (p : ℕ) → counted s ≡ Refused r p → (s ≡ no r) × (p ≡ 0)
 counted-refused (no q) r p e = let a : q ≡ r = cc in let b : 0 ≡ p = cc in (ap no a, sym b)
 counted-refused (slices []) r p e = never (cc)
 counted-refused (slices ([] ∷ [])) r p e = never (cc)
@@ -75,10 +73,8 @@ module _ (len con : Bool) (u : List ℕ) (from : ℕ) {x : Survey} (e : x ≡ su
   abbrev L : Lexed
   L = lexAt u from
 
-  pub tokens-refused : {r : Reason} {p : ℕ} → x ≡ Refused r p → (b : Lent) → ReadIs (tokensAnswer len con L) b b (refusedReading r p)
-  tokens-refused {r} {p} q b =
-      let w = answer-refused len con L r p (sym e ∙ q) in
-      rw w (record { answer = refl; tables = refl })
+  pub tokens-refused : {r : Reason} {p : ℕ} → x ≡ Refused r p → tokensAnswer len con L ≡ refused r p
+  tokens-refused {r} {p} q = answer-refused len con L r p (sym e ∙ q)
 
   -- ---- so many slices
 
@@ -86,24 +82,31 @@ module _ (len con : Bool) (u : List ℕ) (from : ℕ) {x : Survey} (e : x ≡ su
     found-in : Calm len L × (counted (slicesOf len (L .toks)) ≡ found k)
     found-in = survey-of len L (λ r p z. never (cc)) (sym e ∙ q)
 
-    pub slices-answer : tokensAnswer len con L ≡ answer (readOf (opts len con) k (L .toks))
+    slices-answer : tokensAnswer len con L ≡ answer (readOf (opts len con) k (L .toks))
     unfolding readOf
     slices-answer = calm-parsed len con L (found-in .0) ∙ ap (planted (opts len con)) (slices-cut len (L .toks) k (found-in .1) .are)
 
-    pub slices-ready : length u ≤ textLimit → from ≤ length u → SlicesReady (opts len con) u from k
+    slices-ready : length u ≤ textLimit → from ≤ length u → SlicesReady (opts len con) u from k
     slices-ready h i =
         let s = slices-cut len (L .toks) k (found-in .1) in
         let f = s .few in
         record { short = h; inside = i; few = omega (arith, tokens-few u from); shallow = s .shallow; calm = found-in .0 }
 
+    pub slices-plan : length u ≤ textLimit → from ≤ length u → PlanIs (opts len con) u (tokensAnswer len con L) (Slices from (length u) k)
+    slices-plan h i =
+        (slices-answer ∙ ap (λ (z : List ℕ). answer (readOf (opts len con) k (lexAt z from .toks))) (sym (take-length u)), subst⁻¹ (λ (z : List ℕ). SlicesReady (opts len con) z from k) (take-length u) (slices-ready h i), omega arith)
+
   -- ---- none: the empty text has the empty slice
 
-  pub empty-answer : x ≡ Empty → tokensAnswer len con L ≡ answer (readOf (opts len con) 1 (lexAt [] 0 .toks))
+  empty-answer : x ≡ Empty → tokensAnswer len con L ≡ answer (readOf (opts len con) 1 (lexAt [] 0 .toks))
   unfolding readOf cut sliceFrom restFrom lexAt
   empty-answer q =
       let w = survey-of len L (λ r p z. never (cc)) (sym e ∙ q) in
       calm-parsed len con L (w .0) ∙ ap (planted (opts len con)) (counted-empty (slicesOf len (L .toks)) (w .1))
 
-pub empty-ready : (len con : Bool) → SlicesReady (opts len con) [] 0 1
-unfolding cut sliceFrom restFrom Shallow lexAt
-empty-ready len con = record { short = omega arith; inside = omega arith; few = omega arith; shallow = (tt, tt); calm = λ z. refl }
+  empty-ready : SlicesReady (opts len con) [] 0 1
+  unfolding cut sliceFrom restFrom Shallow lexAt
+  empty-ready = record { short = omega arith; inside = omega arith; few = omega arith; shallow = (tt, tt); calm = λ z. refl }
+
+  pub empty-plan : x ≡ Empty → PlanIs (opts len con) u (tokensAnswer len con L) (Slices 0 0 1)
+  empty-plan q = (empty-answer q, empty-ready, omega arith)

@@ -1,10 +1,11 @@
 -- From the whole text to its tokens: the limit, UTF-8, trimming. Assumes nothing.
 use Prim.Native.Nat.{ℕ, _≤_, _<_}
-use mathlib.Core.Path.{_≡_, refl, sym, ap, _∙_}
+use mathlib.Core.Path.{_≡_, refl, sym, ap, _∙_, subst}
 use mathlib.Core.Bool.{Bool}
 use mathlib.Core.List.{List, []}
+use native.Mathlib.Omega.{arith}
 use lib.ListN.{length, take, drop}
-use lib.Seq.{length-take-le}
+use lib.Seq.{length-take-le, take-take}
 use borrow.Author.Tests.{lt-ltb, le-ltb}
 use Rattle.lists.specs.Pick.{pick}
 use Rattle.lists.proofs.Tests.{never}
@@ -16,12 +17,13 @@ use Rattle.utf8.proofs.Extent.{trim-bounds}
 use Rattle.lexer.specs.Token.{between, emits, ends, finish, lexed, lexFrom, lexAt}
 use Rattle.tables.specs.Numbers.{textLimit}
 use Rattle.tables.specs.declared.Reason.the-variants.{TextTooLong, NotUtf8 as notUtf8}
-use Rattle.tables.specs.declared.Reading.the-variants.{Refused}
 use Rattle.parser.specs.Walk.{Opts}
-use Rattle.parser.specs.Read.{refused, decoded, read}
+use Rattle.parser.specs.Read.{Answer, refused, answer, decoded, read}
 use Rattle.trees.specs.Walks.{opts}
-use Rattle.reader.specs.Lent.{Lent, ReadIs}
-use Rattle.reader.proofs.Surveyed.{tokensAnswer}
+use Rattle.reader.specs.Slices.{readOf, SlicesReady}
+use Rattle.reader.specs.Plans.{PlanIs, tokensAnswer}
+use Rattle.reader.specs.declared.Plan.{Plan}
+use Rattle.reader.specs.declared.Plan.the-variants.{Slices, Refused}
 
 -- the tokens of what trimming keeps are those from a place of the text's front part on
 lex-prefix : (t : List ℕ) (f l : ℕ) → l ≤ length t → lexFrom f l (drop f (take l t)) ≡ lexAt (take l t) f
@@ -47,18 +49,16 @@ module _ (op : Opts) (t : List ℕ) where
   shown-kept (part k s n r c) f l e = never (cc)
   shown-kept (bad q) f l e = never (cc)
 
-  pub text-long : textLimit < length t → (b : Lent) → ReadIs (read op t) b b (Refused TextTooLong 0)
-  text-long h b = rw (lt-ltb textLimit (length t) h) (record { answer = refl; tables = refl })
+  pub text-long : textLimit < length t → read op t ≡ refused TextTooLong 0
+  text-long h = ap (λ (z : Bool). pick z (refused TextTooLong 0) (decoded op (utfs (whole blank) 0 t) t)) (lt-ltb textLimit (length t) h)
 
   text-short : length t ≤ textLimit → read op t ≡ decoded op (utfs (whole blank) 0 t) t
   text-short h = ap (λ (z : Bool). pick z (refused TextTooLong 0) (decoded op (utfs (whole blank) 0 t) t)) (le-ltb textLimit (length t) h)
 
 module _ (len con : Bool) (t : List ℕ) (h : length t ≤ textLimit) {x : Trimmed} (e : x ≡ trimmed t) where
-  pub text-bad : {p : ℕ} → x ≡ NotUtf8 p → (b : Lent) → ReadIs (read (opts len con) t) b b (Refused notUtf8 p)
+  pub text-bad : {p : ℕ} → x ≡ NotUtf8 p → read (opts len con) t ≡ refused notUtf8 p
   unfolding trimmed
-  text-bad {p} q b =
-      let w : read (opts len con) t ≡ refused notUtf8 p = text-short (opts len con) t h ∙ shown-bad (opts len con) t (utfs (whole blank) 0 t) p (sym e ∙ q) in
-      rw w (record { answer = refl; tables = refl })
+  text-bad {p} q = text-short (opts len con) t h ∙ shown-bad (opts len con) t (utfs (whole blank) 0 t) p (sym e ∙ q)
 
   pub text-blank : x ≡ Blank → read (opts len con) t ≡ tokensAnswer len con (lexAt [] 0)
   unfolding trimmed lexAt
@@ -74,3 +74,12 @@ module _ (len con : Bool) (t : List ℕ) (h : length t ≤ textLimit) {x : Trimm
   -- the front part, and the place in it
   pub kept-within : {f l : ℕ} → x ≡ Kept f l → (f < l) × (l ≤ length t)
   kept-within {f} {l} q = trim-bounds t f l (sym e ∙ q)
+
+-- a plan for a front part of the text
+pub plan-front : (op : Opts) (t : List ℕ) (l : ℕ) → l ≤ length t → {A B : Answer} → A ≡ B → (r : Plan) → PlanIs op (take l t) B r → PlanIs op t A r
+plan-front op t l h e (Slices f o k) z =
+    let b = z .2 in
+    let n = length-take-le l t h in
+    let s : take o (take l t) ≡ take o t = take-take o l t (omega arith) in
+    (e ∙ z .0 ∙ ap (λ (y : List ℕ). answer (readOf op k (lexAt y f .toks))) s, subst (λ (y : List ℕ). SlicesReady op y f k) s (z .1), omega arith)
+plan-front op t l h e (Refused r p) z = e ∙ z

@@ -1,2 +1,3 @@
 pub mod Lent
+pub mod Plans
 pub mod Slices

@@ -11,10 +11,17 @@ ghost use Rattle.parser.specs.Read as definition;
 ghost use Rattle.parser.specs.Survey.{surveyOf};
 ghost use Rattle.trees.specs.Walks.{opts};
 ghost use Rattle.reader.specs.Lent.{lent, ReadIs};
+ghost use Rattle.reader.specs.Plans.{TokensPlan, TextPlan};
 use parser::Survey;
 use tables::Reading;
 use tables::Reason;
 use utf8::Trimmed;
+
+// What is read: the place of the first slice, the end of the part that they stand in, and how many they are; or why the text is refused, and the place.
+enum Plan {
+    Slices(usize, usize, usize),
+    Refused(Reason, usize),
+}
 
 fn survey(s: &[u8], from: usize, lenient: bool) -> Survey
     ensures { λ r. ⌜ r ≡ surveyOf lenient (lexAt (now (s .entry)) from) ⌝ }
@@ -25,44 +32,29 @@ fn survey(s: &[u8], from: usize, lenient: bool) -> Survey
     parser::survey_strict(s, from)
 }
 
-// The tokens from a place on. Where there is no slice, the empty one is that of the empty text.
-fn read_tokens(
-    s: &[u8],
-    from: usize,
-    lenient: bool,
-    convert: bool,
-    trees: &mut [u32],
-    nodes: &mut [u32],
-    properties: &mut [u32],
-    values: &mut [u32],
-) -> Reading
+// The slices of the tokens from a place on. Where there is none, the empty one is that of the empty text.
+fn plan_tokens(s: &[u8], from: usize, lenient: bool) -> Plan
     requires { ⌜ (length (now s) ≤ textLimit) × (from ≤ length (now s)) ⌝ }
-    ensures { λ r. ⌜ ReadIs (definition.lexing (opts lenient convert) lenient (lexAt (now (s .entry)) from .end) (lexAt (now (s .entry)) from .toks)) (lent (now (trees .entry)) (now (nodes .entry)) (now (properties .entry)) (now (values .entry))) (lent (now (trees .exit)) (now (nodes .exit)) (now (properties .exit)) (now (values .exit))) r ⌝ }
+    ensures { λ r. ⌜ TokensPlan lenient (now (s .entry)) from r ⌝ }
 {
     match survey(s, from, lenient) {
-        Survey::Refused(reason, place) => Reading::Refused(reason, place),
-        Survey::Slices(count) => slices::read_slices(
-            s,
-            from,
-            count,
-            lenient,
-            convert,
-            trees,
-            nodes,
-            properties,
-            values,
-        ),
-        Survey::Empty => slices::read_slices(
-            &s[..0],
-            0,
-            1,
-            lenient,
-            convert,
-            trees,
-            nodes,
-            properties,
-            values,
-        ),
+        Survey::Refused(reason, place) => Plan::Refused(reason, place),
+        Survey::Slices(count) => Plan::Slices(from, s.len(), count),
+        Survey::Empty => Plan::Slices(0, 0, 1),
+    }
+}
+
+// The slices of a text: the limit, UTF-8, trimming, the first pass over the tokens.
+fn plan_text(text: &[u8], lenient: bool) -> Plan
+    ensures { λ r. ⌜ TextPlan lenient (now (text .entry)) r ⌝ }
+{
+    if tables::TEXT_LIMIT < text.len() {
+        return Plan::Refused(Reason::TextTooLong, 0);
+    }
+    match utf8::trim(text) {
+        Trimmed::NotUtf8(place) => Plan::Refused(Reason::NotUtf8, place),
+        Trimmed::Blank => plan_tokens(&text[..0], 0, lenient),
+        Trimmed::Kept(first, last) => plan_tokens(&text[..last], first, lenient),
     }
 }
 
@@ -78,24 +70,12 @@ pub fn read(
 ) -> Reading
     ensures { λ r. ⌜ ReadIs (definition.read (opts lenient convert) (now (text .entry))) (lent (now (trees .entry)) (now (nodes .entry)) (now (properties .entry)) (now (values .entry))) (lent (now (trees .exit)) (now (nodes .exit)) (now (properties .exit)) (now (values .exit))) r ⌝ }
 {
-    if tables::TEXT_LIMIT < text.len() {
-        return Reading::Refused(Reason::TextTooLong, 0);
-    }
-    match utf8::trim(text) {
-        Trimmed::NotUtf8(place) => Reading::Refused(Reason::NotUtf8, place),
-        Trimmed::Blank => read_tokens(
-            &text[..0],
-            0,
-            lenient,
-            convert,
-            trees,
-            nodes,
-            properties,
-            values,
-        ),
-        Trimmed::Kept(first, last) => read_tokens(
+    match plan_text(text, lenient) {
+        Plan::Refused(reason, place) => Reading::Refused(reason, place),
+        Plan::Slices(first, last, count) => slices::read_slices(
             &text[..last],
             first,
+            count,
             lenient,
             convert,
             trees,

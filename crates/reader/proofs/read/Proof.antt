@@ -1,52 +1,41 @@
 -- `reader::read` meets its contract. Assumes nothing.
 use denote.Ref.{now}
 use native.Mathlib.Omega.{arith}
+use mathlib.Core.Path.{refl, subst}
 use lib.Seq.{length-take-le}
-use Rattle.reader.proofs.Texts.{text-long, text-bad, text-blank, text-kept, kept-within}
+use Rattle.parser.specs.Read.{read}
+use Rattle.trees.specs.Walks.{opts}
+use Rattle.reader.specs.Plans.{PlanIs}
+use Rattle.reader.specs.declared.Plan.the-variants.{Slices}
 use Rattle.reader.proofs.Surveyed.{read-as}
 use borrow.Author.Needs.{needs}
 use Rattle.reader.proofs.read.Statement.{statement}
 use Rattle.reader.proofs.read.Tie as tie
 
+planned : (c : tie.After-known-told2) → PlanIs (opts (c .before .before .before .before .before .before .before .before .before .args .lenient) (c .before .before .before .before .before .before .before .before .before .args .convert)) (now (c .before .before .before .before .before .before .before .before .before .args .text)) (read (opts (c .before .before .before .before .before .before .before .before .before .args .lenient) (c .before .before .before .before .before .before .before .before .before .args .convert)) (now (c .before .before .before .before .before .before .before .before .before .args .text))) (Slices (c .before .first .given .0 .0) (c .before .first .given .0 .1 .0) (c .before .first .given .0 .1 .1 .0))
+planned c = subst (PlanIs (opts (c .before .before .before .before .before .before .before .before .before .args .lenient) (c .before .before .before .before .before .before .before .before .before .args .convert)) (now (c .before .before .before .before .before .before .before .before .before .args .text)) (read (opts (c .before .before .before .before .before .before .before .before .before .args .lenient) (c .before .before .before .before .before .before .before .before .before .args .convert)) (now (c .before .before .before .before .before .before .before .before .before .args .text)))) (c .before .first .given .1) (c .before .before .before .plan-text .ensures (c .before .before .before .before .before .before .before .before .before .args .convert))
+
+slice-aggregate-read-slices : tie.Need-slice-aggregate-read-slices
+slice-aggregate-read-slices c = let l = length-take-le (c .before .before .first .given .0 .1 .0) (now (c .before .before .before .before .before .before .before .before .before .before .args .text)) (planned (c .before) .2) in omega arith
+
 returns : tie.Need-returns
-returns c = text-long _ (now (c .before .before .before .before .before .before .args .text)) (c .if1 .taken) _
-
-slice-aggregate-read-tokens-2 : tie.Need-slice-aggregate-read-tokens-2
-slice-aggregate-read-tokens-2 c = let w = kept-within (c .before .before .before .before .before .before .before .before .before .before .before .args .lenient) (c .before .before .before .before .before .before .before .before .before .before .before .args .convert) (now (c .before .before .before .before .before .before .before .before .before .before .before .args .text)) (c .before .before .before .before .before .if1 .left) (c .before .before .before .before .trim .ensures) (c .before .before .first .given .1) in let l = length-take-le (c .before .before .first .given .0 .1 .0) (now (c .before .before .before .before .before .before .before .before .before .before .before .args .text)) (w .1) in omega arith
-
-read-tokens-requires-2 : tie.Need-read-tokens-requires-2
-read-tokens-requires-2 c κs = let w = kept-within (c .before .before .before .before .before .before .before .before .before .before .before .before .before .before .before .args .lenient) (c .before .before .before .before .before .before .before .before .before .before .before .before .before .before .before .args .convert) (now (c .before .before .before .before .before .before .before .before .before .before .before .before .before .before .before .args .text)) (c .before .before .before .before .before .before .before .before .before .if1 .left) (c .before .before .before .before .before .before .before .before .trim .ensures) (c .before .before .before .before .before .before .first .given .1) in let l = length-take-le _ (now (c .before .before .before .before .before .before .before .before .before .before .before .before .before .before .before .args .text)) (w .1) in (omega arith, omega arith)
+returns c = read-as (subst (PlanIs (opts (c .before .before .before .before .before .before .before .before .before .args .lenient) (c .before .before .before .before .before .before .before .before .before .args .convert)) (now (c .before .before .before .before .before .before .before .before .before .args .text)) (read (opts (c .before .before .before .before .before .before .before .before .before .args .lenient) (c .before .before .before .before .before .before .before .before .before .args .convert)) (now (c .before .before .before .before .before .before .before .before .before .args .text)))) (c .before .reason .given .1) (c .before .before .before .plan-text .ensures (c .before .before .before .before .before .before .before .before .before .args .convert))) (record { answer = refl; tables = refl })
 
 returns-2 : tie.Need-returns-2
-returns-2 c = text-bad (c .before .before .before .before .before .before .before .before .before .before .args .lenient) (c .before .before .before .before .before .before .before .before .before .before .args .convert) (now (c .before .before .before .before .before .before .before .before .before .before .args .text)) (c .before .before .before .before .if1 .left) (c .before .before .before .trim .ensures) (c .before .place .given .1) _
-
-returns-3 : tie.Need-returns-3
-returns-3 c = read-as (text-blank (c .before .before .before .before .before .before .before .before .before .before .before .before .before .before .before .before .before .before .before .before .before .before .before .args .lenient) (c .before .before .before .before .before .before .before .before .before .before .before .before .before .before .before .before .before .before .before .before .before .before .before .args .convert) (now (c .before .before .before .before .before .before .before .before .before .before .before .before .before .before .before .before .before .before .before .before .before .before .before .args .text)) (c .before .before .before .before .before .before .before .before .before .before .before .before .before .before .before .before .before .if1 .left) (c .before .before .before .before .before .before .before .before .before .before .before .before .before .before .before .before .trim .ensures) (c .before .before .before .before .before .before .before .before .before .before .before .before .before .before .enum-told .given .1)) (c .before .before .before .before .before .before .before .before .read-tokens .ensures)
-
-returns-4 : tie.Need-returns-4
-returns-4 c = read-as (text-kept (c .before .before .before .before .before .before .before .before .before .before .before .before .before .before .before .before .before .before .before .before .before .before .before .before .args .lenient) (c .before .before .before .before .before .before .before .before .before .before .before .before .before .before .before .before .before .before .before .before .before .before .before .before .args .convert) (now (c .before .before .before .before .before .before .before .before .before .before .before .before .before .before .before .before .before .before .before .before .before .before .before .before .args .text)) (c .before .before .before .before .before .before .before .before .before .before .before .before .before .before .before .before .before .before .if1 .left) (c .before .before .before .before .before .before .before .before .before .before .before .before .before .before .before .before .before .trim .ensures) (c .before .before .before .before .before .before .before .before .before .before .before .before .before .before .before .first .given .1)) (c .before .before .before .before .before .before .before .before .read-tokens2 .ensures)
+returns-2 c = read-as (planned (c .before .before .before .before .before .before .before .before .before .before .before .before .before .before) .0) (c .before .before .before .before .before .before .before .before .read-slices .ensures)
 
 pub read-spec : {M : Type 1} → statement M
 read-spec =
     tie.close
     (tie.spec
+    (λ c κs. search needs)
+    (λ c. search needs)
+    (λ c. search needs)
+    slice-aggregate-read-slices
+    (λ c κs. planned (c .before .before .before .before .before) .1)
     returns
-    (λ c κs. search needs)
-    (λ c. search needs)
-    (λ c. search needs)
-    (λ c. search needs)
-    (λ c κs. search needs)
-    (λ c. search needs)
-    slice-aggregate-read-tokens-2
-    read-tokens-requires-2
-    returns-2
-    (λ c. search needs)
-    (λ c. search needs)
-    (λ c. search needs)
-    (λ c. search needs)
-    returns-3
-    (λ c. search needs)
-    (λ c. search needs)
-    (λ c. search needs)
-    (λ c. search needs)
-    returns-4)
+    (λ c. c .before .before .before .before .before .before .before .trees .given)
+    (λ c. c .before .before .before .before .before .nodes .given)
+    (λ c. c .before .before .before .properties .given)
+    (λ c. c .before .values .given)
+    returns-2)
