@@ -8,7 +8,7 @@ use native.Mathlib.Numerals.{add-one}
 use lib.ListN.{length, getD, set}
 use lib.Seq.{getD-set-same, getD-set-other}
 use lib.Dec.{ltb}
-use borrow.Author.Tests.{eq-eqb, ne-eqb, le-ltb}
+use borrow.Author.Tests.{eq-eqb, ne-eqb}
 use Rattle.lists.specs.Pick.{pick}
 use Rattle.tables.specs.Numbers.{none}
 use Rattle.trees.specs.Turns.{stackOf, mayOpen, fuller}
@@ -42,9 +42,6 @@ module _ (a : List ℕ) (d base n : ℕ) (h : d ≡ 0 → ⊥) {x : ℕ} (e : x 
 
   pub may-none : x ≡ none → ltb base n ≡ mayOpen base n (stackOf a d)
   may-none q = sym (may-top ∙ ap (λ (z : Bool). pick z (ltb base n) (ltb (x + 1) n)) (eq-eqb x none q))
-
-  pub may-not : (x ≡ none → ⊥) → {y : ℕ} → y ≡ x → n ≤ y → false ≡ mayOpen base n (stackOf a d)
-  may-not q {y} ey l = sym (may-top ∙ ap (λ (z : Bool). pick z (ltb base n) (ltb (x + 1) n)) (ne-eqb x none q) ∙ le-ltb (x + 1) n (omega arith))
 
   pub may-node : (x ≡ none → ⊥) → {y : ℕ} → y ≡ x → ltb (y + 1) n ≡ mayOpen base n (stackOf a d)
   may-node q {y} ey = ap (λ (z : ℕ). ltb (z + 1) n) ey ∙ sym (may-top ∙ ap (λ (z : Bool). pick z (ltb base n) (ltb (x + 1) n)) (ne-eqb x none q))

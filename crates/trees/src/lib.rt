@@ -74,11 +74,7 @@ fn may_open(stack: &[u32; 1024], depth: usize, base: usize, n: usize) -> bool
     if x == NONE {
         return base < n;
     }
-    let y = lists::wide(x);
-    if n <= y {
-        return false;
-    }
-    y + 1 < n
+    lists::wide(x) + 1 < n
 }
 
 // Behind a start or an end: no property may follow.
@@ -116,13 +112,11 @@ fn node(mut w: State, i: usize, nodes: &mut [u32]) -> State
     requires { ⌜ Small w × (i < textLimit) ⌝ }
     ensures { λ r. ⌜ (r ≡ noded w i) × PutIs (now (nodes .entry)) (w .nodes * 5) (w .cur ∷ none ∷ none ∷ w .props ∷ 0 ∷ []) (now (nodes .exit)) ⌝ }
 {
-    let n = w.nodes;
-    let p = w.props;
-    cells::put5(nodes, n * 5, w.cur, NONE, NONE, p as u32, 0);
+    cells::put5(nodes, w.nodes * 5, w.cur, NONE, NONE, w.props as u32, 0);
     w.at = i + 1;
-    w.cur = n as u32;
-    w.nodes = n + 1;
-    w.first = p;
+    w.cur = w.nodes as u32;
+    w.nodes += 1;
+    w.first = w.props;
     w.follows = true;
     w.drops = false;
     w
@@ -161,16 +155,20 @@ fn add(
     requires { ⌜ Small w × (length (now s) ≤ textLimit) × (i ≤ k) × (k ≤ length (now s)) × (0 < w .nodes) × (w .first ≤ w .props) × Closes (now s) k ⌝ }
     ensures { λ r. ⌜ AddIs (now (s .entry)) w i k (now (nodes .entry)) (now (props .entry)) (now (vals .entry)) r (now (nodes .exit)) (now (props .exit)) (now (vals .exit)) ⌝ }
 {
-    let p = w.props;
-    let v = w.vals;
-    let first = w.first;
+    let taken = take_values(s, k, w.vals, vals);
+    let count = taken.next - w.vals;
+    cells::put4(
+        props,
+        w.props * 4,
+        i as u32,
+        k as u32,
+        w.vals as u32,
+        count as u32,
+    );
+    w.props += 1;
     let cell = w.nodes * 5 - 1;
-    let taken = take_values(s, k, v, vals);
-    let count = taken.next - v;
-    cells::put4(props, p * 4, i as u32, k as u32, v as u32, count as u32);
-    cells::put1(nodes, cell, (p + 1 - first) as u32);
+    cells::put1(nodes, cell, (w.props - w.first) as u32);
     w.at = taken.end;
-    w.props = p + 1;
     w.vals = taken.next;
     w
 }
@@ -321,17 +319,14 @@ fn finish(lenient: bool, base: usize, w: State, at: usize, nodes: &mut [u32]) ->
     requires { ⌜ Small w ⌝ }
     ensures { λ r. ⌜ RootIs lenient base w at (now (nodes .entry)) r (now (nodes .exit)) ⌝ }
 {
-    let n = w.nodes;
-    let p = w.props;
-    let v = w.vals;
-    if n != base {
-        return Walked::Tree(at, n, p, v);
+    if w.nodes != base {
+        return Walked::Tree(at, w.nodes, w.props, w.vals);
     }
     if !lenient {
         return Walked::Refused(Reason::UnexpectedEndOfData);
     }
-    cells::put5(nodes, n * 5, NONE, NONE, NONE, p as u32, 0);
-    Walked::Tree(at, n + 1, p, v)
+    cells::put5(nodes, w.nodes * 5, NONE, NONE, NONE, w.props as u32, 0);
+    Walked::Tree(at, w.nodes + 1, w.props, w.vals)
 }
 
 // The tree stops before a token: strict reading refuses it, lenient reading keeps its nodes and skips the rest of the slice.
