@@ -19,6 +19,13 @@ gate-takes st f d = ap (λ (z : Bool). gateOf z (st .drops)) f ∙ ap (gateOf tr
 pub gate-skips : (st : State) → st .follows ≡ true → st .drops ≡ true → gateOf (st .follows) (st .drops) ≡ skips
 gate-skips st f d = ap (λ (z : Bool). gateOf z (st .drops)) f ∙ ap (gateOf true) d
 
+-- an identifier is taken where it is converted, or is uppercase letters only
+pub taken-by : {con : Bool} (b : Bool) → con ≡ true → (con || b) ≡ true
+taken-by b e = ap (λ (z : Bool). z || b) e
+
+pub taken-as : {con : Bool} (b : Bool) → con ≡ false → {c o : Bool} → c ≡ b → c ≡ o → (con || b) ≡ o
+taken-as b e q f = ap (λ (z : Bool). z || b) e ∙ sym q ∙ f
+
 module _ (len con : Bool) (u : List ℕ) (st : State) (i k : ℕ) where
   pub act-shut : st .follows ≡ false → Stop UnexpectedProperty ≡ propAct len con u st i k
   unfolding propAct

@@ -6,7 +6,7 @@ use scan::ValueStep;
 use tables::NONE;
 use tables::Reason;
 ghost use mathlib.Core.Path.{_≡_};
-ghost use mathlib.Core.Bool.{false, _||_};
+ghost use mathlib.Core.Bool.{false};
 ghost use mathlib.Core.List.{[], _∷_};
 ghost use Prim.Native.Nat.{_+_, _*_, _≤_, _<_};
 ghost use lib.ListN.{length, set, getD};
@@ -205,17 +205,6 @@ fn plain(s: &[u8], from: usize, to: usize) -> bool
     true
 }
 
-// May this identifier be taken.
-fn named(s: &[u8], from: usize, to: usize, convert: bool) -> bool
-    requires { ⌜ to ≤ length (now s) ⌝ }
-    ensures { λ r. ⌜ r ≡ (convert || uppers (slice from to (now (s .entry)))) ⌝ }
-{
-    if convert {
-        return true;
-    }
-    plain(s, from, to)
-}
-
 // What a property that closes asks for: it is added, dropped, or stops the tree.
 fn property(s: &[u8], lenient: bool, convert: bool, w: State, i: usize, k: usize) -> Act
     requires { ⌜ k ≤ length (now s) ⌝ }
@@ -227,7 +216,10 @@ fn property(s: &[u8], lenient: bool, convert: bool, w: State, i: usize, k: usize
     if w.drops {
         return Act::Skip(k);
     }
-    if named(s, i, k, convert) {
+    if convert {
+        return Act::Add(i, k);
+    }
+    if plain(s, i, k) {
         return Act::Add(i, k);
     }
     if lenient {
