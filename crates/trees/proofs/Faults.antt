@@ -5,7 +5,7 @@ use mathlib.Core.Bool.{Bool, true, false}
 use mathlib.Core.List.{List, []}
 use Rattle.lexer.specs.Token.{done, broken, Lexed, lexAt}
 use Rattle.scan.specs.Scan.{valuesAt}
-use Rattle.scan.specs.declared.Close.the-variants.{Open}
+use Rattle.close.specs.declared.Close.the-variants.{Open}
 use Rattle.lexer.specs.Step.{headAt}
 use Rattle.lexer.specs.declared.Fault.the-variants.{UnexpectedEndOfPropertyValue}
 use Rattle.lexer.specs.declared.Head.the-variants.{Name}
