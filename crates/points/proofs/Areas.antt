@@ -1,27 +1,46 @@
 -- Points and areas by their letters. Assumes nothing.
 use Prim.Native.Nat.{ℕ}
-use mathlib.Core.Path.{_≡_, refl}
+use mathlib.Core.Path.{_≡_, refl, sym, ap}
+use mathlib.Core.Bool.{true, false, _&&_}
 use mathlib.Core.List.{List, [], _∷_}
-use borrow.Author.Tests.{eq-eqb, ne-eqb}
+use lib.Dec.{leb}
+use borrow.Author.Tests.{ne-eqb}
 use Rattle.points.specs.Area.{letterOf, moveTo, moveOf, cornered, areaOf}
 use Rattle.points.specs.declared.Area.{Area}
-use Rattle.points.specs.declared.Area.the-variants.{Bad}
+use Rattle.points.specs.declared.Area.the-variants.{Bad, Rect}
 use Rattle.points.specs.declared.Value.{Value}
+use Rattle.points.specs.declared.Value.the-variants.{Invalid, Move}
 
 pub move-point : (a b : ℕ) {x y : ℕ} {r : Value} → x ≡ letterOf a → y ≡ letterOf b → r ≡ moveTo x y → r ≡ moveOf (a ∷ b ∷ [])
 unfolding moveOf
 move-point a b e f g = rw (← e, ← f) g
 
-pub area-point : (a b : ℕ) {x y : ℕ} {r : Area} → x ≡ letterOf a → y ≡ letterOf b → r ≡ cornered x y x y → r ≡ areaOf (a ∷ b ∷ [])
-unfolding areaOf
-area-point a b e f g = rw (← e, ← f) g
+-- a point, or none
+module _ (x y : ℕ) where
+  pub move-inside : leb x 51 && leb y 51 ≡ true → Move x y ≡ moveTo x y
+  unfolding moveTo
+  move-inside h = rw h
 
-pub area-rect : (a b c d e : ℕ) {x y x2 y2 : ℕ} {r : Area} → c ≡ 0x3a → x ≡ letterOf a → y ≡ letterOf b → x2 ≡ letterOf d → y2 ≡ letterOf e
-    → r ≡ cornered x y x2 y2 → r ≡ areaOf (a ∷ b ∷ c ∷ d ∷ e ∷ [])
-unfolding areaOf
-area-rect a b c d e h p q s t g = rw (eq-eqb c 0x3a h, ← p, ← q, ← s, ← t) g
+  pub move-outside : leb x 51 && leb y 51 ≡ false → Invalid ≡ moveTo x y
+  unfolding moveTo
+  move-outside h = rw h
 
-pub area-colonless : (a b c d e : ℕ) (r : List ℕ) → (c ≡ 0x3a → ⊥) → Bad ≡ areaOf (a ∷ b ∷ c ∷ d ∷ e ∷ r)
+-- two corners by their letters
+module _ (a b d e : ℕ) {x y x2 y2 : ℕ} (p : x ≡ letterOf a) (q : y ≡ letterOf b) (s : x2 ≡ letterOf d) (t : y2 ≡ letterOf e) where
+  pub area-inside : (leb x x2 && leb y y2) && (leb x2 51 && leb y2 51) ≡ true → Rect x y x2 y2 ≡ cornered (letterOf a) (letterOf b) (letterOf d) (letterOf e)
+  unfolding cornered
+  area-inside h = rw (← p, ← q, ← s, ← t, h)
+
+  pub area-outside : (leb x x2 && leb y y2) && (leb x2 51 && leb y2 51) ≡ false → Bad ≡ cornered (letterOf a) (letterOf b) (letterOf d) (letterOf e)
+  unfolding cornered
+  area-outside h = rw (← p, ← q, ← s, ← t, h)
+
+pub area-colonless : (a b c : ℕ) (r : List ℕ) → (c ≡ 0x3a → ⊥) → Bad ≡ areaOf (a ∷ b ∷ c ∷ r)
 unfolding areaOf
-area-colonless a b c d e [] h = rw (ne-eqb c 0x3a h)
-area-colonless a b c d e (f ∷ r) h = refl
+area-colonless a b c [] h = refl
+area-colonless a b c (d ∷ []) h = refl
+area-colonless a b c (d ∷ e ∷ []) h = rw (ne-eqb c 0x3a h)
+area-colonless a b c (d ∷ e ∷ f ∷ r) h = refl
+
+pub area-colon : (a b : ℕ) {c : ℕ} (r : List ℕ) → c ≡ 0x3a → areaOf (a ∷ b ∷ 0x3a ∷ r) ≡ areaOf (a ∷ b ∷ c ∷ r)
+area-colon a b r h = ap (λ (n : ℕ). areaOf (a ∷ b ∷ n ∷ r)) (sym h)

@@ -1,6 +1,8 @@
 // What one value stands for in Go: a move, a number of stones, an area of points.
 ghost use mathlib.Core.Path.{_≡_};
+ghost use mathlib.Core.List.{_∷_};
 ghost use Prim.Native.Nat.{_-_, _^_};
+ghost use lib.ListN.{drop};
 ghost use Rattle.values.specs.Read.{readValue};
 ghost use Rattle.values.specs.Decimal.{decimalOf};
 ghost use Rattle.points.specs.Area.{letterOf, moveTo, moveOf, cornered, areaOf};
@@ -28,31 +30,23 @@ pub enum Area {
 pub fn letter_of(b: u8) -> u8
     ensures { λ r. ⌜ r ≡ letterOf b ⌝ }
 {
-    if b < b'A' {
-        return 52;
-    }
-    if b <= b'Z' {
-        return b - b'A' + 26;
-    }
-    if b < b'a' {
-        return 52;
-    }
-    if b <= b'z' {
+    if (b'a' <= b) & (b <= b'z') {
         return b - b'a';
+    }
+    if (b'A' <= b) & (b <= b'Z') {
+        return b - b'A' + 26;
     }
     52
 }
 
+// The move to the point (x, y).
 fn move_to(x: u8, y: u8) -> Value
     ensures { λ r. ⌜ r ≡ moveTo x y ⌝ }
 {
-    if 51 < x {
-        return Value::Invalid;
+    if (x <= 51) & (y <= 51) {
+        return Value::Move(x, y);
     }
-    if 51 < y {
-        return Value::Invalid;
-    }
-    Value::Move(x, y)
+    Value::Invalid
 }
 
 // The move that a value stands for.
@@ -87,27 +81,39 @@ pub fn read_handicap(s: &[u8]) -> Value
     }
 }
 
-fn cornered_area(x: u8, y: u8, x2: u8, y2: u8) -> Area
-    ensures { λ r. ⌜ r ≡ cornered x y x2 y2 ⌝ }
+// The area between two corners by their letters.
+fn area_of(a: u8, b: u8, d: u8, e: u8) -> Area
+    ensures { λ r. ⌜ r ≡ cornered (letterOf a) (letterOf b) (letterOf d) (letterOf e) ⌝ }
 {
-    if x2 < x {
+    let x = letter_of(a);
+    let y = letter_of(b);
+    let x2 = letter_of(d);
+    let y2 = letter_of(e);
+    if ((x <= x2) & (y <= y2)) & ((x2 <= 51) & (y2 <= 51)) {
+        return Area::Rect {
+            x: x,
+            y: y,
+            x2: x2,
+            y2: y2,
+        };
+    }
+    Area::Bad
+}
+
+// The area from the corner `a`, `b` to the one that is read from `at` on, behind the colon.
+fn area_to(a: u8, b: u8, s: &[u8], at: usize) -> Area
+    ensures { λ r. ⌜ r ≡ areaOf (a ∷ b ∷ 0x3a ∷ readValue (drop at (now (s .entry)))) ⌝ }
+{
+    let Step::Byte(d, at1) = values::read::next_read(s, at) else {
         return Area::Bad;
-    }
-    if y2 < y {
+    };
+    let Step::Byte(e, at2) = values::read::next_read(s, at1) else {
         return Area::Bad;
-    }
-    if 51 < x2 {
-        return Area::Bad;
-    }
-    if 51 < y2 {
-        return Area::Bad;
-    }
-    Area::Rect {
-        x: x,
-        y: y,
-        x2: x2,
-        y2: y2,
-    }
+    };
+    let Step::Byte(_, _) = values::read::next_read(s, at2) else {
+        return area_of(a, b, d, e);
+    };
+    Area::Bad
 }
 
 // What one value of a list of points stands for.
@@ -121,21 +127,10 @@ pub fn read_area(s: &[u8]) -> Area
         return Area::Bad;
     };
     let Step::Byte(colon, at3) = values::read::next_read(s, at2) else {
-        let x = letter_of(a);
-        let y = letter_of(b);
-        return cornered_area(x, y, x, y);
-    };
-    let Step::Byte(d, at4) = values::read::next_read(s, at3) else {
-        return Area::Bad;
-    };
-    let Step::Byte(e, at5) = values::read::next_read(s, at4) else {
-        return Area::Bad;
+        return area_of(a, b, a, b);
     };
     if colon != b':' {
         return Area::Bad;
     }
-    let Step::Byte(_, _) = values::read::next_read(s, at5) else {
-        return cornered_area(letter_of(a), letter_of(b), letter_of(d), letter_of(e));
-    };
-    Area::Bad
+    area_to(a, b, s, at3)
 }

@@ -1,40 +1,40 @@
 -- `points::letter_of` meets its contract. Assumes nothing.
+use mathlib.Core.Path.{_≡_}
+use mathlib.Core.Bool.{true, false, _&&_}
 use native.Mathlib.Omega.{arith}
+use lib.Dec.{leb}
 use borrow.Author.Needs.{needs}
-use borrow.Author.Tests.{le-leb, lt-leb}
+use borrow.Author.Tests.{leb-true}
+use Rattle.lists.proofs.Tests.{and-both}
 use Rattle.points.specs.Area.{letterOf}
 use Rattle.points.proofs.letter_of.Statement.{statement}
 use Rattle.points.proofs.letter_of.Tie as tie
 
+sub-result : tie.Need-sub-result
+sub-result c = let b = c .before .args .b in leb-true 0x61 b (and-both (leb 0x61 b) (leb b 0x7a) (c .if1 .taken) .0)
+
 returns : tie.Need-returns
 unfolding letterOf
-returns c =
-    let a = c .before .args in
-    simp (lt-leb 97 (a .b) (omega arith), lt-leb 65 (a .b) (omega arith))
+returns c = let b = c .before .args .b in let small : leb 0x61 b && leb b 0x7a ≡ true = c .if1 .taken in rw small
+
+sub-result-2 : tie.Need-sub-result-2
+sub-result-2 c = let b = c .before .before .args .b in leb-true 0x41 b (and-both (leb 0x41 b) (leb b 0x5a) (c .if2 .taken) .0)
 
 returns-2 : tie.Need-returns-2
 unfolding letterOf
-returns-2 c =
-    let a = c .before .before .args in
-    simp (lt-leb 97 (a .b) (omega arith), le-leb 65 (a .b) (omega arith), le-leb (a .b) 90 (omega arith))
+returns-2 c = rw (c .before .if1 .left, c .if2 .taken)
 
 returns-3 : tie.Need-returns-3
 unfolding letterOf
-returns-3 c =
-    let a = c .before .before .before .args in
-    simp (lt-leb 97 (a .b) (omega arith), le-leb 65 (a .b) (omega arith), lt-leb (a .b) 90 (omega arith))
-
-returns-4 : tie.Need-returns-4
-unfolding letterOf
-returns-4 c =
-    let a = c .before .before .before .before .args in
-    simp (le-leb 97 (a .b) (omega arith), le-leb (a .b) 122 (omega arith))
-
-returns-5 : tie.Need-returns-5
-unfolding letterOf
-returns-5 c =
-    let a = c .before .before .before .before .args in
-    simp (lt-leb (a .b) 122 (omega arith), lt-leb (a .b) 90 (omega arith), le-leb 97 (a .b) (omega arith), le-leb 65 (a .b) (omega arith))
+returns-3 c = rw (c .before .if1 .left, c .if2 .left)
 
 pub letter-of-spec : {M : Type 1} → statement M
-letter-of-spec = tie.close (tie.spec returns (λ c. search needs) returns-2 returns-3 returns-4 returns-5)
+letter-of-spec =
+    tie.close
+    (tie.spec
+    sub-result
+    returns
+    sub-result-2
+    (λ c. search needs)
+    returns-2
+    returns-3)
