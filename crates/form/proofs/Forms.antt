@@ -1,27 +1,27 @@
 -- Values of each shape as they are written. Assumes nothing.
-use Prim.Native.Nat.{ℕ, _+_, _^_, _≤_, _-_}
-use mathlib.Core.Path.{_≡_, refl, sym, ap, _∙_, subst}
+use Prim.Native.Nat.{ℕ, _≤_}
+use mathlib.Core.Path.{_≡_, refl, sym, ap, _∙_}
 use mathlib.Core.Bool.{Bool, true, false}
 use mathlib.Core.List.{List, [], _∷_}
 use lib.ListN.{length}
 use borrow.Author.Tests.{eq-eqb}
-use Rattle.values.specs.Decimal.{decimal, decimalOf}
-use Rattle.values.specs.Read.{readValue}
-use Rattle.points.specs.Area.{letter, moveOf}
+use types.Run.{OneOf}
+use denote.Enum.Declared.{tagOf}
+use Rattle.values.specs.Decimal.{decimal}
+use Rattle.points.specs.Area.{letter}
 use Rattle.go.specs.Marks.{allGood, inSome, marksOf}
 use Rattle.go.specs.Normal.{pointsFrom, written, normal}
-use Rattle.go.specs.Rows.{valueAt, valuesAt}
-use Rattle.go.specs.Value.{shapeOf, unmarked, areasOf, pointsOf, valueBy, goValue}
-use Rattle.points.specs.Handicap.{handicapOf}
+use Rattle.go.specs.Value.{shapeOf, noMarks, unmarked, areasOf, pointsOf, valueBy, goValue}
 use Rattle.go.specs.declared.value.GoValue.{GoValue}
 use Rattle.go.specs.declared.value.Shape.{Shape}
-use Rattle.go.specs.declared.value.Shape.the-variants.{OneMove, OneNumber, ManyPoints}
+use Rattle.go.specs.declared.value.Shape.the-variants.{ManyPoints}
 use Rattle.points.specs.declared.Value.{Value}
 use Rattle.points.specs.declared.Value.the-variants.{Invalid, Pass, Move, Handicap, Points}
-use Rattle.go.proofs.Choosing.{move-count, number-count, move-one, number-one}
+use Rattle.points.proofs.Value as value
 use Rattle.go.proofs.Marked.{marks-all}
-use Rattle.go.proofs.Shapes.{Moved, Numbered, moves-moved, numbers-numbered, points-valid, points-invalid}
+use Rattle.go.proofs.Shapes.{points-valid, points-invalid}
 use Rattle.form.specs.Boxes.{formBy}
+use Rattle.form.proofs.Variants.{single, raw-only}
 
 pub normal-shaped : (kind : ℕ) (identifier : List ℕ) (vs : List (List ℕ)) {q s : Shape} → kind ≡ 0 → q ≡ shapeOf identifier → q ≡ s → formBy s vs ≡ normal kind identifier vs
 unfolding normal goValue formBy
@@ -59,52 +59,25 @@ module _ (vs : List (List ℕ)) {g : GoValue} (e : g ≡ pointsOf vs) where
 
 -- ---- moves and numbers
 
-module _ (text vals : List ℕ) (first count : ℕ) where
-  abbrev vs : List (List ℕ)
-  vs = valuesAt text vals first count
+module _ (s : Shape) (vs : List (List ℕ)) {x : Value} (e : unmarked x ≡ valueBy s vs) where
+  one-form : {y : Value} → x ≡ y → written y noMarks vs ≡ formBy s vs
+  one-form q = ap (λ (z : Value). written z noMarks vs) (sym q) ∙ form-value s vs e
 
-  pub move-many : (count ≡ 1 → ⊥) → vs ≡ formBy OneMove vs
+  pub one-pass : x ≡ Pass → [] ∷ [] ≡ formBy s vs
   unfolding written
-  move-many h = form-value OneMove vs (move-count text vals first count h refl)
+  one-pass q = one-form q
 
-  pub number-many : (count ≡ 1 → ⊥) → vs ≡ formBy OneNumber vs
+  pub one-point : {a b : ℕ} → x ≡ Move a b → (letter a ∷ letter b ∷ []) ∷ [] ≡ formBy s vs
   unfolding written
-  number-many h = form-value OneNumber vs (number-count text vals first count h refl)
+  one-point q = one-form q
 
-  module _ {v : List ℕ} {x : Value} (h : count ≡ 1) (q : v ≡ valueAt text vals (first + 0)) where
-    module _ (m : x ≡ moveOf (readValue v)) where
-      move-form : {y : Value} → x ≡ y → written y (unmarked x .marks) vs ≡ formBy OneMove vs
-      move-form e = ap (λ (z : Value). written z (unmarked x .marks) vs) (sym e) ∙ form-value OneMove vs (move-one text vals first count h q refl m)
+  pub one-stones : {n : ℕ} → x ≡ Handicap n → decimal n ∷ [] ≡ formBy s vs
+  unfolding written
+  one-stones q = one-form q
 
-      pub moved : Moved x
-      moved = subst Moved (sym m) (moves-moved (v ∷ []))
+  module _ (h : s ≡ ManyPoints → ⊥) where
+    pub one-inside : {a b : ℕ} → x ≡ Move a b → (a ≤ 51) × (b ≤ 51)
+    one-inside q = single s vs h (ap unmarked (sym q) ∙ e)
 
-      pub move-pass : x ≡ Pass → [] ∷ [] ≡ formBy OneMove vs
-      unfolding written
-      move-pass e = move-form e
-
-      pub move-point : {a b : ℕ} → x ≡ Move a b → (letter a ∷ letter b ∷ []) ∷ [] ≡ formBy OneMove vs
-      unfolding written
-      move-point e = move-form e
-
-      pub move-inside : {a b : ℕ} → x ≡ Move a b → (a ≤ 51) × (b ≤ 51)
-      move-inside e = subst Moved e moved
-
-      pub move-raw : x ≡ Invalid → vs ≡ formBy OneMove vs
-      unfolding written
-      move-raw e = move-form e
-
-    module _ (m : x ≡ handicapOf (decimalOf (2 ^ 63 - 1) (readValue v))) where
-      number-form : {y : Value} → x ≡ y → written y (unmarked x .marks) vs ≡ formBy OneNumber vs
-      number-form e = ap (λ (z : Value). written z (unmarked x .marks) vs) (sym e) ∙ form-value OneNumber vs (number-one text vals first count h q refl m)
-
-      pub numbered : Numbered x
-      numbered = subst Numbered (sym m) (numbers-numbered (v ∷ []))
-
-      pub number-raw : x ≡ Invalid → vs ≡ formBy OneNumber vs
-      unfolding written
-      number-raw e = number-form e
-
-      pub number-stones : {n : ℕ} → x ≡ Handicap n → decimal n ∷ [] ≡ formBy OneNumber vs
-      unfolding written
-      number-stones e = number-form e
+    pub one-raw : OneOf (0 ∷ 1 ∷ 5 ∷ []) (tagOf value.the-type x) → vs ≡ formBy s vs
+    one-raw t = raw-only x t (single s vs h e) noMarks vs ∙ form-value s vs e

@@ -9,7 +9,7 @@ ghost use Rattle.put.specs.Wrote.{Wrote};
 ghost use Rattle.points.specs.Area.{letter};
 ghost use Rattle.go.specs.Normal.{pointText, pointsFrom, normal};
 ghost use Rattle.go.specs.Rows.{valuesAt};
-ghost use Rattle.go.specs.declared.value.Shape.the-variants.{OneMove, OneNumber, ManyPoints};
+ghost use Rattle.go.specs.declared.value.Shape.the-variants.{ManyPoints};
 ghost use Rattle.form.specs.Boxes.{formBy, boxes};
 use go::value::Shape;
 use points::Value;
@@ -112,48 +112,29 @@ fn put_set(
     put_points(out, at, &marks)
 }
 
-// A move.
-fn put_move(
+// A move or a number of handicap stones, or the raw values of what is neither.
+fn put_one(
     out: &mut [u8],
     at: usize,
+    shape: Shape,
     text: &[u8],
     values: &[u32],
     first: usize,
     count: usize,
 ) -> usize
-    ensures { λ r. ⌜ Wrote (boxes (formBy OneMove (valuesAt (now (text .entry)) (now (values .entry)) first count))) (now (out .entry)) at (now (out .exit)) r ⌝ }
+    requires { ⌜ (shape ≡ ManyPoints → ⊥) ⌝ }
+    ensures { λ r. ⌜ Wrote (boxes (formBy shape (valuesAt (now (text .entry)) (now (values .entry)) first count))) (now (out .entry)) at (now (out .exit)) r ⌝ }
 {
-    if count != 1 {
-        return put_raw(out, at, text, values, first, count);
-    }
-    match points::read_move(go::rows::value_at(text, values, first, 0)) {
+    match go::value::one_value(shape, text, values, first, count) {
         Value::Pass => put_box(out, at, &text[..0]),
         Value::Move(x, y) => put_point(out, at, x, y),
+        Value::Handicap(n) => {
+            let from = put_byte(out, at, b'[');
+            let to = values::spell::put_decimal(out, from, n);
+            put_byte(out, to, b']')
+        }
         _ => put_raw(out, at, text, values, first, count),
     }
-}
-
-// A number of handicap stones.
-fn put_number(
-    out: &mut [u8],
-    at: usize,
-    text: &[u8],
-    values: &[u32],
-    first: usize,
-    count: usize,
-) -> usize
-    ensures { λ r. ⌜ Wrote (boxes (formBy OneNumber (valuesAt (now (text .entry)) (now (values .entry)) first count))) (now (out .entry)) at (now (out .exit)) r ⌝ }
-{
-    if count != 1 {
-        return put_raw(out, at, text, values, first, count);
-    }
-    let Value::Handicap(n) = points::read_handicap(go::rows::value_at(text, values, first, 0))
-    else {
-        return put_raw(out, at, text, values, first, count);
-    };
-    let from = put_byte(out, at, b'[');
-    let to = values::spell::put_decimal(out, from, n);
-    put_byte(out, to, b']')
 }
 
 // The values of a property: its game type, its raw identifier, and the rows of its values.
@@ -172,10 +153,9 @@ pub fn put_values(
     if kind != 0 {
         return put_raw(out, at, text, values, first, count);
     }
-    match go::value::shape_of(identifier) {
-        Shape::Unread => put_raw(out, at, text, values, first, count),
-        Shape::OneMove => put_move(out, at, text, values, first, count),
-        Shape::OneNumber => put_number(out, at, text, values, first, count),
-        Shape::ManyPoints => put_set(out, at, text, values, first, count),
+    let shape = go::value::shape_of(identifier);
+    if let Shape::ManyPoints = shape {
+        return put_set(out, at, text, values, first, count);
     }
+    put_one(out, at, shape, text, values, first, count)
 }

@@ -1,9 +1,12 @@
 -- The Go value of a property by its game type, its shape and the number of its values. Assumes nothing.
 use Prim.Native.Nat.{ℕ, zero, suc, _+_, _-_, _^_}
-use mathlib.Core.Path.{_≡_, refl, sym, ap, _∙_}
-use mathlib.Core.List.{List}
+use mathlib.Core.Path.{_≡_, refl, sym, ap, _∙_, subst}
+use mathlib.Core.List.{List, [], _∷_}
+use mathlib.Core.Logic.{inl, inr}
 use native.Mathlib.Omega.{arith}
 use borrow.Author.Tests.{eq-eqb, ne-eqb}
+use types.Run.{OneOf}
+use denote.Enum.Declared.{tagOf}
 use Rattle.values.specs.Read.{readValue}
 use Rattle.values.specs.Decimal.{decimalOf}
 use Rattle.points.specs.Area.{moveOf}
@@ -12,7 +15,8 @@ use Rattle.go.specs.Value.{shapeOf, oneBy, unmarked, valueBy, goValue}
 use Rattle.points.specs.Handicap.{handicapOf}
 use Rattle.go.specs.declared.value.GoValue.{GoValue}
 use Rattle.go.specs.declared.value.Shape.{Shape}
-use Rattle.go.specs.declared.value.Shape.the-variants.{OneMove, OneNumber}
+use Rattle.go.specs.declared.value.Shape.the-variants.{OneMove, OneNumber, ManyPoints, Unread}
+use Rattle.go.proofs.value.Shape as shape
 use Rattle.points.specs.declared.Value.{Value}
 use Rattle.points.specs.declared.Value.the-variants.{Other, Invalid}
 
@@ -38,20 +42,49 @@ module _ (f : List ℕ → Value) (text vals : List ℕ) (first : ℕ) where
       let z : first + 0 ≡ first = omega arith in
       ap f (e ∙ ap (valueAt text vals) z) ∙ sym (ap (λ n. oneBy f (valuesAt text vals first n)) h)
 
+-- a shape that is no set
+pub not-set : (s : Shape) → OneOf (0 ∷ 1 ∷ 3 ∷ []) (tagOf shape.the-type s) → s ≡ ManyPoints → ⊥
+not-set s h e = go (subst (λ (z : Shape). OneOf (0 ∷ 1 ∷ 3 ∷ []) (tagOf shape.the-type z)) e h)
+  where
+    go : OneOf (0 ∷ 1 ∷ 3 ∷ []) 2 → ⊥
+    go (inl z) = omega arith
+    go (inr (inl z)) = omega arith
+    go (inr (inr z)) = omega arith
+
+not-unread : OneOf (0 ∷ 1 ∷ 2 ∷ []) 3 → ⊥
+not-unread (inl z) = omega arith
+not-unread (inr (inl z)) = omega arith
+not-unread (inr (inr z)) = omega arith
+
+not-move : OneOf (1 ∷ 2 ∷ 3 ∷ []) 0 → ⊥
+not-move (inl z) = omega arith
+not-move (inr (inl z)) = omega arith
+not-move (inr (inr z)) = omega arith
+
 module _ (text vals : List ℕ) (first count : ℕ) where
-  pub move-count : {r : GoValue} → (count ≡ 1 → ⊥) → r ≡ unmarked Invalid → r ≡ valueBy OneMove (valuesAt text vals first count)
+  abbrev vs : List (List ℕ)
+  vs = valuesAt text vals first count
+
+  pub one-unread : {s : Shape} → s ≡ Unread → unmarked Other ≡ valueBy s vs
   unfolding valueBy
-  move-count h e = e ∙ ap unmarked (none-or-many (λ v. moveOf (readValue v)) text vals first count h)
+  one-unread e = ap (λ (z : Shape). valueBy z vs) (sym e)
 
-  pub number-count : {r : GoValue} → (count ≡ 1 → ⊥) → r ≡ unmarked Invalid → r ≡ valueBy OneNumber (valuesAt text vals first count)
+  pub one-many : (s : Shape) → OneOf (0 ∷ 1 ∷ 2 ∷ []) (tagOf shape.the-type s) → (s ≡ ManyPoints → ⊥) → (count ≡ 1 → ⊥) → unmarked Invalid ≡ valueBy s vs
   unfolding valueBy
-  number-count h e = e ∙ ap unmarked (none-or-many (λ v. handicapOf (decimalOf (2 ^ 63 - 1) (readValue v))) text vals first count h)
+  one-many OneMove h m n = ap unmarked (none-or-many (λ v. moveOf (readValue v)) text vals first count n)
+  one-many OneNumber h m n = ap unmarked (none-or-many (λ v. handicapOf (decimalOf (2 ^ 63 - 1) (readValue v))) text vals first count n)
+  one-many ManyPoints h m n = absurd (m refl)
+  one-many Unread h m n = absurd (not-unread h)
 
-  module _ {r : GoValue} {v : List ℕ} {x : Value} (h : count ≡ 1) (q : v ≡ valueAt text vals (first + 0)) (e : r ≡ unmarked x) where
-    pub move-one : x ≡ moveOf (readValue v) → r ≡ valueBy OneMove (valuesAt text vals first count)
+  module _ {v : List ℕ} {x : Value} (h : count ≡ 1) (q : v ≡ valueAt text vals (first + 0)) where
+    pub one-move : {s : Shape} → s ≡ OneMove → x ≡ moveOf (readValue v) → unmarked x ≡ valueBy s vs
     unfolding valueBy
-    move-one m = e ∙ ap unmarked (m ∙ one-only (λ v. moveOf (readValue v)) text vals first count h q)
+    one-move e m = ap unmarked (m ∙ one-only (λ v. moveOf (readValue v)) text vals first count h q) ∙ ap (λ (z : Shape). valueBy z vs) (sym e)
 
-    pub number-one : x ≡ handicapOf (decimalOf (2 ^ 63 - 1) (readValue v)) → r ≡ valueBy OneNumber (valuesAt text vals first count)
+    pub one-number : (s : Shape) → OneOf (0 ∷ 1 ∷ 2 ∷ []) (tagOf shape.the-type s) → OneOf (1 ∷ 2 ∷ 3 ∷ []) (tagOf shape.the-type s) → (s ≡ ManyPoints → ⊥)
+        → x ≡ handicapOf (decimalOf (2 ^ 63 - 1) (readValue v)) → unmarked x ≡ valueBy s vs
     unfolding valueBy
-    number-one m = e ∙ ap unmarked (m ∙ one-only (λ v. handicapOf (decimalOf (2 ^ 63 - 1) (readValue v))) text vals first count h q)
+    one-number OneMove u n p m = absurd (not-move n)
+    one-number OneNumber u n p m = ap unmarked (m ∙ one-only (λ v. handicapOf (decimalOf (2 ^ 63 - 1) (readValue v))) text vals first count h q)
+    one-number ManyPoints u n p m = absurd (p refl)
+    one-number Unread u n p m = absurd (not-unread u)

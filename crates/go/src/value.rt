@@ -4,7 +4,8 @@ ghost use mathlib.Core.List.{[], _∷_};
 ghost use Rattle.values.specs.Read.{readIdentifier};
 ghost use Rattle.go.specs.Identifier.{Letters};
 ghost use Rattle.go.specs.Rows.{valuesAt};
-ghost use Rattle.go.specs.Value.{shapeOf, unmarked, goValue};
+ghost use Rattle.go.specs.Value.{shapeOf, unmarked, valueBy, goValue};
+ghost use Rattle.go.specs.declared.value.Shape.the-variants.{ManyPoints};
 use points::Value;
 use values::read::Step;
 
@@ -86,6 +87,24 @@ fn unmarked_value(v: Value) -> GoValue
     }
 }
 
+// What a property that takes no set stands for: a move or a number where it has exactly one value.
+pub fn one_value(shape: Shape, text: &[u8], vals: &[u32], first: usize, count: usize) -> Value
+    requires { ⌜ (shape ≡ ManyPoints → ⊥) ⌝ }
+    ensures { λ r. ⌜ unmarked r ≡ valueBy shape (valuesAt (now (text .entry)) (now (vals .entry)) first count) ⌝ }
+{
+    if let Shape::Unread = shape {
+        return Value::Other;
+    }
+    if count != 1 {
+        return Value::Invalid;
+    }
+    let value = crate::rows::value_at(text, vals, first, 0);
+    if let Shape::OneMove = shape {
+        return points::read_move(value);
+    }
+    points::read_handicap(value)
+}
+
 // The Go value of a property: its game type, its raw identifier, and the rows of its values.
 pub fn go_value(
     kind: u32,
@@ -100,22 +119,9 @@ pub fn go_value(
     if kind != 0 {
         return unmarked_value(Value::Other);
     }
-    match shape_of(identifier) {
-        Shape::Unread => unmarked_value(Value::Other),
-        Shape::ManyPoints => crate::set::read_points(text, vals, first, count),
-        Shape::OneMove => {
-            if count != 1 {
-                return unmarked_value(Value::Invalid);
-            }
-            let v = crate::rows::value_at(text, vals, first, 0);
-            unmarked_value(points::read_move(v))
-        }
-        Shape::OneNumber => {
-            if count != 1 {
-                return unmarked_value(Value::Invalid);
-            }
-            let v = crate::rows::value_at(text, vals, first, 0);
-            unmarked_value(points::read_handicap(v))
-        }
+    let shape = shape_of(identifier);
+    if let Shape::ManyPoints = shape {
+        return crate::set::read_points(text, vals, first, count);
     }
+    unmarked_value(one_value(shape, text, vals, first, count))
 }

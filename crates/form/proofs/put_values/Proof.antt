@@ -1,9 +1,10 @@
 -- `form::put_values` meets its contract. Assumes nothing.
-use mathlib.Core.Path.{sym, ap, _∙_}
+use mathlib.Core.Path.{refl, sym, ap}
 use borrow.Author.Needs.{needs}
 use Rattle.put.proofs.Written.{wrote-is}
 use Rattle.values.specs.Read.{readIdentifier}
-use Rattle.go.proofs.ReadBack.{normal-unknown, normal-other}
+use Rattle.go.proofs.Choosing.{not-set}
+use Rattle.go.proofs.ReadBack.{normal-unknown}
 use Rattle.go.specs.Rows.{valuesAt}
 use Rattle.form.specs.Boxes.{boxes}
 use Rattle.form.proofs.Forms.{normal-shaped}
@@ -18,22 +19,15 @@ returns c =
 returns-2 : tie.Need-returns-2
 returns-2 c =
     let args = c .before .before .before .before .before .before .before .before .before .before .before .before .args in
-    wrote-is (ap boxes (sym (normal-other (args .kind) (readIdentifier (args .identifier .now)) (valuesAt (args .text .now) (args .values .now) (args .first) (args .count)) (sym (c .before .before .before .before .before .before .shape-of .ensures) ∙ c .before .before .before .before .enum-told .given .1)))) (c .before .before .put-raw2 .ensures)
+    wrote-is (ap boxes (normal-shaped (args .kind) (readIdentifier (args .identifier .now)) (valuesAt (args .text .now) (args .values .now) (args .first) (args .count)) (c .before .before .before .before .before .before .before .if1 .left) (c .before .before .before .before .before .before .shape-of .ensures) (c .before .before .before .before .enum-told .given .1))) (c .before .before .put-set .ensures)
+
+put-one-requires : tie.Need-put-one-requires
+put-one-requires c κs = not-set (c .before .before .shape-of .result) (c .before .match .keys2)
 
 returns-3 : tie.Need-returns-3
 returns-3 c =
-    let args = c .before .before .before .before .before .before .before .before .before .before .before .before .args in
-    wrote-is (ap boxes (normal-shaped (args .kind) (readIdentifier (args .identifier .now)) (valuesAt (args .text .now) (args .values .now) (args .first) (args .count)) (c .before .before .before .before .before .before .before .if1 .left) (c .before .before .before .before .before .before .shape-of .ensures) (c .before .before .before .before .enum-told2 .given .1))) (c .before .before .put-move .ensures)
-
-returns-4 : tie.Need-returns-4
-returns-4 c =
-    let args = c .before .before .before .before .before .before .before .before .before .before .before .before .args in
-    wrote-is (ap boxes (normal-shaped (args .kind) (readIdentifier (args .identifier .now)) (valuesAt (args .text .now) (args .values .now) (args .first) (args .count)) (c .before .before .before .before .before .before .before .if1 .left) (c .before .before .before .before .before .before .shape-of .ensures) (c .before .before .before .before .enum-told3 .given .1))) (c .before .before .put-number .ensures)
-
-returns-5 : tie.Need-returns-5
-returns-5 c =
-    let args = c .before .before .before .before .before .before .before .before .before .before .before .before .args in
-    wrote-is (ap boxes (normal-shaped (args .kind) (readIdentifier (args .identifier .now)) (valuesAt (args .text .now) (args .values .now) (args .first) (args .count)) (c .before .before .before .before .before .before .before .if1 .left) (c .before .before .before .before .before .before .shape-of .ensures) (c .before .before .before .before .enum-told4 .given .1))) (c .before .before .put-set .ensures)
+    let args = c .before .before .before .before .before .before .before .before .before .before .before .args in
+    wrote-is (ap boxes (normal-shaped (args .kind) (readIdentifier (args .identifier .now)) (valuesAt (args .text .now) (args .values .now) (args .first) (args .count)) (c .before .before .before .before .before .before .if1 .left) (c .before .before .before .before .before .shape-of .ensures) refl)) (c .before .before .put-one .ensures)
 
 pub put-values-spec : {M : Type 1} → statement M
 put-values-spec =
@@ -46,16 +40,7 @@ put-values-spec =
     (λ c. search needs)
     (λ c κs. search needs)
     (λ c. search needs)
-    (λ c κs. search needs)
-    (λ c. search needs)
-    (λ c κs. search needs)
-    (λ c. search needs)
-    (λ c κs. search needs)
-    (λ c. search needs)
     returns-2
+    put-one-requires
     (λ c. search needs)
-    returns-3
-    (λ c. search needs)
-    returns-4
-    (λ c. search needs)
-    returns-5)
+    returns-3)
