@@ -21,18 +21,30 @@ cut-within text from to = go (leb to (length text)) refl
         let l = length-drop from text in
         take-all (to - from) (drop from text) (omega arith) ∙ sym (take-all (min to (length text) - from) (drop from text) (omega arith))
 
+-- a span that starts behind its end is as empty as one that starts there
+cut-start : (text : List ℕ) (from to : ℕ) → cut text (min from to) to ≡ cut text from to
+cut-start text from to = go (leb from to) refl
+  where
+    go : (t : Bool) → leb from to ≡ t → cut text (min from to) to ≡ cut text from to
+    go true e = let p = leb-true from to e in let q : min from to ≡ from = omega arith in ap (λ (n : ℕ). cut text n to) q
+    go false e =
+        let p = leb-false from to e in
+        let q : to - min from to ≡ 0 = omega arith in
+        let r : 0 ≡ to - from = omega arith in
+        ap (λ (n : ℕ). take n (drop (min from to) text)) q ∙ ap (λ (n : ℕ). take n (drop from text)) r
+
 module _ (text vals : List ℕ) (v : ℕ) where
   pub value-none : length vals / 2 ≤ v → [] ≡ valueAt text vals v
   unfolding valueAt
   value-none h = rw (le-ltb v (length vals / 2) h)
 
-  module _ {from to end : ℕ} (h : v < length vals / 2) (p : from ≡ getD vals (v * 2) 0) (q : to ≡ getD vals (v * 2 + 1) 0) (r : end ≡ min to (length text)) where
-    pub value-part : cut text from end ≡ valueAt text vals v
+  module _ {from to : ℕ} (h : v < length vals / 2) (p : from ≡ getD vals (v * 2) 0) (q : to ≡ getD vals (v * 2 + 1) 0) where
+    value-there : cut text from to ≡ valueAt text vals v
     unfolding valueAt
-    value-part = rw (lt-ltb v (length vals / 2) h, ← p, ← q) (ap (cut text from) r ∙ sym (cut-within text from to))
+    value-there = rw (lt-ltb v (length vals / 2) h, ← p, ← q)
 
-    pub value-empty : end < from → [] ≡ valueAt text vals v
-    value-empty l = let e : 0 ≡ end - from = omega arith in ap (λ (n : ℕ). take n (drop from text)) e ∙ value-part
+    pub value-part : {start end : ℕ} → end ≡ min to (length text) → start ≡ min from end → cut text start end ≡ valueAt text vals v
+    value-part {start} {end} r s = ap (λ (n : ℕ). cut text n end) s ∙ cut-start text from end ∙ ap (cut text from) r ∙ sym (cut-within text from to) ∙ value-there
 
 module _ (text vals : List ℕ) (first : ℕ) where
   pub values-none : [] ≡ valuesAt text vals first 0

@@ -18,17 +18,12 @@ pub fn value_at<'a, 'b>(text: &'a [u8], vals: &'b [u32], first: usize, i: usize)
     ensures { λ r. ⌜ now r ≡ valueAt (now (text .entry)) (now (vals .entry)) (first + i) ⌝ }
 {
     let rows = vals.len() / 2;
-    if rows <= first {
+    let left = rows - least(first, rows);
+    if left <= i {
         return &text[..0];
     }
-    if rows - first <= i {
-        return &text[..0];
-    }
-    let v = first + i;
-    let from = lists::wide(vals[v * 2]);
-    let to = least(lists::wide(vals[v * 2 + 1]), text.len());
-    if to < from {
-        return &text[..0];
-    }
-    &text[from..to]
+    let cell = (first + i) * 2;
+    let end = least(lists::wide(vals[cell + 1]), text.len());
+    let start = least(lists::wide(vals[cell]), end);
+    &text[start..end]
 }

@@ -2,56 +2,40 @@
 use Prim.Native.Nat.{_+_}
 use native.Mathlib.Omega.{arith}
 use borrow.Author.Needs.{needs}
-use Rattle.go.proofs.Valued.{value-none, value-part, value-empty}
+use Rattle.go.proofs.Valued.{value-none, value-part}
 use Rattle.go.proofs.rows.value_at.Statement.{statement}
 use Rattle.go.proofs.rows.value_at.Tie as tie
 
 returns : tie.Need-returns
 returns c =
-    let args = c .before .before .before .before .args in
+    let args = c .before .before .before .before .before .args in
     value-none (args .text .now) (args .vals .now) (args .first + args .i) (omega arith)
 
 returns-2 : tie.Need-returns-2
 returns-2 c =
-    let args = c .before .before .before .before .before .args in
-    value-none (args .text .now) (args .vals .now) (args .first + args .i) (omega arith)
-
-returns-3 : tie.Need-returns-3
-returns-3 c =
     let args = c .before .before .before .before .before .before .before .before .before .before .before .args in
-    let wide = c .before .before .before .before .before .wide in
-    let wide2 = c .before .before .before .wide2 in
-    value-empty (args .text .now) (args .vals .now) (args .first + args .i) (omega arith) (wide .ensures) (wide2 .ensures) (c .before .before .least .ensures) (c .before .if3 .taken)
-
-returns-4 : tie.Need-returns-4
-returns-4 c =
-    let args = c .before .before .before .before .before .before .before .before .before .before .before .args in
-    let wide = c .before .before .before .before .before .wide in
-    let wide2 = c .before .before .before .wide2 in
-    value-part (args .text .now) (args .vals .now) (args .first + args .i) (omega arith) (wide .ensures) (wide2 .ensures) (c .before .before .least .ensures)
+    value-part (args .text .now) (args .vals .now) (args .first + args .i) (omega arith) (c .before .before .wide2 .ensures) (c .before .before .before .before .before .wide .ensures) (c .before .before .before .before .least2 .ensures) (c .before .least3 .ensures)
 
 pub value-at-spec : {M : Type 1} → statement M
 value-at-spec =
     tie.close
     (tie.spec
+    (λ c κs. search needs)
+    (λ c. search needs)
     (λ c. search needs)
     returns
     (λ c. search needs)
     (λ c. search needs)
-    returns-2
-    (λ c. search needs)
-    (λ c. search needs)
-    (λ c. search needs)
-    (λ c. search needs)
-    (λ c κs. search needs)
-    (λ c. search needs)
     (λ c. search needs)
     (λ c. search needs)
     (λ c. search needs)
     (λ c κs. search needs)
     (λ c κs. search needs)
     (λ c. search needs)
-    returns-3
+    (λ c. search needs)
+    (λ c κs. search needs)
+    (λ c κs. search needs)
     (λ c. search needs)
     (λ c. search needs)
-    returns-4)
+    (λ c. search needs)
+    returns-2)
