@@ -1,3 +1,4 @@
+pub mod Cells
 pub mod Lengths
 pub mod Links
 pub mod Moved

@@ -1,10 +1,11 @@
 -- `tables::link_nodes` meets its contract. Assumes nothing.
-use Prim.Native.Nat.{_-_, _*_, _≤_}
-use lib.ListN.{length-set}
+use Prim.Native.Nat.{_-_, _*_, _≤_, _<_}
+use mathlib.Core.Path.{refl}
+use lib.ListN.{length, getD}
 use native.Mathlib.Omega.{arith}
 use Rattle.tables.specs.Links.{LinkedFrom, HasRows}
+use Rattle.tables.proofs.Cells.{none-fits, one-less, under, row-number, Table, whole-rows, row-fits, row-bytes, row-there, cell-fits, cell-bytes, cell-there, cell-stays}
 use Rattle.tables.proofs.Links.{linked-none, link-child, link-root, links-all, links-none}
-use borrow.Author.Needs.{needs}
 use Rattle.tables.proofs.link_nodes.Statement.{statement}
 use Rattle.tables.proofs.link_nodes.Tie as tie
 
@@ -13,6 +14,12 @@ Inv-loop t₀ n k₀ t k = (k ≤ n) × HasRows n t₀ × LinkedFrom n t₀ t k
 
 abbrev μ-loop : tie.MeasureT-loop
 μ-loop t₀ n k₀ t k = k
+
+table : (c : tie.At-loop Inv-loop μ-loop) → Table (c .before .before .before .args .n) (c .loop .t)
+table c = record { rows = omega arith; bytes = omega arith }
+
+low : (c : tie.In-loop Inv-loop μ-loop) → (c .before .loop .k - 1) < c .before .before .before .before .args .n
+low c = omega arith
 
 returns : tie.Need-returns Inv-loop μ-loop
 returns c = links-none _ _ (λ h. omega arith)
@@ -26,14 +33,20 @@ loop-holds c = (omega arith, (omega arith, omega arith), linked-none _ _)
 cast-parent : tie.Need-cast-parent Inv-loop μ-loop
 cast-parent c = omega (arith, c .slice-known .given ((c .before .before .loop .k - 1) * 5))
 
-slice-write-t-2 : tie.Need-slice-write-t-2 Inv-loop μ-loop
-slice-write-t-2 c = simp length-set (omega arith)
-
 loop-again : tie.Need-loop-again Inv-loop μ-loop
-loop-again c = let p = (c .before .before .before .before .loop .inv) in (omega arith, p .1, link-child (p .2) (c .before .before .before .loop-test .taken) (p .0) (omega arith) (c .before .if3 .taken))
+loop-again c =
+    let p = c .before .before .before .before .loop .inv in
+    let t₀ = c .before .before .before .before .before .before .before .args .t .now in
+    (under (low (c .before .before .before)), p .1, link-child (p .2) (c .before .before .before .loop-test .taken) (p .0) (whole-rows _ (length t₀) (p .1 .0)) (c .before .if3 .taken))
 
 loop-again-2 : tie.Need-loop-again-2 Inv-loop μ-loop
-loop-again-2 c = let p = (c .before .before .before .loop .inv) in (omega arith, p .1, link-root (p .2) (c .before .before .loop-test .taken) (p .0) (omega arith) (c .if3 .left))
+loop-again-2 c =
+    let p = c .before .before .before .loop .inv in
+    let t₀ = c .before .before .before .before .before .before .args .t .now in
+    (under (low (c .before .before)), p .1, link-root (p .2) (c .before .before .loop-test .taken) (p .0) (whole-rows _ (length t₀) (p .1 .0)) (c .if3 .left))
+
+slice-write-t-2 : tie.Need-slice-write-t-2 Inv-loop μ-loop
+slice-write-t-2 c = cell-stays (table (c .before .before .before .before)) (getD (c .before .before .before .before .loop .t) ((c .before .before .before .before .loop .k - 1) * 5) 0) (c .before .if3 .taken) 1 refl _ _
 
 same-length : tie.Need-same-length Inv-loop μ-loop
 same-length c = (c .before .loop .inv) .2 .len
@@ -48,30 +61,30 @@ link-nodes-spec =
     Inv-loop
     μ-loop
     returns
-    (λ c. search needs)
+    (λ c. none-fits)
     returns-2
     loop-holds
-    (λ c. search needs)
-    (λ c. search needs)
-    (λ c. search needs)
-    (λ c. search needs)
+    (λ c. c .loop-test .taken)
+    (λ c. row-fits (table (c .before)) (c .before .loop .k - 1) (low c))
+    (λ c. row-bytes (table (c .before)) (c .before .loop .k - 1) (low c))
+    (λ c. row-there (table (c .before .before)) (c .before .before .loop .k - 1) (low (c .before)))
     cast-parent
-    (λ c. search needs)
-    (λ c. search needs)
-    (λ c. search needs)
-    (λ c. search needs)
-    (λ c. search needs)
-    (λ c. search needs)
-    (λ c. search needs)
-    (λ c. search needs)
-    (λ c. search needs)
+    (λ c. row-fits (table (c .before .before .before)) (getD (c .before .before .before .loop .t) ((c .before .before .before .loop .k - 1) * 5) 0) (c .if3 .taken))
+    (λ c. cell-fits (table (c .before .before .before)) (getD (c .before .before .before .loop .t) ((c .before .before .before .loop .k - 1) * 5) 0) (c .if3 .taken) 1 refl)
+    (λ c. cell-bytes (table (c .before .before .before)) (getD (c .before .before .before .loop .t) ((c .before .before .before .loop .k - 1) * 5) 0) (c .if3 .taken) 1 refl)
+    (λ c. cell-there (table (c .before .before .before .before)) (getD (c .before .before .before .before .loop .t) ((c .before .before .before .before .loop .k - 1) * 5) 0) (c .before .if3 .taken) 1 refl)
+    (λ c. cell-fits (table (c .before .before .before .before)) (c .before .before .before .before .loop .k - 1) (low (c .before .before .before)) 2 refl)
+    (λ c. cell-bytes (table (c .before .before .before .before)) (c .before .before .before .before .loop .k - 1) (low (c .before .before .before)) 2 refl)
+    (λ c. cell-there (table (c .before .before .before .before)) (c .before .before .before .before .loop .k - 1) (low (c .before .before .before)) 2 refl)
+    (λ c. row-number (low (c .before .before .before)) (c .before .before .before .before .loop .inv .1 .1))
+    (λ c. cell-bytes (table (c .before .before .before .before)) (getD (c .before .before .before .before .loop .t) ((c .before .before .before .before .loop .k - 1) * 5) 0) (c .before .if3 .taken) 1 refl)
     slice-write-t-2
-    (λ c. search needs)
+    (λ c. one-less (c .before .before .before .before .loop .k) (c .before .before .before .loop-test .taken))
     loop-again
-    (λ c. search needs)
-    (λ c. search needs)
-    (λ c. search needs)
-    (λ c. search needs)
+    (λ c. cell-fits (table (c .before .before .before)) (c .before .before .before .loop .k - 1) (low (c .before .before)) 2 refl)
+    (λ c. cell-bytes (table (c .before .before .before)) (c .before .before .before .loop .k - 1) (low (c .before .before)) 2 refl)
+    (λ c. cell-there (table (c .before .before .before)) (c .before .before .before .loop .k - 1) (low (c .before .before)) 2 refl)
+    (λ c. one-less (c .before .before .before .loop .k) (c .before .before .loop-test .taken))
     loop-again-2
     same-length
     returns-3)
