@@ -1,5 +1,5 @@
 -- Where the next token lies: in the text, from the place where it was looked for on. Assumes nothing.
-use Prim.Native.Nat.{ℕ, suc, _+_, _≤_, _<_}
+use Prim.Native.Nat.{ℕ, suc, _+_, _^_, _≤_, _<_}
 use mathlib.Core.Path.{_≡_, refl, sym, ap, _∙_, subst}
 use mathlib.Core.List.{List}
 use native.Mathlib.Omega.{arith}
@@ -84,6 +84,15 @@ module _ (u : List ℕ) where
   pub found-within : (i : ℕ) (r token : Step) → r ≡ nextAt u i → r ≡ token → Within i token
   found-within i r token p q = subst (Within i) (sym p ∙ q) (next-within i)
 
+-- the place behind a token of the text can be counted
+pub behind-fits : (s : List ℕ) (at : ℕ) (token : Step) → length s < 2 ^ 64 → at < 2 ^ 64 → Within s at token → behind at token < 2 ^ 64
+behind-fits s at (Start i) l b w = omega (arith, w .1)
+behind-fits s at (End i) l b w = omega (arith, w .1)
+behind-fits s at (Node i) l b w = omega (arith, w .1)
+behind-fits s at (Property i k e) l b w = omega (arith, w .4)
+behind-fits s at (Refused f i) l b w = omega (arith, w .1)
+behind-fits s at Done l b w = b
+
 -- a step of the cursor, from what `next_token` gave
-pub stepped : (s : List ℕ) (at : ℕ) (r token t : Step) (n : ℕ) → r ≡ nextAt s at → r ≡ token → t ≡ token → n ≡ behind at token → SteppedIs s at t n
-stepped s at r token t n p q e f = record { token-is = e ∙ sym q ∙ p; next-is = f ∙ ap (behind at) (sym q ∙ p) }
+pub stepped : (s : List ℕ) (at : ℕ) {r : Step} {n : ℕ} → r ≡ nextAt s at → n ≡ behind at r → SteppedIs s at r n
+stepped s at p f = record { token-is = p; next-is = f ∙ ap (behind at) p }

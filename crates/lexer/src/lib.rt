@@ -1,8 +1,9 @@
 // The token rules of SGF: bytes to tokens with spans. The text is the part that trimming keeps, from the start of the buffer to its last place; places count from the start of the buffer.
 ghost use mathlib.Core.Path.{_≡_};
+ghost use Prim.Native.Nat.{_<_, _^_};
 ghost use Rattle.scan.specs.Scan.{valuesAt};
 ghost use Rattle.lexer.specs.Token.{numberOf};
-ghost use Rattle.lexer.specs.Step.{headFrom, headAt, onValues, nextAt, SteppedIs};
+ghost use Rattle.lexer.specs.Step.{headFrom, headAt, onValues, nextAt, behind, SteppedIs};
 
 // What is wrong with a token.
 pub enum Fault {
@@ -113,22 +114,26 @@ impl Cursor {
         ensures { λ r. ⌜ SteppedIs (now (s .entry)) (self .at) (r .token) (r .next .at) ⌝ }
     {
         let at = self.at;
-        match next_token(s, at) {
-            Step::Start(i) => with_next(Step::Start(i), i + 1),
-            Step::End(i) => with_next(Step::End(i), i + 1),
-            Step::Node(i) => with_next(Step::Node(i), i + 1),
-            Step::Property(i, k, e) => with_next(Step::Property(i, k, e), e),
-            Step::Refused(f, i) => with_next(Step::Refused(f, i), at),
-            Step::Done => with_next(Step::Done, at),
+        let token = next_token(s, at);
+        let next = place_behind(token, at);
+        Stepped {
+            token: token,
+            next: Cursor { at: next },
         }
     }
 }
 
-fn with_next(token: Step, at: usize) -> Stepped
-    ensures { λ r. ⌜ (r .token ≡ token) × (r .next .at ≡ at) ⌝ }
+// The place behind a token that was looked for from `at` on.
+fn place_behind(token: Step, at: usize) -> usize
+    requires { ⌜ behind at token < 2 ^ 64 ⌝ }
+    ensures { λ r. ⌜ r ≡ behind at token ⌝ }
 {
-    Stepped {
-        token: token,
-        next: Cursor { at: at },
+    match token {
+        Step::Start(i) => i + 1,
+        Step::End(i) => i + 1,
+        Step::Node(i) => i + 1,
+        Step::Property(_, _, e) => e,
+        Step::Refused(_, _) => at,
+        Step::Done => at,
     }
 }
