@@ -2,7 +2,7 @@
 use mathlib.Core.Path.{ap}
 use native.Mathlib.Omega.{arith}
 use borrow.Author.Needs.{needs}
-use Rattle.values.proofs.Written.{wrote-is}
+use Rattle.put.proofs.Written.{wrote-is}
 use Rattle.values.specs.Decimal.{decimal}
 use Rattle.go.specs.Rows.{valuesAt}
 use Rattle.form.specs.Boxes.{boxes}
