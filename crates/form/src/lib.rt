@@ -125,7 +125,7 @@ fn put_one(
     requires { ⌜ (shape ≡ ManyPoints → ⊥) ⌝ }
     ensures { λ r. ⌜ Wrote (boxes (formBy shape (valuesAt (now (text .entry)) (now (values .entry)) first count))) (now (out .entry)) at (now (out .exit)) r ⌝ }
 {
-    match go::value::one_value(shape, text, values, first, count) {
+    match go::value::value_by(shape, text, values, first, count) {
         Value::Pass => put_box(out, at, &text[..0]),
         Value::Move(x, y) => put_point(out, at, x, y),
         Value::Handicap(n) => {

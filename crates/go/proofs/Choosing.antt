@@ -11,7 +11,7 @@ use Rattle.values.specs.Read.{readValue}
 use Rattle.values.specs.Decimal.{decimalOf}
 use Rattle.points.specs.Area.{moveOf}
 use Rattle.go.specs.Rows.{valueAt, valuesAt}
-use Rattle.go.specs.Value.{shapeOf, oneBy, unmarked, valueBy, goValue}
+use Rattle.go.specs.Value.{shapeOf, oneBy, unmarked, pointsOf, valueBy, goValue}
 use Rattle.points.specs.Handicap.{handicapOf}
 use Rattle.go.specs.declared.value.GoValue.{GoValue}
 use Rattle.go.specs.declared.value.Shape.{Shape}
@@ -65,26 +65,38 @@ module _ (text vals : List ℕ) (first count : ℕ) where
   abbrev vs : List (List ℕ)
   vs = valuesAt text vals first count
 
-  pub one-unread : {s : Shape} → s ≡ Unread → unmarked Other ≡ valueBy s vs
+  pub by-unread : {s : Shape} → s ≡ Unread → Other ≡ valueBy s vs .value
   unfolding valueBy
-  one-unread e = ap (λ (z : Shape). valueBy z vs) (sym e)
+  by-unread e = ap (λ (z : Shape). valueBy z vs .value) (sym e)
 
-  pub one-many : (s : Shape) → OneOf (0 ∷ 1 ∷ 2 ∷ []) (tagOf shape.the-type s) → (s ≡ ManyPoints → ⊥) → (count ≡ 1 → ⊥) → unmarked Invalid ≡ valueBy s vs
+  pub by-set : {s : Shape} {g : GoValue} → s ≡ ManyPoints → g ≡ pointsOf vs → g .value ≡ valueBy s vs .value
   unfolding valueBy
-  one-many OneMove h m n = ap unmarked (none-or-many (λ v. moveOf (readValue v)) text vals first count n)
-  one-many OneNumber h m n = ap unmarked (none-or-many (λ v. handicapOf (decimalOf (2 ^ 63 - 1) (readValue v))) text vals first count n)
-  one-many ManyPoints h m n = absurd (m refl)
-  one-many Unread h m n = absurd (not-unread h)
+  by-set e g = ap (λ (z : GoValue). z .value) g ∙ ap (λ (z : Shape). valueBy z vs .value) (sym e)
+
+  pub by-many : (s : Shape) → OneOf (0 ∷ 1 ∷ 2 ∷ []) (tagOf shape.the-type s) → (s ≡ ManyPoints → ⊥) → (count ≡ 1 → ⊥) → Invalid ≡ valueBy s vs .value
+  unfolding valueBy
+  by-many OneMove h m n = none-or-many (λ v. moveOf (readValue v)) text vals first count n
+  by-many OneNumber h m n = none-or-many (λ v. handicapOf (decimalOf (2 ^ 63 - 1) (readValue v))) text vals first count n
+  by-many ManyPoints h m n = absurd (m refl)
+  by-many Unread h m n = absurd (not-unread h)
 
   module _ {v : List ℕ} {x : Value} (h : count ≡ 1) (q : v ≡ valueAt text vals (first + 0)) where
-    pub one-move : {s : Shape} → s ≡ OneMove → x ≡ moveOf (readValue v) → unmarked x ≡ valueBy s vs
+    pub by-move : {s : Shape} → s ≡ OneMove → x ≡ moveOf (readValue v) → x ≡ valueBy s vs .value
     unfolding valueBy
-    one-move e m = ap unmarked (m ∙ one-only (λ v. moveOf (readValue v)) text vals first count h q) ∙ ap (λ (z : Shape). valueBy z vs) (sym e)
+    by-move e m = m ∙ one-only (λ v. moveOf (readValue v)) text vals first count h q ∙ ap (λ (z : Shape). valueBy z vs .value) (sym e)
 
-    pub one-number : (s : Shape) → OneOf (0 ∷ 1 ∷ 2 ∷ []) (tagOf shape.the-type s) → OneOf (1 ∷ 2 ∷ 3 ∷ []) (tagOf shape.the-type s) → (s ≡ ManyPoints → ⊥)
-        → x ≡ handicapOf (decimalOf (2 ^ 63 - 1) (readValue v)) → unmarked x ≡ valueBy s vs
+    pub by-number : (s : Shape) → OneOf (0 ∷ 1 ∷ 2 ∷ []) (tagOf shape.the-type s) → OneOf (1 ∷ 2 ∷ 3 ∷ []) (tagOf shape.the-type s) → (s ≡ ManyPoints → ⊥)
+        → x ≡ handicapOf (decimalOf (2 ^ 63 - 1) (readValue v)) → x ≡ valueBy s vs .value
     unfolding valueBy
-    one-number OneMove u n p m = absurd (not-move n)
-    one-number OneNumber u n p m = ap unmarked (m ∙ one-only (λ v. handicapOf (decimalOf (2 ^ 63 - 1) (readValue v))) text vals first count h q)
-    one-number ManyPoints u n p m = absurd (p refl)
-    one-number Unread u n p m = absurd (not-unread u)
+    by-number OneMove u n p m = absurd (not-move n)
+    by-number OneNumber u n p m = m ∙ one-only (λ v. handicapOf (decimalOf (2 ^ 63 - 1) (readValue v))) text vals first count h q
+    by-number ManyPoints u n p m = absurd (p refl)
+    by-number Unread u n p m = absurd (not-unread u)
+
+-- what is no set has no marks
+pub by-alone : (s : Shape) (vs : List (List ℕ)) {x : Value} → (s ≡ ManyPoints → ⊥) → x ≡ valueBy s vs .value → unmarked x ≡ valueBy s vs
+unfolding valueBy
+by-alone OneMove vs h e = ap unmarked e
+by-alone OneNumber vs h e = ap unmarked e
+by-alone ManyPoints vs h e = absurd (h refl)
+by-alone Unread vs h e = ap unmarked e

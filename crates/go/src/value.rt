@@ -5,7 +5,6 @@ ghost use Rattle.values.specs.Read.{readIdentifier};
 ghost use Rattle.go.specs.Identifier.{Letters};
 ghost use Rattle.go.specs.Rows.{valuesAt};
 ghost use Rattle.go.specs.Value.{shapeOf, unmarked, valueBy, goValue};
-ghost use Rattle.go.specs.declared.value.Shape.the-variants.{ManyPoints};
 use points::Value;
 use values::read::Step;
 
@@ -87,13 +86,16 @@ fn unmarked_value(v: Value) -> GoValue
     }
 }
 
-// What a property that takes no set stands for: a move or a number where it has exactly one value.
-pub fn one_value(shape: Shape, text: &[u8], vals: &[u32], first: usize, count: usize) -> Value
-    requires { ⌜ (shape ≡ ManyPoints → ⊥) ⌝ }
-    ensures { λ r. ⌜ unmarked r ≡ valueBy shape (valuesAt (now (text .entry)) (now (vals .entry)) first count) ⌝ }
+// What the values of a property of this shape stand for, without the marks of a set: a move or a number where there is exactly one.
+pub fn value_by(shape: Shape, text: &[u8], vals: &[u32], first: usize, count: usize) -> Value
+    ensures { λ r. ⌜ r ≡ valueBy shape (valuesAt (now (text .entry)) (now (vals .entry)) first count) .value ⌝ }
 {
     if let Shape::Unread = shape {
         return Value::Other;
+    }
+    if let Shape::ManyPoints = shape {
+        let set = crate::set::read_points(text, vals, first, count);
+        return set.value;
     }
     if count != 1 {
         return Value::Invalid;
@@ -123,5 +125,5 @@ pub fn go_value(
     if let Shape::ManyPoints = shape {
         return crate::set::read_points(text, vals, first, count);
     }
-    unmarked_value(one_value(shape, text, vals, first, count))
+    unmarked_value(value_by(shape, text, vals, first, count))
 }

@@ -2,7 +2,7 @@
 use mathlib.Core.Path.{refl, _∙_}
 use borrow.Author.Needs.{needs}
 use Rattle.go.specs.Value.{valueBy}
-use Rattle.go.proofs.Choosing.{value-unknown, value-shaped, not-set}
+use Rattle.go.proofs.Choosing.{value-unknown, value-shaped, not-set, by-alone}
 use Rattle.go.proofs.value.go_value.Statement.{statement}
 use Rattle.go.proofs.value.go_value.Tie as tie
 
@@ -13,11 +13,8 @@ returns-2 : tie.Need-returns-2
 unfolding valueBy
 returns-2 c = value-shaped (c .before .before .before .before .before .before .before .before .args .kind) _ _ (c .before .before .before .before .if1 .left) (c .before .before .before .shape-of .ensures) (c .before .enum-told .given .1) (c .read-points .ensures)
 
-one-value-requires : tie.Need-one-value-requires
-one-value-requires c κs = not-set (c .before .shape-of .result) (c .match .keys2)
-
 returns-3 : tie.Need-returns-3
-returns-3 c = value-shaped (c .before .before .before .before .before .before .before .before .args .kind) _ _ (c .before .before .before .before .if1 .left) (c .before .before .before .shape-of .ensures) refl (c .unmarked-value2 .ensures ∙ c .before .one-value .ensures)
+returns-3 c = value-shaped (c .before .before .before .before .before .before .before .before .args .kind) _ _ (c .before .before .before .before .if1 .left) (c .before .before .before .shape-of .ensures) refl (c .unmarked-value2 .ensures ∙ by-alone _ _ (not-set (c .before .before .before .shape-of .result) (c .before .before .match .keys2)) (c .before .value-by .ensures))
 
 pub go-value-spec : {M : Type 1} → statement M
 go-value-spec =
@@ -29,6 +26,6 @@ go-value-spec =
     (λ c. search needs)
     (λ c κs. search needs)
     returns-2
-    one-value-requires
+    (λ c κs. search needs)
     (λ c κs. search needs)
     returns-3)
