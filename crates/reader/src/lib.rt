@@ -23,6 +23,7 @@ enum Plan {
     Refused(Reason, usize),
 }
 
+// The first pass over the tokens, strict or lenient.
 fn survey(s: &[u8], from: usize, lenient: bool) -> Survey
     ensures { λ r. ⌜ r ≡ surveyOf lenient (lexAt (now (s .entry)) from) ⌝ }
 {

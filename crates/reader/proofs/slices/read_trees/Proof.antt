@@ -4,9 +4,7 @@ use Rattle.reader.proofs.Plants.{Planting, plant-first, plant-keeps, pl
 use Prim.Native.Nat.{_-_}
 use native.Mathlib.Omega.{arith}
 use Rattle.lexer.specs.Token.{lexAt}
-use Rattle.trees.specs.Walks.{opts}
 use Rattle.reader.specs.Lent.{lent}
-use Rattle.reader.proofs.Plants.{Planting, plant-first, plant-keeps, plant-end, plant-ready, plant-no, plant-stop, plant-more}
 use borrow.Author.Needs.{needs}
 use Rattle.reader.proofs.slices.read_trees.Statement.{statement}
 use Rattle.reader.proofs.slices.read_trees.Tie as tie
