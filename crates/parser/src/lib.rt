@@ -99,13 +99,15 @@ fn fault_or_end(s: &[u8], from: usize) -> Survey
 {
     let mut at = from;
     loop {
-        match lexer::next_token(s, at) {
-            Step::Start(i) => at = i + 1,
-            Step::End(i) => at = i + 1,
-            Step::Node(i) => at = i + 1,
-            Step::Property(_, _, e) => at = e,
+        let stepped = lexer::Cursor { at: at }.next(s);
+        let token = stepped.token;
+        match token {
             Step::Refused(f, i) => return Survey::Refused(tables::fault_reason(f), i),
             Step::Done => return Survey::Refused(Reason::UnexpectedGameTreeEnd, 0),
+            _ => {
+                let next = stepped.next;
+                at = next.at;
+            }
         }
     }
 }
