@@ -6,7 +6,6 @@ use mathlib.Core.List.{List, [], _∷_}
 use lib.Dec.{leb}
 use borrow.Author.Tests.{ne-eqb}
 use Rattle.points.specs.Area.{letterOf, moveTo, moveOf, cornered, areaOf}
-use Rattle.points.specs.declared.Area.{Area}
 use Rattle.points.specs.declared.Area.the-variants.{Bad, Rect}
 use Rattle.points.specs.declared.Value.{Value}
 use Rattle.points.specs.declared.Value.the-variants.{Invalid, Move}
