@@ -1,11 +1,10 @@
 -- What an edit answers, test by test; and what an acceptance says. Assumes nothing.
 use Prim.Native.Nat.{ℕ, _+_, _-_, _≤_, _<_}
 use mathlib.Core.Bool.{Bool, true, false}
-use mathlib.Core.Logic.{inl, inr}
 use mathlib.Core.List.{List, [], _∷_}
 use mathlib.Core.Path.{_≡_, refl, sym, ap, _∙_, subst}
 use native.Mathlib.Omega.{arith}
-use types.Run.{OneOf}
+use types.Run.{OneOf, miss}
 use denote.Enum.Declared.{tagOf}
 use lib.Dec.{ltb}
 use lib.ListN.{length, take}
@@ -42,10 +41,8 @@ use Rattle.fit.proofs.Parts.{tabulate-length, tabulate-at}
 whole-of : (u : Utf) → OneOf (1 ∷ 2 ∷ []) (tagOf trimmed-type.the-type (shown u)) → (i : Ink) × (u ≡ whole i)
 whole-of (whole blank) z = (blank, refl)
 whole-of (whole (inked f l)) z = (inked f l, refl)
-whole-of (part k s n r x) (inl z) = absurd (omega arith)
-whole-of (part k s n r x) (inr z) = absurd (omega arith)
-whole-of (bad p) (inl z) = absurd (omega arith)
-whole-of (bad p) (inr z) = absurd (omega arith)
+whole-of (part k s n r x) z = absurd (miss (1 ∷ 2 ∷ []) 0 tt z)
+whole-of (bad p) z = absurd (miss (1 ∷ 2 ∷ []) 0 tt z)
 
 bad-at : (u : Utf) (c l m : Bool) (t : List ℕ) (T : Tables) {p : ℕ} → Bad p ≡ shown u → Refused NotUtf8 p ≡ answers (outcome true false u c l m t T)
 bad-at (whole blank) c l m t T h = never cc

@@ -5,7 +5,7 @@ use mathlib.Core.List.{List, [], _∷_}
 use mathlib.Core.Logic.{inl, inr}
 use mathlib.Core.Path.{_≡_, refl, sym, ap, subst}
 use native.Mathlib.Omega.{arith}
-use types.Run.{OneOf}
+use types.Run.{OneOf, miss}
 use denote.Enum.Declared.{tagOf}
 use Rattle.points.specs.declared.Value.{Value}
 use Rattle.points.specs.declared.Value.the-variants.{Other, Invalid, Pass, Move, Handicap, Points}
@@ -19,14 +19,7 @@ use Rattle.points.proofs.Value as value
 
 -- no set
 pub not-points : (x : Value) → OneOf (0 ∷ 1 ∷ 2 ∷ 3 ∷ 4 ∷ []) (tagOf value.the-type x) → x ≡ Points → ⊥
-not-points x h e = go (subst (λ (y : Value). OneOf (0 ∷ 1 ∷ 2 ∷ 3 ∷ 4 ∷ []) (tagOf value.the-type y)) e h)
-  where
-    go : OneOf (0 ∷ 1 ∷ 2 ∷ 3 ∷ 4 ∷ []) 5 → ⊥
-    go (inl z) = omega arith
-    go (inr (inl z)) = omega arith
-    go (inr (inr (inl z))) = omega arith
-    go (inr (inr (inr (inl z)))) = omega arith
-    go (inr (inr (inr (inr z)))) = omega arith
+not-points x h e = miss (0 ∷ 1 ∷ 2 ∷ 3 ∷ 4 ∷ []) 5 tt (subst (λ (y : Value). OneOf (0 ∷ 1 ∷ 2 ∷ 3 ∷ 4 ∷ []) (tagOf value.the-type y)) e h)
 
 -- a value that is no set, its point inside
 abbrev Single : Value → Type 0

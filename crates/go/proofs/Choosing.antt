@@ -2,10 +2,9 @@
 use Prim.Native.Nat.{ℕ, zero, suc, _+_, _-_, _^_}
 use mathlib.Core.Path.{_≡_, refl, sym, ap, _∙_, subst}
 use mathlib.Core.List.{List, [], _∷_}
-use mathlib.Core.Logic.{inl, inr}
 use native.Mathlib.Omega.{arith}
 use borrow.Author.Tests.{eq-eqb, ne-eqb}
-use types.Run.{OneOf}
+use types.Run.{OneOf, miss}
 use denote.Enum.Declared.{tagOf}
 use Rattle.values.specs.Read.{readValue}
 use Rattle.values.specs.Decimal.{decimalOf}
@@ -44,22 +43,7 @@ module _ (f : List ℕ → Value) (text vals : List ℕ) (first : ℕ) where
 
 -- a shape that is no set
 pub not-set : (s : Shape) → OneOf (0 ∷ 1 ∷ 3 ∷ []) (tagOf shape.the-type s) → s ≡ ManyPoints → ⊥
-not-set s h e = go (subst (λ (z : Shape). OneOf (0 ∷ 1 ∷ 3 ∷ []) (tagOf shape.the-type z)) e h)
-  where
-    go : OneOf (0 ∷ 1 ∷ 3 ∷ []) 2 → ⊥
-    go (inl z) = omega arith
-    go (inr (inl z)) = omega arith
-    go (inr (inr z)) = omega arith
-
-not-unread : OneOf (0 ∷ 1 ∷ 2 ∷ []) 3 → ⊥
-not-unread (inl z) = omega arith
-not-unread (inr (inl z)) = omega arith
-not-unread (inr (inr z)) = omega arith
-
-not-move : OneOf (1 ∷ 2 ∷ 3 ∷ []) 0 → ⊥
-not-move (inl z) = omega arith
-not-move (inr (inl z)) = omega arith
-not-move (inr (inr z)) = omega arith
+not-set s h e = miss (0 ∷ 1 ∷ 3 ∷ []) 2 tt (subst (λ (z : Shape). OneOf (0 ∷ 1 ∷ 3 ∷ []) (tagOf shape.the-type z)) e h)
 
 module _ (text vals : List ℕ) (first count : ℕ) where
   abbrev vs : List (List ℕ)
@@ -78,7 +62,7 @@ module _ (text vals : List ℕ) (first count : ℕ) where
   by-many OneMove h m n = none-or-many (λ v. moveOf (readValue v)) text vals first count n
   by-many OneNumber h m n = none-or-many (λ v. handicapOf (decimalOf (2 ^ 63 - 1) (readValue v))) text vals first count n
   by-many ManyPoints h m n = absurd (m refl)
-  by-many Unread h m n = absurd (not-unread h)
+  by-many Unread h m n = absurd (miss (0 ∷ 1 ∷ 2 ∷ []) 3 tt h)
 
   module _ {v : List ℕ} {x : Value} (h : count ≡ 1) (q : v ≡ valueAt text vals (first + 0)) where
     pub by-move : {s : Shape} → s ≡ OneMove → x ≡ moveOf (readValue v) → x ≡ valueBy s vs .value
@@ -88,10 +72,10 @@ module _ (text vals : List ℕ) (first count : ℕ) where
     pub by-number : (s : Shape) → OneOf (0 ∷ 1 ∷ 2 ∷ []) (tagOf shape.the-type s) → OneOf (1 ∷ 2 ∷ 3 ∷ []) (tagOf shape.the-type s) → (s ≡ ManyPoints → ⊥)
         → x ≡ handicapOf (decimalOf (2 ^ 63 - 1) (readValue v)) → x ≡ valueBy s vs .value
     unfolding valueBy
-    by-number OneMove u n p m = absurd (not-move n)
+    by-number OneMove u n p m = absurd (miss (1 ∷ 2 ∷ 3 ∷ []) 0 tt n)
     by-number OneNumber u n p m = m ∙ one-only (λ v. handicapOf (decimalOf (2 ^ 63 - 1) (readValue v))) text vals first count h q
     by-number ManyPoints u n p m = absurd (p refl)
-    by-number Unread u n p m = absurd (not-unread u)
+    by-number Unread u n p m = absurd (miss (0 ∷ 1 ∷ 2 ∷ []) 3 tt u)
 
 -- what is no set has no marks
 pub by-alone : (s : Shape) (vs : List (List ℕ)) {x : Value} → (s ≡ ManyPoints → ⊥) → x ≡ valueBy s vs .value → unmarked x ≡ valueBy s vs

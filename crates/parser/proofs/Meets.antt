@@ -2,10 +2,9 @@
 use Prim.Native.Nat.{ℕ, _-_, _≤_, _<_}
 use mathlib.Core.Path.{_≡_, refl, sym, ap, _∙_}
 use mathlib.Core.List.{List, [], _∷_}
-use mathlib.Core.Logic.{inl, inr}
 use native.Mathlib.Omega.{arith}
 use lib.ListN.{length}
-use types.Run.{OneOf}
+use types.Run.{OneOf, miss}
 use denote.Enum.Declared.{tagOf}
 use Rattle.lexer.specs.declared.Step.{Step}
 use Rattle.lexer.specs.declared.Step.the-variants.{Start, End, Node, Property, Refused, Done}
@@ -22,28 +21,22 @@ meets u i e g = lex-next u i ∙ ap (stepOn u) (sym e ∙ g)
 abbrev IsToken : Step → Type 0
 IsToken x = OneOf (0 ∷ 1 ∷ 2 ∷ 3 ∷ []) (tagOf step.the-type x)
 
-up-to-3 : (n : ℕ) → OneOf (0 ∷ 1 ∷ 2 ∷ 3 ∷ []) n → n ≤ 3
-up-to-3 n (inl z) = omega arith
-up-to-3 n (inr (inl z)) = omega arith
-up-to-3 n (inr (inr (inl z))) = omega arith
-up-to-3 n (inr (inr (inr z))) = omega arith
-
 module _ (u : List ℕ) (at : ℕ) where
   ends-behind : (x : Step) → IsToken x → stepOn u x .end ≡ lexAt u (behind at x) .end
   ends-behind (Start i) h = refl
   ends-behind (End i) h = refl
   ends-behind (Node i) h = refl
   ends-behind (Property i k e) h = refl
-  ends-behind (Refused f i) h = absurd (omega (arith, up-to-3 4 h))
-  ends-behind Done h = absurd (omega (arith, up-to-3 5 h))
+  ends-behind (Refused f i) h = absurd (miss (0 ∷ 1 ∷ 2 ∷ 3 ∷ []) 4 tt h)
+  ends-behind Done h = absurd (miss (0 ∷ 1 ∷ 2 ∷ 3 ∷ []) 5 tt h)
 
   lies-behind : (x : Step) → IsToken x → Within u at x → (at < behind at x) × (behind at x ≤ length u)
   lies-behind (Start i) h w = (omega (arith, w .0), omega (arith, w .1))
   lies-behind (End i) h w = (omega (arith, w .0), omega (arith, w .1))
   lies-behind (Node i) h w = (omega (arith, w .0), omega (arith, w .1))
   lies-behind (Property i k e) h w = (omega (arith, w .0, w .1, w .3), w .4)
-  lies-behind (Refused f i) h w = absurd (omega (arith, up-to-3 4 h))
-  lies-behind Done h w = absurd (omega (arith, up-to-3 5 h))
+  lies-behind (Refused f i) h w = absurd (miss (0 ∷ 1 ∷ 2 ∷ 3 ∷ []) 4 tt h)
+  lies-behind Done h w = absurd (miss (0 ∷ 1 ∷ 2 ∷ 3 ∷ []) 5 tt h)
 
   module _ {x : Step} {n : ℕ} (s : SteppedIs u at x n) (h : IsToken x) where
     next-behind : n ≡ behind at x
