@@ -1,6 +1,6 @@
 -- Demand 1, total: any bytes, options and lent tables get an answer, and a refusal changes no lent byte or row. Assumes nothing.
 -- That every input has an answer, and which, is each contract itself, which has no premise: reader's ReadIs, serialize's WriteIs, edit's EditIs,
--- record's DisplayIs and goAnswer, fit's Fit and accessed. Where the order of numbers is said: parser/specs/Read, serialize/specs/Form.answer, edit/specs/Edit.outcome.
+-- record's DisplayIs and goAnswer, fit's Fit and accessed. Where the order of numbers is said: parser/specs/Read, serialize/specs/Form.answer, decide/specs/Edit.outcome.
 use Prim.Native.Nat.{ℕ}
 use mathlib.Core.List.{List}
 use mathlib.Core.Path.{_≡_}
@@ -16,9 +16,9 @@ use Rattle.record.specs.Ask.{DisplayIs}
 use Rattle.record.specs.declared.Shown.the-variants.{NotShown}
 use Rattle.serialize.specs.Form.{WriteIs}
 use Rattle.serialize.specs.declared.Written.the-variants as written
-use Rattle.edit.specs.Edit.{Outcome}
+use Rattle.decide.specs.Edit.{Outcome}
+use Rattle.decide.specs.declared.Edited.the-variants as edited
 use Rattle.edit.specs.Lent as edit
-use Rattle.edit.specs.declared.Edited.the-variants as edited
 use Rattle.demands.proofs.Refusals.{reading-leaves, edit-leaves, display-leaves}
 
 -- a refused reading leaves every number of the four tables

@@ -21,9 +21,10 @@ use Rattle.parser.specs.Read.{Answer, refused, accepted}
 use Rattle.reader.specs.Lent.{Lent, roomy, stored, answers, leaves}
 use Rattle.record.specs.Ask.{shownFor, display, displayIn}
 use Rattle.record.specs.declared.Shown.the-variants.{NotShown}
-use Rattle.edit.specs.Edit.{Outcome, refuses, gives}
+use Rattle.decide.specs.Answer as decide
+use Rattle.decide.specs.Edit.{Outcome, refuses, gives}
+use Rattle.decide.specs.declared.Edited.the-variants as edited
 use Rattle.edit.specs.Lent as lent
-use Rattle.edit.specs.declared.Edited.the-variants as edited
 use lib.Seq.{slice}
 
 pub reading-leaves : (a : Answer) (before after : Lent) (r : Reason) (p : ℕ) → Refused r p ≡ answers a before → after ≡ leaves a before → after ≡ before
@@ -34,7 +35,7 @@ reading-leaves (accepted ts) before after r p e l = go (roomy (tables ts) before
     go true e l = never cc
     go false e l = l
 
-pub edit-leaves : (o : Outcome) (used : ℕ) (before after : lent.Lent) (r : Reason) (p : ℕ) → edited.Refused r p ≡ lent.answers o → after ≡ lent.leaves o used before → after ≡ before
+pub edit-leaves : (o : Outcome) (used : ℕ) (before after : lent.Lent) (r : Reason) (p : ℕ) → edited.Refused r p ≡ decide.answers o → after ≡ lent.leaves o used before → after ≡ before
 edit-leaves (refuses s q) used before after r p e l = l
 edit-leaves (gives t T) used before after r p e l = never cc
 

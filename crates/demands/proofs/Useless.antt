@@ -21,9 +21,10 @@ use Rattle.fit.specs.Spans.{spans, ascending, plainName, spansFit}
 use Rattle.parser.specs.Examples.{bytes, strict}
 use Rattle.parser.specs.Read.{read}
 use Rattle.reader.specs.Lent.{Lent, lent, answers, ReadIs}
-use Rattle.edit.specs.Edit.{Outcome}
+use Rattle.decide.specs.Answer as decide
+use Rattle.decide.specs.Edit.{Outcome}
+use Rattle.decide.specs.declared.Edited.the-variants as edited
 use Rattle.edit.specs.Lent as edit
-use Rattle.edit.specs.declared.Edited.the-variants as edited
 
 -- so many rows
 abbrev rows : (trees nodes properties values : ℕ) → Counts
@@ -69,14 +70,14 @@ third = edit.lent (bytes "(;C[x];B[y])" ++ (0 ∷ 0 ∷ [])) (2 ∷ 3 ∷ 0 ∷ 
 
 -- the edit of value k, of the first `used` bytes
 abbrev asked : edit.Lent → (used k : ℕ) → List ℕ → Outcome
-asked l used k new = edit.outcomeOf (l .buffer) used (rows 1 2 2 2) (0 ∷ 0 ∷ []) (none ∷ 1 ∷ none ∷ 0 ∷ 1 ∷ 0 ∷ none ∷ none ∷ 1 ∷ 1 ∷ []) (l .properties) (l .values) k new
+asked l used k new = decide.outcomeOf (l .buffer) used (rows 1 2 2 2) (0 ∷ 0 ∷ []) (none ∷ 1 ∷ none ∷ 0 ∷ 1 ∷ 0 ∷ none ∷ none ∷ 1 ∷ 1 ∷ []) (l .properties) (l .values) k new
 
-first-edit : (edit.answers (asked first 14 0 (bytes "x")) ≡ edited.Changed 13) × (edit.leaves (asked first 14 0 (bytes "x")) 14 first ≡ second)
-unfolding edit.outcomeOf Fit fitText nodesFit rangesFit spansFit trimmed white each sum tabulate orphans upward onPath firstUnder spans ascending plainName
+first-edit : (decide.answers (asked first 14 0 (bytes "x")) ≡ edited.Changed 13) × (edit.leaves (asked first 14 0 (bytes "x")) 14 first ≡ second)
+unfolding decide.outcomeOf Fit fitText nodesFit rangesFit spansFit trimmed white each sum tabulate orphans upward onPath firstUnder spans ascending plainName
 first-edit = (refl, refl)
 
 second-edit : edit.leaves (asked second 13 1 (bytes "y")) 13 second ≡ third
-unfolding edit.outcomeOf Fit fitText nodesFit rangesFit spansFit trimmed white each sum tabulate orphans upward onPath firstUnder spans ascending plainName
+unfolding decide.outcomeOf Fit fitText nodesFit rangesFit spansFit trimmed white each sum tabulate orphans upward onPath firstUnder spans ascending plainName
 second-edit = refl
 
 -- an edit that always refuses

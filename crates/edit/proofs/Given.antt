@@ -1,16 +1,17 @@
 -- What an accepted edit says: the tables fit, the value is there, the new text is within the limit and the room. Assumes nothing.
 use Prim.Native.Nat.{ℕ, _+_, _-_, _≤_, _<_}
 use mathlib.Core.Bool.{Bool, true, false}
-use mathlib.Core.List.{List}
+use mathlib.Core.List.{List, _++_}
 use mathlib.Core.Path.{_≡_, refl, sym, ap, ap₂, _∙_, subst⁻¹}
 use native.Mathlib.Omega.{arith}
 use lib.Dec.{ltb}
-use lib.ListN.{length, take}
+use lib.ListN.{length, take, drop}
 use borrow.Author.Tests.{ltb-true, ltb-false}
 use Rattle.lists.specs.Same.{same}
 use Rattle.lists.proofs.Tests.{never}
 use Rattle.utf8.specs.Text.{blank, Ink, Utf, whole, part, bad, utfs}
 use Rattle.lexer.specs.Closed.{closed}
+use Rattle.tables.specs.Flat.{over}
 use Rattle.tables.specs.Numbers.{textLimit}
 use Rattle.tables.specs.Rows.{Tables}
 use Rattle.tables.specs.declared.Counts.{Counts}
@@ -21,14 +22,18 @@ use Rattle.fit.specs.Each.{tabulate}
 use Rattle.fit.specs.Fit.{Fit}
 use Rattle.fit.specs.Record.{propRow}
 use Rattle.fit.proofs.Cases.{either-bool}
-use Rattle.edit.specs.Edit.{ownerName, pasted, Outcome, refuses, gives, outcome}
-use Rattle.edit.specs.Lent.{outcomeOf, answers, cleared, Lent, lent, EditIs}
-use Rattle.tables.specs.Flat.{over}
-use Rattle.edit.specs.Locals.{NamesLie, ValuesLie, Replaceable, propertiesMoved, valuesMoved, span}
-use Rattle.edit.specs.declared.Edited.the-variants.{Changed, Refused}
 use Rattle.fit.proofs.Clauses.{fit-short, fit-names, fit-vals}
-use Rattle.edit.proofs.Fitting.{fit-within}
-use Rattle.edit.proofs.Judged.{newText, newRows, decided-misfit, decided-beyond, tests-are, length-new}
+use Rattle.splice.specs.Locals.{Replaceable}
+use Rattle.splice.specs.Splice.{cleared, replaced}
+use Rattle.splice.proofs.May.{replaced-is}
+use Rattle.decide.specs.Answer.{outcomeOf, answers}
+use Rattle.decide.specs.Edit.{ownerName, Outcome, refuses, gives, outcome}
+use Rattle.decide.specs.Locals.{NamesLie}
+use Rattle.decide.specs.declared.Edited.the-variants.{Changed, Refused}
+use Rattle.decide.proofs.Fitting.{fit-within}
+use Rattle.decide.proofs.Judged.{newText, newRows, decided-misfit, decided-beyond, tests-are, length-new}
+use Rattle.edit.specs.Lent.{Lent, lent, EditIs}
+use Rattle.edit.specs.Locals.{ValuesLie, propertiesMoved, valuesMoved}
 
 not-both : {A : Type 0} (n : ℕ) (r : Reason) (p : ℕ) → Changed n ≡ Refused r p → A
 not-both n r p e = never cc
@@ -112,9 +117,15 @@ module _ (b : List ℕ) (used : ℕ) (c : Counts) (tr nd pr vl : List ℕ) (k : 
     pub given-values : ValuesLie vl (c .values) textLimit
     given-values v l = let h = fit-vals b used c tr nd pr vl (x .fit) v l in (h .0, omega (arith, h .1, fit-short b used c tr nd pr vl (x .fit)))
 
+    -- the text's buffer holds the new text
+    text-put : replaced b used (valFromAt vl k) (valToAt vl k) new ≡ over (cleared Text used) b
+    text-put =
+        let z : 0 + length (cleared Text used) ≡ length (cleared Text used) = omega arith in
+        replaced-is b used (valFromAt vl k) (valToAt vl k) new given-replaceable ∙ ap (λ (m : ℕ). cleared Text used ++ drop m b) z
+
     -- the change is the one that is asked for
     pub edit-given : {b′ pr′ vl′ : List ℕ} {a e : ℕ} → a ≡ valFromAt vl k → e ≡ valToAt vl k
-        → b′ ≡ over (cleared (pasted (take used b) (span a e) new) used) b
+        → b′ ≡ replaced b used a e new
         → pr′ ≡ over (propertiesMoved a e (length new) (c .properties) pr) pr
         → vl′ ≡ over (valuesMoved a e (length new) (c .values) vl) vl
         → EditIs (outcomeOf b used c tr nd pr vl k new) used (lent b pr vl) (lent b′ pr′ vl′) (Changed n)
@@ -123,7 +134,7 @@ module _ (b : List ℕ) (used : ℕ) (c : Counts) (tr nd pr vl : List ℕ) (k : 
         (record {
           answer = ap Changed (x .tests .count);
           memory =
-              ap (λ (z : List ℕ). lent z pr′ vl′) (eb ∙ ap₂ (λ (y z : ℕ). over (cleared (pasted (take used b) (span y z) new) used) b) ea ee)
+              ap (λ (z : List ℕ). lent z pr′ vl′) (eb ∙ ap₂ (λ (y z : ℕ). replaced b used y z new) ea ee ∙ text-put)
               ∙ ap₂ (λ (y z : List ℕ). lent (over (cleared Text used) b) y z)
               (ep ∙ ap₂ (λ (y z : ℕ). over (propertiesMoved y z (length new) (c .properties) pr) pr) ea ee)
               (ev ∙ ap₂ (λ (y z : ℕ). over (valuesMoved y z (length new) (c .values) vl) vl) ea ee);

@@ -1,9 +1,9 @@
 -- No second answer: of each public function, two answers that meet its contract are equal. Assumes nothing.
 use Prim.Native.Nat.{ℕ}
 use mathlib.Core.Path.{_≡_, sym, _∙_}
-use Rattle.edit.specs.Edit.{Outcome}
+use Rattle.decide.specs.Edit.{Outcome}
+use Rattle.decide.specs.declared.Edited.{Edited}
 use Rattle.edit.specs.Lent.{Lent, EditIs}
-use Rattle.edit.specs.declared.Edited.{Edited}
 
 -- the answer, every byte of the buffer, every number of the two tables
 pub edit-once : (o : Outcome) (used : ℕ) (before x y : Lent) (r s : Edited) → EditIs o used before x r → EditIs o used before y s → (r ≡ s) × (x ≡ y)

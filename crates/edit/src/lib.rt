@@ -1,17 +1,10 @@
 // The value edit, in place: one value's bytes in the lent text, and the places of the rows behind it.
-mod bytes; // bytes.rt: a part of the text replaced
-mod decide; // decide.rt: whether an edit is accepted
 mod rows; // rows.rt: the places in the rows moved
 
-ghost use Rattle.edit.specs.Lent.{outcomeOf, lent, EditIs};
+ghost use Rattle.decide.specs.Answer.{outcomeOf};
+ghost use Rattle.edit.specs.Lent.{lent, EditIs};
+use decide::Edited;
 use tables::Counts;
-use tables::Reason;
-
-// The new used length; or why an edit is refused, and the place.
-pub enum Edited {
-    Changed(usize),
-    Refused(Reason, usize),
-}
 
 // The bytes of value k, of tables that fit the first `used` bytes of the text, replaced by the new ones.
 pub fn edit(
@@ -33,7 +26,7 @@ pub fn edit(
             let span = rows::span_of(values, k);
             let start = span.start;
             let end = span.end;
-            bytes::replace(text, used, start, end, new);
+            splice::replace(text, used, start, end, new);
             rows::move_properties(properties, counts.properties, start, end, new.len());
             rows::move_values(values, counts.values, start, end, new.len());
             Edited::Changed(length)

@@ -3,17 +3,11 @@ ghost use mathlib.Core.Path.{_≡_};
 ghost use Prim.Native.Nat.{_+_, _-_, _/_, _<_, _≤_};
 ghost use lib.ListN.{length};
 ghost use Rattle.lexer.specs.Move.{startsAt, endsAt};
-ghost use Rattle.tables.specs.Numbers.{none, textLimit};
+ghost use Rattle.tables.specs.Numbers.{textLimit};
 ghost use Rattle.fit.specs.Columns.{valFromAt, valToAt};
 ghost use Rattle.tables.specs.Flat.{over};
-ghost use Rattle.edit.specs.Locals.{NamesLie, ValuesLie, propertiesMoved, valuesMoved};
-
-// A cell as a place or a number.
-pub fn wide(cell: u32) -> usize
-    ensures { λ r. ⌜ (r ≡ cell) × (r ≤ none) ⌝ }
-{
-    cell as usize
-}
+ghost use Rattle.decide.specs.Locals.{NamesLie};
+ghost use Rattle.edit.specs.Locals.{ValuesLie, propertiesMoved, valuesMoved};
 
 // Where a value stands.
 pub struct Span {
@@ -28,8 +22,8 @@ pub fn span_of(values: &[u32], k: usize) -> Span
 {
     let at = k * tables::VALUE_STRIDE;
     Span {
-        start: wide(values[at]),
-        end: wide(values[at + 1]),
+        start: lists::wide(values[at]),
+        end: lists::wide(values[at + 1]),
     }
 }
 

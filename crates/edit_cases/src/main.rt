@@ -2,7 +2,7 @@
 mod line; // line.rt: the input
 mod say; // say.rt: the output
 
-use edit::Edited;
+use decide::Edited;
 use line::line_end;
 use line::load;
 use line::number_at;

@@ -8,13 +8,14 @@ use lib.ListN.{length}
 use borrow.Author.Tests.{ltb-false}
 use Rattle.tables.specs.Rows.{Tables}
 use Rattle.fit.specs.Fit.{Fit}
-use Rattle.edit.specs.Edit.{Outcome, refuses, gives, edit}
-use Rattle.edit.specs.Lent.{Lent, outcomeOf, answers, leaves, EditIs}
-use Rattle.edit.specs.declared.Edited.{Edited}
-use Rattle.edit.specs.declared.Edited.the-variants.{Changed}
+use Rattle.decide.specs.Edit.{Outcome, refuses, gives, edit}
+use Rattle.decide.specs.Answer.{outcomeOf, answers}
+use Rattle.decide.specs.declared.Edited.{Edited}
+use Rattle.decide.specs.declared.Edited.the-variants.{Changed}
+use Rattle.edit.specs.Lent.{Lent, leaves, EditIs}
 use Rattle.fit.proofs.Whole.{fit-lent}
+use Rattle.decide.proofs.Judged.{newText, newRows}
 use Rattle.edit.proofs.Given.{given}
-use Rattle.edit.proofs.Judged.{newText, newRows}
 use Rattle.fresh.proofs.Left.{length-buffer-left}
 use Rattle.fresh.proofs.Stays.{edit-stays}
 use Rattle.fresh.specs.Calls.{Memory, heldIn, asked, next, Calls, none, call}

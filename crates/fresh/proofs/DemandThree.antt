@@ -24,7 +24,8 @@ use Rattle.tables.proofs.Moved.{tables-move}
 use Rattle.parser.specs.Kind.{GM}
 use Rattle.parser.specs.Read.{accepted, read}
 use Rattle.parser.proofs.Denoted.{read-denotes}
-use Rattle.edit.specs.Edit.{ownerRow, ownerName, spanAt, pasted, shifted, Outcome, outcome, edit}
+use Rattle.splice.specs.Splice.{pasted}
+use Rattle.decide.specs.Edit.{ownerRow, ownerName, spanAt, shifted, Outcome, outcome, edit}
 use Rattle.fresh.specs.Run.{strictly, Held, Order, after, run, Fresh}
 use Rattle.fresh.proofs.Numbered.{noVal, ownerOf, valueOf, newText, newTrees, edit-number}
 
@@ -93,7 +94,7 @@ module _ (c : Bool) (room : ℕ) (t : List ℕ) (ts : List Tree) (k : ℕ) (new 
       (ltb textLimit (length U)) (ltb room (length U)) U (tables US)
   edit-is =
       ap (λ (z : ValRow). outcome (ltb k (length (tables ts .vals))) (same (ownerName t (tables ts .props) k) GM) (utfs (whole blank) 0 new) (closed new)
-      (ltb textLimit (length (pasted t z new))) (ltb room (length (pasted t z new))) (pasted t z new) (shifted (tables ts) z (length new))) span-is
+      (ltb textLimit (length (pasted t (z .from) (z .to) new))) (ltb room (length (pasted t (z .from) (z .to) new))) (pasted t (z .from) (z .to) new) (shifted (tables ts) z (length new))) span-is
       ∙ ap (λ (z : ℕ). outcome (ltb k z) (same (ownerName t (tables ts .props) k) GM) (utfs (whole blank) 0 new) (closed new)
       (ltb textLimit (length U)) (ltb room (length U)) U (shifted (tables ts) Row0 (length new))) (val-rows-length (allVals (allProps (allNodes ts))))
       ∙ ap₂ (λ (z : List ℕ) (T : Tables). outcome (ltb k (length (allVals (allProps (allNodes ts))))) (same z GM) (utfs (whole blank) 0 new) (closed new)

@@ -13,8 +13,8 @@ use Rattle.tables.specs.declared.Counts.{Counts}
 use Rattle.fit.specs.Each.{tabulate}
 use Rattle.fit.specs.Record.{propRow, valRow, rowsOf}
 use Rattle.fit.proofs.Rows.{rows-of-flat}
-use Rattle.edit.specs.Edit.{shifted}
-use Rattle.edit.specs.Lent.{cleared}
+use Rattle.splice.specs.Splice.{cleared}
+use Rattle.decide.specs.Edit.{shifted}
 use Rattle.edit.proofs.Moving.{length-props-to, length-vals-to}
 use Rattle.fit.proofs.Parts.{tabulate-length, map-tabulate, tabulate-same}
 

@@ -8,11 +8,12 @@ use Rattle.lists.specs.Pick.{pick}
 use Rattle.tables.specs.Rows.{Tables, tables, countsOf}
 use Rattle.tables.specs.declared.Reason.the-variants.{NotFitting}
 use Rattle.fit.specs.Fit.{Fit}
-use Rattle.edit.specs.Edit.{Outcome, refuses, gives, edit}
-use Rattle.edit.specs.Lent.{Lent, outcomeOf, answers, leaves, EditIs}
-use Rattle.edit.specs.declared.Edited.{Edited}
+use Rattle.decide.specs.Edit.{Outcome, refuses, gives, edit}
+use Rattle.decide.specs.Answer.{outcomeOf, answers}
+use Rattle.decide.specs.declared.Edited.{Edited}
+use Rattle.decide.proofs.Judged.{newText, newRows}
+use Rattle.edit.specs.Lent.{Lent, leaves, EditIs}
 use Rattle.edit.proofs.Given.{given}
-use Rattle.edit.proofs.Judged.{newText, newRows}
 use Rattle.fit.proofs.RecordFits.{counts-of-rows}
 use Rattle.fresh.proofs.Left.{text-left, rows-left}
 use Rattle.fresh.specs.Calls.{Memory, heldIn, asked, next, Calls, none, call}

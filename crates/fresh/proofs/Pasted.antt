@@ -11,8 +11,7 @@ use Rattle.utf8.specs.Trim.{shown, trimmed}
 use Rattle.tokens.proofs.Kept.{kept}
 use Rattle.fit.specs.Fit.{sound, validUtf8}
 use Rattle.fit.proofs.Cases.{below-or}
-use Rattle.edit.specs.Edit.{pasted}
-use Rattle.edit.specs.Locals.{span}
+use Rattle.splice.specs.Splice.{pasted}
 
 slice-add : (p r : List ℕ) (n a b : ℕ) → length p ≡ n → slice (n + a) (n + b) (p ++ r) ≡ slice a b r
 slice-add p r n a b h =
@@ -21,7 +20,7 @@ slice-add p r n a b h =
 
 module _ (t new : List ℕ) (q e : ℕ) (qe : q ≤ e) (el : e ≤ length t) where
   abbrev pub U : List ℕ
-  U = pasted t (span q e) new
+  U = pasted t q e new
 
   length-front : length (take q t) ≡ q
   length-front = length-take-le q t (omega arith)

@@ -26,13 +26,15 @@ use Rattle.fit.proofs.Each.{each-at, each-all}
 use Rattle.fit.proofs.Lying.{names-lie}
 use Rattle.fit.proofs.Ranges.{gapless-first, gapless-sum, gapless-in}
 use Rattle.fit.proofs.Whole.{fit-lent}
-use Rattle.edit.specs.Lent.{Lent, lent, outcomeOf, cleared, leaves, EditIs}
-use Rattle.edit.specs.declared.Edited.the-variants.{Changed}
+use Rattle.splice.specs.Splice.{cleared}
+use Rattle.decide.specs.Answer.{outcomeOf}
+use Rattle.decide.specs.declared.Edited.the-variants.{Changed}
+use Rattle.edit.specs.Lent.{Lent, lent, leaves, EditIs}
 use Rattle.fresh.proofs.Apart.{AllApart, all-apart}
 use Rattle.fresh.proofs.Ascended.{Ok, moved-ascend, first-same, count-same, spans-moved, all-spans, ranges-same, have-same}
 use Rattle.fresh.proofs.Boxes.{Boxed, boxed-is, value-box, slice-apart, box-apart, box-new}
+use Rattle.decide.proofs.Judged.{newText, newRows, length-new}
 use Rattle.edit.proofs.Given.{Given, given, given-long, given-replaceable}
-use Rattle.edit.proofs.Judged.{newText, newRows, length-new}
 use Rattle.fresh.proofs.Left.{text-left, prop-row-left, val-row-left, length-buffer-left, length-props-left, length-vals-left}
 use Rattle.fresh.proofs.Pasted.{valid-still}
 

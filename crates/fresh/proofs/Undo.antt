@@ -29,7 +29,7 @@ use Rattle.parser.specs.Read.{Answer, refused, accepted, decoded, read}
 use Rattle.parser.proofs.Denoted.{read-denotes}
 use Rattle.parser.proofs.Lift.{OfAnswer, of-tokens, of-trees}
 use Rattle.tables.specs.declared.Reason.the-variants.{TextTooLong}
-use Rattle.edit.specs.Edit.{gives, outcome, edit}
+use Rattle.decide.specs.Edit.{gives, outcome, edit}
 use Rattle.fresh.specs.Run.{strictly}
 use Rattle.fresh.proofs.Accepted.{Accepted, accepted-is}
 use Rattle.fresh.proofs.Numbered.{noVal, ownerOf, valueOf, newText, newTrees, Owned, owned, cut-text, inside-text, edit-number}

@@ -4,10 +4,11 @@ use mathlib.Core.List.{List, [], _∷_}
 use lib.ListN.{take}
 use Rattle.tables.specs.declared.Counts.{Counts}
 use Rattle.fit.specs.Record.{rowsOf}
-use Rattle.edit.specs.Edit.{Outcome}
-use Rattle.edit.specs.Lent.{Lent, lent, outcomeOf, EditIs}
-use Rattle.edit.specs.declared.Edited.{Edited}
-use Rattle.edit.specs.declared.Edited.the-variants.{Changed, Refused}
+use Rattle.decide.specs.Edit.{Outcome}
+use Rattle.decide.specs.Answer.{outcomeOf}
+use Rattle.decide.specs.declared.Edited.{Edited}
+use Rattle.decide.specs.declared.Edited.the-variants.{Changed, Refused}
+use Rattle.edit.specs.Lent.{Lent, lent, EditIs}
 use Rattle.fresh.specs.Run.{Held, Order}
 
 -- what a caller has: the buffer and how much of it is used, the tables and their counts

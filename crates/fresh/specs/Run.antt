@@ -7,7 +7,7 @@ use Rattle.tables.specs.Record.{Tree}
 use Rattle.tables.specs.Rows.{Tables, tables}
 use Rattle.parser.specs.Walk.{Opts}
 use Rattle.parser.specs.Read.{accepted, read}
-use Rattle.edit.specs.Edit.{Outcome, refuses, gives, edit}
+use Rattle.decide.specs.Edit.{Outcome, refuses, gives, edit}
 
 -- strict reading, conversion on or off
 abbrev pub strictly : Bool → Opts

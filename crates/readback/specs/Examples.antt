@@ -16,7 +16,7 @@ use Rattle.tables.specs.Flat.{flatTrees, flatNodes, flatProps, flatVals}
 use Rattle.parser.specs.Examples.{bytes, strict, lenient}
 use Rattle.parser.specs.Walk.{Opts}
 use Rattle.parser.specs.Read.{Answer, refused, accepted, read}
-use Rattle.edit.specs.Edit.{Outcome, refuses, gives, edit}
+use Rattle.decide.specs.Edit.{Outcome, refuses, gives, edit}
 use Rattle.serialize.specs.Form.{writing, answerFor}
 use Rattle.serialize.specs.declared.Written.{Written}
 use Rattle.serialize.specs.declared.Written.the-variants.{Wrote, Refused}

@@ -14,9 +14,9 @@ use Rattle.tables.specs.declared.Counts.{Counts}
 use Rattle.fit.specs.Record.{rowsOf, recordOf}
 use Rattle.serialize.specs.Form.{writing, output, WriteIs}
 use Rattle.serialize.specs.declared.Written.{Written}
-use Rattle.edit.specs.Edit.{Outcome}
+use Rattle.decide.specs.Edit.{Outcome}
+use Rattle.decide.specs.declared.Edited.{Edited}
 use Rattle.edit.specs.Lent.{Lent, EditIs}
-use Rattle.edit.specs.declared.Edited.{Edited}
 use Rattle.sgf.specs.Changed.{writingShown, WriteShown, editShown, EditShown}
 use Rattle.sgf.specs.declared.SgfCounts.{SgfCounts}
 use Rattle.sgf.specs.declared.SgfEdit.{SgfEdit}

@@ -11,7 +11,7 @@ use Rattle.tables.specs.declared.Counts.{Counts}
 use Rattle.display.specs.declared.Kind.{Kind}
 use Rattle.go.specs.declared.value.GoValue.{GoValue}
 use Rattle.access.specs.declared.Accessed.{Accessed}
-use Rattle.edit.specs.Edit.{Outcome}
+use Rattle.decide.specs.Edit.{Outcome}
 use Rattle.edit.specs.Lent as edit
 use Rattle.sgf.specs.Asked.{fitsShown, spanShown, goShown, DisplayShown}
 use Rattle.sgf.specs.Changed.{WriteShown, EditShown}

@@ -9,10 +9,11 @@ use Rattle.fit.specs.Record.{rowsOf, recordOf}
 use Rattle.serialize.specs.Form.{writing, written, output}
 use Rattle.serialize.specs.declared.Written.{Written}
 use Rattle.serialize.specs.declared.Written.the-variants.{Wrote, Refused as NotWritten}
-use Rattle.edit.specs.Edit.{Outcome}
-use Rattle.edit.specs.Lent.{Lent, answers, leaves}
-use Rattle.edit.specs.declared.Edited.{Edited}
-use Rattle.edit.specs.declared.Edited.the-variants.{Changed, Refused}
+use Rattle.decide.specs.Edit.{Outcome}
+use Rattle.decide.specs.Answer.{answers}
+use Rattle.decide.specs.declared.Edited.{Edited}
+use Rattle.decide.specs.declared.Edited.the-variants.{Changed, Refused}
+use Rattle.edit.specs.Lent.{Lent, leaves}
 use Rattle.sgf.specs.declared.SgfCounts.{SgfCounts}
 use Rattle.sgf.specs.declared.SgfEdit.{SgfEdit}
 use Rattle.sgf.specs.declared.SgfWriting.{SgfWriting}

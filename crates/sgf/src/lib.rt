@@ -1,7 +1,7 @@
 // The exported library: one C function an operation. Each only calls a proved operation and shows its answer as numbers; include/sgf.h says what a caller sees.
 use access::Accessed;
+use decide::Edited;
 use display::Kind;
-use edit::Edited;
 use go::value::GoValue;
 use points::Value;
 use record::Refusal;
@@ -18,7 +18,8 @@ ghost use Rattle.lexer.specs.Step.{nextAt};
 ghost use Rattle.utf8.specs.Trim.{trimmed};
 ghost use Rattle.parser.specs.Read.{read};
 ghost use Rattle.reader.specs.Lent.{lent};
-ghost use Rattle.edit.specs.Lent.{outcomeOf, lent as held};
+ghost use Rattle.decide.specs.Answer.{outcomeOf};
+ghost use Rattle.edit.specs.Lent.{lent as held};
 ghost use Rattle.fit.specs.Fit.{Fit};
 ghost use Rattle.access.specs.Access.{accessed};
 ghost use Rattle.go.specs.Rows.{valuesAt};

@@ -11,9 +11,6 @@ use Rattle.edit.proofs.edit.Tie as tie
 span-of-requires : tie.Need-span-of-requires
 span-of-requires c κs = let a = c .before .before .before .before .before .before .before .before .before .before .before .before .before .before .args in let x = given (now (a .text)) (a .used) (a .counts) (now (a .trees)) (now (a .nodes)) (now (a .properties)) (now (a .values)) (a .k) (now (a .new)) _ (sym (c .before .before .length .given .1) ∙ c .before .before .before .before .decided .ensures) in let h = fit-held (now (a .text)) (a .used) (a .counts) (now (a .trees)) (now (a .nodes)) (now (a .properties)) (now (a .values)) (x .fit) .1 .values in omega (arith, x .below)
 
-replace-requires : tie.Need-replace-requires
-replace-requires c κs = let a = c .before .before .before .before .before .before .before .before .before .before .before .before .before .before .before .before .args in let x = given (now (a .text)) (a .used) (a .counts) (now (a .trees)) (now (a .nodes)) (now (a .properties)) (now (a .values)) (a .k) (now (a .new)) _ (sym (c .before .before .before .before .length .given .1) ∙ c .before .before .before .before .before .before .decided .ensures) in let s = c .before .span-of .ensures in rw (s .0, s .1) (given-replaceable (now (a .text)) (a .used) (a .counts) (now (a .trees)) (now (a .nodes)) (now (a .properties)) (now (a .values)) (a .k) (now (a .new)) x)
-
 move-properties-requires : tie.Need-move-properties-requires
 move-properties-requires c κs = let a = c .before .before .before .before .before .before .before .before .before .before .before .before .before .before .before .before .before .before .before .before .args in let x = given (now (a .text)) (a .used) (a .counts) (now (a .trees)) (now (a .nodes)) (now (a .properties)) (now (a .values)) (a .k) (now (a .new)) _ (sym (c .before .before .before .before .before .before .before .before .length .given .1) ∙ c .before .before .before .before .before .before .before .before .before .before .decided .ensures) in let s = c .before .before .before .before .before .span-of .ensures in (fit-held (now (a .text)) (a .used) (a .counts) (now (a .trees)) (now (a .nodes)) (now (a .properties)) (now (a .values)) (x .fit) .1 .properties, given-names (now (a .text)) (a .used) (a .counts) (now (a .trees)) (now (a .nodes)) (now (a .properties)) (now (a .values)) (a .k) (now (a .new)) x, omega (arith, s .0, s .1, given-replaceable (now (a .text)) (a .used) (a .counts) (now (a .trees)) (now (a .nodes)) (now (a .properties)) (now (a .values)) (a .k) (now (a .new)) x .within .order), omega (arith, s .1, given-end (now (a .text)) (a .used) (a .counts) (now (a .trees)) (now (a .nodes)) (now (a .properties)) (now (a .values)) (a .k) (now (a .new)) x), given-new (now (a .text)) (a .used) (a .counts) (now (a .trees)) (now (a .nodes)) (now (a .properties)) (now (a .values)) (a .k) (now (a .new)) x)
 
@@ -34,7 +31,7 @@ edit-spec =
     (λ c. search needs)
     (λ c. search needs)
     span-of-requires
-    replace-requires
+    (λ c κs. search needs)
     move-properties-requires
     move-values-requires
     (λ c. search needs)

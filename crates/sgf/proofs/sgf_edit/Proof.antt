@@ -1,5 +1,5 @@
 -- `sgf::sgf_edit` meets its contract. Assumes nothing.
-use Rattle.edit.specs.Lent.{outcomeOf}
+use Rattle.decide.specs.Answer.{outcomeOf}
 use Rattle.tables.specs.declared.Counts.{Counts}
 use denote.Ref.{now}
 use mathlib.Core.Path.{ap}

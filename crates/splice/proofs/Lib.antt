@@ -1,0 +1,3 @@
+pub mod May
+pub mod Replaced
+pub mod Unique
