@@ -12,8 +12,8 @@ use Rattle.put.specs.Wrote.{Wrote}
 use Rattle.put.proofs.Written.{wrote-is}
 use Rattle.points.specs.Area.{letter}
 use Rattle.go.specs.Normal.{pointText, pointsFrom}
-use Rattle.go.specs.Rows.{valueAt, valuesAt}
-use Rattle.go.proofs.Valued.{values-all, values-next, values-end}
+use Rattle.rows.specs.Rows.{valueAt, valuesAt}
+use Rattle.rows.proofs.Valued.{values-all, values-next, values-end}
 use Rattle.form.specs.Boxes.{boxes}
 use Rattle.form.proofs.Writing.{writing-first, writing-is, writing-next, writing-last}
 

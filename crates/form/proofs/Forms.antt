@@ -11,10 +11,11 @@ use Rattle.values.specs.Decimal.{decimal}
 use Rattle.points.specs.Area.{letter}
 use Rattle.go.specs.Marks.{allGood, inSome, marksOf}
 use Rattle.go.specs.Normal.{pointsFrom, written, normal}
-use Rattle.go.specs.Value.{shapeOf, noMarks, unmarked, areasOf, pointsOf, valueBy, goValue}
+use Rattle.shape.specs.Shape.{shapeOf}
+use Rattle.go.specs.Value.{noMarks, unmarked, areasOf, pointsOf, valueBy, goValue}
 use Rattle.go.specs.declared.value.GoValue.{GoValue}
-use Rattle.go.specs.declared.value.Shape.{Shape}
-use Rattle.go.specs.declared.value.Shape.the-variants.{ManyPoints}
+use Rattle.shape.specs.declared.Shape.{Shape}
+use Rattle.shape.specs.declared.Shape.the-variants.{ManyPoints}
 use Rattle.points.specs.declared.Value.{Value}
 use Rattle.points.specs.declared.Value.the-variants.{Invalid, Pass, Move, Handicap, Points}
 use Rattle.points.proofs.Value as value

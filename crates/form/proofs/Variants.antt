@@ -12,8 +12,8 @@ use Rattle.points.specs.declared.Value.the-variants.{Other, Invalid, Pass, Move
 use Rattle.go.specs.Normal.{written}
 use Rattle.go.specs.Value.{unmarked, valueBy}
 use Rattle.go.specs.declared.value.GoValue.{GoValue}
-use Rattle.go.specs.declared.value.Shape.{Shape}
-use Rattle.go.specs.declared.value.Shape.the-variants.{OneMove, OneNumber, ManyPoints, Unread}
+use Rattle.shape.specs.declared.Shape.{Shape}
+use Rattle.shape.specs.declared.Shape.the-variants.{OneMove, OneNumber, ManyPoints, Unread}
 use Rattle.go.proofs.Shapes.{Moved, Numbered, moves, numbers, moves-moved, numbers-numbered}
 use Rattle.points.proofs.Value as value
 

@@ -3,7 +3,7 @@ use Prim.Native.Nat.{ℕ}
 use mathlib.Core.List.{List, [], _∷_, _++_}
 use Rattle.go.specs.Normal.{written}
 use Rattle.go.specs.Value.{valueBy}
-use Rattle.go.specs.declared.value.Shape.{Shape}
+use Rattle.shape.specs.declared.Shape.{Shape}
 
 -- values in their brackets
 unfoldable pub boxes : List (List ℕ) → List ℕ

@@ -8,13 +8,13 @@ ghost use Rattle.values.specs.Read.{readIdentifier};
 ghost use Rattle.put.specs.Wrote.{Wrote};
 ghost use Rattle.points.specs.Area.{letter};
 ghost use Rattle.go.specs.Normal.{pointText, pointsFrom, normal};
-ghost use Rattle.go.specs.Rows.{valuesAt};
-ghost use Rattle.go.specs.declared.value.Shape.the-variants.{ManyPoints};
+ghost use Rattle.rows.specs.Rows.{valuesAt};
+ghost use Rattle.shape.specs.declared.Shape.the-variants.{ManyPoints};
 ghost use Rattle.form.specs.Boxes.{formBy, boxes};
-use go::value::Shape;
 use points::Value;
 use put::put_byte;
 use put::put_bytes;
+use shape::Shape;
 
 // A value in its brackets.
 fn put_box(out: &mut [u8], at: usize, value: &[u8]) -> usize
@@ -39,7 +39,7 @@ fn put_raw(
     let mut to = at;
     let mut i: usize = 0;
     while i < count {
-        to = put_box(out, to, go::rows::value_at(text, values, first, i));
+        to = put_box(out, to, rows::value_at(text, values, first, i));
         i += 1;
     }
     to
@@ -153,7 +153,7 @@ pub fn put_values(
     if kind != 0 {
         return put_raw(out, at, text, values, first, count);
     }
-    let shape = go::value::shape_of(identifier);
+    let shape = shape::shape_of(identifier);
     if let Shape::ManyPoints = shape {
         return put_set(out, at, text, values, first, count);
     }

@@ -9,13 +9,14 @@ use denote.Enum.Declared.{tagOf}
 use Rattle.values.specs.Read.{readValue}
 use Rattle.values.specs.Decimal.{decimalOf}
 use Rattle.points.specs.Area.{moveOf}
-use Rattle.go.specs.Rows.{valueAt, valuesAt}
-use Rattle.go.specs.Value.{shapeOf, oneBy, unmarked, pointsOf, valueBy, goValue}
+use Rattle.rows.specs.Rows.{valueAt, valuesAt}
+use Rattle.shape.specs.Shape.{shapeOf}
+use Rattle.go.specs.Value.{oneBy, unmarked, pointsOf, valueBy, goValue}
 use Rattle.points.specs.Handicap.{handicapOf}
 use Rattle.go.specs.declared.value.GoValue.{GoValue}
-use Rattle.go.specs.declared.value.Shape.{Shape}
-use Rattle.go.specs.declared.value.Shape.the-variants.{OneMove, OneNumber, ManyPoints, Unread}
-use Rattle.go.proofs.value.Shape as shape
+use Rattle.shape.specs.declared.Shape.{Shape}
+use Rattle.shape.specs.declared.Shape.the-variants.{OneMove, OneNumber, ManyPoints, Unread}
+use Rattle.shape.proofs.Shape as shape
 use Rattle.points.specs.declared.Value.{Value}
 use Rattle.points.specs.declared.Value.the-variants.{Other, Invalid}
 

@@ -16,12 +16,13 @@ use Rattle.values.proofs.Safe.{Safe, decimal-safe}
 use Rattle.points.specs.Area.{areaOf}
 use Rattle.go.specs.Marks.{inRect, good, inArea, allGood, inSome, marksOf}
 use Rattle.go.specs.Normal.{pointsFrom, written, normal}
-use Rattle.go.specs.Value.{shapeOf, noMarks, areasOf, pointsOf, valueBy, goValue}
+use Rattle.shape.specs.Shape.{shapeOf}
+use Rattle.go.specs.Value.{noMarks, areasOf, pointsOf, valueBy, goValue}
 use Rattle.points.specs.declared.Area.{Area}
 use Rattle.points.specs.declared.Area.the-variants.{Bad, Rect}
 use Rattle.go.specs.declared.value.GoValue.{GoValue}
-use Rattle.go.specs.declared.value.Shape.{Shape}
-use Rattle.go.specs.declared.value.Shape.the-variants.{OneMove, OneNumber, ManyPoints, Unread}
+use Rattle.shape.specs.declared.Shape.{Shape}
+use Rattle.shape.specs.declared.Shape.the-variants.{OneMove, OneNumber, ManyPoints, Unread}
 use Rattle.points.specs.declared.Value.{Value}
 use Rattle.points.specs.declared.Value.the-variants.{Other, Invalid, Pass, Move, Handicap, Points}
 use Rattle.points.proofs.Letters.{point-safe}

@@ -1,11 +1,9 @@
 pub mod Adding
 pub mod Choosing
-pub mod Identifiers
 pub mod Keeps
 pub mod Listed
 pub mod Marked
 pub mod ReadBack
 pub mod Sets
 pub mod Shapes
-pub mod Valued
 pub mod Unique

@@ -12,11 +12,12 @@ use Rattle.values.proofs.RoundTrip.{decimal-back}
 use Rattle.points.specs.Area.{moveOf}
 use Rattle.go.specs.Marks.{allGood, inSome, marksOf}
 use Rattle.go.specs.Normal.{written, normal}
-use Rattle.go.specs.Value.{shapeOf, noMarks, unmarked, areasOf, pointsOf, valueBy, goValue}
+use Rattle.shape.specs.Shape.{shapeOf}
+use Rattle.go.specs.Value.{noMarks, unmarked, areasOf, pointsOf, valueBy, goValue}
 use Rattle.points.specs.Handicap.{handicapOf}
 use Rattle.go.specs.declared.value.GoValue.{GoValue}
-use Rattle.go.specs.declared.value.Shape.{Shape}
-use Rattle.go.specs.declared.value.Shape.the-variants.{OneMove, OneNumber, ManyPoints, Unread}
+use Rattle.shape.specs.declared.Shape.{Shape}
+use Rattle.shape.specs.declared.Shape.the-variants.{OneMove, OneNumber, ManyPoints, Unread}
 use Rattle.points.specs.declared.Value.{Value}
 use Rattle.points.specs.declared.Value.the-variants.{Other, Invalid, Pass, Move, Handicap, Points}
 use Rattle.points.proofs.Letters.{move-back}

@@ -1,6 +1,6 @@
 -- The Go value of a property by its read identifier, in Go trees.
 use Prim.Native.Nat.{ℕ, _-_, _^_}
-use mathlib.Core.Bool.{Bool, false, _&&_, _||_}
+use mathlib.Core.Bool.{Bool, false}
 use mathlib.Core.List.{List, [], _∷_, map}
 use lib.Dec.{eqb}
 use lib.ListN.{replicate}
@@ -9,22 +9,14 @@ use Rattle.values.specs.Read.{readValue}
 use Rattle.values.specs.Decimal.{decimalOf}
 use Rattle.points.specs.Area.{moveOf, areaOf}
 use Rattle.points.specs.Handicap.{handicapOf}
+use Rattle.shape.specs.Shape.{shapeOf}
 use Rattle.go.specs.Marks.{allGood, inSome, marksOf}
 use Rattle.points.specs.declared.Area.{Area}
-use Rattle.go.specs.declared.value.Shape.{Shape}
-use Rattle.go.specs.declared.value.Shape.the-variants.{OneMove, OneNumber, ManyPoints, Unread}
+use Rattle.shape.specs.declared.Shape.{Shape}
+use Rattle.shape.specs.declared.Shape.the-variants.{OneMove, OneNumber, ManyPoints, Unread}
 use Rattle.points.specs.declared.Value.{Value}
 use Rattle.points.specs.declared.Value.the-variants.{Other, Invalid, Points}
 use Rattle.go.specs.declared.value.GoValue.{GoValue}
-
--- B, W; HA; AB, AW, AE, TB, TW; any other
-unfoldable pub shapeOf : List ℕ → Shape
-shapeOf [] = Unread
-shapeOf (a ∷ []) = pick (eqb a 0x42 || eqb a 0x57) OneMove Unread
-shapeOf (a ∷ b ∷ []) =
-    pick (eqb a 0x48 && eqb b 0x41) OneNumber
-    (pick ((eqb a 0x41 && (eqb b 0x42 || (eqb b 0x57 || eqb b 0x45))) || (eqb a 0x54 && (eqb b 0x42 || eqb b 0x57))) ManyPoints Unread)
-shapeOf (a ∷ b ∷ c ∷ r) = Unread
 
 -- one value by f
 abbrev pub oneBy : (List ℕ → Value) → List (List ℕ) → Value

@@ -5,8 +5,8 @@ ghost use Prim.Native.Nat.{_+_, _*_, _≤_, _<_};
 ghost use lib.ListN.{length};
 ghost use Rattle.values.specs.Read.{readValue};
 ghost use Rattle.points.specs.Area.{areaOf};
+ghost use Rattle.rows.specs.Rows.{valuesAt};
 ghost use Rattle.go.specs.Marks.{Adds, inRect, good, inArea};
-ghost use Rattle.go.specs.Rows.{valuesAt};
 ghost use Rattle.go.specs.Value.{pointsOf};
 use crate::value::GoValue;
 use points::Area;
@@ -60,7 +60,7 @@ pub fn read_points(text: &[u8], vals: &[u32], first: usize, count: usize) -> GoV
     let mut marks = [false; 2704];
     let mut n: usize = 0;
     while n < count {
-        let value = crate::rows::value_at(text, vals, first, n);
+        let value = rows::value_at(text, vals, first, n);
         if !mark_value(&mut marks, value) {
             let none = [false; 2704];
             return GoValue {

@@ -9,7 +9,8 @@ use Rattle.scan.specs.Scan.{space}
 use Rattle.values.specs.Read.{readFrom, readIdentifier}
 use Rattle.values.specs.Decimal.{decimalOf, digitsFrom, digitOf}
 use Rattle.go.specs.Normal.{normal, written}
-use Rattle.go.specs.Value.{shapeOf, valueBy, goValue}
+use Rattle.shape.specs.Shape.{shapeOf}
+use Rattle.go.specs.Value.{valueBy, goValue}
 use Rattle.tables.specs.Numbers.{none, numberOf}
 use Rattle.tables.specs.Rows.{Tables, tables}
 use Rattle.tables.specs.Flat.{flatTrees, flatNodes, flatProps, flatVals}

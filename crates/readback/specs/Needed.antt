@@ -10,7 +10,8 @@ use Rattle.values.specs.Decimal.{decimalOf, digitsFrom, digitOf}
 use Rattle.points.specs.Area.{areaOf, cornered, letterOf, letter}
 use Rattle.go.specs.Marks.{marksOf, marksFrom, inRect}
 use Rattle.go.specs.Normal.{normal, written, pointsFrom}
-use Rattle.go.specs.Value.{shapeOf, valueBy, goValue, pointsOf}
+use Rattle.shape.specs.Shape.{shapeOf}
+use Rattle.go.specs.Value.{valueBy, goValue, pointsOf}
 use Rattle.tables.specs.Numbers.{numberOf}
 use Rattle.tables.specs.Record.{Tree}
 use Rattle.parser.specs.Examples.{bytes, strict}

@@ -7,7 +7,7 @@ use native.Mathlib.Omega.{arith}
 use lib.ListN.{take}
 use borrow.Author.Tests.{lt-ltb, le-ltb}
 use Rattle.values.specs.Read.{readIdentifier}
-use Rattle.go.specs.Rows.{valuesAt}
+use Rattle.rows.specs.Rows.{valuesAt}
 use Rattle.go.specs.Value.{goValue}
 use Rattle.go.specs.declared.value.GoValue.{GoValue}
 use Rattle.tables.specs.declared.Counts.{Counts}

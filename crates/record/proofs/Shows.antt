@@ -5,7 +5,7 @@ use mathlib.Core.Path.{_≡_, sym, ap, _∙_}
 use lib.ListN.{take, drop}
 use Rattle.values.specs.Read.{readIdentifier}
 use Rattle.display.specs.declared.Kind.{Kind}
-use Rattle.go.specs.Rows.{valuesAt}
+use Rattle.rows.specs.Rows.{valuesAt}
 use Rattle.go.specs.Value.{goValue}
 use Rattle.go.specs.declared.value.GoValue.{GoValue}
 use Rattle.fit.specs.Columns.{nameFromAt, nameToAt, firstValAt, valCountAt}

@@ -5,8 +5,8 @@ use mathlib.Core.Path.{_≡_}
 use native.Mathlib.Omega.{arith}
 use lib.ListN.{take, drop}
 use Rattle.tables.specs.declared.Counts.{Counts}
-use Rattle.go.specs.Rows.{valuesAt}
-use Rattle.go.proofs.Valued.{values-none, values-more}
+use Rattle.rows.specs.Rows.{valuesAt}
+use Rattle.rows.proofs.Valued.{values-none, values-more}
 use Rattle.fit.specs.Columns.{firstValAt, valCountAt}
 use Rattle.fit.specs.Record.{rawOf}
 use Rattle.fit.proofs.Clauses.{Clauses}

@@ -8,7 +8,7 @@ use tables::Counts;
 use tables::Reason;
 ghost use mathlib.Core.Path.{_≡_};
 ghost use Prim.Native.Nat.{_-_, _/_, _<_};
-ghost use Rattle.go.specs.Rows.{valuesAt};
+ghost use Rattle.rows.specs.Rows.{valuesAt};
 ghost use Rattle.go.specs.Value.{goValue};
 ghost use Rattle.values.specs.Read.{readIdentifier};
 ghost use Rattle.record.specs.Ask.{shownAs, shownIn, DisplayIs, refuses, goAnswer};

@@ -7,8 +7,8 @@ use lib.ListN.{length, take, drop}
 use Rattle.lexer.specs.Token.{Val, Prop}
 use Rattle.values.specs.Read.{readIdentifier}
 use Rattle.go.specs.Normal.{normal}
-use Rattle.go.specs.Rows.{valuesAt}
-use Rattle.go.proofs.Valued.{values-none, values-more}
+use Rattle.rows.specs.Rows.{valuesAt}
+use Rattle.rows.proofs.Valued.{values-none, values-more}
 use Rattle.fit.proofs.Parts.{map-tabulate, tabulate-part}
 use Rattle.fit.proofs.RecordRows.{valsIn, propsIn, raws-at}
 use Rattle.fit.specs.Columns.{firstPropAt, propCountAt, firstValAt, valCountAt}

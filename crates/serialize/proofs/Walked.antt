@@ -14,8 +14,8 @@ use Rattle.put.specs.Wrote.{Wrote}
 use Rattle.put.proofs.Written.{wrote-more}
 use Rattle.tables.specs.Numbers.{none}
 use Rattle.go.specs.Normal.{normal}
-use Rattle.go.specs.Rows.{valuesAt}
-use Rattle.go.proofs.Identifiers.{letter-past, letter-here}
+use Rattle.rows.specs.Rows.{valuesAt}
+use Rattle.shape.proofs.Identifiers.{letter-past, letter-here}
 use Rattle.fit.specs.Columns.{kindAt, parentAt, firstPropAt, propCountAt, nameFromAt, nameToAt, firstValAt, valCountAt}
 use Rattle.lists.proofs.Tests.{same-or}
 use Rattle.fit.proofs.Each.{each-at, each-all}

@@ -8,7 +8,7 @@ use lib.Seq.{slice}
 use Rattle.lists.specs.Pick.{pick}
 use Rattle.values.specs.Read.{readIdentifier}
 use Rattle.go.specs.Normal.{normal}
-use Rattle.go.specs.Rows.{valuesAt}
+use Rattle.rows.specs.Rows.{valuesAt}
 use Rattle.tables.specs.Numbers.{none}
 use Rattle.fit.specs.Each.{each}
 use Rattle.form.specs.Boxes.{boxes}

@@ -22,7 +22,7 @@ ghost use Rattle.decide.specs.Answer.{outcomeOf};
 ghost use Rattle.edit.specs.Lent.{lent as held};
 ghost use Rattle.fit.specs.Fit.{Fit};
 ghost use Rattle.access.specs.Access.{accessed};
-ghost use Rattle.go.specs.Rows.{valuesAt};
+ghost use Rattle.rows.specs.Rows.{valuesAt};
 ghost use Rattle.go.specs.Value.{goValue};
 ghost use Rattle.record.specs.Ask.{refusalNumber, goAnswer};
 ghost use Rattle.values.specs.Read.{readIdentifier};

@@ -4,7 +4,7 @@ use native.Mathlib.Omega.{arith}
 use borrow.Author.Needs.{needs}
 use Rattle.put.proofs.Written.{wrote-is}
 use Rattle.values.specs.Decimal.{decimal}
-use Rattle.go.specs.Rows.{valuesAt}
+use Rattle.rows.specs.Rows.{valuesAt}
 use Rattle.go.proofs.Choosing.{by-alone}
 use Rattle.form.specs.Boxes.{boxes}
 use Rattle.form.proofs.Boxed.{box-wrote}

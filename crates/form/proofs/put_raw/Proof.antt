@@ -3,7 +3,7 @@ use Prim.Native.Nat.{_+_, _-_}
 use native.Mathlib.Omega.{arith}
 use borrow.Author.Needs.{needs}
 use Rattle.put.proofs.Written.{wrote-length}
-use Rattle.go.specs.Rows.{valuesAt}
+use Rattle.rows.specs.Rows.{valuesAt}
 use Rattle.form.specs.Boxes.{boxes}
 use Rattle.form.proofs.Boxed.{raw-all, raw-next, raw-end}
 use Rattle.form.proofs.Writing.{Writing, writing-first, writing-is, writing-next, writing-end}

@@ -2,7 +2,7 @@
 use mathlib.Core.Path.{refl, ap}
 use borrow.Author.Needs.{needs}
 use Rattle.put.proofs.Written.{wrote-is}
-use Rattle.go.specs.Rows.{valuesAt}
+use Rattle.rows.specs.Rows.{valuesAt}
 use Rattle.form.specs.Boxes.{boxes}
 use Rattle.form.proofs.Forms.{set-raw, set-points}
 use Rattle.form.proofs.Variants.{not-points}

@@ -5,7 +5,7 @@ use Rattle.put.proofs.Written.{wrote-is}
 use Rattle.values.specs.Read.{readIdentifier}
 use Rattle.go.proofs.Choosing.{not-set}
 use Rattle.go.proofs.ReadBack.{normal-unknown}
-use Rattle.go.specs.Rows.{valuesAt}
+use Rattle.rows.specs.Rows.{valuesAt}
 use Rattle.form.specs.Boxes.{boxes}
 use Rattle.form.proofs.Forms.{normal-shaped}
 use Rattle.form.proofs.put_values.Statement.{statement}

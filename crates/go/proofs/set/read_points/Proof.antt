@@ -3,9 +3,9 @@ use Prim.Native.Nat.{_+_, _-_}
 use mathlib.Core.Path.{sym, _∙_}
 use borrow.Author.Needs.{needs}
 use borrow.Author.Tests.{not-true, not-false}
-use Rattle.go.specs.Rows.{valuesAt}
+use Rattle.rows.specs.Rows.{valuesAt}
 use Rattle.go.proofs.Marked.{Gathering, gather-first, gather-end, gather-bad, gather-next}
-use Rattle.go.proofs.Valued.{values-all, values-next, values-end}
+use Rattle.rows.proofs.Valued.{values-all, values-next, values-end}
 use Rattle.go.proofs.set.read_points.Statement.{statement}
 use Rattle.go.proofs.set.read_points.Tie as tie
 

@@ -4,7 +4,7 @@ use mathlib.Core.Path.{_≡_, refl, sym, _∙_}
 use lib.ListN.{length, drop}
 use borrow.Author.Needs.{needs}
 use Rattle.values.specs.Read.{readIdentifier}
-use Rattle.go.proofs.Identifiers.{letter-on}
+use Rattle.shape.proofs.Identifiers.{letter-on}
 use Rattle.serialize.proofs.Walked.{named-end, named-here}
 use Rattle.serialize.proofs.names.is_named.Statement.{statement}
 use Rattle.serialize.proofs.names.is_named.Tie as tie

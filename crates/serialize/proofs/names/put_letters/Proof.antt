@@ -5,7 +5,7 @@ use lib.ListN.{length, drop}
 use borrow.Author.Needs.{needs}
 use Rattle.put.proofs.Written.{wrote-length}
 use Rattle.values.specs.Read.{readIdentifier}
-use Rattle.go.proofs.Identifiers.{letter-past, letter-here, letter-on}
+use Rattle.shape.proofs.Identifiers.{letter-past, letter-here, letter-on}
 use Rattle.form.proofs.Writing.{Writing, writing-first, writing-is, writing-next, writing-end}
 use Rattle.serialize.proofs.names.put_letters.Statement.{statement}
 use Rattle.serialize.proofs.names.put_letters.Tie as tie

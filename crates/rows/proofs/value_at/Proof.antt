@@ -2,9 +2,9 @@
 use Prim.Native.Nat.{_+_}
 use native.Mathlib.Omega.{arith}
 use borrow.Author.Needs.{needs}
-use Rattle.go.proofs.Valued.{value-none, value-part}
-use Rattle.go.proofs.rows.value_at.Statement.{statement}
-use Rattle.go.proofs.rows.value_at.Tie as tie
+use Rattle.rows.proofs.Valued.{value-none, value-part}
+use Rattle.rows.proofs.value_at.Statement.{statement}
+use Rattle.rows.proofs.value_at.Tie as tie
 
 returns : tie.Need-returns
 returns c =

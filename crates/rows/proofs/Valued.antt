@@ -8,7 +8,7 @@ use lib.Dec.{leb}
 use lib.ListN.{length, getD, take, drop, length-drop}
 use lib.Seq.{take-all}
 use borrow.Author.Tests.{leb-true, leb-false, lt-ltb, le-ltb}
-use Rattle.go.specs.Rows.{cut, valueAt, valuesAt}
+use Rattle.rows.specs.Rows.{cut, valueAt, valuesAt}
 
 -- a span that ends beyond the text ends with it
 cut-within : (text : List ℕ) (from to : ℕ) → cut text from to ≡ cut text from (min to (length text))

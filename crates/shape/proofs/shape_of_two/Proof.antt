@@ -1,7 +1,7 @@
--- `value::shape_of_two` meets its contract. Assumes nothing.
-use Rattle.go.specs.Value.{shapeOf}
-use Rattle.go.proofs.value.shape_of_two.Statement.{statement}
-use Rattle.go.proofs.value.shape_of_two.Tie as tie
+-- `shape::shape_of_two` meets its contract. Assumes nothing.
+use Rattle.shape.specs.Shape.{shapeOf}
+use Rattle.shape.proofs.shape_of_two.Statement.{statement}
+use Rattle.shape.proofs.shape_of_two.Tie as tie
 
 returns : tie.Need-returns
 unfolding shapeOf

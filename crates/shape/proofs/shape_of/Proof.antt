@@ -1,11 +1,11 @@
--- `value::shape_of` meets its contract. Assumes nothing.
+-- `shape::shape_of` meets its contract. Assumes nothing.
 use mathlib.Core.Path.{sym, ap, _∙_, subst}
 use borrow.Author.Needs.{needs}
-use Rattle.go.specs.Identifier.{Letters}
-use Rattle.go.specs.Value.{shapeOf}
-use Rattle.go.proofs.Identifiers.{letter-cons}
-use Rattle.go.proofs.value.shape_of.Statement.{statement}
-use Rattle.go.proofs.value.shape_of.Tie as tie
+use Rattle.shape.specs.Identifier.{Letters}
+use Rattle.shape.specs.Shape.{shapeOf}
+use Rattle.shape.proofs.Identifiers.{letter-cons}
+use Rattle.shape.proofs.shape_of.Statement.{statement}
+use Rattle.shape.proofs.shape_of.Tie as tie
 
 returns : tie.Need-returns
 unfolding shapeOf

@@ -1,7 +1,7 @@
 // Raw values by their rows: two numbers a value, its start and its end in the text.
 ghost use mathlib.Core.Path.{_≡_};
 ghost use Prim.Native.Nat.{_+_, min};
-ghost use Rattle.go.specs.Rows.{valueAt};
+ghost use Rattle.rows.specs.Rows.{valueAt};
 
 // The lesser of two numbers.
 fn least(x: usize, y: usize) -> usize

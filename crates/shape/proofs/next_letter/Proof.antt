@@ -1,12 +1,12 @@
--- `value::next_letter` meets its contract. Assumes nothing.
+-- `shape::next_letter` meets its contract. Assumes nothing.
 use Prim.Native.Nat.{_-_}
 use mathlib.Core.Path.{_≡_, refl, _∙_}
 use borrow.Author.Needs.{needs}
 use lib.ListN.{length, drop}
 use Rattle.values.specs.Read.{readIdentifier}
-use Rattle.go.proofs.Identifiers.{letter-past, letter-here, letter-on}
-use Rattle.go.proofs.value.next_letter.Statement.{statement}
-use Rattle.go.proofs.value.next_letter.Tie as tie
+use Rattle.shape.proofs.Identifiers.{letter-past, letter-here, letter-on}
+use Rattle.shape.proofs.next_letter.Statement.{statement}
+use Rattle.shape.proofs.next_letter.Tie as tie
 
 abbrev Inv-loop : tie.InvT-loop
 Inv-loop s from at₀ at = readIdentifier (drop from s) ≡ readIdentifier (drop at s)

@@ -1,0 +1,13 @@
+-- No second answer: two answers of `shape_of` that meet its contract are equal. Assumes nothing.
+use mathlib.Core.Path.{_≡_}
+use mathlib.Core.List.{List}
+use Prim.Native.Nat.{ℕ}
+use Rattle.lists.specs.Once.{Once}
+use Rattle.lists.proofs.Once.{once-is}
+use Rattle.values.specs.Read.{readIdentifier}
+use Rattle.shape.specs.Shape.{shapeOf}
+use Rattle.shape.specs.declared.Shape.{Shape}
+
+module _ (s : List ℕ) where
+  pub shape-of-once : Once (λ (r : Shape). r ≡ shapeOf (readIdentifier s))
+  shape-of-once = once-is (shapeOf (readIdentifier s))

@@ -1,0 +1,17 @@
+-- What a property takes, by its read identifier.
+use Prim.Native.Nat.{ℕ}
+use mathlib.Core.Bool.{_&&_, _||_}
+use mathlib.Core.List.{List, [], _∷_}
+use lib.Dec.{eqb}
+use Rattle.lists.specs.Pick.{pick}
+use Rattle.shape.specs.declared.Shape.{Shape}
+use Rattle.shape.specs.declared.Shape.the-variants.{OneMove, OneNumber, ManyPoints, Unread}
+
+-- B, W; HA; AB, AW, AE, TB, TW; any other
+unfoldable pub shapeOf : List ℕ → Shape
+shapeOf [] = Unread
+shapeOf (a ∷ []) = pick (eqb a 0x42 || eqb a 0x57) OneMove Unread
+shapeOf (a ∷ b ∷ []) =
+    pick (eqb a 0x48 && eqb b 0x41) OneNumber
+    (pick ((eqb a 0x41 && (eqb b 0x42 || (eqb b 0x57 || eqb b 0x45))) || (eqb a 0x54 && (eqb b 0x42 || eqb b 0x57))) ManyPoints Unread)
+shapeOf (a ∷ b ∷ c ∷ r) = Unread
