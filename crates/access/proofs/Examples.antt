@@ -3,7 +3,7 @@ use Prim.Native.Nat.{ℕ}
 use mathlib.Core.List.{[], _∷_, map}
 use mathlib.Core.Path.{_≡_, refl}
 use lib.ListN.{set}
-use Rattle.utf8.specs.Text.{white}
+use Rattle.chars.specs.White.{white}
 use Rattle.utf8.specs.Trim.{trimmed}
 use Rattle.access.specs.Access.{accessed, accessNumber, rawValue}
 use Rattle.fit.specs.Each.{each, sum, tabulate}

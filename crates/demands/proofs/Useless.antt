@@ -5,7 +5,7 @@ use mathlib.Core.Path.{_≡_, refl, ap, _∙_}
 use native.Mathlib.Omega.{arith}
 use lib.ListN.{getD}
 use Rattle.lists.proofs.Tests.{never}
-use Rattle.utf8.specs.Text.{white}
+use Rattle.chars.specs.White.{white}
 use Rattle.utf8.specs.Trim.{trimmed}
 use Rattle.scan.specs.Scan.{space}
 use Rattle.tables.specs.Numbers.{none}

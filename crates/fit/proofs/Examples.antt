@@ -4,7 +4,7 @@ use mathlib.Core.Bool.{Bool, true, false, _||_}
 use mathlib.Core.List.{List, [], _∷_}
 use mathlib.Core.Path.{_≡_, refl}
 use lib.ListN.{set}
-use Rattle.utf8.specs.Text.{white}
+use Rattle.chars.specs.White.{white}
 use Rattle.utf8.specs.Trim.{trimmed}
 use Rattle.tables.specs.Numbers.{none}
 use Rattle.tables.specs.declared.Counts.{Counts}

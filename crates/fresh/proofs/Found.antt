@@ -19,7 +19,6 @@ use Rattle.parser.specs.Read.{accepted, parsed}
 use Rattle.tables.specs.Record.{Tree, allNodes, allProps}
 use Rattle.tables.specs.Rows.{next}
 use Rattle.utf8.proofs.Steps.{place, place-is}
-use Rattle.utf8.specs.Table.{to}
 
 -- ---- lists
 

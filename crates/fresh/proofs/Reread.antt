@@ -33,7 +33,6 @@ use Rattle.tables.specs.Numbers.{textLimit}
 use Rattle.tables.specs.Record.{Tree, allNodes, allProps}
 use Rattle.tables.specs.declared.Reason.the-variants.{TextTooLong}
 use Rattle.utf8.proofs.Steps.{place, place-is}
-use Rattle.utf8.specs.Table.{fits, to}
 use Rattle.utf8.specs.Text.{Ink, Utf, blank, inked, utfs, whole}
 
 -- ---- the new text

@@ -16,7 +16,6 @@ use Rattle.tables.specs.Numbers.{depthLimit, none}
 use Rattle.tables.specs.Record.{Node, Tree, allNodes, allProps}
 use Rattle.tables.specs.declared.Reason.{Reason}
 use Rattle.tables.specs.declared.Reason.the-variants.{TooDeep, UnexpectedGameTreeEnd, UnexpectedGameTreeStart, UnexpectedProperty}
-use Rattle.utf8.specs.Table.{base, to}
 use Rattle.utf8.specs.Text.{holds}
 
 -- ---- slices

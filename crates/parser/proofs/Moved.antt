@@ -23,7 +23,6 @@ use Rattle.tables.specs.Numbers.{none}
 use Rattle.tables.specs.Record.{Node, Tree}
 use Rattle.tables.specs.declared.Reason.{Reason}
 use Rattle.tables.specs.declared.Reason.the-variants.{UnexpectedGameTreeEnd, UnexpectedGameTreeStart, UnexpectedProperty}
-use Rattle.utf8.specs.Table.{base}
 
 module _ (f g : ℕ → ℕ) (h : ℕ → List ℕ → List ℕ) where
   abbrev F : Tok → Tok

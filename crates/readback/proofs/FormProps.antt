@@ -22,7 +22,8 @@ use Rattle.readback.proofs.WrittenProps.{Plain}
 use Rattle.readback.specs.Back.{Z, K, zProp}
 use Rattle.serialize.specs.Form.{placeless, formProp}
 use Rattle.fit.specs.Record.{rawOf}
-use Rattle.utf8.specs.Text.{Ink, blank, mark, utfs, white, whole}
+use Rattle.chars.specs.White.{white}
+use Rattle.utf8.specs.Text.{Ink, blank, mark, utfs, whole}
 use Rattle.values.proofs.Safe.{Safe}
 use Rattle.values.specs.Read.{readIdentifier}
 

@@ -12,7 +12,7 @@ use Rattle.lists.proofs.Tests.{and-both}
 use Rattle.lists.specs.All.{All}
 use Rattle.lists.specs.Pick.{pick}
 use Rattle.parser.specs.Walk.{uppers}
-use Rattle.utf8.proofs.Tests.{within-true}
+use Rattle.chars.proofs.Tests.{within-true}
 use Rattle.readback.proofs.WrittenProps.{Plain, letters-same}
 use Rattle.readback.proofs.Written.{PlainNode, PlainTree}
 use Rattle.serialize.specs.Write.{Open, boxed, bracketed, ends, left, opened, shuts, writeNodes, writeProps, writeTrees}
@@ -21,7 +21,8 @@ use Rattle.tables.specs.Record.{Node, Tree}
 use Rattle.tables.specs.Rows.{parents}
 use Rattle.utf8.proofs.Like.{like-utfs, like-whole}
 use Rattle.utf8.proofs.Steps.{place, place-is, utfs-append}
-use Rattle.utf8.specs.Text.{Ink, Utf, blank, inked, mark, utf, utfs, white, whole, within}
+use Rattle.chars.specs.White.{white, within}
+use Rattle.utf8.specs.Text.{Ink, Utf, blank, inked, mark, utf, utfs, whole}
 use Rattle.values.specs.Read.{readIdentifier}
 
 -- ---- the writing is valid, and trimming takes nothing away

@@ -7,7 +7,7 @@ use mathlib.Core.List.{List, [], _∷_, _++_, map, append-assoc, append-nil, map
 use lib.Dec.{leb, eqb}
 use lib.ListN.{length}
 use borrow.Author.Tests.{lt-leb, ne-eqb}
-use Rattle.utf8.proofs.Tests.{within-true}
+use Rattle.chars.proofs.Tests.{within-true}
 use Rattle.tokens.proofs.Machine.{emits-append, ends-append, grown, over-value}
 use Rattle.lexer.specs.Closed.{closedFrom}
 use Rattle.lexer.specs.Move.{moveVal}
@@ -18,7 +18,7 @@ use Rattle.lists.specs.All.{All}
 use Rattle.parser.specs.Walk.{uppers}
 use Rattle.serialize.specs.Write.{boxed}
 use Rattle.utf8.proofs.Steps.{place}
-use Rattle.utf8.specs.Text.{within}
+use Rattle.chars.specs.White.{within}
 use Rattle.values.specs.Read.{readIdentifier}
 use Rattle.serialize.specs.Write as Write
 use Rattle.readback.specs.Back.{some, Z, K, zProp, zTok}

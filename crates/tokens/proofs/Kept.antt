@@ -4,7 +4,8 @@ use Prim.Native.Nat.{ℕ, suc, _+_, _≤_}
 use native.Mathlib.Omega.{arith}
 use mathlib.Core.List.{List, _∷_, _++_}
 use lib.ListN.{length}
-use Rattle.utf8.specs.Text.{white, Ink, blank, inked, Utf, whole, utf, utfs}
+use Rattle.chars.specs.White.{white}
+use Rattle.utf8.specs.Text.{Ink, blank, inked, Utf, whole, utf, utfs}
 use Rattle.utf8.proofs.Steps.{place, place-is, utfs-append}
 use Rattle.utf8.proofs.Like.{like-utf, like-utfs, like-ink, like-whole}
 use Rattle.utf8.proofs.Moved.{moveUtf, move-utfs}

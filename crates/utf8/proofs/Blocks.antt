@@ -5,11 +5,12 @@ use native.Mathlib.Omega.{arith}
 use mathlib.Core.Bool.{Bool, true, false}
 use mathlib.Core.List.{List}
 use lib.ListN.{length, drop, getD}
-use Rattle.utf8.specs.Text.{white, Ink, inked, mark, whole, utfs}
+use Rattle.chars.specs.White.{white}
+use Rattle.utf8.specs.Text.{Ink, inked, mark, whole, utfs}
 use Rattle.utf8.specs.Locals.{Plain}
 use Rattle.utf8.proofs.Decoding.{decoded-taken}
-use Rattle.utf8.proofs.White.{ascii-dark}
-use Rattle.utf8.proofs.Wide.{decoded-1}
+use Rattle.chars.proofs.White.{ascii-dark}
+use Rattle.chars.proofs.Wide.{decoded-1}
 
 mark-inked : (x : Bool) (f l s e : ℕ) → (l′ : ℕ) × (mark x (inked f l) s e ≡ inked f l′)
 mark-inked true f l s e = (l, refl)

@@ -10,14 +10,15 @@ use lib.Dec.{leb, eqb}
 use borrow.Author.Tests.{leb-true, eqb-true, eqb-false}
 use Rattle.lists.specs.All.{All}
 use Rattle.utf8.specs.declared.Trimmed.the-variants.{NotUtf8}
-use Rattle.utf8.specs.Text.{within, Ink, Range, any, from-a0, to-9f, from-90, to-8f, holds, whole, part, first, later, utfs}
+use Rattle.chars.specs.White.{within}
+use Rattle.utf8.specs.Text.{Ink, Range, any, from-a0, to-9f, from-90, to-8f, holds, whole, part, first, later, utfs}
 use Rattle.utf8.specs.Trim.{shown}
-use Rattle.utf8.specs.Table.{to, table, fits, listed}
+use Rattle.chars.specs.Table.{to, table, fits, listed}
 use Rattle.utf8.proofs.Ranges.{bytes, holds-is, after}
-use Rattle.utf8.proofs.Rows.{unlisted-all, rows-short}
+use Rattle.chars.proofs.Rows.{unlisted-all, rows-short}
 use Rattle.utf8.proofs.Steps.{utfs-bad}
 use Rattle.lists.proofs.Tests.{and-second}
-use Rattle.utf8.proofs.Tests.{within-true, in-within}
+use Rattle.chars.proofs.Tests.{within-true, in-within}
 
 -- a character that is cut off, or goes on with another byte
 rest-cut : (n : ℕ) (r : Range) (cs : List ℕ) → fits (after r n) cs ≡ false → (k : Ink) (s code o : ℕ) → shown (utfs (part k s n r code) o cs) ≡ NotUtf8 s

@@ -10,12 +10,13 @@ use Rattle.lists.specs.Pick.{pick}
 use Rattle.lists.proofs.Places.{drop-next}
 use Rattle.lists.proofs.Tests.{never}
 use Rattle.utf8.specs.declared.Trimmed.the-variants.{NotUtf8}
-use Rattle.utf8.specs.declared.Decoded.the-variants.{Character, Bad}
-use Rattle.utf8.specs.Text.{white, Ink, mark, whole, utfs}
+use Rattle.chars.specs.declared.Decoded.the-variants.{Character, Bad}
+use Rattle.chars.specs.White.{white}
+use Rattle.utf8.specs.Text.{Ink, mark, whole, utfs}
 use Rattle.utf8.specs.Trim.{shown}
-use Rattle.utf8.specs.Table.{table, listed, scalar}
-use Rattle.utf8.specs.Decode.{ofWidth, decoded}
-use Rattle.utf8.proofs.Rows.{listed-long}
+use Rattle.chars.specs.Table.{table, listed, scalar}
+use Rattle.chars.specs.Decode.{ofWidth, decoded}
+use Rattle.chars.proofs.Rows.{listed-long}
 use Rattle.utf8.proofs.Cut.{unlisted-bad}
 use Rattle.utf8.proofs.Taken.{listed-taken}
 

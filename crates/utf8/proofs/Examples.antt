@@ -4,7 +4,7 @@ use Prim.Native.Nat.{ℕ}
 use mathlib.Core.List.{List, [], _∷_, map}
 use Rattle.utf8.specs.declared.Trimmed.{Trimmed}
 use Rattle.utf8.specs.declared.Trimmed.the-variants.{NotUtf8, Blank, Kept}
-use Rattle.utf8.specs.Text.{white}
+use Rattle.chars.specs.White.{white}
 use Rattle.utf8.specs.Trim.{trimmed}
 
 -- a text and its answer

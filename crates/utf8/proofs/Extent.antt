@@ -7,7 +7,8 @@ use mathlib.Core.List.{List, [], _∷_}
 use lib.ListN.{length}
 use Rattle.utf8.specs.declared.Trimmed.{Trimmed}
 use Rattle.utf8.specs.declared.Trimmed.the-variants.{NotUtf8, Blank, Kept}
-use Rattle.utf8.specs.Text.{white, Ink, blank, inked, mark, holds, Utf, whole, part, bad, later, utf, utfs}
+use Rattle.chars.specs.White.{white}
+use Rattle.utf8.specs.Text.{Ink, blank, inked, mark, holds, Utf, whole, part, bad, later, utf, utfs}
 use Rattle.utf8.specs.Trim.{shown, trimmed}
 use Rattle.utf8.proofs.Steps.{place, place-is, utf-both}
 

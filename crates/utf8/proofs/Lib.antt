@@ -6,16 +6,10 @@ pub mod Examples
 pub mod Extent
 pub mod Like
 pub mod Moved
-pub mod Padded
 pub mod Ranges
-pub mod Rows
 pub mod Solid
 pub mod Steps
 pub mod Taken
-pub mod Tests
 pub mod Turns
 pub mod Unique
 pub mod WellFormed
-pub mod White
-pub mod Wide
-pub mod Widths

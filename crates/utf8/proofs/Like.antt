@@ -3,7 +3,8 @@ use mathlib.Core.Path.{_≡_, refl, ap}
 use Prim.Native.Nat.{ℕ, zero, suc, _+_, _-_, _*_}
 use mathlib.Core.Bool.{Bool, true, false}
 use mathlib.Core.List.{List, [], _∷_}
-use Rattle.utf8.specs.Text.{white, Ink, blank, inked, mark, holds, Utf, whole, part, bad, later, utf, utfs}
+use Rattle.chars.specs.White.{white}
+use Rattle.utf8.specs.Text.{Ink, blank, inked, mark, holds, Utf, whole, part, bad, later, utf, utfs}
 use Rattle.utf8.proofs.Steps.{utf-both}
 
 -- u and u′ are at the same place of a character, and u′ has ink from a

@@ -3,8 +3,9 @@ use mathlib.Core.Path.{_≡_, refl}
 use Prim.Native.Nat.{ℕ}
 use mathlib.Core.List.{List, _∷_}
 use lib.ListN.{replicate}
-use Rattle.utf8.specs.Text.{within, Range, any, from-a0, to-9f, from-90, to-8f, holds}
-use Rattle.utf8.specs.Table.{Bytes, to}
+use Rattle.chars.specs.White.{within}
+use Rattle.utf8.specs.Text.{Range, any, from-a0, to-9f, from-90, to-8f, holds}
+use Rattle.chars.specs.Table.{Bytes, to}
 
 -- the bytes of a range
 abbrev pub bytes : Range → Bytes

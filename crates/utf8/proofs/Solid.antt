@@ -4,7 +4,8 @@ use Prim.Native.Nat.{ℕ, suc}
 use mathlib.Core.Bool.{true, false}
 use mathlib.Core.List.{List}
 use lib.Dec.{leb}
-use Rattle.utf8.specs.Text.{white, Ink, blank, inked, Range, any, from-a0, to-9f, from-90, to-8f, holds, Utf, whole, part, bad, utf, utfs}
+use Rattle.chars.specs.White.{white}
+use Rattle.utf8.specs.Text.{Ink, blank, inked, Range, any, from-a0, to-9f, from-90, to-8f, holds, Utf, whole, part, bad, utf, utfs}
 use Rattle.utf8.proofs.Steps.{utfs-bad, bad-whole}
 
 -- after it: bad, or ink up to here

@@ -7,7 +7,8 @@ use mathlib.Core.List.{List, [], _∷_, _++_}
 use lib.Dec.{leb, eqb}
 use lib.ListN.{length}
 use Rattle.lists.proofs.Tests.{never}
-use Rattle.utf8.specs.Text.{within, white, Ink, mark, Range, Utf, whole, part, bad, first, utf, utfs}
+use Rattle.chars.specs.White.{within, white}
+use Rattle.utf8.specs.Text.{Ink, mark, Range, Utf, whole, part, bad, first, utf, utfs}
 
 -- the place after the bytes
 abbrev pub place : ℕ → List ℕ → ℕ

@@ -8,11 +8,12 @@ use mathlib.Core.List.{List, [], _∷_}
 use lib.ListN.{length, take, drop, length-replicate}
 use lib.Seq.{length-take-le}
 use borrow.Author.Tests.{lt-leb, le-leb, ne-eqb}
-use Rattle.utf8.specs.Text.{white, Ink, mark, Range, any, from-a0, to-9f, from-90, to-8f, Utf, whole, part, later, utf, utfs}
-use Rattle.utf8.specs.Table.{to, table, fits, listed, base, bits, scalar}
+use Rattle.chars.specs.White.{white}
+use Rattle.utf8.specs.Text.{Ink, mark, Range, any, from-a0, to-9f, from-90, to-8f, Utf, whole, part, later, utf, utfs}
+use Rattle.chars.specs.Table.{to, table, fits, listed, base, bits, scalar}
 use Rattle.utf8.proofs.Ranges.{bytes, holds-is, after}
-use Rattle.utf8.proofs.Rows.{listed-elim, fits-both, fits-long}
-use Rattle.utf8.proofs.Tests.{within-true, in-within, above-within}
+use Rattle.chars.proofs.Rows.{listed-elim, fits-both, fits-long}
+use Rattle.chars.proofs.Tests.{within-true, in-within, above-within}
 
 -- the machine takes the first n bytes as one character
 abbrev pub Taken : ℕ → List ℕ → Type 0

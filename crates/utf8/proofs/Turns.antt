@@ -7,15 +7,16 @@ use mathlib.Core.List.{List}
 use lib.ListN.{length, drop, getD, drop-of-length-le}
 use borrow.Author.Tests.{eq-eqb, ne-eqb}
 use Rattle.utf8.specs.declared.Trimmed.the-variants.{NotUtf8, Blank, Kept}
-use Rattle.utf8.specs.declared.Decoded.the-variants.{Character, Bad}
+use Rattle.chars.specs.declared.Decoded.the-variants.{Character, Bad}
 use Rattle.utf8.specs.declared.Seen.{Seen}
-use Rattle.utf8.specs.Text.{white, Ink, blank, inked, mark, whole, utfs}
+use Rattle.chars.specs.White.{white}
+use Rattle.utf8.specs.Text.{Ink, blank, inked, mark, whole, utfs}
 use Rattle.utf8.specs.Trim.{shown, trimmed}
-use Rattle.utf8.specs.Decode.{decoded}
+use Rattle.chars.specs.Decode.{decoded}
 use Rattle.utf8.specs.Locals.{inkOf, Plain}
 use Rattle.utf8.proofs.Blocks.{plain-taken}
 use Rattle.utf8.proofs.Decoding.{decoded-taken, decoded-bad}
-use Rattle.utf8.proofs.Wide.{decoded-1}
+use Rattle.chars.proofs.Wide.{decoded-1}
 
 pub ink-none : (k : Seen) → k .last ≡ 0 → inkOf k ≡ blank
 ink-none k e = rw (eq-eqb (k .last) 0 e)

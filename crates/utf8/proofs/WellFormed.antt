@@ -9,14 +9,15 @@ use lib.ListN.{length, take, drop, getD, length-drop, take-append-drop}
 use lib.Seq.{drop-drop, length-take-le}
 use Rattle.lists.proofs.Places.{drop-next}
 use Rattle.utf8.specs.declared.Trimmed.the-variants.{NotUtf8}
-use Rattle.utf8.specs.declared.Decoded.{Decoded}
-use Rattle.utf8.specs.declared.Decoded.the-variants.{Character, Bad}
-use Rattle.utf8.specs.Text.{white, Ink, blank, inked, mark, Utf, whole, utfs}
+use Rattle.chars.specs.declared.Decoded.{Decoded}
+use Rattle.chars.specs.declared.Decoded.the-variants.{Character, Bad}
+use Rattle.chars.specs.White.{white}
+use Rattle.utf8.specs.Text.{Ink, blank, inked, mark, Utf, whole, utfs}
 use Rattle.utf8.specs.Trim.{shown, trimmed}
-use Rattle.utf8.specs.Table.{listed, scalar, WellFormed, empty, begins, BadFrom}
-use Rattle.utf8.specs.Decode.{decoded}
+use Rattle.chars.specs.Table.{listed, scalar, WellFormed, empty, begins, BadFrom}
+use Rattle.chars.specs.Decode.{decoded}
 use Rattle.lists.proofs.Places.{drop-take}
-use Rattle.utf8.proofs.Rows.{listed-long, listed-short, listed-take}
+use Rattle.chars.proofs.Rows.{listed-long, listed-short, listed-take}
 use Rattle.utf8.proofs.Steps.{place, place-is, utfs-append}
 use Rattle.utf8.proofs.Cut.{unlisted-bad}
 use Rattle.utf8.proofs.Taken.{listed-taken}

@@ -1,20 +1,9 @@
--- Bytes, UTF-8 and trimming: one machine, one step for each byte. Table.antt says the same of UTF-8 without a machine.
+-- Bytes, UTF-8 and trimming: one machine, one step for each byte. `chars/specs/Table` says the same of UTF-8 without a machine.
 use Prim.Native.Nat.{ℕ, zero, suc, _+_, _*_, _-_}
-use mathlib.Core.Bool.{Bool, true, false, _||_, _&&_}
+use mathlib.Core.Bool.{Bool, true, false}
 use mathlib.Core.List.{List, [], _∷_}
 use lib.Dec.{leb, eqb}
-
--- a number in lo..hi
-abbrev pub within : ℕ → ℕ → ℕ → Bool
-within lo hi n = leb lo n && leb n hi
-
--- Unicode White_Space: U+0009 to 000D, 0020, 0085, 00A0, 1680, 2000 to 200A, 2028, 2029, 202F, 205F, 3000
-unfoldable pub white : ℕ → Bool
-white c =
-    within 0x9 0xd c || eqb c 0x20 || eqb c 0x85 || eqb c 0xa0 || eqb c 0x1680 || within 0x2000 0x200a c || within 0x2028 0x2029 c
-    || eqb c 0x202f
-    || eqb c 0x205f
-    || eqb c 0x3000
+use Rattle.chars.specs.White.{within, white}
 
 -- what is kept of the text so far: nothing but white space, or from the first other character to the end of the last one
 pub data Ink : Type 0 where

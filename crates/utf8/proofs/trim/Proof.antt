@@ -51,13 +51,13 @@ loop-again-2 c =
 returns : tie.Need-returns Inv-loop μ-loop
 returns c =
     let l = c .before .before .before .before .before .before .before .before in
-    stop-bad (now (l .before .before .args .text)) (l .loop .seen) (l .loop .i) (l .loop .inv) (c .before .before .before .before .before .before .before .loop-test .taken) (sym (c .before .before .wide-at .ensures) ∙ c .enum-told .given .1)
+    stop-bad (now (l .before .before .args .text)) (l .loop .seen) (l .loop .i) (l .loop .inv) (c .before .before .before .before .before .before .before .loop-test .taken) (sym (c .before .before .char-at .ensures) ∙ c .enum-told .given .1)
 
 lies : (c : tie.After-known-told Inv-loop μ-loop) → (0 < c .before .width .given .0 .0) × (c .before .before .before .before .before .before .before .before .before .loop .i + c .before .width .given .0 .0 ≤ length (now (c .before .before .before .before .before .before .before .before .before .before .before .args .text)))
 lies c =
     let l = c .before .before .before .before .before .before .before .before .before in
     let w = c .before .width .given in
-    decoded-within (now (l .before .before .args .text)) (l .loop .i) (w .0 .0) (w .0 .1 .0) (sym (c .before .before .before .wide-at .ensures) ∙ w .1)
+    decoded-within (now (l .before .before .args .text)) (l .loop .i) (w .0 .0) (w .0 .1 .0) (sym (c .before .before .before .char-at .ensures) ∙ w .1)
 
 add-marked-2 : tie.Need-add-marked-2 Inv-loop μ-loop
 add-marked-2 c = let d = lies c in omega arith
@@ -76,7 +76,7 @@ loop-again-3 c =
     let l = c .before .before .before .before .before .before .before .before .before .before in
     let w = c .before .before .width .given in
     turn (now (l .before .before .args .text)) (l .loop .seen) (l .loop .i) (l .loop .inv) (w .0 .0) (w .0 .1 .0) (c .marked2 .result)
-    (sym (c .before .before .before .before .wide-at .ensures) ∙ w .1) (c .marked2 .ensures)
+    (sym (c .before .before .before .before .char-at .ensures) ∙ w .1) (c .marked2 .ensures)
 
 -- ---- the end
 

@@ -9,10 +9,10 @@ use mathlib.Core.List.{List, [], _∷_}
 use lib.ListN.{length, take, drop, getD, drop-of-length-le, List·getD-eq-default}
 use lib.Seq.{drop-cons}
 use borrow.Author.Tests.{not-true}
-use Rattle.utf8.specs.Text.{within}
-use Rattle.utf8.specs.Table.{Bytes, table, fits, listed}
+use Rattle.chars.specs.White.{within}
+use Rattle.chars.specs.Table.{Bytes, table, fits, listed}
 use Rattle.lists.proofs.All.{all-every}
-use Rattle.utf8.proofs.Rows.{listed-same}
+use Rattle.chars.proofs.Rows.{listed-same}
 use Rattle.lists.proofs.Tests.{and-both}
 
 -- the n bytes from i on

@@ -5,7 +5,7 @@ use mathlib.Core.Bool.{Bool, true, false, _&&_}
 use lib.Dec.{leb}
 use borrow.Author.Tests.{leb-true, le-leb, lt-leb}
 use Rattle.lists.proofs.Tests.{and-both}
-use Rattle.utf8.specs.Text.{within}
+use Rattle.chars.specs.White.{within}
 
 pub within-true : (lo hi b : ℕ) → within lo hi b ≡ true → (lo ≤ b) × (b ≤ hi)
 within-true lo hi b h = let p = and-both (leb lo b) (leb b hi) h in (leb-true lo b (p .0), leb-true b hi (p .1))

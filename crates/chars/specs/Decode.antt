@@ -3,10 +3,10 @@ use Prim.Native.Nat.{ℕ}
 use mathlib.Core.List.{List}
 use lib.ListN.{take}
 use Rattle.lists.specs.Pick.{pick}
-use Rattle.utf8.specs.declared.Decoded.{Decoded}
-use Rattle.utf8.specs.declared.Decoded.the-variants.{Character, Bad}
-use Rattle.utf8.specs.Text.{white}
-use Rattle.utf8.specs.Table.{listed, scalar}
+use Rattle.chars.specs.declared.Decoded.{Decoded}
+use Rattle.chars.specs.declared.Decoded.the-variants.{Character, Bad}
+use Rattle.chars.specs.White.{white}
+use Rattle.chars.specs.Table.{listed, scalar}
 
 -- the character of the first n bytes
 abbrev pub ofWidth : ℕ → List ℕ → Decoded

@@ -9,8 +9,8 @@ use lib.ListN.{length, take}
 use borrow.Author.Tests.{leb-true, eqb-true, eq-eqb}
 use Rattle.lists.specs.All.{All}
 use Rattle.lists.proofs.All.{all-map}
-use Rattle.utf8.specs.Text.{within}
-use Rattle.utf8.specs.Table.{Bytes, table, fits, listedIn, listed}
+use Rattle.chars.specs.White.{within}
+use Rattle.chars.specs.Table.{Bytes, table, fits, listedIn, listed}
 use Rattle.lists.proofs.All.{all-each, all-every}
 use Rattle.lists.proofs.Tests.{and-both, and-second, or-neither}
 

@@ -1,10 +1,10 @@
--- `utf8::wide_at` meets its contract: the widths are tried in the definition's order. Assumes nothing.
+-- `chars::wide_at` meets its contract: the widths are tried in the definition's order. Assumes nothing.
 use mathlib.Core.Path.{sym, _∙_}
 use denote.Ref.{now}
 use borrow.Author.Needs.{needs}
-use Rattle.utf8.proofs.Wide.{decoded-2, decoded-3, decoded-4, decoded-0}
-use Rattle.utf8.proofs.wide_at.Statement.{statement}
-use Rattle.utf8.proofs.wide_at.Tie as tie
+use Rattle.chars.proofs.Wide.{decoded-2, decoded-3, decoded-4, decoded-0}
+use Rattle.chars.proofs.wide_at.Statement.{statement}
+use Rattle.chars.proofs.wide_at.Tie as tie
 
 returns : tie.Need-returns
 returns c =

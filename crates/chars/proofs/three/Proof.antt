@@ -1,8 +1,8 @@
--- `utf8::three` meets its contract. Assumes nothing.
-use Rattle.utf8.proofs.Widths.{listed-3}
+-- `chars::three` meets its contract. Assumes nothing.
+use Rattle.chars.proofs.Widths.{listed-3}
 use borrow.Author.Needs.{needs}
-use Rattle.utf8.proofs.three.Statement.{statement}
-use Rattle.utf8.proofs.three.Tie as tie
+use Rattle.chars.proofs.three.Statement.{statement}
+use Rattle.chars.proofs.three.Tie as tie
 
 returns : tie.Need-returns
 returns c = rw (listed-3, c .before .before .before .before .leads .ensures, c .before .before .before .leads2 .ensures, c .before .before .leads3 .ensures, c .before .leads4 .ensures, c .continues .ensures)

@@ -1,8 +1,8 @@
--- `utf8::two` meets its contract. Assumes nothing.
-use Rattle.utf8.proofs.Widths.{listed-2}
+-- `chars::two` meets its contract. Assumes nothing.
+use Rattle.chars.proofs.Widths.{listed-2}
 use borrow.Author.Needs.{needs}
-use Rattle.utf8.proofs.two.Statement.{statement}
-use Rattle.utf8.proofs.two.Tie as tie
+use Rattle.chars.proofs.two.Statement.{statement}
+use Rattle.chars.proofs.two.Tie as tie
 
 returns : tie.Need-returns
 returns c = rw listed-2 (c .leads .ensures)

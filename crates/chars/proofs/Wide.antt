@@ -4,14 +4,14 @@ use Prim.Native.Nat.{ℕ, suc, _+_, _-_, _≤_, _<_}
 use native.Mathlib.Omega.{arith}
 use mathlib.Core.Bool.{true, false}
 use mathlib.Core.List.{List, [], _∷_}
-use lib.ListN.{length, take, drop, getD, length-drop}
-use Rattle.utf8.specs.declared.Decoded.the-variants.{Character, Bad}
-use Rattle.utf8.specs.Text.{white}
-use Rattle.utf8.specs.Table.{table, listed, scalar}
-use Rattle.utf8.specs.Decode.{decoded}
-use Rattle.utf8.proofs.Padded.{bytesAt, take-bytes, listed-bytes}
-use Rattle.utf8.proofs.Rows.{listed-long}
-use Rattle.utf8.proofs.Tests.{in-within, above-within}
+use lib.ListN.{length, take, drop, getD, length-drop, drop-of-length-le}
+use Rattle.chars.specs.declared.Decoded.the-variants.{Character, Bad}
+use Rattle.chars.specs.White.{white}
+use Rattle.chars.specs.Table.{table, listed, scalar}
+use Rattle.chars.specs.Decode.{decoded}
+use Rattle.chars.proofs.Padded.{bytesAt, take-bytes, listed-bytes}
+use Rattle.chars.proofs.Rows.{listed-long}
+use Rattle.chars.proofs.Tests.{in-within, above-within}
 
 module _ (s : List ℕ) (i : ℕ) (h : i < length s) where
   -- the bytes from i on are those of us, 0 past the end
@@ -81,3 +81,8 @@ module _ (s : List ℕ) (i : ℕ) (h : i < length s) where
           unfolding decoded
           decoded-0 l =
               rw (no-1, no-sequence (getD s i 0 ∷ c ∷ []) bytes-2 n2, no-sequence (getD s i 0 ∷ c ∷ d ∷ []) bytes-3 n3, no-sequence (getD s i 0 ∷ c ∷ d ∷ f ∷ []) bytes-4 l)
+
+-- none past the end
+pub decoded-past : (s : List ℕ) (i : ℕ) → length s ≤ i → decoded (drop i s) ≡ Bad
+unfolding decoded listed table
+decoded-past s i h = rw (drop-of-length-le s h)

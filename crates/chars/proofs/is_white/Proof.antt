@@ -1,9 +1,9 @@
--- `utf8::is_white` meets its contract. Assumes nothing.
-use Rattle.utf8.proofs.White.{far-dark}
-use Rattle.utf8.specs.Text.{white}
+-- `chars::is_white` meets its contract. Assumes nothing.
+use Rattle.chars.proofs.White.{far-dark}
+use Rattle.chars.specs.White.{white}
 use mathlib.Core.Path.{refl, sym}
-use Rattle.utf8.proofs.is_white.Statement.{statement}
-use Rattle.utf8.proofs.is_white.Tie as tie
+use Rattle.chars.proofs.is_white.Statement.{statement}
+use Rattle.chars.proofs.is_white.Tie as tie
 
 returns : tie.Need-returns
 returns c = sym (far-dark (c .before .args .c) (c .if1 .taken))

@@ -5,7 +5,7 @@ use mathlib.Core.Bool.{Bool, true, false, _||_, _&&_}
 use mathlib.Core.List.{List, [], _∷_}
 use lib.Dec.{eqb}
 use lib.ListN.{length, take, drop}
-use Rattle.utf8.specs.Text.{within}
+use Rattle.chars.specs.White.{within}
 
 -- a range of bytes, both ends in it
 pub record Bytes : Type 0 where

@@ -3,8 +3,8 @@ use mathlib.Core.Path.{_≡_}
 use Prim.Native.Nat.{ℕ}
 use mathlib.Core.Bool.{Bool, true, false, _&&_, _||_, and-true, and-false, or-false, or-assoc}
 use mathlib.Core.List.{[], _∷_}
-use Rattle.utf8.specs.Text.{within}
-use Rattle.utf8.specs.Table.{table, listed}
+use Rattle.chars.specs.White.{within}
+use Rattle.chars.specs.Table.{table, listed}
 
 pub listed-2 : (b c : ℕ) → listed 2 (b ∷ c ∷ []) ≡ within 0xc2 0xdf b && within 0x80 0xbf c
 unfolding listed table

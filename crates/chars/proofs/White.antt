@@ -4,8 +4,8 @@ use Prim.Native.Nat.{ℕ, _<_}
 use native.Mathlib.Omega.{arith}
 use mathlib.Core.Bool.{false}
 use borrow.Author.Tests.{ne-eqb}
-use Rattle.utf8.specs.Text.{white}
-use Rattle.utf8.proofs.Tests.{above-within, below-within}
+use Rattle.chars.specs.White.{white}
+use Rattle.chars.proofs.Tests.{above-within, below-within}
 
 -- ASCII beyond 0x20 is no white space
 pub ascii-dark : (b : ℕ) → 32 < b → b < 128 → white b ≡ false

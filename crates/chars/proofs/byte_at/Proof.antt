@@ -1,10 +1,10 @@
--- `utf8::byte_at` meets its contract. Assumes nothing.
+-- `chars::byte_at` meets its contract. Assumes nothing.
 use lib.ListN.{List·getD-eq-default}
 use denote.Ref.{now}
 use mathlib.Core.Path.{sym}
 use borrow.Author.Needs.{needs}
-use Rattle.utf8.proofs.byte_at.Statement.{statement}
-use Rattle.utf8.proofs.byte_at.Tie as tie
+use Rattle.chars.proofs.byte_at.Statement.{statement}
+use Rattle.chars.proofs.byte_at.Tie as tie
 
 returns-2 : tie.Need-returns-2
 returns-2 c = sym (List·getD-eq-default (now (c .before .args .s)) 0 (c .if1 .left))

@@ -1,8 +1,8 @@
--- `utf8::four` meets its contract. Assumes nothing.
-use Rattle.utf8.proofs.Widths.{listed-4}
+-- `chars::four` meets its contract. Assumes nothing.
+use Rattle.chars.proofs.Widths.{listed-4}
 use borrow.Author.Needs.{needs}
-use Rattle.utf8.proofs.four.Statement.{statement}
-use Rattle.utf8.proofs.four.Tie as tie
+use Rattle.chars.proofs.four.Statement.{statement}
+use Rattle.chars.proofs.four.Tie as tie
 
 returns : tie.Need-returns
 returns c = rw (listed-4, c .before .before .before .before .leads .ensures, c .before .before .before .leads2 .ensures, c .before .before .leads3 .ensures, c .before .continues .ensures, c .continues2 .ensures)

@@ -1,0 +1,17 @@
+-- No second answer: of each public function, two answers that meet its contract are equal. Assumes nothing.
+use mathlib.Core.Path.{_≡_}
+use mathlib.Core.Bool.{Bool}
+use Prim.Native.Nat.{ℕ}
+use mathlib.Core.List.{List}
+use lib.ListN.{drop}
+use Rattle.lists.specs.Once.{Once}
+use Rattle.lists.proofs.Once.{once-is}
+use Rattle.chars.specs.declared.Decoded.{Decoded}
+use Rattle.chars.specs.White.{white}
+use Rattle.chars.specs.Decode.{decoded}
+
+pub is-white-once : (c : ℕ) → Once (λ (r : Bool). r ≡ white c)
+is-white-once c = once-is (white c)
+
+pub char-at-once : (s : List ℕ) (i : ℕ) → Once (λ (r : Decoded). r ≡ decoded (drop i s))
+char-at-once s i = once-is (decoded (drop i s))
