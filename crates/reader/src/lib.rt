@@ -86,31 +86,3 @@ pub fn read(
         ),
     }
 }
-
-// Strictly.
-pub fn read_strict(
-    text: &[u8],
-    convert: bool,
-    trees: &mut [u32],
-    nodes: &mut [u32],
-    properties: &mut [u32],
-    values: &mut [u32],
-) -> Reading
-    ensures { λ r. ⌜ ReadIs (definition.read (opts false convert) (now (text .entry))) (lent (now (trees .entry)) (now (nodes .entry)) (now (properties .entry)) (now (values .entry))) (lent (now (trees .exit)) (now (nodes .exit)) (now (properties .exit)) (now (values .exit))) r ⌝ }
-{
-    read(text, false, convert, trees, nodes, properties, values)
-}
-
-// Leniently: what can be read is read.
-pub fn read_lenient(
-    text: &[u8],
-    convert: bool,
-    trees: &mut [u32],
-    nodes: &mut [u32],
-    properties: &mut [u32],
-    values: &mut [u32],
-) -> Reading
-    ensures { λ r. ⌜ ReadIs (definition.read (opts true convert) (now (text .entry))) (lent (now (trees .entry)) (now (nodes .entry)) (now (properties .entry)) (now (values .entry))) (lent (now (trees .exit)) (now (nodes .exit)) (now (properties .exit)) (now (values .exit))) r ⌝ }
-{
-    read(text, true, convert, trees, nodes, properties, values)
-}

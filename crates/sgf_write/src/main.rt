@@ -68,8 +68,9 @@ fn say_text(text: &[u8]) {
     let mut nodes = node_rows();
     let mut properties = property_rows();
     let mut values = pair_rows();
-    match reader::read_strict(
+    match reader::read(
         text,
+        false,
         true,
         &mut trees,
         &mut nodes,
