@@ -9,34 +9,24 @@ use Rattle.lists.proofs.Once.{once-is}
 use Rattle.lists.specs.Once.{Once}
 use Rattle.tables.specs.declared.Counts.{Counts}
 use Rattle.display.specs.declared.Kind.{Kind}
-use Rattle.go.specs.declared.value.GoValue.{GoValue}
 use Rattle.access.specs.declared.Accessed.{Accessed}
 use Rattle.decide.specs.Edit.{Outcome}
 use Rattle.edit.specs.Lent as edit
-use Rattle.sgf.specs.Asked.{fitsShown, spanShown, goShown, DisplayShown}
+use Rattle.sgf.specs.Asked.{fitsShown, DisplayShown}
 use Rattle.sgf.specs.Changed.{WriteShown, EditShown}
-use Rattle.sgf.specs.declared.SgfCounts.{SgfCounts}
-use Rattle.sgf.specs.declared.SgfDisplay.{SgfDisplay}
-use Rattle.sgf.specs.declared.SgfEdit.{SgfEdit}
-use Rattle.sgf.specs.declared.SgfGoValue.{SgfGoValue}
-use Rattle.sgf.specs.declared.SgfSpan.{SgfSpan}
-use Rattle.sgf.specs.declared.SgfWriting.{SgfWriting}
+use Rattle.answers.specs.declared.SgfDisplay.{SgfDisplay}
+use Rattle.answers.specs.declared.SgfEdit.{SgfEdit}
+use Rattle.answers.specs.declared.SgfWriting.{SgfWriting}
 use Rattle.sgf.specs.Shown.{ReadShown}
-use Rattle.sgf.specs.declared.SgfReading.{SgfReading}
+use Rattle.answers.specs.declared.SgfReading.{SgfReading}
 
 -- all of the answer, and all lent tables
 pub read-once : (a : Answer) (before x y : Lent) (r s : SgfReading) → ReadShown a before x r → ReadShown a before y s → (r ≡ s) × (x ≡ y)
 read-once a before x y r s p q = (p .shown ∙ sym (q .shown), p .tables ∙ sym (q .tables))
 
--- of a record in memory: each answer is said by one equation
+-- said by one equation
 pub fits-once : (x : Bool) → Once (λ (n : ℕ). n ≡ fitsShown x)
 fits-once x = once-is (fitsShown x)
-
-pub span-once : (a : Accessed) → Once (λ (r : SgfSpan). r ≡ spanShown a)
-span-once a = once-is (spanShown a)
-
-pub go-once : (n : ℕ) (g : GoValue) → Once (λ (r : SgfGoValue). r ≡ goShown n g)
-go-once n g = once-is (goShown n g)
 
 -- the answer and the bytes lent
 pub display-once : (t : List ℕ) (a : Accessed) (kind : Kind) (out x y : List ℕ) (r s : SgfDisplay) → DisplayShown t a kind out x r → DisplayShown t a kind out y s → (r ≡ s) × (x ≡ y)
@@ -46,5 +36,5 @@ pub write-once : (t : List ℕ) (used : ℕ) (c : Counts) (tr nd pr vl out x y :
 write-once t used c tr nd pr vl out x y r s p q = (p .is ∙ sym (q .is), p .bytes ∙ sym (q .bytes))
 
 -- the answer, the buffer and both tables
-pub edit-once : (o : Outcome) (used : ℕ) (c : SgfCounts) (before x y : edit.Lent) (r s : SgfEdit) → EditShown o used c before x r → EditShown o used c before y s → (r ≡ s) × (x ≡ y)
+pub edit-once : (o : Outcome) (used : ℕ) (c : Counts) (before x y : edit.Lent) (r s : SgfEdit) → EditShown o used c before x r → EditShown o used c before y s → (r ≡ s) × (x ≡ y)
 edit-once o used c before x y r s p q = (p .is ∙ sym (q .is), p .memory ∙ sym (q .memory))

@@ -1,19 +1,12 @@
--- Answers shown as numbers, as the C header says them.
+-- A reading as the C header says it.
 use Prim.Native.Nat.{ℕ, _/_, _%_}
 use lib.Dec.{eqb}
 use mathlib.Core.Path.{_≡_}
-use Rattle.tables.specs.Numbers.{numberOf as numberFor}
-use Rattle.tables.specs.declared.Reading.{Reading}
-use Rattle.tables.specs.declared.Reading.the-variants.{Accepted, Refused as Refuses}
 use Rattle.parser.specs.Walk.{Opts}
 use Rattle.parser.specs.Read.{Answer}
 use Rattle.reader.specs.Lent.{Lent, answers, leaves}
-use Rattle.sgf.specs.declared.SgfReading.{SgfReading}
-
--- number, place, and the used rows of each table; what is reserved is 0
-abbrev pub readingShown : Reading → SgfReading
-readingShown (Accepted c) = record { number = 0; reserved = 0; place = 0; trees = c .trees; nodes = c .nodes; properties = c .properties; values = c .values }
-readingShown (Refuses r s) = record { number = numberFor r; reserved = 0; place = s; trees = 0; nodes = 0; properties = 0; values = 0 }
+use Rattle.answers.specs.Shown.{readingShown}
+use Rattle.answers.specs.declared.SgfReading.{SgfReading}
 
 -- the lowest bit: lenient; the next: identifiers are kept as they are
 abbrev pub optionsOf : ℕ → Opts

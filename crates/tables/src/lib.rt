@@ -21,7 +21,8 @@ pub const PROPERTY_STRIDE: usize = 4;
 
 pub const VALUE_STRIDE: usize = 2;
 
-// Used rows of each table.
+// Used rows of each table; also as a C caller lends them.
+#[repr(C)]
 pub struct Counts {
     pub trees: usize,
     pub nodes: usize,

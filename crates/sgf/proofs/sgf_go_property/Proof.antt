@@ -1,5 +1,5 @@
 -- `sgf::sgf_go_property` meets its contract. Assumes nothing.
-use Rattle.sgf.specs.Asked.{goShown}
+use Rattle.answers.specs.Shown.{goShown}
 use mathlib.Core.Path.{ap, _∙_}
 use borrow.Author.Needs.{needs}
 use Rattle.sgf.proofs.sgf_go_property.Statement.{statement}

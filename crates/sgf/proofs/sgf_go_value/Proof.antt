@@ -1,22 +1,13 @@
 -- `sgf::sgf_go_value` meets its contract. Assumes nothing.
-use Rattle.tables.specs.declared.Counts.{Counts}
-use Rattle.record.specs.Ask.{goAnswer}
-use denote.Ref.{now}
-use Rattle.sgf.specs.Asked.{goShown, answerShown}
+use Rattle.answers.specs.Shown.{goShown}
+use Rattle.sgf.specs.Asked.{answerShown}
 use mathlib.Core.Path.{ap, _∙_}
 use borrow.Author.Needs.{needs}
 use Rattle.sgf.proofs.sgf_go_value.Statement.{statement}
 use Rattle.sgf.proofs.sgf_go_value.Tie as tie
 
 returns : tie.Need-returns
-returns c = c .go-shown .ensures ∙ ap (λ n. goShown n (c .before .before .before .go-value .result .go)) (c .before .refusal-number .ensures) ∙ ap answerShown (c .before .before .before .go-value .ensures ∙ (let a = c .before .before .before .before .before .before .before .before .before .before .args in ap (λ (z : Counts). goAnswer (now (a .text)) (a .used) z (now (a .trees)) (now (a .nodes)) (now (a .properties)) (now (a .values)) (a .p)) (c .before .before .before .before .counts-from .ensures)))
+returns c = c .go-shown .ensures ∙ ap (λ n. goShown n (c .before .before .before .go-value .result .go)) (c .before .refusal-number .ensures) ∙ ap answerShown (c .before .before .before .go-value .ensures)
 
 pub sgf-go-value-spec : {M : Type 1} → statement M
-sgf-go-value-spec =
-    tie.close
-    (tie.spec
-    (λ c κs. search needs)
-    (λ c κs. search needs)
-    (λ c κs. search needs)
-    (λ c κs. search needs)
-    returns)
+sgf-go-value-spec = tie.close (tie.spec (λ c κs. search needs) (λ c κs. search needs) (λ c κs. search needs) returns)

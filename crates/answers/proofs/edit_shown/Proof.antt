@@ -1,10 +1,10 @@
--- `sgf::edit_shown` meets its contract. Assumes nothing.
+-- `answers::edit_shown` meets its contract. Assumes nothing.
 use Prim.Native.Nat.{ℕ}
 use mathlib.Core.Path.{sym, ap, _∙_}
 use borrow.Author.Needs.{needs}
-use Rattle.sgf.specs.Changed.{editShown}
-use Rattle.sgf.proofs.edit_shown.Statement.{statement}
-use Rattle.sgf.proofs.edit_shown.Tie as tie
+use Rattle.answers.specs.Shown.{editShown}
+use Rattle.answers.proofs.edit_shown.Statement.{statement}
+use Rattle.answers.proofs.edit_shown.Tie as tie
 
 returns : tie.Need-returns
 returns c = ap (editShown (c .before .before .before .args .c)) (sym (c .before .edited .given .1))

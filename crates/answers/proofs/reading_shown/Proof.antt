@@ -1,10 +1,10 @@
--- `sgf::reading_shown` meets its contract. Assumes nothing.
+-- `answers::reading_shown` meets its contract. Assumes nothing.
 use Prim.Native.Nat.{ℕ}
 use mathlib.Core.Path.{sym, ap, _∙_}
 use borrow.Author.Needs.{needs}
-use Rattle.sgf.specs.Shown.{readingShown}
-use Rattle.sgf.proofs.reading_shown.Statement.{statement}
-use Rattle.sgf.proofs.reading_shown.Tie as tie
+use Rattle.answers.specs.Shown.{readingShown}
+use Rattle.answers.proofs.reading_shown.Statement.{statement}
+use Rattle.answers.proofs.reading_shown.Tie as tie
 
 returns : tie.Need-returns
 returns c = ap readingShown (sym (c .before .reading .given .1))

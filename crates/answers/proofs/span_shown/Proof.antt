@@ -1,10 +1,10 @@
--- `sgf::span_shown` meets its contract. Assumes nothing.
+-- `answers::span_shown` meets its contract. Assumes nothing.
 use Prim.Native.Nat.{ℕ}
 use mathlib.Core.Path.{sym, ap, _∙_}
 use borrow.Author.Needs.{needs}
-use Rattle.sgf.specs.Asked.{spanShown}
-use Rattle.sgf.proofs.span_shown.Statement.{statement}
-use Rattle.sgf.proofs.span_shown.Tie as tie
+use Rattle.answers.specs.Shown.{spanShown}
+use Rattle.answers.proofs.span_shown.Statement.{statement}
+use Rattle.answers.proofs.span_shown.Tie as tie
 
 returns : tie.Need-returns
 returns c = ap spanShown (sym (c .before .accessed .given .1))

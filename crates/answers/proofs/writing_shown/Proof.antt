@@ -1,10 +1,10 @@
--- `sgf::writing_shown` meets its contract. Assumes nothing.
+-- `answers::writing_shown` meets its contract. Assumes nothing.
 use Prim.Native.Nat.{ℕ}
 use mathlib.Core.Path.{sym, ap, _∙_}
 use borrow.Author.Needs.{needs}
-use Rattle.sgf.specs.Changed.{writingShown}
-use Rattle.sgf.proofs.writing_shown.Statement.{statement}
-use Rattle.sgf.proofs.writing_shown.Tie as tie
+use Rattle.answers.specs.Shown.{writingShown}
+use Rattle.answers.proofs.writing_shown.Statement.{statement}
+use Rattle.answers.proofs.writing_shown.Tie as tie
 
 returns : tie.Need-returns
 returns c = ap writingShown (sym (c .before .written .given .1))

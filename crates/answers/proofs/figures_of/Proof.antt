@@ -1,9 +1,9 @@
--- `sgf::figures_of` meets its contract. Assumes nothing.
-use Rattle.sgf.specs.Asked.{figuresShown}
+-- `answers::figures_of` meets its contract. Assumes nothing.
+use Rattle.answers.specs.Shown.{figuresShown}
 use mathlib.Core.Path.{sym, ap}
 use borrow.Author.Needs.{needs}
-use Rattle.sgf.proofs.figures_of.Statement.{statement}
-use Rattle.sgf.proofs.figures_of.Tie as tie
+use Rattle.answers.proofs.figures_of.Statement.{statement}
+use Rattle.answers.proofs.figures_of.Tie as tie
 
 returns : tie.Need-returns
 returns c = ap figuresShown (sym (c .enum-told .given .1))

@@ -1,10 +1,10 @@
--- `sgf::display_shown` meets its contract. Assumes nothing.
+-- `answers::display_shown` meets its contract. Assumes nothing.
 use Prim.Native.Nat.{ℕ}
 use mathlib.Core.Path.{sym, ap, _∙_}
 use borrow.Author.Needs.{needs}
-use Rattle.sgf.specs.Asked.{displayShown}
-use Rattle.sgf.proofs.display_shown.Statement.{statement}
-use Rattle.sgf.proofs.display_shown.Tie as tie
+use Rattle.answers.specs.Shown.{displayShown}
+use Rattle.answers.proofs.display_shown.Statement.{statement}
+use Rattle.answers.proofs.display_shown.Tie as tie
 
 returns : tie.Need-returns
 returns c = ap displayShown (sym (c .before .shown .given .1))

@@ -1,0 +1,12 @@
+-- `answers::go_shown` meets its contract. Assumes nothing.
+use Rattle.answers.specs.declared.Figures.{Figures}
+use mathlib.Core.Path.{ap}
+use borrow.Author.Needs.{needs}
+use Rattle.answers.proofs.go_shown.Statement.{statement}
+use Rattle.answers.proofs.go_shown.Tie as tie
+
+returns : tie.Need-returns
+returns c = let a = c .before .before .args in ap (λ (f : Figures). record { number = a .number; kind = f .kind; x = f .x; y = f .y; handicap = f .handicap; marks = a .go .marks }) (c .figures-of .ensures)
+
+pub go-shown-spec : {M : Type 1} → statement M
+go-shown-spec = tie.close (tie.spec (λ c κs. search needs) returns)
