@@ -6,11 +6,11 @@ use lib.ListN.{set}
 use Rattle.chars.specs.White.{white}
 use Rattle.utf8.specs.Trim.{trimmed}
 use Rattle.access.specs.Access.{accessed, accessNumber, rawValue}
-use Rattle.fit.specs.Each.{each, sum, tabulate}
+use Rattle.tables.specs.Each.{each, sum, tabulate}
 use Rattle.fit.specs.Fit.{fitText, Fit}
-use Rattle.fit.specs.Nodes.{orphans, upward, onPath, firstUnder, nodesFit}
-use Rattle.fit.specs.Ranges.{rangesFit}
-use Rattle.fit.specs.Spans.{spans, ascending, plainName, spansFit}
+use Rattle.links.specs.Nodes.{orphans, upward, onPath, firstUnder, nodesFit}
+use Rattle.spans.specs.Ranges.{rangesFit}
+use Rattle.spans.specs.Spans.{spans, ascending, plainName, spansFit}
 use Rattle.fit.proofs.Examples.{text, counts, tr, nd, pr, vl}
 
 -- values 0, 1 and 2; and value 2 where the tables don't fit

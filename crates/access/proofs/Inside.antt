@@ -12,11 +12,11 @@ use Rattle.lists.proofs.Tests.{never}
 use Rattle.tables.specs.declared.Counts.{Counts}
 use Rattle.tables.specs.declared.Reason.the-variants.{NoSuchNumber, NotFitting}
 use Rattle.access.specs.Access.{accessed, handed}
-use Rattle.fit.specs.Columns.{valFromAt, valToAt}
+use Rattle.tables.specs.Columns.{valFromAt, valToAt}
 use Rattle.fit.specs.Fit.{Fit}
 use Rattle.access.specs.declared.Accessed.{Accessed}
 use Rattle.access.specs.declared.Accessed.the-variants.{Part, Refused}
-use Rattle.fit.proofs.Lists.{part-slice}
+use Rattle.spans.proofs.Lists.{part-slice}
 use Rattle.fit.proofs.Clauses.{fit-vals}
 use Rattle.fit.proofs.Whole.{fit-lent}
 

@@ -7,7 +7,7 @@ use Rattle.lists.specs.Pick.{pick}
 use Rattle.tables.specs.Numbers.{numberOf}
 use Rattle.tables.specs.declared.Counts.{Counts}
 use Rattle.tables.specs.declared.Reason.the-variants.{NoSuchNumber, NotFitting}
-use Rattle.fit.specs.Columns.{valFromAt, valToAt}
+use Rattle.tables.specs.Columns.{valFromAt, valToAt}
 use Rattle.fit.specs.Fit.{Fit}
 use Rattle.access.specs.declared.Accessed.{Accessed}
 use Rattle.access.specs.declared.Accessed.the-variants.{Part, Refused}

@@ -2,7 +2,7 @@
 ghost use mathlib.Core.Path.{_≡_};
 ghost use Prim.Native.Nat.{_/_, _<_};
 ghost use lib.ListN.{length};
-ghost use Rattle.fit.specs.Columns.{valFromAt, valToAt};
+ghost use Rattle.tables.specs.Columns.{valFromAt, valToAt};
 ghost use Rattle.access.specs.declared.Accessed.the-variants.{Part};
 ghost use Rattle.access.specs.Access.{accessed, rawValue};
 

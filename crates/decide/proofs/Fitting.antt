@@ -4,7 +4,7 @@ use mathlib.Core.Bool.{true}
 use mathlib.Core.List.{List}
 use mathlib.Core.Path.{_≡_}
 use Rattle.tables.specs.declared.Counts.{Counts}
-use Rattle.fit.specs.Columns.{valFromAt, valToAt}
+use Rattle.tables.specs.Columns.{valFromAt, valToAt}
 use Rattle.fit.specs.Fit.{Fit}
 use Rattle.fit.proofs.Clauses.{fit-vals}
 use Rattle.fit.proofs.Whole.{fit-lent}

@@ -23,8 +23,8 @@ use Rattle.tables.specs.Rows.{ValRow, Tables}
 use Rattle.tables.specs.declared.Counts.{Counts}
 use Rattle.tables.specs.declared.Reason.the-variants.{TextTooLong, NotUtf8, NoRoom, NoSuchNumber, GameTypeFixed, NotClosed, NotFitting}
 use Rattle.parser.specs.Kind.{GM}
-use Rattle.fit.specs.Columns.{valFromAt, valToAt}
-use Rattle.fit.specs.Each.{tabulate}
+use Rattle.tables.specs.Columns.{valFromAt, valToAt}
+use Rattle.tables.specs.Each.{tabulate}
 use Rattle.fit.specs.Fit.{Fit}
 use Rattle.fit.specs.Record.{propRow, valRow, rowsOf}
 use Rattle.decide.specs.Edit.{ownerName, spanAt, shifted, Outcome, refuses, outcome, edit}

@@ -13,10 +13,10 @@ use Rattle.lists.proofs.Places.{drop-next}
 use Rattle.lexer.specs.Closed.{closedFrom, closed}
 use Rattle.tables.specs.Rows.{PropRow}
 use Rattle.parser.specs.Kind.{GM}
-use Rattle.fit.specs.Columns.{nameFromAt, nameToAt, firstValAt, valCountAt}
-use Rattle.fit.specs.Each.{tabulate}
+use Rattle.tables.specs.Columns.{nameFromAt, nameToAt, firstValAt, valCountAt}
+use Rattle.tables.specs.Each.{tabulate}
 use Rattle.fit.specs.Record.{propRow}
-use Rattle.fit.proofs.Lists.{part-slice}
+use Rattle.spans.proofs.Lists.{part-slice}
 use Rattle.decide.specs.Edit.{ownerRow, ownerName}
 use Rattle.fit.proofs.Parts.{tabulate-next, tabulate-none}
 

@@ -9,7 +9,7 @@ use Rattle.utf8.specs.Text.{whole, blank, utfs}
 use Rattle.lexer.specs.Closed.{closed}
 use Rattle.tables.specs.Numbers.{textLimit}
 use Rattle.tables.specs.Rows.{Tables}
-use Rattle.fit.specs.Columns.{nameFromAt, nameToAt}
+use Rattle.tables.specs.Columns.{nameFromAt, nameToAt}
 use Rattle.decide.specs.Answer.{answers}
 use Rattle.decide.specs.Edit.{outcome}
 use Rattle.decide.specs.declared.Edited.{Edited}

@@ -13,11 +13,11 @@ use Rattle.tables.specs.declared.Counts.{Counts}
 use Rattle.tables.specs.declared.Reading.the-variants.{Accepted, Refused}
 use Rattle.tables.specs.declared.Reason.{Reason}
 use Rattle.tables.specs.declared.Reason.the-variants.{UnexpectedGameTreeStart, NoRoom}
-use Rattle.fit.specs.Each.{each, sum, tabulate}
+use Rattle.tables.specs.Each.{each, sum, tabulate}
 use Rattle.fit.specs.Fit.{fitText, Fit}
-use Rattle.fit.specs.Nodes.{orphans, upward, onPath, firstUnder, nodesFit}
-use Rattle.fit.specs.Ranges.{rangesFit}
-use Rattle.fit.specs.Spans.{spans, ascending, plainName, spansFit}
+use Rattle.links.specs.Nodes.{orphans, upward, onPath, firstUnder, nodesFit}
+use Rattle.spans.specs.Ranges.{rangesFit}
+use Rattle.spans.specs.Spans.{spans, ascending, plainName, spansFit}
 use Rattle.parser.specs.Examples.{bytes, strict}
 use Rattle.parser.specs.Read.{read}
 use Rattle.reader.specs.Lent.{Lent, lent, answers, ReadIs}

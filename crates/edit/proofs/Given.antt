@@ -17,11 +17,11 @@ use Rattle.tables.specs.Rows.{Tables}
 use Rattle.tables.specs.declared.Counts.{Counts}
 use Rattle.tables.specs.declared.Reason.{Reason}
 use Rattle.parser.specs.Kind.{GM}
-use Rattle.fit.specs.Columns.{valFromAt, valToAt}
-use Rattle.fit.specs.Each.{tabulate}
+use Rattle.tables.specs.Columns.{valFromAt, valToAt}
+use Rattle.tables.specs.Each.{tabulate}
 use Rattle.fit.specs.Fit.{Fit}
 use Rattle.fit.specs.Record.{propRow}
-use Rattle.fit.proofs.Cases.{either-bool}
+use Rattle.tables.proofs.Cases.{either-bool}
 use Rattle.fit.proofs.Clauses.{fit-short, fit-names, fit-vals}
 use Rattle.splice.specs.Locals.{Replaceable}
 use Rattle.splice.specs.Splice.{cleared, replaced}

@@ -11,7 +11,7 @@ use Rattle.lists.proofs.Put.{put-none, put-more, put-all}
 use Rattle.tables.specs.Flat.{flatProps, flatVals, over}
 use Rattle.tables.specs.Move.{moveProps, moveVals}
 use Rattle.tables.specs.Rows.{PropRow, ValRow}
-use Rattle.fit.specs.Each.{tabulate}
+use Rattle.tables.specs.Each.{tabulate}
 use Rattle.fit.specs.Record.{propRow, valRow}
 use Rattle.fit.proofs.Parts.{tabulate-length, tabulate-last}
 

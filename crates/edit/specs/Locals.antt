@@ -4,8 +4,8 @@ use mathlib.Core.List.{List, map}
 use Rattle.lexer.specs.Move.{startsAt, endsAt}
 use Rattle.tables.specs.Flat.{flatProps, flatVals}
 use Rattle.tables.specs.Move.{moveProps, moveVals}
-use Rattle.fit.specs.Columns.{valFromAt, valToAt}
-use Rattle.fit.specs.Each.{tabulate}
+use Rattle.tables.specs.Columns.{valFromAt, valToAt}
+use Rattle.tables.specs.Each.{tabulate}
 use Rattle.fit.specs.Record.{propRow, valRow}
 
 -- n values lie in a text of so many bytes

@@ -4,7 +4,7 @@ ghost use Prim.Native.Nat.{_+_, _-_, _/_, _<_, _≤_};
 ghost use lib.ListN.{length};
 ghost use Rattle.lexer.specs.Move.{startsAt, endsAt};
 ghost use Rattle.tables.specs.Numbers.{textLimit};
-ghost use Rattle.fit.specs.Columns.{valFromAt, valToAt};
+ghost use Rattle.tables.specs.Columns.{valFromAt, valToAt};
 ghost use Rattle.tables.specs.Flat.{over};
 ghost use Rattle.decide.specs.Locals.{NamesLie};
 ghost use Rattle.edit.specs.Locals.{ValuesLie, propertiesMoved, valuesMoved};

@@ -10,15 +10,15 @@ use lib.Seq.{length-take-le}
 use borrow.Author.Tests.{leb-true, le-leb}
 use Rattle.tables.specs.Numbers.{none, textLimit}
 use Rattle.tables.specs.declared.Counts.{Counts}
-use Rattle.fit.specs.Columns.{firstPropAt, propCountAt, nameFromAt, nameToAt, firstValAt, valCountAt, valFromAt, valToAt}
-use Rattle.fit.specs.Each.{each}
+use Rattle.tables.specs.Columns.{firstPropAt, propCountAt, nameFromAt, nameToAt, firstValAt, valCountAt, valFromAt, valToAt}
+use Rattle.tables.specs.Each.{each}
 use Rattle.fit.specs.Fit.{lentFor, validUtf8, fitText, Fit}
 use Rattle.fit.specs.Locals.{Held}
-use Rattle.fit.specs.Nodes.{rootsRight, parentRight, childRight, siblingRight, kindRight, nodesFit}
-use Rattle.fit.specs.Ranges.{gapless, hasValue, rangesFit}
-use Rattle.fit.specs.Spans.{spans, ascending, nameRight, valueRight, spansFit}
-use Rattle.fit.proofs.Cases.{and-left, and-right}
-use Rattle.fit.proofs.Lying.{names-lie, values-lie}
+use Rattle.links.specs.Nodes.{rootsRight, parentRight, childRight, siblingRight, kindRight, nodesFit}
+use Rattle.spans.specs.Ranges.{gapless, hasValue, rangesFit}
+use Rattle.spans.specs.Spans.{spans, ascending, nameRight, valueRight, spansFit}
+use Rattle.tables.proofs.Cases.{and-left, and-right}
+use Rattle.spans.proofs.Lying.{names-lie, values-lie}
 use Rattle.fit.proofs.Whole.{fit-lent}
 
 -- of the used text t

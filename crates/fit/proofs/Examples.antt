@@ -8,11 +8,11 @@ use Rattle.chars.specs.White.{white}
 use Rattle.utf8.specs.Trim.{trimmed}
 use Rattle.tables.specs.Numbers.{none}
 use Rattle.tables.specs.declared.Counts.{Counts}
-use Rattle.fit.specs.Each.{each, sum, tabulate}
+use Rattle.tables.specs.Each.{each, sum, tabulate}
 use Rattle.fit.specs.Fit.{fitText, Fit}
-use Rattle.fit.specs.Nodes.{orphans, upward, onPath, firstUnder, nodesFit}
-use Rattle.fit.specs.Ranges.{rangesFit}
-use Rattle.fit.specs.Spans.{spans, ascending, plainName, spansFit}
+use Rattle.links.specs.Nodes.{orphans, upward, onPath, firstUnder, nodesFit}
+use Rattle.spans.specs.Ranges.{rangesFit}
+use Rattle.spans.specs.Spans.{spans, ascending, plainName, spansFit}
 
 abbrev pub text : List ℕ
 text = 0x28 ∷ 0x3b ∷ 0x43 ∷ 0x5b ∷ 0x61 ∷ 0x62 ∷ 0x5d ∷ 0x3b ∷ 0x42 ∷ 0x5b ∷ 0x63 ∷ 0x64 ∷ 0x5d ∷ 0x29 ∷ []

@@ -6,9 +6,9 @@ use mathlib.Core.Path.{_≡_, refl, sym, ap, ap₂, _∙_}
 use native.Mathlib.Omega.{arith}
 use lib.ListN.{length, take, drop, getD, length-drop}
 use lib.Seq.{drop-drop, take-add, take-length, length-take-le}
-use Rattle.fit.specs.Each.{sum, tabulate}
-use Rattle.fit.specs.Ranges.{gapless}
-use Rattle.fit.proofs.Ranges.{sum-suc, sum-up, gapless-first, gapless-sum, gapless-in}
+use Rattle.tables.specs.Each.{sum, tabulate}
+use Rattle.spans.specs.Ranges.{gapless}
+use Rattle.spans.proofs.Ranges.{sum-suc, sum-up, gapless-first, gapless-sum, gapless-in}
 
 module _ {A : Type 0} (f : ℕ → A) where
   pub tabulate-length : (k n : ℕ) → length (tabulate f k n) ≡ n

@@ -9,10 +9,10 @@ use Rattle.tables.specs.Record.{Node, Tree, allNodes, allProps, allVals}
 use Rattle.tables.specs.Rows.{Tables, tables, parents, nodeRows, propRows, countsOf}
 use Rattle.tables.specs.declared.Counts.{Counts}
 use Rattle.tables.proofs.Lengths.{prop-rows-length, val-rows-length}
-use Rattle.fit.specs.Columns.{firstPropAt, propCountAt, firstValAt, valCountAt}
-use Rattle.fit.specs.Each.{each, tabulate}
-use Rattle.fit.specs.Nodes.{childRight, siblingRight}
-use Rattle.fit.specs.Ranges.{gapless}
+use Rattle.tables.specs.Columns.{firstPropAt, propCountAt, firstValAt, valCountAt}
+use Rattle.tables.specs.Each.{each, tabulate}
+use Rattle.links.specs.Nodes.{childRight, siblingRight}
+use Rattle.spans.specs.Ranges.{gapless}
 use Rattle.fit.specs.Record.{nodeRow, propRow, rowsOf}
 use Rattle.fit.proofs.Parts.{tabulate-length}
 use Rattle.fit.proofs.RecordLinks.{children-fit, siblings-fit}

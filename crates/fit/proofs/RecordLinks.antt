@@ -11,12 +11,12 @@ use Rattle.lists.specs.Pick.{pick}
 use Rattle.tables.specs.Numbers.{none}
 use Rattle.tables.specs.Record.{Node}
 use Rattle.tables.specs.Rows.{NodeRow, next, parents, nodeRows}
-use Rattle.fit.specs.Columns.{parentAt, childAt, siblingAt}
-use Rattle.fit.specs.Each.{each, tabulate}
-use Rattle.fit.specs.Nodes.{firstUnder, nextOf, childRight, siblingRight}
+use Rattle.tables.specs.Columns.{parentAt, childAt, siblingAt}
+use Rattle.tables.specs.Each.{each, tabulate}
+use Rattle.links.specs.Nodes.{firstUnder, nextOf, childRight, siblingRight}
 use Rattle.fit.specs.Record.{nodeRow}
 use Rattle.lists.proofs.Tests.{same-or}
-use Rattle.fit.proofs.Each.{each-all}
+use Rattle.tables.proofs.Each.{each-all}
 
 eqb-sym : (a b : ℕ) → eqb a b ≡ eqb b a
 eqb-sym a b = same-or a b (λ e. eq-eqb a b e ∙ sym (eq-eqb b a (sym e))) (λ e. ne-eqb a b e ∙ sym (ne-eqb b a (λ z. e (sym z))))

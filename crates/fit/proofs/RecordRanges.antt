@@ -11,13 +11,13 @@ use borrow.Author.Tests.{eq-eqb}
 use Rattle.lexer.specs.Token.{Prop}
 use Rattle.tables.specs.Record.{Node, allProps, allVals}
 use Rattle.tables.specs.Rows.{NodeRow, PropRow, nodeRows, propRows}
-use Rattle.fit.specs.Columns.{firstPropAt, propCountAt, firstValAt, valCountAt}
-use Rattle.fit.specs.Each.{sum, tabulate}
-use Rattle.fit.specs.Ranges.{gapless}
+use Rattle.tables.specs.Columns.{firstPropAt, propCountAt, firstValAt, valCountAt}
+use Rattle.tables.specs.Each.{sum, tabulate}
+use Rattle.spans.specs.Ranges.{gapless}
 use Rattle.fit.specs.Record.{nodeRow, propRow}
 use Rattle.lists.proofs.Tests.{same-or}
-use Rattle.fit.proofs.Each.{each-all}
-use Rattle.fit.proofs.Ranges.{sum-next}
+use Rattle.tables.proofs.Each.{each-all}
+use Rattle.spans.proofs.Ranges.{sum-next}
 
 -- ---- rows of any kind, by their counts
 

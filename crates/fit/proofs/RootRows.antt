@@ -10,9 +10,9 @@ use Rattle.lists.specs.Same.{same}
 use Rattle.lists.specs.Pick.{pick}
 use Rattle.lists.proofs.Tests.{and-both, never, same-or}
 use Rattle.tables.specs.Numbers.{none}
-use Rattle.fit.specs.Columns.{rootAt, parentAt}
-use Rattle.fit.specs.Each.{tabulate}
-use Rattle.fit.specs.Nodes.{orphans, rootsRight}
+use Rattle.tables.specs.Columns.{rootAt, parentAt}
+use Rattle.tables.specs.Each.{tabulate}
+use Rattle.links.specs.Nodes.{orphans, rootsRight}
 
 -- lists that are the same are equal
 pub same-equal : (xs ys : List ℕ) → same xs ys ≡ true → xs ≡ ys

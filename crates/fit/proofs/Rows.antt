@@ -6,7 +6,7 @@ use native.Mathlib.Omega.{arith}
 use lib.ListN.{length}
 use Rattle.tables.specs.Flat.{flatTrees, flatNodes, flatProps, flatVals}
 use Rattle.tables.specs.Rows.{TreeRow, NodeRow, PropRow, ValRow, Tables, countsOf}
-use Rattle.fit.specs.Each.{tabulate}
+use Rattle.tables.specs.Each.{tabulate}
 use Rattle.fit.specs.Record.{treeRow, nodeRow, propRow, valRow, rowsOf}
 
 tabulate-later : {A : Type 0} (f g : ℕ → A) → ((k : ℕ) → f (suc k) ≡ g k) → (k m : ℕ) → tabulate f (suc k) m ≡ tabulate g k m

@@ -1,26 +1,29 @@
--- What is lent for tables that fit, and their value ranges. Assumes nothing.
+-- What is lent for tables that fit; where it is lent, links and parts fit by their clauses alone. Assumes nothing.
 use Prim.Native.Nat.{ℕ, _-_, _/_, _≤_}
 use mathlib.Core.Bool.{Bool, true, _&&_}
 use mathlib.Core.List.{List}
 use mathlib.Core.Path.{_≡_}
 use lib.Dec.{leb}
 use lib.ListN.{length, take}
-use borrow.Author.Tests.{leb-true}
-use Rattle.tables.specs.Numbers.{none}
+use borrow.Author.Tests.{leb-true, le-leb}
+use Rattle.tables.specs.Numbers.{none, textLimit}
 use Rattle.tables.specs.declared.Counts.{Counts}
-use Rattle.fit.specs.Columns.{firstPropAt, propCountAt, firstValAt, valCountAt}
-use Rattle.fit.specs.Each.{each}
+use Rattle.tables.proofs.Cases.{and-left, and-right}
+use Rattle.links.specs.Nodes.{nodesFit, linksFit}
+use Rattle.spans.specs.Parts.{partsFit}
+use Rattle.spans.specs.Ranges.{rangesFit}
+use Rattle.spans.specs.Spans.{spansFit}
 use Rattle.fit.specs.Fit.{lentFor, fitText, Fit}
 use Rattle.fit.specs.Locals.{Held}
-use Rattle.fit.specs.Ranges.{gapless, hasValue, rangesFit}
-use Rattle.fit.proofs.Cases.{and-left, and-right}
 
-pub ranges-values : (c : Counts) (nd pr : List ℕ) → rangesFit c nd pr ≡ true → gapless (firstValAt pr) (valCountAt pr) (c .properties) (c .values) ≡ true
-unfolding rangesFit
-ranges-values c nd pr h =
-    let a : Bool = gapless (firstPropAt nd) (propCountAt nd) (c .nodes) (c .properties) in
-    let b : Bool = gapless (firstValAt pr) (valCountAt pr) (c .properties) (c .values) in
-    and-right a b (and-left (a && b) (each (c .properties) (hasValue pr)) h)
+module _ (c : Counts) (tr nd pr vl : List ℕ) (held : Held c tr nd pr vl) where
+  pub links-held : linksFit c tr nd ≡ nodesFit c tr nd
+  unfolding linksFit
+  links-held = rw (le-leb _ _ (held .trees), le-leb _ _ (held .nodes), le-leb _ _ (held .few))
+
+  pub parts-held : (t : List ℕ) → length t ≤ textLimit → partsFit t c nd pr vl ≡ (rangesFit c nd pr && spansFit t c pr vl)
+  unfolding partsFit
+  parts-held t short = rw (le-leb _ _ short, le-leb _ _ (held .nodes), le-leb _ _ (held .properties), le-leb _ _ (held .values))
 
 -- ---- of what is lent
 

@@ -9,9 +9,9 @@ use Rattle.utf8.specs.declared.Trimmed.{Trimmed}
 use Rattle.utf8.specs.declared.Trimmed.the-variants.{NotUtf8, Blank, Kept}
 use Rattle.tables.specs.Numbers.{none, textLimit}
 use Rattle.tables.specs.declared.Counts.{Counts}
-use Rattle.fit.specs.Nodes.{nodesFit}
-use Rattle.fit.specs.Ranges.{rangesFit}
-use Rattle.fit.specs.Spans.{spansFit}
+use Rattle.links.specs.Nodes.{nodesFit}
+use Rattle.spans.specs.Ranges.{rangesFit}
+use Rattle.spans.specs.Spans.{spansFit}
 
 -- counts and used length are within what is lent; no node has the number that means none
 abbrev pub lentFor : List ℕ → ℕ → Counts → (tr nd pr vl : List ℕ) → Bool

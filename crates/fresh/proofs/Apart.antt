@@ -8,12 +8,12 @@ use native.Mathlib.Numerals.{add-one}
 use native.Mathlib.Omega.{arith}
 use lib.Dec.{leb}
 use borrow.Author.Tests.{leb-true, le-leb}
-use Rattle.fit.specs.Columns.{nameFromAt, nameToAt, firstValAt, valCountAt, valFromAt, valToAt}
-use Rattle.fit.specs.Each.{tabulate, sum}
-use Rattle.fit.specs.Spans.{Span, span, valSpan, spans, ascending}
-use Rattle.fit.proofs.Cases.{below-or, and-left, and-right}
+use Rattle.tables.specs.Columns.{nameFromAt, nameToAt, firstValAt, valCountAt, valFromAt, valToAt}
+use Rattle.tables.specs.Each.{tabulate, sum}
+use Rattle.spans.specs.Spans.{Span, span, valSpan, spans, ascending}
+use Rattle.tables.proofs.Cases.{below-or, and-left, and-right}
 use Rattle.lists.proofs.Tests.{same-or}
-use Rattle.fit.proofs.Ranges.{sum-next}
+use Rattle.spans.proofs.Ranges.{sum-next}
 
 module _ (used : ℕ) where
   pub record First (o : ℕ) (s : Span) (ss : List Span) : Type 0 where

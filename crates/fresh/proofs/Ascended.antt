@@ -12,11 +12,11 @@ use Rattle.lexer.specs.Move.{startsAt, endsAt}
 use Rattle.tokens.proofs.Replace.{starts-low, starts-high, ends-low, ends-high}
 use Rattle.tables.specs.Move.{moveProps, moveVals}
 use Rattle.tables.specs.Rows.{PropRow, ValRow}
-use Rattle.fit.specs.Columns.{nameFromAt, nameToAt, firstValAt, valCountAt}
-use Rattle.fit.specs.Each.{each, sum, tabulate}
-use Rattle.fit.specs.Ranges.{gapless, hasValue}
+use Rattle.tables.specs.Columns.{nameFromAt, nameToAt, firstValAt, valCountAt}
+use Rattle.tables.specs.Each.{each, sum, tabulate}
+use Rattle.spans.specs.Ranges.{gapless, hasValue}
 use Rattle.fit.specs.Record.{propRow, valRow}
-use Rattle.fit.specs.Spans.{Span, span, valSpan, propSpans, spans, ascending}
+use Rattle.spans.specs.Spans.{Span, span, valSpan, propSpans, spans, ascending}
 use Rattle.fresh.proofs.Apart.{First, first-is, is-first}
 
 module _ (used q e m : ℕ) (qe : q ≤ e) (eu : e ≤ used) where

@@ -13,10 +13,10 @@ use Rattle.lexer.specs.Closed.{closed}
 use Rattle.lexer.specs.Move.{startsAt, endsAt}
 use Rattle.tokens.proofs.Replace.{starts-low, starts-high, ends-low, ends-high}
 use Rattle.tables.specs.declared.Counts.{Counts}
-use Rattle.fit.specs.Columns.{valFromAt, valToAt}
-use Rattle.fit.specs.Spans.{boxed, valueRight}
-use Rattle.fit.proofs.Cases.{and-left, and-right}
-use Rattle.fit.proofs.Each.{each-at}
+use Rattle.tables.specs.Columns.{valFromAt, valToAt}
+use Rattle.spans.specs.Spans.{boxed, valueRight}
+use Rattle.tables.proofs.Cases.{and-left, and-right}
+use Rattle.tables.proofs.Each.{each-at}
 use Rattle.fit.proofs.Clauses.{Clauses}
 use Rattle.fresh.proofs.Pasted.{U, byte-before, byte-after, slice-before, slice-after, slice-new}
 

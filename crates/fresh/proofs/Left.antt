@@ -10,7 +10,7 @@ use Rattle.tables.specs.Flat.{flatProps, flatVals, over}
 use Rattle.tables.specs.Move.{moveProps, moveVals}
 use Rattle.tables.specs.Rows.{PropRow, ValRow, Tables}
 use Rattle.tables.specs.declared.Counts.{Counts}
-use Rattle.fit.specs.Each.{tabulate}
+use Rattle.tables.specs.Each.{tabulate}
 use Rattle.fit.specs.Record.{propRow, valRow, rowsOf}
 use Rattle.fit.proofs.Rows.{rows-of-flat}
 use Rattle.splice.specs.Splice.{cleared}

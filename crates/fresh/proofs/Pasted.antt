@@ -10,7 +10,7 @@ use Rattle.utf8.specs.Text.{Ink, blank, inked, Utf, whole, part, bad, utfs}
 use Rattle.utf8.specs.Trim.{shown, trimmed}
 use Rattle.tokens.proofs.Kept.{kept}
 use Rattle.fit.specs.Fit.{sound, validUtf8}
-use Rattle.fit.proofs.Cases.{below-or}
+use Rattle.tables.proofs.Cases.{below-or}
 use Rattle.splice.specs.Splice.{pasted}
 
 slice-add : (p r : List ℕ) (n a b : ℕ) → length p ≡ n → slice (n + a) (n + b) (p ++ r) ≡ slice a b r

@@ -14,17 +14,17 @@ use Rattle.tables.specs.Flat.{flatProps, flatVals, over}
 use Rattle.tables.specs.Move.{moveProps, moveVals}
 use Rattle.tables.specs.Rows.{PropRow, ValRow}
 use Rattle.tables.specs.declared.Counts.{Counts}
-use Rattle.fit.specs.Columns.{nameFromAt, nameToAt, firstValAt, valCountAt, valFromAt, valToAt}
-use Rattle.fit.specs.Each.{each, sum, tabulate}
+use Rattle.tables.specs.Columns.{nameFromAt, nameToAt, firstValAt, valCountAt, valFromAt, valToAt}
+use Rattle.tables.specs.Each.{each, sum, tabulate}
 use Rattle.fit.specs.Fit.{Fit}
 use Rattle.fit.specs.Locals.{Held}
 use Rattle.fit.specs.Record.{propRow, valRow}
-use Rattle.fit.specs.Spans.{span, spans, ascending, plainName, nameRight, boxed, valueRight}
+use Rattle.spans.specs.Spans.{span, spans, ascending, plainName, nameRight, boxed, valueRight}
 use Rattle.lists.proofs.Tests.{same-or}
 use Rattle.fit.proofs.Clauses.{Clauses, fit-clauses, clauses-fit, fit-vals}
-use Rattle.fit.proofs.Each.{each-at, each-all}
-use Rattle.fit.proofs.Lying.{names-lie}
-use Rattle.fit.proofs.Ranges.{gapless-first, gapless-sum, gapless-in}
+use Rattle.tables.proofs.Each.{each-at, each-all}
+use Rattle.spans.proofs.Lying.{names-lie}
+use Rattle.spans.proofs.Ranges.{gapless-first, gapless-sum, gapless-in}
 use Rattle.fit.proofs.Whole.{fit-lent}
 use Rattle.splice.specs.Splice.{cleared}
 use Rattle.decide.specs.Answer.{outcomeOf}

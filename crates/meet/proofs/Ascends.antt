@@ -14,7 +14,7 @@ use Rattle.utf8.proofs.Steps.{place}
 use Rattle.lexer.specs.Token.{Val, Prop, Tok, start, St, between, ident, value, after, fault, Out, starts, begins, values, afters, step, emits, ends, finish, lexFrom}
 use Rattle.scan.specs.Scan.{space}
 use Rattle.tokens.proofs.Invariant.{OfTok}
-use Rattle.fit.specs.Spans.{span, plainName}
+use Rattle.spans.specs.Spans.{span, plainName}
 use Rattle.meet.proofs.Climbs.{spansOfValues, spansOfProp, spansOf, propsOf, values-append, spans-append, props-append, Climb, climb-append, climb-up}
 
 abbrev pub Plain : Prop → Type 0

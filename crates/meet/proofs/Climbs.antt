@@ -6,7 +6,7 @@ use mathlib.Core.Bool.{true}
 use mathlib.Core.List.{List, [], _∷_, _++_, append-assoc}
 use borrow.Author.Tests.{le-leb}
 use Rattle.lexer.specs.Token.{Val, Prop, Tok, start, end, node, prop}
-use Rattle.fit.specs.Spans.{Span, span, ascending}
+use Rattle.spans.specs.Spans.{Span, span, ascending}
 
 -- ---- the spans of values, of a property, of properties
 

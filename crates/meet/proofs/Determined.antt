@@ -13,12 +13,12 @@ use Rattle.tables.specs.Numbers.{none}
 use Rattle.tables.specs.Record.{Node, Tree, allNodes, allProps, allVals}
 use Rattle.tables.specs.Rows.{tables, next, parents, nodeRows, propRows, valRows, countsOf}
 use Rattle.tables.specs.declared.Counts.{Counts}
-use Rattle.fit.specs.Columns.{parentAt, childAt, siblingAt}
-use Rattle.fit.specs.Each.{tabulate}
+use Rattle.tables.specs.Columns.{parentAt, childAt, siblingAt}
+use Rattle.tables.specs.Each.{tabulate}
 use Rattle.fit.specs.Fit.{Fit}
-use Rattle.fit.specs.Nodes.{firstUnder, nextOf, childRight, siblingRight}
+use Rattle.links.specs.Nodes.{firstUnder, nextOf, childRight, siblingRight}
 use Rattle.fit.specs.Record.{treeRow, nodeRow, propRow, valRow, rowsOf, treesOf, recordOf}
-use Rattle.fit.proofs.Each.{each-at}
+use Rattle.tables.proofs.Each.{each-at}
 use Rattle.fit.proofs.Clauses.{Clauses, fit-clauses}
 use Rattle.fit.proofs.Parts.{tabulate-length}
 use Rattle.fit.proofs.RecordFits.{counts-of-rows}

@@ -13,7 +13,7 @@ use Rattle.tables.specs.Flat.{flatTrees, flatNodes, flatProps, flatVals}
 use Rattle.tables.specs.Record.{Node, Tree, allNodes, allProps, allVals}
 use Rattle.tables.specs.Rows.{Tables, tables, parents, treeRows, nodeRows, propRows, valRows, countsOf}
 use Rattle.tables.specs.declared.Counts.{Counts}
-use Rattle.fit.specs.Each.{tabulate}
+use Rattle.tables.specs.Each.{tabulate}
 use Rattle.fit.specs.Fit.{sound, validUtf8, Fit}
 use Rattle.fit.specs.Record.{treeRow, nodeRow, propRow, valRow, rowsOf}
 use Rattle.fit.proofs.Clauses.{Clauses, clauses-fit}

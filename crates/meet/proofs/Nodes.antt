@@ -11,13 +11,13 @@ use Rattle.lists.specs.Same.{same}
 use Rattle.tables.specs.Numbers.{none}
 use Rattle.tables.specs.Record.{Node, Tree, allNodes}
 use Rattle.tables.specs.Rows.{TreeRow, NodeRow, treeRows, nodeRows, parents}
-use Rattle.fit.specs.Columns.{rootAt, kindAt, parentAt}
-use Rattle.fit.specs.Each.{each, tabulate}
-use Rattle.fit.specs.Nodes.{orphans, rootsRight, parentRight, kindRight}
+use Rattle.tables.specs.Columns.{rootAt, kindAt, parentAt}
+use Rattle.tables.specs.Each.{each, tabulate}
+use Rattle.links.specs.Nodes.{orphans, rootsRight, parentRight, kindRight}
 use Rattle.fit.specs.Record.{treeRow, nodeRow}
-use Rattle.fit.proofs.Cases.{below-or}
+use Rattle.tables.proofs.Cases.{below-or}
 use Rattle.lists.proofs.Tests.{same-or}
-use Rattle.fit.proofs.Each.{each-all}
+use Rattle.tables.proofs.Each.{each-all}
 use Rattle.fit.proofs.Recorded.{Rooted}
 use Rattle.parser.specs.Slice.{sliceFrom}
 use Rattle.parser.specs.Walk.{Opts}

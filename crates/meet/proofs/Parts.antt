@@ -11,12 +11,12 @@ use Rattle.lexer.specs.Token.{Val, Prop}
 use Rattle.tables.specs.Numbers.{none}
 use Rattle.tables.specs.Record.{Node}
 use Rattle.tables.specs.Rows.{TreeRow, NodeRow, PropRow, ValRow, next, parents, treeRows, nodeRows, propRows, valRows}
-use Rattle.fit.specs.Columns.{parentAt, childAt, siblingAt, firstPropAt, propCountAt, nameFromAt, nameToAt, firstValAt, valCountAt}
-use Rattle.fit.specs.Each.{sum, tabulate}
-use Rattle.fit.specs.Ranges.{gapless}
+use Rattle.tables.specs.Columns.{parentAt, childAt, siblingAt, firstPropAt, propCountAt, nameFromAt, nameToAt, firstValAt, valCountAt}
+use Rattle.tables.specs.Each.{sum, tabulate}
+use Rattle.spans.specs.Ranges.{gapless}
 use Rattle.fit.specs.Record.{nodeRow, propRow, valOf, propOf, nodeOf, treesOf}
 use Rattle.fit.proofs.Parts.{part-length}
-use Rattle.fit.proofs.Ranges.{sum-suc, gapless-first}
+use Rattle.spans.proofs.Ranges.{sum-suc, gapless-first}
 
 -- ---- trees
 

@@ -10,9 +10,9 @@ use borrow.Author.Tests.{eq-eqb, ne-eqb, lt-ltb}
 use Rattle.lexer.specs.Token.{Tok}
 use Rattle.tables.specs.Numbers.{none}
 use Rattle.tables.specs.Record.{Node}
-use Rattle.fit.specs.Columns.{parentAt}
-use Rattle.fit.specs.Nodes.{onPath, parentRight}
-use Rattle.fit.proofs.Path.{path-self, path-up, path-le, path-trans, has-parent}
+use Rattle.tables.specs.Columns.{parentAt}
+use Rattle.links.specs.Nodes.{onPath, parentRight}
+use Rattle.links.proofs.Path.{path-self, path-up, path-le, path-trans, has-parent}
 use Rattle.parser.specs.Walk.{Opts, shut}
 use Rattle.meet.proofs.Grown.{walkOf}
 use Rattle.meet.proofs.Walks.{Kept, keep-walk}

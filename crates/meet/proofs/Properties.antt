@@ -18,7 +18,7 @@ use Rattle.tokens.proofs.Contents.{Stands, Denotes}
 use Rattle.tokens.proofs.Invariant.{OfTok}
 use Rattle.tokens.proofs.Proper.{Proper, HasProper}
 use Rattle.tables.specs.Record.{Tree, allNodes, allProps, allVals}
-use Rattle.fit.specs.Spans.{ascending, plainName, boxed}
+use Rattle.spans.specs.Spans.{ascending, plainName, boxed}
 use Rattle.parser.specs.Walk.{Opts}
 use Rattle.parser.specs.Read.{accepted, lex, read}
 use Rattle.parser.proofs.Denoted.{read-denotes}

@@ -14,13 +14,13 @@ use Rattle.lexer.specs.Token.{Val, Prop}
 use Rattle.tokens.proofs.Proper.{HasProper}
 use Rattle.tables.specs.Record.{Tree, allNodes, allProps, allVals}
 use Rattle.tables.specs.Rows.{PropRow, ValRow, propRows, valRows}
-use Rattle.fit.specs.Columns.{nameFromAt, nameToAt, valCountAt, valFromAt, valToAt}
-use Rattle.fit.specs.Each.{each, tabulate}
-use Rattle.fit.specs.Ranges.{hasValue}
+use Rattle.tables.specs.Columns.{nameFromAt, nameToAt, valCountAt, valFromAt, valToAt}
+use Rattle.tables.specs.Each.{each, tabulate}
+use Rattle.spans.specs.Ranges.{hasValue}
 use Rattle.fit.specs.Record.{propRow, valRow}
-use Rattle.fit.specs.Spans.{Span, span, valSpan, propSpans, spans, ascending, plainName, nameRight, boxed, valueRight}
+use Rattle.spans.specs.Spans.{Span, span, valSpan, propSpans, spans, ascending, plainName, nameRight, boxed, valueRight}
 use Rattle.lists.proofs.Tests.{same-or}
-use Rattle.fit.proofs.Each.{each-all}
+use Rattle.tables.proofs.Each.{each-all}
 use Rattle.parser.specs.Walk.{Opts}
 use Rattle.parser.specs.Read.{accepted, read}
 use Rattle.meet.proofs.Properties.{props-ascend, props-proper, props-plain, values-boxed}

@@ -14,7 +14,8 @@ use Rattle.tables.specs.Numbers.{none}
 use Rattle.tables.specs.Record.{Node}
 use Rattle.tables.specs.Rows.{next, parents}
 use Rattle.tables.specs.Flat.{flatNodes}
-use Rattle.tables.specs.Links.{parentAt, childAt, least}
+use Rattle.tables.specs.Columns.{parentAt, childAt}
+use Rattle.tables.specs.Links.{least}
 use Rattle.trees.specs.Flat.{bareRows}
 
 -- ---- the first of the nodes with a parent

@@ -12,7 +12,7 @@ use Rattle.go.specs.Value.{goValue}
 use Rattle.go.specs.declared.value.GoValue.{GoValue}
 use Rattle.tables.specs.declared.Counts.{Counts}
 use Rattle.tables.specs.declared.Reason.the-variants.{NoSuchNumber, NotFitting}
-use Rattle.fit.specs.Columns.{firstValAt, valCountAt}
+use Rattle.tables.specs.Columns.{firstValAt, valCountAt}
 use Rattle.fit.specs.Fit.{Fit}
 use Rattle.fit.proofs.Clauses.{Clauses, fit-clauses, name-in}
 use Rattle.fit.proofs.RootRows.{root-in}

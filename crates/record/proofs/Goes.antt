@@ -15,13 +15,13 @@ use Rattle.go.specs.Value.{goValue}
 use Rattle.go.specs.declared.value.GoValue.{GoValue}
 use Rattle.tables.specs.Record.{Node, allProps}
 use Rattle.tables.specs.declared.Counts.{Counts}
-use Rattle.fit.specs.Columns.{rootAt, kindAt, firstPropAt, propCountAt, firstValAt, valCountAt}
-use Rattle.fit.specs.Each.{sum, tabulate}
+use Rattle.tables.specs.Columns.{rootAt, kindAt, firstPropAt, propCountAt, firstValAt, valCountAt}
+use Rattle.tables.specs.Each.{sum, tabulate}
 use Rattle.fit.specs.Record.{treeRow, nodeRow, propRow, propOf, nodeOf, treesOf, recordOf, rowsOf}
-use Rattle.fit.proofs.Cases.{below-or}
+use Rattle.tables.proofs.Cases.{below-or}
 use Rattle.fit.proofs.Clauses.{Clauses}
 use Rattle.fit.proofs.Parts.{tabulate-length, tabulate-drop, tabulate-at, tabulate-part, map-tabulate}
-use Rattle.fit.proofs.Ranges.{gapless-first, gapless-sum, sum-up}
+use Rattle.spans.proofs.Ranges.{gapless-first, gapless-sum, sum-up}
 use Rattle.fit.proofs.RecordRows.{valsIn, propsIn, props-part, first-root, no-trees}
 use Rattle.fit.proofs.RootRows.{root-in, root-rises}
 use Rattle.record.specs.Ask.{noProp, goOf, goAt}

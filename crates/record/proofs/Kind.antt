@@ -5,7 +5,7 @@ use mathlib.Core.Path.{_≡_, ap, _∙_, subst}
 use native.Mathlib.Omega.{arith}
 use native.Mathlib.Numerals.{add-one}
 use borrow.Author.Tests.{lt-ltb, le-ltb}
-use Rattle.fit.specs.Columns.{rootAt, kindAt, firstPropAt}
+use Rattle.tables.specs.Columns.{rootAt, kindAt, firstPropAt}
 use Rattle.record.specs.Locals.{kindFrom}
 
 module _ (tr nd : List ℕ) (p : ℕ) where

@@ -8,10 +8,10 @@ use Rattle.display.specs.declared.Kind.{Kind}
 use Rattle.rows.specs.Rows.{valuesAt}
 use Rattle.go.specs.Value.{goValue}
 use Rattle.go.specs.declared.value.GoValue.{GoValue}
-use Rattle.fit.specs.Columns.{nameFromAt, nameToAt, firstValAt, valCountAt}
+use Rattle.tables.specs.Columns.{nameFromAt, nameToAt, firstValAt, valCountAt}
 use Rattle.access.specs.declared.Accessed.{Accessed}
 use Rattle.access.specs.declared.Accessed.the-variants.{Part}
-use Rattle.fit.proofs.Lists.{part-slice}
+use Rattle.spans.proofs.Lists.{part-slice}
 use Rattle.record.specs.Ask.{shownAs, shownIn, display, displayIn}
 use Rattle.record.specs.Locals.{nameAt}
 

@@ -7,10 +7,10 @@ use lib.ListN.{take, drop}
 use Rattle.tables.specs.declared.Counts.{Counts}
 use Rattle.rows.specs.Rows.{valuesAt}
 use Rattle.rows.proofs.Valued.{values-none, values-more}
-use Rattle.fit.specs.Columns.{firstValAt, valCountAt}
+use Rattle.tables.specs.Columns.{firstValAt, valCountAt}
 use Rattle.fit.specs.Record.{rawOf}
 use Rattle.fit.proofs.Clauses.{Clauses}
-use Rattle.fit.proofs.Ranges.{gapless-in}
+use Rattle.spans.proofs.Ranges.{gapless-in}
 use Rattle.fit.proofs.RecordRows.{valsIn, raws-at}
 
 -- of property p

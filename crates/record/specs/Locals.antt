@@ -5,7 +5,7 @@ use lib.Dec.{ltb}
 use lib.ListN.{length}
 use lib.Seq.{slice}
 use Rattle.lists.specs.Pick.{pick}
-use Rattle.fit.specs.Columns.{rootAt, kindAt, firstPropAt, nameFromAt, nameToAt}
+use Rattle.tables.specs.Columns.{rootAt, kindAt, firstPropAt, nameFromAt, nameToAt}
 
 -- there are m trees, at least one, and each root is a row
 pub record Rooted (m : ℕ) (tr nd : List ℕ) : Type 0 where

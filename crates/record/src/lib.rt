@@ -13,7 +13,7 @@ ghost use Rattle.go.specs.Value.{goValue};
 ghost use Rattle.values.specs.Read.{readIdentifier};
 ghost use Rattle.record.specs.Ask.{shownAs, shownIn, DisplayIs, refuses, goAnswer};
 ghost use Rattle.record.specs.Locals.{Rooted, Named, kindFrom, nameAt};
-ghost use Rattle.fit.specs.Columns.{firstValAt, valCountAt};
+ghost use Rattle.tables.specs.Columns.{firstValAt, valCountAt};
 
 // A display: its number of bytes, or why it is refused.
 pub enum Shown {

@@ -12,11 +12,11 @@ use Rattle.values.specs.Read.{readIdentifier}
 use Rattle.tables.specs.Record.{allNodes, allProps}
 use Rattle.tables.specs.Rows.{PropRow}
 use Rattle.tables.specs.declared.Counts.{Counts}
-use Rattle.fit.proofs.Cases.{below-or}
+use Rattle.tables.proofs.Cases.{below-or}
 use Rattle.fit.proofs.Clauses.{fit-clauses}
 use Rattle.fit.proofs.Parts.{tabulate-last, map-tabulate}
 use Rattle.fit.proofs.RecordRows.{valsIn, record-props}
-use Rattle.fit.specs.Each.{each, tabulate}
+use Rattle.tables.specs.Each.{each, tabulate}
 use Rattle.fit.specs.Fit.{Fit}
 use Rattle.fit.specs.Record.{propRow, propOf, rowsOf, recordOf}
 use Rattle.serialize.specs.Walk.{namesGood}

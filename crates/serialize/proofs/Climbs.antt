@@ -10,11 +10,11 @@ use borrow.Author.Tests.{eq-eqb, ne-eqb}
 use Rattle.lists.specs.Pick.{pick}
 use Rattle.put.specs.Wrote.{Wrote}
 use Rattle.tables.specs.Numbers.{none}
-use Rattle.fit.specs.Columns.{parentAt, childAt, siblingAt}
-use Rattle.fit.specs.Nodes.{onPath}
+use Rattle.tables.specs.Columns.{parentAt, childAt, siblingAt}
+use Rattle.links.specs.Nodes.{onPath}
 use Rattle.lists.proofs.Tests.{same-or}
-use Rattle.fit.proofs.Path.{has-before, path-down, path-le}
-use Rattle.fit.proofs.Rule.{rule-before}
+use Rattle.links.proofs.Path.{has-before, path-down, path-le}
+use Rattle.links.proofs.Rule.{rule-before}
 use Rattle.serialize.specs.Locals.{Placed, Above}
 use Rattle.serialize.specs.Walk.{inBrackets, shut, begun, climbs, endsBefore}
 use Rattle.form.proofs.Writing.{Writing, writing-first, writing-is, writing-next, writing-last}

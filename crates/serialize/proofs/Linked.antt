@@ -12,10 +12,10 @@ use Rattle.tables.specs.declared.Counts.{Counts}
 use Rattle.fit.proofs.Clauses.{Clauses, fit-clauses}
 use Rattle.fit.proofs.Parts.{map-tabulate, tabulate-drop, tabulate-part}
 use Rattle.fit.proofs.RecordRows.{propsIn, first-root, no-trees}
-use Rattle.fit.proofs.Ranges.{gapless-in}
+use Rattle.spans.proofs.Ranges.{gapless-in}
 use Rattle.fit.proofs.RootRows.{root-in}
-use Rattle.fit.specs.Columns.{rootAt, kindAt, parentAt, firstPropAt, propCountAt, firstValAt, valCountAt}
-use Rattle.fit.specs.Each.{tabulate}
+use Rattle.tables.specs.Columns.{rootAt, kindAt, parentAt, firstPropAt, propCountAt, firstValAt, valCountAt}
+use Rattle.tables.specs.Each.{tabulate}
 use Rattle.fit.specs.Fit.{Fit}
 use Rattle.fit.specs.Record.{treeRow, nodeRow, nodeOf, treesOf, rowsOf, recordOf}
 use Rattle.serialize.specs.Form.{formProp, formNode, formTree, writing}

@@ -8,11 +8,11 @@ use lib.Dec.{eqb}
 use borrow.Author.Tests.{eq-eqb, ne-eqb}
 use Rattle.lists.specs.Pick.{pick}
 use Rattle.tables.specs.Numbers.{none}
-use Rattle.fit.proofs.Cases.{true-false}
+use Rattle.tables.proofs.Cases.{true-false}
 use Rattle.lists.proofs.Tests.{same-or}
-use Rattle.fit.proofs.Path.{has-before, has-none, path-out, path-down}
-use Rattle.fit.specs.Columns.{parentAt}
-use Rattle.fit.specs.Nodes.{hasParent, onPath}
+use Rattle.links.proofs.Path.{has-before, has-none, path-out, path-down}
+use Rattle.tables.specs.Columns.{parentAt}
+use Rattle.links.specs.Nodes.{hasParent, onPath}
 use Rattle.serialize.specs.Walk.{inBrackets, shut, climbs, endsBefore}
 use Rattle.serialize.specs.Write.{Open, ends, left, shuts}
 

@@ -11,8 +11,8 @@ use Rattle.rows.specs.Rows.{valuesAt}
 use Rattle.rows.proofs.Valued.{values-none, values-more}
 use Rattle.fit.proofs.Parts.{map-tabulate, tabulate-part}
 use Rattle.fit.proofs.RecordRows.{valsIn, propsIn, raws-at}
-use Rattle.fit.specs.Columns.{firstPropAt, propCountAt, firstValAt, valCountAt}
-use Rattle.fit.specs.Each.{tabulate}
+use Rattle.tables.specs.Columns.{firstPropAt, propCountAt, firstValAt, valCountAt}
+use Rattle.tables.specs.Each.{tabulate}
 use Rattle.fit.specs.Record.{nodeRow, propRow, propOf, nodeOf, rawOf}
 use Rattle.serialize.specs.Form.{placeless, formProp, formNode}
 use Rattle.serialize.specs.Walk.{nameAt, valuesText, propText, propsText}

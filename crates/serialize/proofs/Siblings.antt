@@ -8,15 +8,15 @@ use lib.Dec.{eqb, leb}
 use borrow.Author.Tests.{eq-eqb, ne-eqb, le-leb}
 use Rattle.lists.specs.Pick.{pick}
 use Rattle.tables.specs.Numbers.{none}
-use Rattle.fit.proofs.Cases.{true-false}
+use Rattle.tables.proofs.Cases.{true-false}
 use Rattle.lists.proofs.Tests.{same-or}
-use Rattle.fit.proofs.Children.{first-none, first-at}
-use Rattle.fit.proofs.Path.{has-none, path-out}
-use Rattle.fit.proofs.Rule.{rule-before, off-on, parent-on}
-use Rattle.fit.specs.Columns.{parentAt, childAt, siblingAt}
-use Rattle.fit.specs.Each.{tabulate}
-use Rattle.fit.specs.Locals.{Ruled}
-use Rattle.fit.specs.Nodes.{firstUnder, nextOf, onPath}
+use Rattle.links.proofs.Children.{first-none, first-at}
+use Rattle.links.proofs.Path.{has-none, path-out}
+use Rattle.links.proofs.Rule.{rule-before, off-on, parent-on}
+use Rattle.tables.specs.Columns.{parentAt, childAt, siblingAt}
+use Rattle.tables.specs.Each.{tabulate}
+use Rattle.links.specs.Locals.{Ruled}
+use Rattle.links.specs.Nodes.{firstUnder, nextOf, onPath}
 use Rattle.serialize.specs.Walk.{inBrackets}
 use Rattle.serialize.specs.Write.{times}
 

@@ -6,13 +6,13 @@ use native.Mathlib.Omega.{arith}
 use borrow.Author.Tests.{eq-eqb, ne-eqb, eqb-true}
 use Rattle.tables.specs.Numbers.{none}
 use Rattle.tables.specs.declared.Counts.{Counts}
-use Rattle.fit.proofs.Cases.{below-or}
+use Rattle.tables.proofs.Cases.{below-or}
 use Rattle.fit.proofs.Clauses.{Clauses}
-use Rattle.fit.proofs.Each.{each-at}
+use Rattle.tables.proofs.Each.{each-at}
 use Rattle.fit.proofs.RecordRows.{ruled, first-root}
 use Rattle.fit.proofs.RootRows.{root-in, root-rises, orphan-root}
-use Rattle.fit.specs.Columns.{rootAt, kindAt, parentAt, childAt, siblingAt}
-use Rattle.fit.specs.Nodes.{firstUnder, nextOf, childRight, siblingRight}
+use Rattle.tables.specs.Columns.{rootAt, kindAt, parentAt, childAt, siblingAt}
+use Rattle.links.specs.Nodes.{firstUnder, nextOf, childRight, siblingRight}
 use Rattle.serialize.specs.Walk.{rootsBelow, kindOver}
 use Rattle.serialize.proofs.TreeWalk.{Linking, Stretch}
 

@@ -16,13 +16,13 @@ use Rattle.tables.specs.Numbers.{none}
 use Rattle.go.specs.Normal.{normal}
 use Rattle.rows.specs.Rows.{valuesAt}
 use Rattle.shape.proofs.Identifiers.{letter-past, letter-here}
-use Rattle.fit.specs.Columns.{kindAt, parentAt, firstPropAt, propCountAt, nameFromAt, nameToAt, firstValAt, valCountAt}
+use Rattle.tables.specs.Columns.{kindAt, parentAt, firstPropAt, propCountAt, nameFromAt, nameToAt, firstValAt, valCountAt}
 use Rattle.lists.proofs.Tests.{same-or}
-use Rattle.fit.proofs.Each.{each-at, each-all}
-use Rattle.fit.proofs.Lists.{part-slice}
-use Rattle.fit.proofs.Rule.{rule-at, rule-before}
-use Rattle.fit.specs.Nodes.{parentRight}
-use Rattle.fit.specs.Locals.{Ruled}
+use Rattle.tables.proofs.Each.{each-at, each-all}
+use Rattle.spans.proofs.Lists.{part-slice}
+use Rattle.links.proofs.Rule.{rule-at, rule-before}
+use Rattle.links.specs.Nodes.{parentRight}
+use Rattle.links.specs.Locals.{Ruled}
 use Rattle.serialize.specs.Locals.{PropHeld, Placed, Above, NodesHeld}
 use Rattle.serialize.specs.Walk.{texts, rootsBelow, nameAt, valuesText, propText, propsText, begun, endsBefore, nodeBy, nodeText, linked, named}
 use Rattle.form.specs.Boxes.{boxes}

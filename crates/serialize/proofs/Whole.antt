@@ -14,11 +14,11 @@ use Rattle.put.proofs.Written.{wrote-all}
 use Rattle.tables.specs.Record.{Tree, allNodes, allProps}
 use Rattle.tables.specs.declared.Counts.{Counts}
 use Rattle.tables.specs.declared.Reason.the-variants.{NoRoom, EmptyIdentifier, NotFitting}
-use Rattle.fit.specs.Columns.{firstPropAt, propCountAt}
+use Rattle.tables.specs.Columns.{firstPropAt, propCountAt}
 use Rattle.fit.specs.Fit.{Fit}
 use Rattle.fit.specs.Record.{rowsOf, recordOf}
 use Rattle.fit.proofs.Clauses.{Clauses, fit-clauses, name-in}
-use Rattle.fit.proofs.Ranges.{gapless-in}
+use Rattle.spans.proofs.Ranges.{gapless-in}
 use Rattle.fit.proofs.Whole.{fit-lent}
 use Rattle.serialize.specs.Form.{writing, answer, written, WriteIs}
 use Rattle.serialize.specs.Locals.{PropHeld, NodesHeld}

@@ -5,9 +5,9 @@ use mathlib.Core.List.{List}
 use mathlib.Core.Path.{_≡_}
 use lib.ListN.{length}
 use Rattle.tables.specs.Numbers.{none}
-use Rattle.fit.specs.Columns.{parentAt, firstPropAt, propCountAt, nameFromAt, nameToAt}
-use Rattle.fit.specs.Locals.{Ruled}
-use Rattle.fit.specs.Nodes.{onPath}
+use Rattle.tables.specs.Columns.{parentAt, firstPropAt, propCountAt, nameFromAt, nameToAt}
+use Rattle.links.specs.Locals.{Ruled}
+use Rattle.links.specs.Nodes.{onPath}
 
 -- row p of the properties is there, and its identifier lies in the text
 pub record PropHeld (t pr : List ℕ) (p : ℕ) : Type 0 where

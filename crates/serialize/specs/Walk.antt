@@ -10,9 +10,9 @@ use Rattle.values.specs.Read.{readIdentifier}
 use Rattle.go.specs.Normal.{normal}
 use Rattle.rows.specs.Rows.{valuesAt}
 use Rattle.tables.specs.Numbers.{none}
-use Rattle.fit.specs.Each.{each}
+use Rattle.tables.specs.Each.{each}
 use Rattle.form.specs.Boxes.{boxes}
-use Rattle.fit.specs.Columns.{kindAt, parentAt, childAt, siblingAt, firstPropAt, propCountAt, nameFromAt, nameToAt, firstValAt, valCountAt}
+use Rattle.tables.specs.Columns.{kindAt, parentAt, childAt, siblingAt, firstPropAt, propCountAt, nameFromAt, nameToAt, firstValAt, valCountAt}
 
 -- the texts of 0, 1, .. below m, one after another
 unfoldable pub texts : (ℕ → List ℕ) → ℕ → List ℕ

@@ -3,7 +3,7 @@ ghost use mathlib.Core.Path.{_≡_};
 ghost use Prim.Native.Nat.{suc, _-_, _/_, _<_, _≤_};
 ghost use lib.ListN.{length};
 ghost use Rattle.put.specs.Wrote.{Wrote};
-ghost use Rattle.fit.specs.Columns.{kindAt};
+ghost use Rattle.tables.specs.Columns.{kindAt};
 ghost use Rattle.serialize.specs.Locals.{NodeHeld, NodesHeld};
 ghost use Rattle.serialize.specs.Walk.{rootsBelow, nodeBy, linked};
 

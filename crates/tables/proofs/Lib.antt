@@ -1,4 +1,6 @@
+pub mod Cases
 pub mod Cells
+pub mod Each
 pub mod Lengths
 pub mod Links
 pub mod Moved

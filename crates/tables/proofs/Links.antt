@@ -10,7 +10,8 @@ use lib.Seq.{getD-set-same, getD-set-other}
 use Rattle.lists.proofs.Tests.{same-or}
 use Rattle.lists.specs.Pick.{pick}
 use Rattle.tables.specs.Numbers.{none}
-use Rattle.tables.specs.Links.{parentAt, childAt, least, LinkedFrom, HasRows, LinksIs}
+use Rattle.tables.specs.Columns.{parentAt, childAt}
+use Rattle.tables.specs.Links.{least, LinkedFrom, HasRows, LinksIs}
 
 -- one node more: the definition's own step
 least-step : (t : List ℕ) (p j n : ℕ) → j < n → least t p j (n - j) ≡ pick (eqb (parentAt t j) p) j (least t p (suc j) (n - suc j))

@@ -1,3 +1,5 @@
+pub mod Columns
+pub mod Each
 pub mod Flat
 pub mod Links
 pub mod Move

@@ -5,15 +5,8 @@ use Prim.Native.Nat.{ℕ, zero, suc, _+_, _-_, _*_, _/_, _≤_, _<_}
 use lib.Dec.{ltb, eqb}
 use lib.ListN.{length, getD}
 use Rattle.lists.specs.Pick.{pick}
+use Rattle.tables.specs.Columns.{parentAt, childAt}
 use Rattle.tables.specs.Numbers.{none}
-
--- the parent in row i
-abbrev pub parentAt : List ℕ → ℕ → ℕ
-parentAt t i = getD t (i * 5) 0
-
--- the first child in row i
-abbrev pub childAt : List ℕ → ℕ → ℕ
-childAt t i = getD t (i * 5 + 1) 0
 
 -- the first of the m nodes from k on whose parent is p; where there is none, the first child that stands in row p
 unfoldable pub least : List ℕ → (p k m : ℕ) → ℕ

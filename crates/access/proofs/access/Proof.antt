@@ -4,7 +4,7 @@ use denote.Ref.{now}
 use borrow.Author.Needs.{needs}
 use borrow.Author.Tests.{le-ltb, lt-ltb}
 use Rattle.access.specs.Access.{accessed}
-use Rattle.fit.proofs.Cases.{passed, refused}
+use Rattle.tables.proofs.Cases.{passed, refused}
 use Rattle.fit.proofs.Whole.{fit-lent}
 use Rattle.access.proofs.access.Statement.{statement}
 use Rattle.access.proofs.access.Tie as tie

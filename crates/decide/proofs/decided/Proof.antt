@@ -3,7 +3,7 @@ use Rattle.decide.proofs.Judged.{decided-misfit, decided-beyond, decide
 use Rattle.fit.proofs.Clauses.{fit-short, fit-names}
 use Rattle.fit.proofs.Whole.{fit-lent as fit-held}
 use Rattle.decide.proofs.Fitting.{fit-within}
-use Rattle.fit.proofs.Cases.{passed, refused}
+use Rattle.tables.proofs.Cases.{passed, refused}
 use lib.Seq.{length-take-le}
 use native.Mathlib.Omega.{arith}
 use mathlib.Core.Path.{sym, _∙_}

@@ -4,7 +4,7 @@ use lib.Seq.{length-take-le}
 use denote.Ref.{now}
 use borrow.Author.Needs.{needs}
 use Rattle.fit.specs.Fit.{Fit}
-use Rattle.fit.proofs.Cases.{passed, refused}
+use Rattle.tables.proofs.Cases.{passed, refused}
 use Rattle.fit.proofs.Whole.{lent-is}
 use Rattle.fit.proofs.fits.Statement.{statement}
 use Rattle.fit.proofs.fits.Tie as tie

@@ -1,9 +1,10 @@
 -- `fit::fits_text` meets its contract. Assumes nothing.
+use mathlib.Core.Path.{_∙_}
 use borrow.Author.Needs.{needs}
 use borrow.Author.Tests.{le-leb, lt-leb}
+use Rattle.tables.proofs.Cases.{passed, refused}
 use Rattle.fit.specs.Fit.{fitText}
-use Rattle.fit.proofs.Cases.{passed, refused}
-use Rattle.fit.proofs.Whole.{ranges-values}
+use Rattle.fit.proofs.Whole.{links-held, parts-held}
 use Rattle.fit.proofs.fits_text.Statement.{statement}
 use Rattle.fit.proofs.fits_text.Tie as tie
 
@@ -17,18 +18,11 @@ returns-2 c = rw (le-leb _ _ (c .before .before .if1 .left), refused (c .before 
 
 returns-3 : tie.Need-returns-3
 unfolding fitText
-returns-3 c = rw (le-leb _ _ (c .before .before .before .before .if1 .left), passed (c .before .before .before .is-utf8 .ensures) (c .before .before .if2 .left), refused (c .before .nodes-fit .ensures) (c .if3 .taken))
+returns-3 c = rw (le-leb _ _ (c .before .before .before .before .if1 .left), passed (c .before .before .before .is-utf8 .ensures) (c .before .before .if2 .left), refused (c .before .links-fit .ensures ∙ links-held _ _ _ _ _ (c .before .before .before .before .before .before .before .before .before .before .pre)) (c .if3 .taken))
 
 returns-4 : tie.Need-returns-4
 unfolding fitText
-returns-4 c = rw (le-leb _ _ (c .before .before .before .before .before .before .if1 .left), passed (c .before .before .before .before .before .is-utf8 .ensures) (c .before .before .before .before .if2 .left), passed (c .before .before .before .nodes-fit .ensures) (c .before .before .if3 .left), refused (c .before .ranges-fit .ensures) (c .if4 .taken))
-
-spans-fit-requires : tie.Need-spans-fit-requires
-spans-fit-requires c κs = let p = c .before .before .before .before .before .before .before .before .before .before .before .before .pre in (p .properties, p .values, c .before .before .before .before .before .before .if1 .left, ranges-values _ _ _ (passed (c .before .ranges-fit .ensures) (c .if4 .left)))
-
-returns-5 : tie.Need-returns-5
-unfolding fitText
-returns-5 c = rw (le-leb _ _ (c .before .before .before .before .before .before .before .if1 .left), passed (c .before .before .before .before .before .before .is-utf8 .ensures) (c .before .before .before .before .before .if2 .left), passed (c .before .before .before .before .nodes-fit .ensures) (c .before .before .before .if3 .left), passed (c .before .before .ranges-fit .ensures) (c .before .if4 .left)) (c .spans-fit .ensures)
+returns-4 c = rw (le-leb _ _ (c .before .before .before .before .before .if1 .left), passed (c .before .before .before .before .is-utf8 .ensures) (c .before .before .before .if2 .left), passed (c .before .before .links-fit .ensures ∙ links-held _ _ _ _ _ (c .before .before .before .before .before .before .before .before .before .before .before .pre)) (c .before .if3 .left)) (c .parts-fit .ensures ∙ parts-held _ _ _ _ _ (c .before .before .before .before .before .before .before .before .before .before .before .pre) _ (c .before .before .before .before .before .if1 .left))
 
 pub fits-text-spec : {M : Type 1} → statement M
 fits-text-spec =
@@ -40,6 +34,4 @@ fits-text-spec =
     (λ c κs. search needs)
     returns-3
     (λ c κs. search needs)
-    returns-4
-    spans-fit-requires
-    returns-5)
+    returns-4)

@@ -1,7 +1,7 @@
 -- `record::go_value` meets its contract. Assumes nothing.
 use Rattle.record.proofs.Answers.{go-unfit, go-no, go-rooted, go-named, go-yes}
 use Rattle.fit.proofs.Whole.{fit-lent}
-use Rattle.fit.proofs.Cases.{refused, passed}
+use Rattle.tables.proofs.Cases.{refused, passed}
 use lib.Seq.{length-take-le}
 use denote.Ref.{now}
 use mathlib.Core.Path.{sym, _∙_}

@@ -2,7 +2,7 @@
 use native.Mathlib.Omega.{arith}
 use borrow.Author.Needs.{needs}
 use borrow.Author.Tests.{not-true}
-use Rattle.fit.proofs.Cases.{passed, refused}
+use Rattle.tables.proofs.Cases.{passed, refused}
 use Rattle.serialize.proofs.Whole.{fit-used, fit-property, fit-nodes, write-unfit, write-nameless, write-short, write-done}
 use Rattle.serialize.proofs.write.Statement.{statement}
 use Rattle.serialize.proofs.write.Tie as tie

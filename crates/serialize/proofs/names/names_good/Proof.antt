@@ -4,9 +4,9 @@ use mathlib.Core.Bool.{true}
 use mathlib.Core.Path.{_≡_}
 use native.Mathlib.Omega.{arith}
 use borrow.Author.Needs.{needs}
-use Rattle.fit.proofs.Cases.{passed, refused}
-use Rattle.fit.proofs.Each.{each-none, each-more, each-end, each-fails}
-use Rattle.fit.specs.Each.{each}
+use Rattle.tables.proofs.Cases.{passed, refused}
+use Rattle.tables.proofs.Each.{each-none, each-more, each-end, each-fails}
+use Rattle.tables.specs.Each.{each}
 use Rattle.serialize.specs.Walk.{named, namesGood}
 use Rattle.serialize.proofs.Walked.{name-tested}
 use Rattle.serialize.proofs.names.names_good.Statement.{statement}

@@ -1,0 +1,20 @@
+-- What is lent where the test of it is passed. Assumes nothing.
+use Prim.Native.Nat.{ℕ, _/_, _≤_}
+use mathlib.Core.Bool.{Bool, true, _&&_}
+use mathlib.Core.List.{List}
+use mathlib.Core.Path.{_≡_}
+use lib.Dec.{leb}
+use lib.ListN.{length}
+use borrow.Author.Tests.{leb-true}
+use Rattle.tables.specs.Numbers.{none}
+use Rattle.tables.specs.declared.Counts.{Counts}
+use Rattle.tables.proofs.Cases.{and-left, and-right}
+use Rattle.links.specs.Nodes.{lentNodes}
+
+pub lent-is : (c : Counts) (tr nd : List ℕ) → lentNodes c tr nd ≡ true → (c .trees ≤ length tr / 2) × (c .nodes ≤ length nd / 5) × (c .nodes ≤ none)
+lent-is c tr nd h =
+    let p : Bool = leb (c .trees) (length tr / 2) in
+    let q : Bool = leb (c .nodes) (length nd / 5) in
+    let r : Bool = leb (c .nodes) none in
+    let h2 = and-left (p && q) r h in
+    (leb-true _ _ (and-left p q h2), leb-true _ _ (and-right p q h2), leb-true _ _ (and-right (p && q) r h))

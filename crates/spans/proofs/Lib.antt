@@ -1,0 +1,7 @@
+pub mod Ascents
+pub mod Lent
+pub mod Lists
+pub mod Lying
+pub mod Ranges
+pub mod Scans
+pub mod Unique

@@ -1,0 +1,4 @@
+pub mod Locals
+pub mod Parts
+pub mod Ranges
+pub mod Spans

@@ -1,0 +1,23 @@
+-- Fitting, the ranges: which properties a node has, and which values a property.
+use Prim.Native.Nat.{ℕ}
+use mathlib.Core.Bool.{Bool, _&&_}
+use mathlib.Core.List.{List}
+use lib.Dec.{leb, eqb}
+use Rattle.tables.specs.declared.Counts.{Counts}
+use Rattle.tables.specs.Columns.{firstPropAt, propCountAt, firstValAt, valCountAt}
+use Rattle.tables.specs.Each.{each, sum}
+
+-- the ranges of n rows, each with a first and a count, follow one another without gap from 0 to the total
+abbrev pub gapless : (first count : ℕ → ℕ) → (n total : ℕ) → Bool
+gapless first count n total = each n (λ k. eqb (first k) (sum count k)) && eqb (sum count n) total
+
+-- a property has a value
+abbrev pub hasValue : List ℕ → ℕ → Bool
+hasValue pr k = leb 1 (valCountAt pr k)
+
+-- all of it
+unfoldable pub rangesFit : Counts → (nd pr : List ℕ) → Bool
+rangesFit c nd pr =
+    gapless (firstPropAt nd) (propCountAt nd) (c .nodes) (c .properties)
+    && gapless (firstValAt pr) (valCountAt pr) (c .properties) (c .values)
+    && each (c .properties) (hasValue pr)
