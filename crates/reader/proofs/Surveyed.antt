@@ -4,13 +4,14 @@ use mathlib.Core.Path.{_≡_, refl, sym, ap, _∙_, subst⁻¹}
 use mathlib.Core.Bool.{Bool, true, false}
 use mathlib.Core.List.{List, [], _∷_}
 use native.Mathlib.Omega.{arith}
-use lib.ListN.{length}
+use lib.ListN.{length, take}
 use lib.Seq.{take-length}
 use Rattle.lists.proofs.Tests.{never}
 use Rattle.lexer.specs.Token.{End, done, broken, Lexed, lexAt}
 use Rattle.tables.specs.Numbers.{textLimit}
 use Rattle.tables.specs.declared.Reason.{Reason}
 use Rattle.tables.specs.declared.Reading.{Reading}
+use Rattle.parser.specs.Walk.{Opts}
 use Rattle.parser.specs.Split.{Slices as Sliced, no, slices, slicesOf}
 use Rattle.parser.specs.Slice.{sliceFrom, restFrom, cut, Shallow}
 use Rattle.parser.specs.Survey.{counted, strictly, surveyOf}
@@ -22,8 +23,18 @@ use Rattle.parser.proofs.Tokens.{tokens-few}
 use Rattle.trees.specs.Walks.{opts}
 use Rattle.reader.specs.Lent.{Lent, ReadIs}
 use Rattle.reader.specs.Slices.{readOf, SlicesReady}
-use Rattle.reader.specs.Plans.{PlanIs, tokensAnswer}
-use Rattle.reader.specs.declared.Plan.the-variants.{Slices}
+use Rattle.plan.specs.Plans.{planFound, planTokens}
+use Rattle.plan.specs.declared.Plan.{Plan}
+use Rattle.plan.specs.declared.Plan.the-variants.{Slices, Refused as refusedPlan}
+
+-- the answer a is that of these slices of u, or is refused
+abbrev pub PlanIs : Opts → (u : List ℕ) → (a : Answer) → Plan → Type 0
+PlanIs op u a (Slices first last count) = (a ≡ answer (readOf op count (lexAt (take last u) first .toks))) × SlicesReady op (take last u) first count × (last ≤ length u)
+PlanIs op u a (refusedPlan r p) = a ≡ refused r p
+
+-- the answer of tokens
+abbrev pub tokensAnswer : Bool → Bool → Lexed → Answer
+tokensAnswer len con l = lexing (opts len con) len (l .end) (l .toks)
 
 pub read-as : {A B : Answer} → A ≡ B → {b a : Lent} {r : Reading} → ReadIs B b a r → ReadIs A b a r
 read-as {A} {B} e {b} {a} {r} x = subst⁻¹ (λ (z : Answer). ReadIs z b a r) e x
@@ -73,7 +84,7 @@ module _ (len con : Bool) (u : List ℕ) (from : ℕ) {x : Survey} (e : x ≡ su
   abbrev L : Lexed
   L = lexAt u from
 
-  pub tokens-refused : {r : Reason} {p : ℕ} → x ≡ Refused r p → tokensAnswer len con L ≡ refused r p
+  tokens-refused : {r : Reason} {p : ℕ} → x ≡ Refused r p → tokensAnswer len con L ≡ refused r p
   tokens-refused {r} {p} q = answer-refused len con L r p (sym e ∙ q)
 
   -- ---- so many slices
@@ -92,7 +103,7 @@ module _ (len con : Bool) (u : List ℕ) (from : ℕ) {x : Survey} (e : x ≡ su
         let f = s .few in
         record { short = h; inside = i; few = omega (arith, tokens-few u from); shallow = s .shallow; calm = found-in .0 }
 
-    pub slices-plan : length u ≤ textLimit → from ≤ length u → PlanIs (opts len con) u (tokensAnswer len con L) (Slices from (length u) k)
+    slices-plan : length u ≤ textLimit → from ≤ length u → PlanIs (opts len con) u (tokensAnswer len con L) (Slices from (length u) k)
     slices-plan h i =
         (slices-answer ∙ ap (λ (z : List ℕ). answer (readOf (opts len con) k (lexAt z from .toks))) (sym (take-length u)), subst⁻¹ (λ (z : List ℕ). SlicesReady (opts len con) z from k) (take-length u) (slices-ready h i), omega arith)
 
@@ -108,5 +119,15 @@ module _ (len con : Bool) (u : List ℕ) (from : ℕ) {x : Survey} (e : x ≡ su
   unfolding cut sliceFrom restFrom Shallow lexAt
   empty-ready = record { short = omega arith; inside = omega arith; few = omega arith; shallow = (tt, tt); calm = λ z. refl }
 
-  pub empty-plan : x ≡ Empty → PlanIs (opts len con) u (tokensAnswer len con L) (Slices 0 0 1)
+  empty-plan : x ≡ Empty → PlanIs (opts len con) u (tokensAnswer len con L) (Slices 0 0 1)
   empty-plan q = (empty-answer q, empty-ready, omega arith)
+
+-- ---- the plan of the tokens
+
+pub tokens-plan : (len con : Bool) (u : List ℕ) (from : ℕ) → length u ≤ textLimit → from ≤ length u → PlanIs (opts len con) u (tokensAnswer len con (lexAt u from)) (planTokens len u from)
+tokens-plan len con u from h i = go (surveyOf len (lexAt u from)) refl
+  where
+    go : (x : Survey) → x ≡ surveyOf len (lexAt u from) → PlanIs (opts len con) u (tokensAnswer len con (lexAt u from)) (planFound from (length u) x)
+    go (Refused r p) e = tokens-refused len con u from e refl
+    go (found k) e = slices-plan len con u from e refl h i
+    go Empty e = empty-plan len con u from e refl

@@ -1,12 +1,13 @@
 -- From the whole text to its tokens: the limit, UTF-8, trimming. Assumes nothing.
 use Prim.Native.Nat.{ℕ, _≤_, _<_}
 use mathlib.Core.Path.{_≡_, refl, sym, ap, _∙_, subst}
-use mathlib.Core.Bool.{Bool}
+use mathlib.Core.Bool.{Bool, true, false}
 use mathlib.Core.List.{List, []}
 use native.Mathlib.Omega.{arith}
+use lib.Dec.{ltb}
 use lib.ListN.{length, take, drop}
 use lib.Seq.{length-take-le, take-take}
-use borrow.Author.Tests.{lt-ltb, le-ltb}
+use borrow.Author.Tests.{lt-ltb, le-ltb, ltb-true, ltb-false}
 use Rattle.lists.specs.Pick.{pick}
 use Rattle.lists.proofs.Tests.{never}
 use Rattle.utf8.specs.Text.{Utf, whole, part, bad, blank, inked, utfs}
@@ -21,9 +22,10 @@ use Rattle.parser.specs.Walk.{Opts}
 use Rattle.parser.specs.Read.{Answer, refused, answer, decoded, read}
 use Rattle.trees.specs.Walks.{opts}
 use Rattle.reader.specs.Slices.{readOf, SlicesReady}
-use Rattle.reader.specs.Plans.{PlanIs, tokensAnswer}
-use Rattle.reader.specs.declared.Plan.{Plan}
-use Rattle.reader.specs.declared.Plan.the-variants.{Slices, Refused}
+use Rattle.plan.specs.Plans.{planTokens, planKept, planText}
+use Rattle.plan.specs.declared.Plan.{Plan}
+use Rattle.plan.specs.declared.Plan.the-variants.{Slices, Refused}
+use Rattle.reader.proofs.Surveyed.{PlanIs, tokensAnswer, tokens-plan}
 
 -- the tokens of what trimming keeps are those from a place of the text's front part on
 lex-prefix : (t : List ℕ) (f l : ℕ) → l ≤ length t → lexFrom f l (drop f (take l t)) ≡ lexAt (take l t) f
@@ -49,22 +51,22 @@ module _ (op : Opts) (t : List ℕ) where
   shown-kept (part k s n r c) f l e = never (cc)
   shown-kept (bad q) f l e = never (cc)
 
-  pub text-long : textLimit < length t → read op t ≡ refused TextTooLong 0
+  text-long : textLimit < length t → read op t ≡ refused TextTooLong 0
   text-long h = ap (λ (z : Bool). pick z (refused TextTooLong 0) (decoded op (utfs (whole blank) 0 t) t)) (lt-ltb textLimit (length t) h)
 
   text-short : length t ≤ textLimit → read op t ≡ decoded op (utfs (whole blank) 0 t) t
   text-short h = ap (λ (z : Bool). pick z (refused TextTooLong 0) (decoded op (utfs (whole blank) 0 t) t)) (le-ltb textLimit (length t) h)
 
 module _ (len con : Bool) (t : List ℕ) (h : length t ≤ textLimit) {x : Trimmed} (e : x ≡ trimmed t) where
-  pub text-bad : {p : ℕ} → x ≡ NotUtf8 p → read (opts len con) t ≡ refused notUtf8 p
+  text-bad : {p : ℕ} → x ≡ NotUtf8 p → read (opts len con) t ≡ refused notUtf8 p
   unfolding trimmed
   text-bad {p} q = text-short (opts len con) t h ∙ shown-bad (opts len con) t (utfs (whole blank) 0 t) p (sym e ∙ q)
 
-  pub text-blank : x ≡ Blank → read (opts len con) t ≡ tokensAnswer len con (lexAt [] 0)
+  text-blank : x ≡ Blank → read (opts len con) t ≡ tokensAnswer len con (lexAt [] 0)
   unfolding trimmed lexAt
   text-blank q = text-short (opts len con) t h ∙ ap (λ (u : Utf). decoded (opts len con) u t) (shown-blank (opts len con) t (utfs (whole blank) 0 t) (sym e ∙ q))
 
-  pub text-kept : {f l : ℕ} → x ≡ Kept f l → read (opts len con) t ≡ tokensAnswer len con (lexAt (take l t) f)
+  text-kept : {f l : ℕ} → x ≡ Kept f l → read (opts len con) t ≡ tokensAnswer len con (lexAt (take l t) f)
   unfolding trimmed
   text-kept {f} {l} q =
       text-short (opts len con) t h
@@ -72,14 +74,36 @@ module _ (len con : Bool) (t : List ℕ) (h : length t ≤ textLimit) {x : Trimm
       ∙ ap (tokensAnswer len con) (lex-prefix t f l (trim-bounds t f l (sym e ∙ q) .1))
 
   -- the front part, and the place in it
-  pub kept-within : {f l : ℕ} → x ≡ Kept f l → (f < l) × (l ≤ length t)
+  kept-within : {f l : ℕ} → x ≡ Kept f l → (f < l) × (l ≤ length t)
   kept-within {f} {l} q = trim-bounds t f l (sym e ∙ q)
 
 -- a plan for a front part of the text
-pub plan-front : (op : Opts) (t : List ℕ) (l : ℕ) → l ≤ length t → {A B : Answer} → A ≡ B → (r : Plan) → PlanIs op (take l t) B r → PlanIs op t A r
+plan-front : (op : Opts) (t : List ℕ) (l : ℕ) → l ≤ length t → {A B : Answer} → A ≡ B → (r : Plan) → PlanIs op (take l t) B r → PlanIs op t A r
 plan-front op t l h e (Slices f o k) z =
     let b = z .2 in
     let n = length-take-le l t h in
     let s : take o (take l t) ≡ take o t = take-take o l t (omega arith) in
     (e ∙ z .0 ∙ ap (λ (y : List ℕ). answer (readOf op k (lexAt y f .toks))) s, subst (λ (y : List ℕ). SlicesReady op y f k) s (z .1), omega arith)
 plan-front op t l h e (Refused r p) z = e ∙ z
+
+-- ---- the plan of the text
+
+module _ (len con : Bool) (t : List ℕ) where
+  kept-plan : length t ≤ textLimit → (x : Trimmed) → x ≡ trimmed t → PlanIs (opts len con) t (read (opts len con) t) (planKept len t x)
+  kept-plan h (NotUtf8 p) e = text-bad len con t h e refl
+  kept-plan h Blank e = plan-front (opts len con) t 0 (omega arith) (text-blank len con t h e refl) (planTokens len [] 0) (tokens-plan len con [] 0 (omega arith) (omega arith))
+  kept-plan h (Kept f l) e =
+      let w = kept-within len con t h e refl in
+      let n = length-take-le l t (w .1) in
+      plan-front (opts len con) t l (w .1) (text-kept len con t h e refl) (planTokens len (take l t) f) (tokens-plan len con (take l t) f (omega arith) (omega arith))
+
+  text-plan : PlanIs (opts len con) t (read (opts len con) t) (planText len t)
+  text-plan = go (ltb textLimit (length t)) refl
+    where
+      go : (b : Bool) → ltb textLimit (length t) ≡ b → PlanIs (opts len con) t (read (opts len con) t) (pick b (Refused TextTooLong 0) (planKept len t (trimmed t)))
+      go true e = text-long (opts len con) t (ltb-true textLimit (length t) e)
+      go false e = kept-plan (ltb-false textLimit (length t) e) (trimmed t) refl
+
+  -- what a plan that was given says of the definition's answer
+  pub planned : {x y : Plan} → x ≡ planText len t → x ≡ y → PlanIs (opts len con) t (read (opts len con) t) y
+  planned e q = subst (PlanIs (opts len con) t (read (opts len con) t)) (sym e ∙ q) text-plan

@@ -1,28 +1,28 @@
 -- `reader::read` meets its contract. Assumes nothing.
 use denote.Ref.{now}
 use native.Mathlib.Omega.{arith}
-use mathlib.Core.Path.{refl, subst}
+use mathlib.Core.Path.{refl}
 use lib.Seq.{length-take-le}
 use Rattle.parser.specs.Read.{read}
 use Rattle.trees.specs.Walks.{opts}
-use Rattle.reader.specs.Plans.{PlanIs}
-use Rattle.reader.specs.declared.Plan.the-variants.{Slices}
-use Rattle.reader.proofs.Surveyed.{read-as}
+use Rattle.plan.specs.declared.Plan.the-variants.{Slices}
+use Rattle.reader.proofs.Surveyed.{PlanIs, read-as}
+use Rattle.reader.proofs.Texts.{planned}
 use borrow.Author.Needs.{needs}
 use Rattle.reader.proofs.read.Statement.{statement}
 use Rattle.reader.proofs.read.Tie as tie
 
-planned : (c : tie.After-known-told2) → PlanIs (opts (c .before .before .before .before .before .before .before .before .before .args .lenient) (c .before .before .before .before .before .before .before .before .before .args .convert)) (now (c .before .before .before .before .before .before .before .before .before .args .text)) (read (opts (c .before .before .before .before .before .before .before .before .before .args .lenient) (c .before .before .before .before .before .before .before .before .before .args .convert)) (now (c .before .before .before .before .before .before .before .before .before .args .text))) (Slices (c .before .first .given .0 .0) (c .before .first .given .0 .1 .0) (c .before .first .given .0 .1 .1 .0))
-planned c = subst (PlanIs (opts (c .before .before .before .before .before .before .before .before .before .args .lenient) (c .before .before .before .before .before .before .before .before .before .args .convert)) (now (c .before .before .before .before .before .before .before .before .before .args .text)) (read (opts (c .before .before .before .before .before .before .before .before .before .args .lenient) (c .before .before .before .before .before .before .before .before .before .args .convert)) (now (c .before .before .before .before .before .before .before .before .before .args .text)))) (c .before .first .given .1) (c .before .before .before .plan-text .ensures (c .before .before .before .before .before .before .before .before .before .args .convert))
+plan-is : (c : tie.After-known-told2) → PlanIs (opts (c .before .before .before .before .before .before .before .before .before .args .lenient) (c .before .before .before .before .before .before .before .before .before .args .convert)) (now (c .before .before .before .before .before .before .before .before .before .args .text)) (read (opts (c .before .before .before .before .before .before .before .before .before .args .lenient) (c .before .before .before .before .before .before .before .before .before .args .convert)) (now (c .before .before .before .before .before .before .before .before .before .args .text))) (Slices (c .before .first .given .0 .0) (c .before .first .given .0 .1 .0) (c .before .first .given .0 .1 .1 .0))
+plan-is c = planned (c .before .before .before .before .before .before .before .before .before .args .lenient) (c .before .before .before .before .before .before .before .before .before .args .convert) (now (c .before .before .before .before .before .before .before .before .before .args .text)) (c .before .before .before .plan-text .ensures) (c .before .first .given .1)
 
 slice-aggregate-read-slices : tie.Need-slice-aggregate-read-slices
-slice-aggregate-read-slices c = let l = length-take-le (c .before .before .first .given .0 .1 .0) (now (c .before .before .before .before .before .before .before .before .before .before .args .text)) (planned (c .before) .2) in omega arith
+slice-aggregate-read-slices c = let l = length-take-le (c .before .before .first .given .0 .1 .0) (now (c .before .before .before .before .before .before .before .before .before .before .args .text)) (plan-is (c .before) .2) in omega arith
 
 returns : tie.Need-returns
-returns c = read-as (subst (PlanIs (opts (c .before .before .before .before .before .before .before .before .before .args .lenient) (c .before .before .before .before .before .before .before .before .before .args .convert)) (now (c .before .before .before .before .before .before .before .before .before .args .text)) (read (opts (c .before .before .before .before .before .before .before .before .before .args .lenient) (c .before .before .before .before .before .before .before .before .before .args .convert)) (now (c .before .before .before .before .before .before .before .before .before .args .text)))) (c .before .reason .given .1) (c .before .before .before .plan-text .ensures (c .before .before .before .before .before .before .before .before .before .args .convert))) (record { answer = refl; tables = refl })
+returns c = read-as (planned (c .before .before .before .before .before .before .before .before .before .args .lenient) (c .before .before .before .before .before .before .before .before .before .args .convert) (now (c .before .before .before .before .before .before .before .before .before .args .text)) (c .before .before .before .plan-text .ensures) (c .before .reason .given .1)) (record { answer = refl; tables = refl })
 
 returns-2 : tie.Need-returns-2
-returns-2 c = read-as (planned (c .before .before .before .before .before .before .before .before .before .before .before .before .before .before) .0) (c .before .before .before .before .before .before .before .before .read-slices .ensures)
+returns-2 c = read-as (plan-is (c .before .before .before .before .before .before .before .before .before .before .before .before .before .before) .0) (c .before .before .before .before .before .before .before .before .read-slices .ensures)
 
 pub read-spec : {M : Type 1} → statement M
 read-spec =
@@ -32,7 +32,7 @@ read-spec =
     (λ c. search needs)
     (λ c. search needs)
     slice-aggregate-read-slices
-    (λ c κs. planned (c .before .before .before .before .before) .1)
+    (λ c κs. plan-is (c .before .before .before .before .before) .1)
     returns
     (λ c. c .before .before .before .before .before .before .before .trees .given)
     (λ c. c .before .before .before .before .before .nodes .given)

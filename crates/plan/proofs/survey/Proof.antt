@@ -1,12 +1,12 @@
--- `reader::survey` meets its contract. Assumes nothing.
+-- `plan::survey` meets its contract. Assumes nothing.
 use denote.Ref.{now}
 use mathlib.Core.Path.{sym, ap, _∙_}
 use mathlib.Core.Bool.{Bool}
 use Rattle.lexer.specs.Token.{lexAt}
 use Rattle.parser.specs.Survey.{surveyOf}
 use borrow.Author.Needs.{needs}
-use Rattle.reader.proofs.survey.Statement.{statement}
-use Rattle.reader.proofs.survey.Tie as tie
+use Rattle.plan.proofs.survey.Statement.{statement}
+use Rattle.plan.proofs.survey.Tie as tie
 
 returns : tie.Need-returns
 returns c = c .survey-lenient .ensures ∙ (ap (λ (z : Bool). surveyOf z (lexAt (now (c .before .before .before .args .s)) (c .before .before .before .args .from))) (sym (c .before .if1 .taken)))

@@ -1,0 +1,12 @@
+-- No second answer: of the public function, two answers that meet its contract are equal. Assumes nothing.
+use Prim.Native.Nat.{ℕ}
+use mathlib.Core.Bool.{Bool}
+use mathlib.Core.List.{List}
+use mathlib.Core.Path.{_≡_}
+use Rattle.lists.proofs.Once.{once-is}
+use Rattle.lists.specs.Once.{Once}
+use Rattle.plan.specs.Plans.{planText}
+use Rattle.plan.specs.declared.Plan.{Plan}
+
+pub plan-text-once : (len : Bool) (t : List ℕ) → Once (λ (r : Plan). r ≡ planText len t)
+plan-text-once len t = once-is (planText len t)
