@@ -1,53 +1,75 @@
--- What a property asks for, by the tests that the code makes. Assumes nothing.
-use Prim.Native.Nat.{ℕ}
+-- What the walk makes of what the next token asks for. Assumes nothing.
+use Prim.Native.Nat.{ℕ, _≤_}
 use mathlib.Core.Path.{_≡_, refl, sym, ap, _∙_, subst⁻¹}
-use mathlib.Core.Bool.{Bool, true, false, _||_}
+use mathlib.Core.Bool.{Bool, true, false, _||_, _&&_}
 use mathlib.Core.List.{List}
+use native.Mathlib.Omega.{arith}
+use lib.Dec.{eqb}
 use lib.Seq.{slice}
+use borrow.Author.Tests.{eqb-true, eqb-false, le-leb}
+use Rattle.lists.proofs.Pick.{pick-elim}
+use Rattle.lexer.specs.Token.{done, lexAt}
+use Rattle.scan.specs.Scan.{valuesAt}
 use Rattle.lexer.specs.Step.{headAt}
-use Rattle.lexer.specs.declared.Head.the-variants.{Name}
-use Rattle.tables.specs.declared.Reason.the-variants.{UnexpectedProperty, InvalidFF4Property}
+use Rattle.lexer.specs.declared.Head.{Head}
+use Rattle.lexer.specs.declared.Head.the-variants.{Start as start, End as end, Node as node, Name as name, Refused as refused, Done as over}
+use Rattle.tables.specs.Numbers.{depthLimit}
+use Rattle.tables.specs.declared.Reason.the-variants.{UnexpectedGameTreeStart, UnexpectedGameTreeEnd, UnexpectedProperty, InvalidFF4Property}
 use Rattle.parser.specs.Walk.{Gate, shut, takes, skips, uppers}
-use Rattle.trees.specs.Turns.{gateOf, Closes, gateAct, propAct, StopAt, ActIs}
-use Rattle.trees.specs.declared.State.{State}
-use Rattle.trees.specs.declared.Act.{Act}
-use Rattle.trees.specs.declared.Act.the-variants.{Skip, Stop}
+use Rattle.look.specs.Asks.{stackOf, mayOpen, mayStart, gateOf, gateAct, propAct, unclosed, endAct, headAct, asks}
+use Rattle.look.specs.declared.State.{State}
+use Rattle.look.specs.declared.Act.{Act}
+use Rattle.trees.specs.Turns.{Closes, StopAt, OverAt, ActIs}
+use Rattle.trees.specs.Walks.{opts}
+use Rattle.trees.proofs.Walking.{Walking}
+use Rattle.trees.proofs.Faults.{open-found, closes-ahead}
 
-pub gate-takes : (st : State) → st .follows ≡ true → st .drops ≡ false → gateOf (st .follows) (st .drops) ≡ takes
-gate-takes st f d = ap (λ (z : Bool). gateOf z (st .drops)) f ∙ ap (gateOf true) d
+module _ (len con : Bool) (u : List ℕ) (base : ℕ) (st : State) (a : List ℕ) where
+  abbrev Is : Act → Type 0
+  Is = ActIs len con u base st a
 
-pub gate-skips : (st : State) → st .follows ≡ true → st .drops ≡ true → gateOf (st .follows) (st .drops) ≡ skips
-gate-skips st f d = ap (λ (z : Bool). gateOf z (st .drops)) f ∙ ap (gateOf true) d
+  start-is : st .depth ≤ depthLimit → (i : ℕ) → headAt u (st .at) ≡ start i → Is (headAct len con u base st a (start i))
+  start-is d i g =
+      let m : mayStart base (st .nodes) (st .depth) a ≡ mayOpen base (st .nodes) (stackOf a (st .depth)) = ap (λ (z : Bool). z && mayOpen base (st .nodes) (stackOf a (st .depth))) (le-leb (st .depth) depthLimit d) in
+      pick-elim Is (mayStart base (st .nodes) (st .depth) a) (λ t. (g, sym m ∙ t)) (λ f. subst⁻¹ (StopAt len con u base st a UnexpectedGameTreeStart) g (refl, sym m ∙ f))
 
--- an identifier is taken where it is converted, or is uppercase letters only
-pub taken-by : {con : Bool} (b : Bool) → con ≡ true → (con || b) ≡ true
-taken-by b e = ap (λ (z : Bool). z || b) e
+  end-is : (i : ℕ) → headAt u (st .at) ≡ end i → Is (endAct (st .depth) i)
+  end-is i g =
+      pick-elim Is (eqb (st .depth) 0) (λ t. subst⁻¹ (StopAt len con u base st a UnexpectedGameTreeEnd) g (refl, eqb-true (st .depth) 0 t))
+      (λ f. pick-elim Is (eqb (st .depth) 1) (λ t. subst⁻¹ (OverAt u st _) g (eqb-true (st .depth) 1 t, refl))
+      (λ h. (g, let n = eqb-false (st .depth) 0 f in let m = eqb-false (st .depth) 1 h in omega (arith, n, m))))
 
-pub taken-as : {con : Bool} (b : Bool) → con ≡ false → {c o : Bool} → c ≡ b → c ≡ o → (con || b) ≡ o
-taken-as b e q f = ap (λ (z : Bool). z || b) e ∙ sym q ∙ f
-
-module _ (len con : Bool) (u : List ℕ) (st : State) (i k : ℕ) where
-  pub act-shut : st .follows ≡ false → Stop UnexpectedProperty ≡ propAct len con u st i k
+  -- a property that closes
+  closed-is : (i k : ℕ) → headAt u (st .at) ≡ name i k → Closes u k → Is (propAct len con u st i k)
   unfolding propAct
-  act-shut f = sym (ap (λ (z : Bool). gateAct (gateOf z (st .drops)) (con || uppers (slice i k u)) len i k) f)
-
-  pub act-skips : st .follows ≡ true → st .drops ≡ true → Skip k ≡ propAct len con u st i k
-  unfolding propAct
-  act-skips f d = sym (ap (λ (z : Gate). gateAct z (con || uppers (slice i k u)) len i k) (gate-skips st f d))
-
-  pub act-takes : st .follows ≡ true → st .drops ≡ false → (o l : Bool) → (con || uppers (slice i k u)) ≡ o → len ≡ l → gateAct takes o l i k ≡ propAct len con u st i k
-  unfolding propAct
-  act-takes f d o l eo el =
-      sym (ap (λ (z : Gate). gateAct z (con || uppers (slice i k u)) len i k) (gate-takes st f d) ∙ ap (λ (z : Bool). gateAct takes z len i k) eo ∙ ap (λ (z : Bool). gateAct takes o z i k) el)
-
-  -- the next token asks for it
-  pub act-named : (base : ℕ) (a : List ℕ) → headAt u (st .at) ≡ Name i k → Closes u k → {r : Act} → r ≡ propAct len con u st i k → ActIs len con u base st a r
-  unfolding propAct
-  act-named base a g c {r} e = subst⁻¹ (ActIs len con u base st a) e (go (gateOf (st .follows) (st .drops)) (con || uppers (slice i k u)) len refl)
+  closed-is i k g c = go (gateOf (st .follows) (st .drops)) (con || uppers (slice i k u)) len refl
     where
-      go : (y : Gate) (o l : Bool) → propAct len con u st i k ≡ gateAct y o l i k → ActIs len con u base st a (gateAct y o l i k)
+      go : (y : Gate) (o l : Bool) → propAct len con u st i k ≡ gateAct y o l i k → Is (gateAct y o l i k)
       go shut o l e = subst⁻¹ (StopAt len con u base st a UnexpectedProperty) g (c, e)
       go skips o l e = (i, g, c, e)
       go takes true l e = (g, c, e)
       go takes false true e = (i, g, c, e)
       go takes false false e = subst⁻¹ (StopAt len con u base st a InvalidFF4Property) g (c, e)
+
+  name-is : (len ≡ false → lexAt u (st .at) .end ≡ done) → (i k : ℕ) → headAt u (st .at) ≡ name i k → Is (headAct len con u base st a (name i k))
+  name-is c i k g =
+      pick-elim Is (unclosed len (valuesAt u k)) (λ t. subst⁻¹ (OverAt u st _) g (open-found len (valuesAt u k) t, refl))
+      (λ f. closed-is i k g (closes-ahead len u (st .at) i k c g f))
+
+  by-head : st .depth ≤ depthLimit → (len ≡ false → lexAt u (st .at) .end ≡ done) → (h : Head) → headAt u (st .at) ≡ h → Is (headAct len con u base st a h)
+  by-head d c (start i) g = start-is d i g
+  by-head d c (end i) g = end-is i g
+  by-head d c (node i) g = g
+  by-head d c (name i k) g = name-is c i k g
+  by-head d c (refused f i) g = subst⁻¹ (OverAt u st _) g refl
+  by-head d c over g = subst⁻¹ (OverAt u st _) g refl
+
+  -- within the limit of depth, and where strict reading has no fault ahead
+  act-is : st .depth ≤ depthLimit → (len ≡ false → lexAt u (st .at) .end ≡ done) → {r : Act} → r ≡ asks len con u base st a → ActIs len con u base st a r
+  unfolding asks
+  act-is d c e = subst⁻¹ Is e (by-head d c (headAt u (st .at)) refl)
+
+-- in the walk
+pub asked : {len con : Bool} {u : List ℕ} {from base p0 v0 : ℕ} {t₀ q₀ w₀ t q w a : List ℕ} {st : State} → Walking (opts len con) u from base p0 v0 t₀ q₀ w₀ t q w a st
+    → {r : Act} → r ≡ asks len con u base st a → ActIs len con u base st a r
+asked {len} {con} {u} {from} {base} {p0} {v0} {t₀} {q₀} {w₀} {t} {q} {w} {a} {st} x e = act-is len con u base st a (x .deep) (λ h. x .skip .ends ∙ x .ready .calm h) e

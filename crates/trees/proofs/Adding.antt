@@ -22,14 +22,15 @@ use Rattle.tables.specs.declared.Reason.the-variants.{UnexpectedProperty, Inval
 use Rattle.parser.specs.Walk.{Gate, Walk, walk, stopped, takes, skips, refuse, adds, gated, uppers, walked}
 use Rattle.parser.specs.Slice.{sliceFrom, Shallow}
 use Rattle.trees.specs.Walks.{opts, walkOf, Stored}
-use Rattle.trees.specs.Turns.{stackOf, gateOf, added, dropped, Closes, AddIs, SkippedIs, gateAct, propAct}
-use Rattle.trees.specs.declared.State.{State}
-use Rattle.trees.specs.declared.Act.the-variants.{Add, Skip, Stop}
+use Rattle.look.specs.Asks.{stackOf, gateOf, gateAct, propAct}
+use Rattle.trees.specs.Turns.{added, dropped, Closes, AddIs, SkippedIs}
+use Rattle.look.specs.declared.State.{State}
+use Rattle.look.specs.declared.Act.the-variants.{Add, Skip, Stop}
 use Rattle.trees.proofs.Stored.{stored-prop}
 use Rattle.trees.proofs.Lines.{Line, line-prop}
 use Rattle.trees.proofs.Behind.{skipping-prop}
 use Rattle.trees.proofs.Meets.{step-meets, step-lies, name-next}
-use Rattle.trees.proofs.Acts.{gate-takes, gate-skips}
+use Rattle.look.proofs.Acts.{gate-takes, gate-skips}
 use Rattle.trees.proofs.Walking.{Walking, Last, onto, shallow-onto, refuse-stays}
 
 module _ {len con : Bool} {u : List ℕ} {from base p0 v0 : ℕ} {t₀ q₀ w₀ t q w a : List ℕ} {st : State} (x : Walking (opts len con) u from base p0 v0 t₀ q₀ w₀ t q w a st) (i k : ℕ)

@@ -17,10 +17,12 @@ use Rattle.tables.specs.declared.Reason.the-variants.{UnexpectedGameTreeStart, 
 use Rattle.parser.specs.Walk.{Opts, Walk, walk, shut, takes, refuse, closes, walked}
 use Rattle.parser.specs.Slice.{sliceFrom, Shallow}
 use Rattle.trees.specs.Walks.{walkOf, Stored}
-use Rattle.trees.specs.Turns.{stackOf, mayOpen, shutAt, ended, noded}
-use Rattle.trees.specs.declared.State.{State}
+use Rattle.look.specs.Asks.{stackOf, mayOpen}
+use Rattle.trees.specs.Turns.{shutAt, ended, noded}
+use Rattle.look.specs.declared.State.{State}
 use Rattle.trees.proofs.Stored.{stored-node}
-use Rattle.trees.proofs.Stacks.{stack-none, stack-push, stack-pop}
+use Rattle.look.proofs.Stacks.{stack-none, stack-pop}
+use Rattle.trees.proofs.Stacks.{stack-push}
 use Rattle.trees.proofs.Lines.{Line, line-open, line-shut, line-node, line-may}
 use Rattle.trees.proofs.Behind.{slice-last, slice-end, shallow-end, skipping-start, skipping-end, skipping-node}
 use Rattle.trees.proofs.Meets.{head-meets, head-lies}

@@ -21,7 +21,7 @@ use Rattle.parser.specs.Slice.{sliceFrom}
 use Rattle.parser.specs.Read.{growing, rooted, grown}
 use Rattle.trees.specs.Walks.{opts, walkOf, Stored, TreeIs, WalkIs}
 use Rattle.trees.specs.Turns.{StopAt, OverAt, BehindIs, RootBy, RootIs, StopIs}
-use Rattle.trees.specs.declared.State.{State}
+use Rattle.look.specs.declared.State.{State}
 use Rattle.trees.specs.declared.Walked.{Walked}
 use Rattle.trees.specs.declared.Walked.the-variants.{Tree as tree, Refused as refused}
 use Rattle.trees.proofs.Stored.{stored-node}

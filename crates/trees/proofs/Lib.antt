@@ -11,5 +11,4 @@ pub mod Meets
 pub mod Stacks
 pub mod Stored
 pub mod Takings
-pub mod Uppers
 pub mod Walking

@@ -12,8 +12,9 @@ use Rattle.tables.specs.declared.Reason.{Reason}
 use Rattle.parser.specs.Walk.{Opts, Walk, walk, refuse, walked}
 use Rattle.parser.specs.Slice.{sliceFrom, Shallow}
 use Rattle.trees.specs.Walks.{walkOf, Ready, Stored}
-use Rattle.trees.specs.Turns.{Small, stackOf, gateOf, begun}
-use Rattle.trees.specs.declared.State.{State}
+use Rattle.look.specs.Asks.{stackOf, gateOf}
+use Rattle.trees.specs.Turns.{Small, begun}
+use Rattle.look.specs.declared.State.{State}
 use Rattle.trees.proofs.Flats.{props-append}
 use Rattle.trees.proofs.Stored.{stored-none}
 use Rattle.trees.proofs.Lines.{Line, line-first}

@@ -1,31 +1,28 @@
 -- What the steps of the walk do, in the code's own terms. Nothing public is stated by these.
-use Prim.Native.Nat.{ℕ, zero, suc, _+_, _-_, _*_, _≤_, _<_}
+use Prim.Native.Nat.{ℕ, _+_, _-_, _*_, _≤_, _<_}
 use mathlib.Core.Path.{_≡_}
-use mathlib.Core.Bool.{Bool, true, false, _||_}
+use mathlib.Core.Bool.{Bool, true, false}
 use mathlib.Core.List.{List, [], _∷_}
 use lib.ListN.{length, getD}
-use lib.Dec.{eqb, ltb}
-use lib.Seq.{slice}
-use Rattle.lists.specs.Pick.{pick}
+use lib.Dec.{eqb}
 use Rattle.lists.specs.Put.{PutIs}
 use Rattle.lexer.specs.Token.{lexAt}
 use Rattle.scan.specs.Scan.{valuesAt}
 use Rattle.lexer.specs.Step.{valsAt, headAt}
 use Rattle.lexer.specs.declared.Head.{Head}
 use Rattle.lexer.specs.declared.Head.the-variants.{Start as start, End as end, Node as node, Name as name, Refused as refused, Done as done}
-use Rattle.close.specs.declared.Close.{Close}
 use Rattle.close.specs.declared.Close.the-variants.{At, Open}
 use Rattle.tables.specs.Numbers.{depthLimit, none}
 use Rattle.tables.specs.Rows.{valRows}
 use Rattle.tables.specs.Flat.{flatVals}
 use Rattle.tables.specs.declared.Reason.{Reason}
-use Rattle.tables.specs.declared.Reason.the-variants.{UnexpectedEndOfData, UnexpectedGameTreeStart, UnexpectedGameTreeEnd, UnexpectedProperty, InvalidFF4Property}
-use Rattle.parser.specs.Walk.{Gate, shut, takes, skips, uppers}
+use Rattle.tables.specs.declared.Reason.the-variants.{UnexpectedEndOfData, UnexpectedGameTreeStart, UnexpectedGameTreeEnd}
 use Rattle.parser.specs.Slice.{restFrom}
-use Rattle.trees.specs.declared.State.{State}
 use Rattle.trees.specs.declared.Taken.{Taken}
-use Rattle.trees.specs.declared.Act.{Act}
-use Rattle.trees.specs.declared.Act.the-variants.{Start, End, Node, Add, Skip, Stop, Over}
+use Rattle.look.specs.Asks.{stackOf, mayOpen, propAct}
+use Rattle.look.specs.declared.State.{State}
+use Rattle.look.specs.declared.Act.{Act}
+use Rattle.look.specs.declared.Act.the-variants.{Start, End, Node, Add, Skip, Stop, Over}
 use Rattle.trees.specs.declared.Walked.{Walked}
 use Rattle.trees.specs.declared.Walked.the-variants.{Tree, Refused}
 
@@ -39,22 +36,6 @@ pub record Small (st : State) : Type 0 where
   pub nodes : st .nodes ≤ rowLimit
   pub props : st .props ≤ rowLimit
   pub vals : st .vals ≤ rowLimit
-
--- ---- the stack
-
--- what is on it, the top first
-unfoldable pub stackOf : List ℕ → ℕ → List ℕ
-stackOf a zero = []
-stackOf a (suc d) = getD a d 0 ∷ stackOf a d
-
--- the list of x is not empty, where n nodes exist, and those of this tree from base on
-abbrev pub fuller : ℕ → ℕ → ℕ → Bool
-fuller base n x = pick (eqb x none) (ltb base n) (ltb (x + 1) n)
-
--- the list on top of the stack is not empty
-abbrev pub mayOpen : ℕ → ℕ → List ℕ → Bool
-mayOpen base n [] = true
-mayOpen base n (x ∷ st) = fuller base n x
 
 -- ---- the state after a token
 
@@ -95,20 +76,9 @@ dropped st e = record { at = e; depth = st .depth; cur = st .cur; nodes = st .no
 
 -- ---- properties
 
--- may a property follow, is it dropped
-abbrev pub gateOf : Bool → Bool → Gate
-gateOf false drops = shut
-gateOf true false = takes
-gateOf true true = skips
-
 -- each value from k on closes
 abbrev pub Closes : List ℕ → ℕ → Type 0
 Closes u k = valuesAt u k ≡ Open → ⊥
-
--- lenient reading finds a value that does not close
-abbrev pub UnclosedIs : Bool → Close → Bool → Type 0
-UnclosedIs len c true = c ≡ Open
-UnclosedIs len c false = len ≡ true → c ≡ Open → ⊥
 
 -- the values from k on are rows from v0 on
 pub record TakenIs (u : List ℕ) (k v0 : ℕ) (w w′ : List ℕ) (r : Taken) : Type 0 where
@@ -130,18 +100,6 @@ pub record SkippedIs (u : List ℕ) (st : State) (k : ℕ) (r : State) : Type 0 
   pub is : r ≡ dropped st (r .at)
 
 -- ---- what the next token asks for
-
--- a property that closes, by the gate, by whether its identifier may be taken, and by leniency
-abbrev pub gateAct : Gate → (ok len : Bool) (i k : ℕ) → Act
-gateAct shut ok len i k = Stop UnexpectedProperty
-gateAct skips ok len i k = Skip k
-gateAct takes true len i k = Add i k
-gateAct takes false true i k = Skip k
-gateAct takes false false i k = Stop InvalidFF4Property
-
--- a property of the text that closes
-unfoldable pub propAct : (len con : Bool) (u : List ℕ) → State → (i k : ℕ) → Act
-propAct len con u st i k = gateAct (gateOf (st .follows) (st .drops)) (con || uppers (slice i k u)) len i k
 
 -- where the tree stops, by the token
 abbrev pub StopAt : (len con : Bool) (u : List ℕ) (base : ℕ) → State → (a : List ℕ) → Reason → Head → Type 0

@@ -1,23 +1,19 @@
 // The tree of one slice, read from the tokens from a place on into the lent tables, strict or lenient. One token a turn, each byte scanned once where reading is strict.
 use close::Close;
-use lexer::Head;
 use lexer::Step;
+use look::Act;
+use look::State;
 use scan::ValueStep;
 use tables::NONE;
 use tables::Reason;
 ghost use mathlib.Core.Path.{_≡_};
-ghost use mathlib.Core.Bool.{false};
 ghost use mathlib.Core.List.{[], _∷_};
 ghost use Prim.Native.Nat.{_+_, _*_, _≤_, _<_};
-ghost use lib.ListN.{length, set, getD};
-ghost use lib.Seq.{slice};
+ghost use lib.ListN.{length, set};
 ghost use Rattle.lists.specs.Put.{PutIs};
-ghost use Rattle.scan.specs.Scan.{valuesAt};
-ghost use Rattle.lexer.specs.Token.{done, lexAt};
 ghost use Rattle.tables.specs.Numbers.{textLimit, depthLimit, none};
-ghost use Rattle.parser.specs.Walk.{uppers};
 ghost use Rattle.trees.specs.Walks.{opts, Ready, WalkIs};
-ghost use Rattle.trees.specs.Turns.{rowLimit, Small, stackOf, mayOpen, begun, shutAt, ended, noded, Closes, UnclosedIs, TakenIs, AddIs, SkippedIs, propAct, ActIs, BehindIs, RootIs, StopIs};
+ghost use Rattle.trees.specs.Turns.{rowLimit, Small, begun, shutAt, ended, noded, Closes, TakenIs, AddIs, SkippedIs, BehindIs, RootIs, StopIs};
 
 // What a walk gives: the place behind the slice and the next row of each table (nodes, properties, values); or why there is no tree.
 pub enum Walked {
@@ -25,56 +21,10 @@ pub enum Walked {
     Refused(Reason),
 }
 
-// Between two tokens: the next place, how many trees are open, the node whose child list is current, the next row of each table, the first property of the last node; may a property follow, and is it dropped.
-struct State {
-    at: usize,
-    depth: usize,
-    cur: u32,
-    nodes: usize,
-    props: usize,
-    vals: usize,
-    first: usize,
-    follows: bool,
-    drops: bool,
-}
-
-// What the next token asks for: a start, an end that leaves a tree open, a node, a property to add or to drop; or the tree stops, or its slice ends before a place.
-enum Act {
-    Start(usize),
-    End(usize),
-    Node(usize),
-    Add(usize, usize),
-    Skip(usize),
-    Stop(Reason),
-    Over(usize),
-}
-
 // The next row of the values, and where the values end.
 struct Taken {
     next: usize,
     end: usize,
-}
-
-fn peek(stack: &[u32; 1024], d: usize) -> u32
-    requires { ⌜ d < 1024 ⌝ }
-    ensures { λ r. ⌜ r ≡ getD (now (stack .entry)) d 0 ⌝ }
-{
-    stack[d]
-}
-
-// Is the list on top of the stack not empty: a node has children exactly where the node after it exists.
-fn may_open(stack: &[u32; 1024], depth: usize, base: usize, n: usize) -> bool
-    requires { ⌜ depth ≤ 1024 ⌝ }
-    ensures { λ r. ⌜ r ≡ mayOpen base n (stackOf (now (stack .entry)) depth) ⌝ }
-{
-    if depth == 0 {
-        return true;
-    }
-    let x = peek(stack, depth - 1);
-    if x == NONE {
-        return base < n;
-    }
-    lists::wide(x) + 1 < n
 }
 
 // Behind a start or an end: no property may follow.
@@ -103,7 +53,7 @@ fn end(mut w: State, i: usize, stack: &[u32; 1024]) -> State
     ensures { λ r. ⌜ r ≡ ended w i (now (stack .entry)) ⌝ }
 {
     let depth = w.depth - 1;
-    w.cur = peek(stack, depth);
+    w.cur = stack[depth];
     shut(w, i + 1, depth)
 }
 
@@ -184,94 +134,6 @@ fn skip_property(s: &[u8], mut w: State, k: usize) -> State
     };
     w.at = e;
     w
-}
-
-// Are the bytes uppercase letters only.
-fn plain(s: &[u8], from: usize, to: usize) -> bool
-    requires { ⌜ to ≤ length (now s) ⌝ }
-    ensures { λ r. ⌜ r ≡ uppers (slice from to (now (s .entry))) ⌝ }
-{
-    let mut i = from;
-    while i < to {
-        let b = s[i];
-        if b < b'A' {
-            return false;
-        }
-        if b'Z' < b {
-            return false;
-        }
-        i += 1;
-    }
-    true
-}
-
-// What a property that closes asks for: it is added, dropped, or stops the tree.
-fn property(s: &[u8], lenient: bool, convert: bool, w: State, i: usize, k: usize) -> Act
-    requires { ⌜ k ≤ length (now s) ⌝ }
-    ensures { λ r. ⌜ r ≡ propAct lenient convert (now (s .entry)) w i k ⌝ }
-{
-    if !w.follows {
-        return Act::Stop(Reason::UnexpectedProperty);
-    }
-    if w.drops {
-        return Act::Skip(k);
-    }
-    if convert {
-        return Act::Add(i, k);
-    }
-    if plain(s, i, k) {
-        return Act::Add(i, k);
-    }
-    if lenient {
-        return Act::Skip(k);
-    }
-    Act::Stop(Reason::InvalidFF4Property)
-}
-
-// Does a value of the property not close. Only lenient reading looks: strict reading has looked before.
-fn unclosed(s: &[u8], k: usize, lenient: bool) -> bool
-    ensures { λ r. ⌜ UnclosedIs lenient (valuesAt (now (s .entry)) k) r ⌝ }
-{
-    if !lenient {
-        return false;
-    }
-    match scan::values_end(s, k) {
-        Close::At(_) => false,
-        Close::Open => true,
-    }
-}
-
-// What the next token asks for.
-fn look(s: &[u8], lenient: bool, convert: bool, base: usize, w: State, stack: &[u32; 1024]) -> Act
-    requires { ⌜ (length (now s) ≤ textLimit) × (w .depth ≤ depthLimit) × (lenient ≡ false → lexAt (now s) (w .at) .end ≡ done) ⌝ }
-    ensures { λ r. ⌜ ActIs lenient convert (now (s .entry)) base w (now (stack .entry)) r ⌝ }
-{
-    match lexer::next_head(s, w.at) {
-        Head::Start(i) => {
-            if may_open(stack, w.depth, base, w.nodes) {
-                return Act::Start(i);
-            }
-            Act::Stop(Reason::UnexpectedGameTreeStart)
-        }
-        Head::End(i) => {
-            if w.depth == 0 {
-                return Act::Stop(Reason::UnexpectedGameTreeEnd);
-            }
-            if w.depth == 1 {
-                return Act::Over(i + 1);
-            }
-            Act::End(i)
-        }
-        Head::Node(i) => Act::Node(i),
-        Head::Name(i, k) => {
-            if unclosed(s, k, lenient) {
-                return Act::Over(w.at);
-            }
-            property(s, lenient, convert, w, i, k)
-        }
-        Head::Refused(_, _) => Act::Over(w.at),
-        Head::Done => Act::Over(w.at),
-    }
 }
 
 // The place behind the slice in which so many trees are open.
@@ -369,7 +231,7 @@ pub fn walk_tree(
     let mut stack = [0u32; 1024];
     let mut w = begin(from, base, p0, v0);
     loop {
-        match look(s, lenient, convert, base, w, &stack) {
+        match look::look(s, lenient, convert, base, w, &stack) {
             Act::Start(i) => w = start(w, i, &mut stack),
             Act::End(i) => w = end(w, i, &stack),
             Act::Node(i) => w = node(w, i, nodes),

@@ -2,13 +2,14 @@
 use denote.Ref.{now}
 use Prim.Native.Nat.{_-_}
 use lib.ListN.{length}
-use mathlib.Core.Path.{refl, sym, ap, _∙_, subst}
+use mathlib.Core.Path.{refl, sym, ap, _∙_}
 use native.Mathlib.Omega.{arith}
-use Rattle.trees.specs.declared.State.{State}
-use Rattle.trees.specs.declared.Act.the-variants.{Start, End, Node, Add, Skip, Stop, Over}
+use Rattle.look.specs.declared.State.{State}
+use Rattle.look.specs.declared.Act.the-variants.{Start, End, Node, Add, Skip, Stop, Over}
 use Rattle.trees.specs.Walks.{opts}
 use Rattle.trees.specs.Turns.{ActIs}
 use Rattle.trees.proofs.Meets.{head-lies}
+use Rattle.trees.proofs.Acts.{asked}
 use Rattle.trees.proofs.Giving.{gives-stopped, gives-ended}
 use Rattle.trees.proofs.Adding.{adds-follows, walking-added, walking-skipped, property-moves}
 use Rattle.trees.proofs.Arms.{start-fits, walking-start, walking-end, walking-node}
@@ -26,33 +27,30 @@ abbrev μ-loop : tie.MeasureT-loop
 -- ---- what the token asks for
 
 starts : (c : tie.After-known-told Inv-loop μ-loop) → ActIs (c .before .before .before .before .before .before .before .before .before .before .before .args .lenient) (c .before .before .before .before .before .before .before .before .before .before .before .args .convert) (now (c .before .before .before .before .before .before .before .before .before .before .before .args .s)) (c .before .before .before .before .before .before .before .before .before .before .before .args .base) (c .before .before .before .before .before .loop .w) (c .before .before .before .before .before .loop .stack) (Start (c .before .i .given .0 .0))
-starts c = subst (ActIs (c .before .before .before .before .before .before .before .before .before .before .before .args .lenient) (c .before .before .before .before .before .before .before .before .before .before .before .args .convert) (now (c .before .before .before .before .before .before .before .before .before .before .before .args .s)) (c .before .before .before .before .before .before .before .before .before .before .before .args .base) (c .before .before .before .before .before .loop .w) (c .before .before .before .before .before .loop .stack)) (c .before .i .given .1) (c .before .before .before .look .ensures)
+starts c = asked (c .before .before .before .before .before .loop .inv) (sym (c .before .i .given .1) ∙ c .before .before .before .look .ensures)
 
 ends : (c : tie.After-known-told2 Inv-loop μ-loop) → ActIs (c .before .before .before .before .before .before .before .before .before .before .before .args .lenient) (c .before .before .before .before .before .before .before .before .before .before .before .args .convert) (now (c .before .before .before .before .before .before .before .before .before .before .before .args .s)) (c .before .before .before .before .before .before .before .before .before .before .before .args .base) (c .before .before .before .before .before .loop .w) (c .before .before .before .before .before .loop .stack) (End (c .before .i2 .given .0 .0))
-ends c = subst (ActIs (c .before .before .before .before .before .before .before .before .before .before .before .args .lenient) (c .before .before .before .before .before .before .before .before .before .before .before .args .convert) (now (c .before .before .before .before .before .before .before .before .before .before .before .args .s)) (c .before .before .before .before .before .before .before .before .before .before .before .args .base) (c .before .before .before .before .before .loop .w) (c .before .before .before .before .before .loop .stack)) (c .before .i2 .given .1) (c .before .before .before .look .ensures)
+ends c = asked (c .before .before .before .before .before .loop .inv) (sym (c .before .i2 .given .1) ∙ c .before .before .before .look .ensures)
 
 nodes : (c : tie.After-known-told3 Inv-loop μ-loop) → ActIs (c .before .before .before .before .before .before .before .before .before .before .before .args .lenient) (c .before .before .before .before .before .before .before .before .before .before .before .args .convert) (now (c .before .before .before .before .before .before .before .before .before .before .before .args .s)) (c .before .before .before .before .before .before .before .before .before .before .before .args .base) (c .before .before .before .before .before .loop .w) (c .before .before .before .before .before .loop .stack) (Node (c .before .i3 .given .0 .0))
-nodes c = subst (ActIs (c .before .before .before .before .before .before .before .before .before .before .before .args .lenient) (c .before .before .before .before .before .before .before .before .before .before .before .args .convert) (now (c .before .before .before .before .before .before .before .before .before .before .before .args .s)) (c .before .before .before .before .before .before .before .before .before .before .before .args .base) (c .before .before .before .before .before .loop .w) (c .before .before .before .before .before .loop .stack)) (c .before .i3 .given .1) (c .before .before .before .look .ensures)
+nodes c = asked (c .before .before .before .before .before .loop .inv) (sym (c .before .i3 .given .1) ∙ c .before .before .before .look .ensures)
 
 adds : (c : tie.After-known-told4 Inv-loop μ-loop) → ActIs (c .before .before .before .before .before .before .before .before .before .before .before .args .lenient) (c .before .before .before .before .before .before .before .before .before .before .before .args .convert) (now (c .before .before .before .before .before .before .before .before .before .before .before .args .s)) (c .before .before .before .before .before .before .before .before .before .before .before .args .base) (c .before .before .before .before .before .loop .w) (c .before .before .before .before .before .loop .stack) (Add (c .before .i4 .given .0 .0) (c .before .i4 .given .0 .1 .0))
-adds c = subst (ActIs (c .before .before .before .before .before .before .before .before .before .before .before .args .lenient) (c .before .before .before .before .before .before .before .before .before .before .before .args .convert) (now (c .before .before .before .before .before .before .before .before .before .before .before .args .s)) (c .before .before .before .before .before .before .before .before .before .before .before .args .base) (c .before .before .before .before .before .loop .w) (c .before .before .before .before .before .loop .stack)) (c .before .i4 .given .1) (c .before .before .before .look .ensures)
+adds c = asked (c .before .before .before .before .before .loop .inv) (sym (c .before .i4 .given .1) ∙ c .before .before .before .look .ensures)
 
 skips : (c : tie.After-known-told5 Inv-loop μ-loop) → ActIs (c .before .before .before .before .before .before .before .before .before .before .before .args .lenient) (c .before .before .before .before .before .before .before .before .before .before .before .args .convert) (now (c .before .before .before .before .before .before .before .before .before .before .before .args .s)) (c .before .before .before .before .before .before .before .before .before .before .before .args .base) (c .before .before .before .before .before .loop .w) (c .before .before .before .before .before .loop .stack) (Skip (c .before .k .given .0 .0))
-skips c = subst (ActIs (c .before .before .before .before .before .before .before .before .before .before .before .args .lenient) (c .before .before .before .before .before .before .before .before .before .before .before .args .convert) (now (c .before .before .before .before .before .before .before .before .before .before .before .args .s)) (c .before .before .before .before .before .before .before .before .before .before .before .args .base) (c .before .before .before .before .before .loop .w) (c .before .before .before .before .before .loop .stack)) (c .before .k .given .1) (c .before .before .before .look .ensures)
+skips c = asked (c .before .before .before .before .before .loop .inv) (sym (c .before .k .given .1) ∙ c .before .before .before .look .ensures)
 
 stops : (c : tie.After-known-told6 Inv-loop μ-loop) → ActIs (c .before .before .before .before .before .before .before .before .before .before .before .args .lenient) (c .before .before .before .before .before .before .before .before .before .before .before .args .convert) (now (c .before .before .before .before .before .before .before .before .before .before .before .args .s)) (c .before .before .before .before .before .before .before .before .before .before .before .args .base) (c .before .before .before .before .before .loop .w) (c .before .before .before .before .before .loop .stack) (Stop (c .before .reason .given .0 .0))
-stops c = subst (ActIs (c .before .before .before .before .before .before .before .before .before .before .before .args .lenient) (c .before .before .before .before .before .before .before .before .before .before .before .args .convert) (now (c .before .before .before .before .before .before .before .before .before .before .before .args .s)) (c .before .before .before .before .before .before .before .before .before .before .before .args .base) (c .before .before .before .before .before .loop .w) (c .before .before .before .before .before .loop .stack)) (c .before .reason .given .1) (c .before .before .before .look .ensures)
+stops c = asked (c .before .before .before .before .before .loop .inv) (sym (c .before .reason .given .1) ∙ c .before .before .before .look .ensures)
 
 overs : (c : tie.After-known-told7 Inv-loop μ-loop) → ActIs (c .before .before .before .before .before .before .before .before .before .before .before .args .lenient) (c .before .before .before .before .before .before .before .before .before .before .before .args .convert) (now (c .before .before .before .before .before .before .before .before .before .before .before .args .s)) (c .before .before .before .before .before .before .before .before .before .before .before .args .base) (c .before .before .before .before .before .loop .w) (c .before .before .before .before .before .loop .stack) (Over (c .before .at .given .0 .0))
-overs c = subst (ActIs (c .before .before .before .before .before .before .before .before .before .before .before .args .lenient) (c .before .before .before .before .before .before .before .before .before .before .before .args .convert) (now (c .before .before .before .before .before .before .before .before .before .before .before .args .s)) (c .before .before .before .before .before .before .before .before .before .before .before .args .base) (c .before .before .before .before .before .loop .w) (c .before .before .before .before .before .loop .stack)) (c .before .at .given .1) (c .before .before .before .look .ensures)
+overs c = asked (c .before .before .before .before .before .loop .inv) (sym (c .before .at .given .1) ∙ c .before .before .before .look .ensures)
 
 -- ---- the needs
 
 loop-holds : tie.Need-loop-holds Inv-loop μ-loop
 loop-holds c = walking-first _ _ _ _ (c .before .before .before .before .before .pre) refl (c .begin .ensures)
-
-look-requires : tie.Need-look-requires Inv-loop μ-loop
-look-requires c κs = let x = c .before .loop .inv in (x .ready .short, x .deep, λ h. x .skip .ends ∙ x .ready .calm h)
 
 start-requires : tie.Need-start-requires Inv-loop μ-loop
 start-requires c κs = let z = starts (c .before) in (start-fits (c .before .before .before .before .before .before .loop .inv) (z .0) (sym (z .1)), omega (arith, head-lies _ _ (z .0), c .before .before .before .before .before .before .before .before .before .before .before .before .pre .short))
@@ -115,7 +113,7 @@ walk-tree-spec =
     μ-loop
     (λ c κs. search needs)
     loop-holds
-    look-requires
+    (λ c κs. search needs)
     (λ c. search needs)
     start-requires
     loop-less

@@ -1,13 +1,13 @@
--- `trees::plain` meets its contract. Assumes nothing.
+-- `look::plain` meets its contract. Assumes nothing.
 use denote.Ref.{now}
 use Prim.Native.Nat.{_-_}
 use mathlib.Core.Path.{_≡_, sym, _∙_}
 use lib.Seq.{slice}
 use Rattle.parser.specs.Walk.{uppers}
-use Rattle.trees.proofs.Uppers.{uppers-low, uppers-high, uppers-on, uppers-end}
+use Rattle.look.proofs.Uppers.{uppers-low, uppers-high, uppers-on, uppers-end}
 use borrow.Author.Needs.{needs}
-use Rattle.trees.proofs.plain.Statement.{statement}
-use Rattle.trees.proofs.plain.Tie as tie
+use Rattle.look.proofs.plain.Statement.{statement}
+use Rattle.look.proofs.plain.Tie as tie
 
 abbrev Inv-loop : tie.InvT-loop
 Inv-loop s from to i₀ i = uppers (slice i «to» s) ≡ uppers (slice from «to» s)

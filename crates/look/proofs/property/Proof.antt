@@ -1,11 +1,11 @@
--- `trees::property` meets its contract. Assumes nothing.
+-- `look::property` meets its contract. Assumes nothing.
 use borrow.Author.Tests.{not-true, not-false}
 use mathlib.Core.Bool.{true, false}
 use mathlib.Core.Path.{refl}
-use Rattle.trees.proofs.Acts.{act-shut, act-skips, act-takes, taken-by, taken-as}
+use Rattle.look.proofs.Acts.{act-shut, act-skips, act-takes, taken-by, taken-as}
 use borrow.Author.Needs.{needs}
-use Rattle.trees.proofs.property.Statement.{statement}
-use Rattle.trees.proofs.property.Tie as tie
+use Rattle.look.proofs.property.Statement.{statement}
+use Rattle.look.proofs.property.Tie as tie
 
 returns : tie.Need-returns
 returns c = act-shut _ _ _ _ _ _ (not-true _ (c .if1 .taken))

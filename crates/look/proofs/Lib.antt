@@ -1,0 +1,4 @@
+pub mod Acts
+pub mod Stacks
+pub mod Unique
+pub mod Uppers

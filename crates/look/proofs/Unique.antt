@@ -1,0 +1,13 @@
+-- No second answer: two answers that meet the contract of `look` are equal. Assumes nothing.
+use Prim.Native.Nat.{ℕ}
+use mathlib.Core.Path.{_≡_}
+use mathlib.Core.Bool.{Bool}
+use mathlib.Core.List.{List}
+use Rattle.lists.specs.Once.{Once}
+use Rattle.lists.proofs.Once.{once-is}
+use Rattle.look.specs.Asks.{asks}
+use Rattle.look.specs.declared.State.{State}
+use Rattle.look.specs.declared.Act.{Act}
+
+pub look-once : (len con : Bool) (u : List ℕ) (base : ℕ) (st : State) (a : List ℕ) → Once (λ (r : Act). r ≡ asks len con u base st a)
+look-once len con u base st a = once-is (asks len con u base st a)
