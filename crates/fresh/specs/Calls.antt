@@ -8,7 +8,7 @@ use Rattle.decide.specs.Edit.{Outcome}
 use Rattle.decide.specs.Answer.{outcomeOf}
 use Rattle.decide.specs.declared.Edited.{Edited}
 use Rattle.decide.specs.declared.Edited.the-variants.{Changed, Refused}
-use Rattle.edit.specs.Lent.{Lent, lent, EditIs}
+use Rattle.edit.specs.Lent.{Lent, EditIs}
 use Rattle.fresh.specs.Run.{Held, Order}
 
 -- what a caller has: the buffer and how much of it is used, the tables and their counts

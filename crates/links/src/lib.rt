@@ -1,6 +1,6 @@
 // Whether the links of nodes fit: roots, parents, first children, next siblings; and the game types. Linear in the tables: what climbs leaves a node only once.
 ghost use mathlib.Core.Path.{_≡_};
-ghost use Prim.Native.Nat.{ℕ, _/_, _<_, _≤_};
+ghost use Prim.Native.Nat.{_/_, _<_, _≤_};
 ghost use lib.ListN.{length};
 ghost use Rattle.tables.specs.Numbers.{none};
 ghost use Rattle.tables.specs.Each.{each};

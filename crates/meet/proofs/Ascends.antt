@@ -11,7 +11,7 @@ use Rattle.lists.specs.All.{All}
 use Rattle.lists.proofs.All.{all-append}
 use Rattle.lists.proofs.Tests.{and-both}
 use Rattle.utf8.proofs.Steps.{place}
-use Rattle.lexer.specs.Token.{Val, Prop, Tok, start, St, between, ident, value, after, fault, Out, starts, begins, values, afters, step, emits, ends, finish, lexFrom}
+use Rattle.lexer.specs.Token.{Val, Prop, Tok, St, between, ident, value, after, fault, Out, starts, begins, values, afters, step, emits, ends, finish, lexFrom}
 use Rattle.scan.specs.Scan.{space}
 use Rattle.tokens.proofs.Invariant.{OfTok}
 use Rattle.spans.specs.Spans.{span, plainName}

@@ -9,7 +9,6 @@ use lib.Seq.{slice}
 use borrow.Author.Tests.{le-leb}
 use Rattle.lists.specs.All.{All}
 use Rattle.lists.proofs.All.{all-map}
-use Rattle.lexer.specs.Closed.{closed}
 use Rattle.lexer.specs.Token.{Val, Prop}
 use Rattle.tokens.proofs.Proper.{HasProper}
 use Rattle.tables.specs.Record.{Tree, allNodes, allProps, allVals}

@@ -5,7 +5,7 @@ use mathlib.Core.List.{List, [], _∷_, reverse}
 use lib.Dec.{ltb}
 use Rattle.tokens.proofs.Invariant.{OfTok}
 use Rattle.lexer.specs.Token.{Prop, Tok, end, node, prop, start}
-use Rattle.lists.proofs.All.{all-append, all-reverse, every}
+use Rattle.lists.proofs.All.{all-append, all-reverse}
 use Rattle.lists.specs.All.{All}
 use Rattle.lists.specs.Pick.{pick}
 use Rattle.parser.specs.Kind.{Kind, is, kind, unkind}
@@ -16,7 +16,6 @@ use Rattle.tables.specs.Numbers.{depthLimit, none}
 use Rattle.tables.specs.Record.{Node, Tree, allNodes, allProps}
 use Rattle.tables.specs.declared.Reason.{Reason}
 use Rattle.tables.specs.declared.Reason.the-variants.{TooDeep, UnexpectedGameTreeEnd, UnexpectedGameTreeStart, UnexpectedProperty}
-use Rattle.utf8.specs.Text.{holds}
 
 -- ---- slices
 

@@ -10,7 +10,6 @@ use Rattle.lexer.specs.Move.{moveProp, moveTok}
 use Rattle.lexer.specs.Token.{Prop, Tok, end, node, prop, start}
 use Rattle.lists.specs.All.{All}
 use Rattle.lists.specs.Pick.{pick}
-use Rattle.lists.specs.Same.{same}
 use Rattle.parser.proofs.Lift.{OfSlices, of-sliced, of-split}
 use Rattle.parser.proofs.MovedKind.{GmStays, move-kind}
 use Rattle.parser.proofs.MovedSlices.{map-reverse, moveSlices, move-split, move-sliced}

@@ -6,7 +6,7 @@ use mathlib.Core.List.{List, [], _∷_, map}
 use lib.ListN.{drop}
 use Rattle.tokens.proofs.Invariant.{OfTok}
 use Rattle.lexer.specs.Move.{moveProp, moveTok, moveVal}
-use Rattle.lexer.specs.Token.{Prop, Tok, Val, end, node, prop, start, values}
+use Rattle.lexer.specs.Token.{Prop, Tok, Val, end, node, prop, start}
 use Rattle.lists.specs.All.{All}
 use Rattle.lists.specs.Pick.{pick}
 use Rattle.lists.specs.Same.{same}

@@ -7,7 +7,6 @@ use lib.Dec.{ltb}
 use Rattle.lexer.specs.Move.{moveTok}
 use Rattle.lexer.specs.Token.{Tok, end, node, prop, start}
 use Rattle.lists.specs.Pick.{pick}
-use Rattle.lists.specs.Same.{same}
 use Rattle.parser.specs.Split.{Slices, Splitting, ended, filled, no, over, sliced, slices, split, splits, splitting, wrong}
 use Rattle.tables.specs.Numbers.{depthLimit}
 use Rattle.tables.specs.declared.Reason.the-variants.{TooDeep}

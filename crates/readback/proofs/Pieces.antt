@@ -6,7 +6,6 @@ use Rattle.tokens.proofs.Machine.{emits-append, ends-append}
 use Rattle.lexer.specs.Token.{St, Tok, after, between, emits, end, ends, fault, ident, node, prop, start, value}
 use Rattle.scan.specs.Scan.{space}
 use Rattle.utf8.proofs.Steps.{place}
-use Rattle.serialize.specs.Write as Write
 use Rattle.readback.specs.Back.{zProp, zTok}
 
 -- what is pending in a state between tokens

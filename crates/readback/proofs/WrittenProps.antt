@@ -20,7 +20,6 @@ use Rattle.serialize.specs.Write.{boxed}
 use Rattle.utf8.proofs.Steps.{place}
 use Rattle.chars.specs.White.{within}
 use Rattle.values.specs.Read.{readIdentifier}
-use Rattle.serialize.specs.Write as Write
 use Rattle.readback.specs.Back.{some, Z, K, zProp, zTok}
 use Rattle.readback.proofs.Pieces.{Ready, pend, Reads}
 

@@ -7,7 +7,7 @@ use points::Value;
 use tables::Counts;
 use tables::Reason;
 ghost use mathlib.Core.Path.{_≡_};
-ghost use Prim.Native.Nat.{_-_, _/_, _<_};
+ghost use Prim.Native.Nat.{_-_, _<_};
 ghost use Rattle.rows.specs.Rows.{valuesAt};
 ghost use Rattle.go.specs.Value.{goValue};
 ghost use Rattle.values.specs.Read.{readIdentifier};

@@ -2,15 +2,14 @@
 use Prim.Native.Nat.{ℕ, _+_, _-_, _≤_, _<_}
 use mathlib.Core.Bool.{Bool, true, false, _&&_}
 use mathlib.Core.List.{List}
-use mathlib.Core.Path.{_≡_, refl, sym, ap, _∙_}
+use mathlib.Core.Path.{_≡_, refl, sym}
 use native.Mathlib.Omega.{arith}
 use lib.Dec.{leb}
 use lib.ListN.{length, take}
 use borrow.Author.Tests.{leb-true, leb-false, le-leb, lt-leb}
-use Rattle.lists.specs.Pick.{pick}
 use Rattle.lists.specs.Put.{putAt}
 use Rattle.lists.proofs.Tests.{and-both}
-use Rattle.splice.specs.Locals.{Within, Replaceable}
+use Rattle.splice.specs.Locals.{Replaceable}
 use Rattle.splice.specs.Splice.{pasted, cleared, may, replaced}
 
 -- ---- the tests, one after another
