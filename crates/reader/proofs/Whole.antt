@@ -1,8 +1,8 @@
--- The reading put together: the dry run, the room, the run that writes, the links. Assumes nothing.
+-- The reading put together: the run that counts, the room, the run that writes, the links. Assumes nothing.
 use Prim.Native.Nat.{ℕ, _+_, _*_, _≤_}
-use mathlib.Core.Path.{_≡_, refl, sym, ap, ap₂, _∙_, subst, subst⁻¹}
+use mathlib.Core.Path.{_≡_, refl, sym, ap, _∙_, subst, subst⁻¹}
 use mathlib.Core.Bool.{Bool, true, false}
-use mathlib.Core.List.{List, [], _∷_, _++_, reverse, reverse-reverse}
+use mathlib.Core.List.{List, _++_, reverse, reverse-reverse}
 use native.Mathlib.Omega.{arith}
 use lib.ListN.{length, drop}
 use Rattle.lists.specs.All.{All}
@@ -24,7 +24,7 @@ use Rattle.parser.specs.Read.{Answer, accepted, Growing, growing, failing, answ
 use Rattle.trees.specs.Flat.{bareRows}
 use Rattle.trees.proofs.Flats.{val-length, prop-length, node-length}
 use Rattle.reader.specs.Lent.{Lent, lent, roomFor, roomy, stored, ReadIs}
-use Rattle.reader.specs.Slices.{readOf, GrownIs, TreesIs}
+use Rattle.reader.specs.Slices.{readOf, GrownIs, TreesIs, CountIs}
 use Rattle.reader.specs.declared.slices.Total.{Total}
 use Rattle.reader.specs.declared.slices.Total.the-variants.{Rows, Refused as refusedTotal}
 use Rattle.reader.proofs.Parents.{Below, parents-below}
@@ -33,18 +33,13 @@ use Rattle.reader.proofs.Plants.{tree-length}
 use Rattle.reader.proofs.Rooms.{tree-count, node-count, flat-nodes, Room, room-true}
 use Rattle.tables.proofs.Lengths.{prop-rows-length, val-rows-length}
 
--- the tables after a run on empty parts
-pub dry-kept : (l t : List ℕ) → length l ≡ 0 → l ++ drop 0 t ≡ t
-dry-kept [] t e = refl
-dry-kept (y ∷ l) t e = absurd (omega arith)
-
-pub lent-same : {r t q w r1 t1 q1 w1 : List ℕ} → r1 ≡ r → t1 ≡ t → q1 ≡ q → w1 ≡ w → lent r1 t1 q1 w1 ≡ lent r t q w
+lent-same : {r t q w r1 t1 q1 w1 : List ℕ} → r1 ≡ r → t1 ≡ t → q1 ≡ q → w1 ≡ w → lent r1 t1 q1 w1 ≡ lent r t q w
 lent-same er et eq ew = rw (er, et, eq, ew)
 
 -- ---- refused
 
-pub read-refused : {X : Growing} {r : Reason} → X ≡ failing r → {b a : Lent} → a ≡ b → ReadIs (answer X) b a (Refused r 0)
-read-refused {X} {r} e {b} {a} q = subst⁻¹ (λ (z : Growing). ReadIs (answer z) b a (Refused r 0)) e (record { answer = refl; tables = q })
+pub read-refused : {X : Growing} {r : Reason} → X ≡ failing r → {b : Lent} → ReadIs (answer X) b b (Refused r 0)
+read-refused {X} {r} e {b} = subst⁻¹ (λ (z : Growing). ReadIs (answer z) b b (Refused r 0)) e (record { answer = refl; tables = refl })
 
 -- ---- the trees put
 
@@ -74,20 +69,18 @@ module _ {X : Growing} {count n p v : ℕ} {b₀ a₀ : Lent} (G : GrownIs X cou
   answer-is : answer X ≡ accepted (G .ts)
   answer-is = ap answer (G .grown) ∙ ap accepted (reverse-reverse (G .ts))
 
-module _ {X : Growing} {count n p v : ℕ} {b₀ a₀ : Lent} (G : GrownIs X count b₀ a₀ n p v) {b a : Lent} (q : a ≡ b)
-    {t : Bool} (e : t ≡ roomFor (counts G) (length (a .trees)) (length (a .nodes)) (length (a .props)) (length (a .vals))) where
+module _ {X : Growing} {count n p v : ℕ} {b₀ a₀ : Lent} (G : GrownIs X count b₀ a₀ n p v) (b : Lent)
+    {t : Bool} (e : t ≡ roomFor (counts G) (length (b .trees)) (length (b .nodes)) (length (b .props)) (length (b .vals))) where
   room-is : roomy (tables (G .ts)) b ≡ t
   room-is =
-      ap (λ (c : Counts). roomFor c (length (b .trees)) (length (b .nodes)) (length (b .props)) (length (b .vals))) (counts-are G)
-      ∙ ap (λ (l : Lent). roomFor (counts G) (length (l .trees)) (length (l .nodes)) (length (l .props)) (length (l .vals))) (sym q)
-      ∙ sym e
+      ap (λ (c : Counts). roomFor c (length (b .trees)) (length (b .nodes)) (length (b .props)) (length (b .vals))) (counts-are G) ∙ sym e
 
-  pub read-no-room : t ≡ false → ReadIs (answer X) b a (Refused NoRoom 0)
+  pub read-no-room : t ≡ false → ReadIs (answer X) b b (Refused NoRoom 0)
   read-no-room f =
-      subst⁻¹ (λ (z : Answer). ReadIs z b a (Refused NoRoom 0)) (answer-is G) (record { answer = rw (room-is, f); tables = q ∙ rw (room-is, f) })
+      subst⁻¹ (λ (z : Answer). ReadIs z b b (Refused NoRoom 0)) (answer-is G) (record { answer = rw (room-is, f); tables = rw (room-is, f) })
 
   -- the run that writes, and the links
-  module _ (f : t ≡ true) {A : Lent} {n′ p′ v′ : ℕ} (Y : GrownIs X count a A n′ p′ v′) (op : Opts) (l : List Tok) (ex : X ≡ readOf op count l) {t2 : List ℕ} (links : LinksIs n (A .nodes) t2) where
+  module _ (f : t ≡ true) {A : Lent} {n′ p′ v′ : ℕ} (Y : GrownIs X count b A n′ p′ v′) (op : Opts) (l : List Tok) (ex : X ≡ readOf op count l) {t2 : List ℕ} (links : LinksIs n (A .nodes) t2) where
     grown-same : growing n′ (reverse (Y .ts)) ≡ growing n (reverse (G .ts))
     grown-same = sym (Y .grown) ∙ G .grown
 
@@ -100,10 +93,10 @@ module _ {X : Growing} {count n p v : ℕ} {b₀ a₀ : Lent} (G : GrownIs X cou
     counts-same : counts Y ≡ counts G
     counts-same = sym (counts-are Y) ∙ ap (λ (z : List Tree). countsOf (tables z)) trees-same ∙ counts-are G
 
-    filled : lent (A .trees) t2 (A .props) (A .vals) ≡ stored (tables (Y .ts)) a
+    filled : lent (A .trees) t2 (A .props) (A .vals) ≡ stored (tables (Y .ts)) b
     unfolding readOf
     filled =
-        let R : Room (counts Y) a = subst⁻¹ (λ (c : Counts). Room c a) counts-same (room-true (counts G) a (sym e ∙ f)) in
+        let R : Room (counts Y) b = subst⁻¹ (λ (c : Counts). Room c b) counts-same (room-true (counts G) b (sym e ∙ f)) in
         let rt = R .trees in
         let rn = R .nodes in
         let rp = R .props in
@@ -119,7 +112,7 @@ module _ {X : Growing} {count n p v : ℕ} {b₀ a₀ : Lent} (G : GrownIs X cou
         let b1 : All (Below n) (allNodes (Y .ts)) = subst (λ (z : ℕ). All (Below z) (allNodes (Y .ts))) nodes-same (parents-below op (cut count l) n′ (Y .ts) (sym ex ∙ Y .grown)) in
         lent-same
         (put-all (Y .ttrees) (omega (arith, tree-length (Y .ts))))
-        (nodes-linked (allNodes (Y .ts)) n (omega arith) (omega arith) b1 (a .nodes) (put-all (Y .stored .tnodes) (omega (arith, node-length 0 (allNodes (Y .ts))))) (omega arith, omega arith) links)
+        (nodes-linked (allNodes (Y .ts)) n (omega arith) (omega arith) b1 (b .nodes) (put-all (Y .stored .tnodes) (omega (arith, node-length 0 (allNodes (Y .ts))))) (omega arith, omega arith) links)
         (put-all (Y .stored .tprops) (omega (arith, prop-length 0 (allProps (allNodes (Y .ts))))))
         (put-all (Y .stored .tvals) (omega (arith, val-length (allVals (allProps (allNodes (Y .ts)))))))
 
@@ -128,20 +121,20 @@ module _ {X : Growing} {count n p v : ℕ} {b₀ a₀ : Lent} (G : GrownIs X cou
         subst⁻¹ (λ (z : Answer). ReadIs z b (lent (A .trees) t2 (A .props) (A .vals)) (Accepted (counts G))) (answer-is G)
         (record {
           answer = rw (room-is, f) (ap Accepted (sym (counts-are G)));
-          tables = rw (room-is, f) (filled ∙ ap₂ (λ (z : List Tree) (y : Lent). stored (tables z) y) trees-same q);
+          tables = rw (room-is, f) (filled ∙ ap (λ (z : List Tree). stored (tables z) b) trees-same);
         })
 
   -- the second run does not refuse where the first did not
-  pub read-accepted : t ≡ true → (A : Lent) (x : Total) → TreesIs X count a A x → (op : Opts) (l : List Tok) → X ≡ readOf op count l → (t2 : List ℕ) → LinksIs n (A .nodes) t2
+  pub read-accepted : t ≡ true → (A : Lent) (x : Total) → TreesIs X count b A x → (op : Opts) (l : List Tok) → X ≡ readOf op count l → (t2 : List ℕ) → LinksIs n (A .nodes) t2
       → ReadIs (answer X) b (lent (A .trees) t2 (A .props) (A .vals)) (Accepted (counts G))
   read-accepted f A (Rows n′ p′ v′) Y op l ex t2 links = read-filled f Y op l ex links
   read-accepted f A (refusedTotal r) Y op l ex t2 links =
       let w : failing r ≡ growing n (reverse (G .ts)) = sym Y ∙ G .grown in never cc
 
--- what a run gave
-module _ (X : Growing) (count : ℕ) (b a : Lent) {x : Total} (y : TreesIs X count b a x) where
-  pub total-rows : {n p v : ℕ} → x ≡ Rows n p v → GrownIs X count b a n p v
-  total-rows e = subst (TreesIs X count b a) e y
+-- what the run that counts gave
+module _ (X : Growing) (count : ℕ) {x : Total} (y : CountIs X count x) where
+  pub total-rows : {n p v : ℕ} → x ≡ Rows n p v → GrownIs X count (y .0) (y .1) n p v
+  total-rows e = subst (TreesIs X count (y .0) (y .1)) e (y .2)
 
   pub total-refused : {r : Reason} → x ≡ refusedTotal r → X ≡ failing r
-  total-refused e = subst (TreesIs X count b a) e y
+  total-refused e = subst (TreesIs X count (y .0) (y .1)) e (y .2)

@@ -51,3 +51,7 @@ pub record GrownIs (x : Growing) (count : ℕ) (before after : Lent) (n p v : �
 abbrev pub TreesIs : Growing → ℕ → Lent → Lent → Total → Type 0
 TreesIs x count before after (Rows n p v) = GrownIs x count before after n p v
 TreesIs x count before after (Refused r) = x ≡ failing r
+
+-- the same of a run over tables that nobody keeps
+abbrev pub CountIs : Growing → ℕ → Total → Type 0
+CountIs x count r = (before : Lent) × (after : Lent) × TreesIs x count before after r

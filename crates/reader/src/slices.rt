@@ -1,4 +1,4 @@
-// The trees of all slices, into the tables: a dry run, the room, the run that writes, the links.
+// The trees of all slices, into the tables: a run that counts, the room, the run that writes, the links.
 ghost use mathlib.Core.Path.{_≡_};
 ghost use Rattle.lexer.specs.Token.{lexAt};
 ghost use Rattle.parser.specs.Kind.{kind};
@@ -7,7 +7,7 @@ ghost use Rattle.parser.specs.Slice.{sliceFrom};
 ghost use Rattle.trees.specs.Walks.{opts};
 ghost use Rattle.game.specs.Game.{typeOf};
 ghost use Rattle.reader.specs.Lent.{lent, roomFor, ReadIs};
-ghost use Rattle.reader.specs.Slices.{leniently, readOf, SlicesReady, TreesIs};
+ghost use Rattle.reader.specs.Slices.{leniently, readOf, SlicesReady, TreesIs, CountIs};
 use game::GameType;
 use tables::Counts;
 use tables::Reading;
@@ -97,7 +97,29 @@ fn has_room(counts: Counts, trees: usize, nodes: usize, properties: usize, value
         & (counts.values <= values / tables::VALUE_STRIDE)
 }
 
-// The trees of `count` slices from a place on. The first run is on empty parts, so that a refusal has written nothing.
+// How many rows the trees of `count` slices have: a run over tables of its own, in which no row has room.
+fn count_rows(s: &[u8], from: usize, count: usize, lenient: bool, convert: bool) -> Total
+    requires { ⌜ SlicesReady (opts lenient convert) (now s) from count ⌝ }
+    ensures { λ r. ⌜ CountIs (readOf (opts lenient convert) count (lexAt (now (s .entry)) from .toks)) count r ⌝ }
+{
+    let mut trees = [0u32; 1];
+    let mut nodes = [0u32; 1];
+    let mut properties = [0u32; 1];
+    let mut values = [0u32; 1];
+    read_trees(
+        s,
+        from,
+        count,
+        lenient,
+        convert,
+        &mut trees,
+        &mut nodes,
+        &mut properties,
+        &mut values,
+    )
+}
+
+// The trees of `count` slices from a place on. The rows are counted first, so that a refusal has written nothing.
 pub fn read_slices(
     s: &[u8],
     from: usize,
@@ -112,17 +134,7 @@ pub fn read_slices(
     requires { ⌜ SlicesReady (opts lenient convert) (now s) from count ⌝ }
     ensures { λ r. ⌜ ReadIs (answer (readOf (opts lenient convert) count (lexAt (now (s .entry)) from .toks))) (lent (now (trees .entry)) (now (nodes .entry)) (now (properties .entry)) (now (values .entry))) (lent (now (trees .exit)) (now (nodes .exit)) (now (properties .exit)) (now (values .exit))) r ⌝ }
 {
-    match read_trees(
-        s,
-        from,
-        count,
-        lenient,
-        convert,
-        &mut trees[..0],
-        &mut nodes[..0],
-        &mut properties[..0],
-        &mut values[..0],
-    ) {
+    match count_rows(s, from, count, lenient, convert) {
         Total::Refused(reason) => Reading::Refused(reason, 0),
         Total::Rows(n, p, v) => {
             let counts = Counts {
