@@ -1,7 +1,7 @@
 -- What the tests of an edit answer: closed, exactly `GM`, whose value. Assumes nothing.
 use Prim.Native.Nat.{ℕ, _+_, _-_, _≤_, _<_}
 use mathlib.Core.Path.{_≡_, refl, sym, ap, ap₂, _∙_}
-use mathlib.Core.Bool.{Bool, true, false, not, _&&_, and-false, false≢true}
+use mathlib.Core.Bool.{Bool, true, false, not, _&&_, and-false, false≢true, and-true}
 use mathlib.Core.List.{List, [], _∷_}
 use native.Mathlib.Omega.{arith}
 use lib.Dec.{eqb}
@@ -47,10 +47,6 @@ gm-not [] h = refl
 gm-not (x ∷ []) h = sym (and-false (eqb x 0x47))
 gm-not (x ∷ y ∷ []) h = absurd (h refl)
 gm-not (x ∷ y ∷ z ∷ s) h = sym (ap (λ (b : Bool). eqb x 0x47 && b) (and-false (eqb y 0x4d)) ∙ and-false (eqb x 0x47))
-
-and-true : (b : Bool) → (b && true) ≡ b
-and-true true = refl
-and-true false = refl
 
 pub gm-two : (s : List ℕ) → length s ≡ 2 → (eqb (getD s 0 0) 0x47 && eqb (getD s 1 0) 0x4d) ≡ same s GM
 gm-two [] h = absurd (omega arith)

@@ -1,14 +1,14 @@
 -- Lent tables that have a record's rows: what of fitting follows for any record. Assumes nothing.
-use Prim.Native.Nat.{ℕ, suc, _+_}
+use Prim.Native.Nat.{ℕ}
 use mathlib.Core.Bool.{true}
-use mathlib.Core.List.{List, [], _∷_}
-use mathlib.Core.Path.{_≡_, refl, sym, ap, _∙_}
+use mathlib.Core.List.{List}
+use mathlib.Core.Path.{_≡_, sym, ap, _∙_}
 use lib.ListN.{length}
 use Rattle.lexer.specs.Token.{Prop}
 use Rattle.tables.specs.Record.{Node, Tree, allNodes, allProps, allVals}
 use Rattle.tables.specs.Rows.{Tables, tables, parents, nodeRows, propRows, countsOf}
 use Rattle.tables.specs.declared.Counts.{Counts}
-use Rattle.tables.proofs.Lengths.{prop-rows-length, val-rows-length}
+use Rattle.tables.proofs.Lengths.{prop-rows-length, val-rows-length, node-rows-length}
 use Rattle.tables.specs.Columns.{firstPropAt, propCountAt, firstValAt, valCountAt}
 use Rattle.tables.specs.Each.{each, tabulate}
 use Rattle.links.specs.Nodes.{childRight, siblingRight}
@@ -22,10 +22,6 @@ use Rattle.fit.proofs.RecordRanges.{node-ranges-fit, prop-ranges-fit}
 
 pub counts-of-rows : (c : Counts) (tr nd pr vl : List ℕ) → countsOf (rowsOf c tr nd pr vl) ≡ c
 counts-of-rows c tr nd pr vl = simp tabulate-length
-
-node-rows-length : (qs : List ℕ) (k f : ℕ) (ns : List Node) → length (nodeRows qs k f ns) ≡ length ns
-node-rows-length qs k f [] = refl
-node-rows-length qs k f (n ∷ ns) = ap suc (node-rows-length qs (suc k) (f + length (n .props)) ns)
 
 module _ (c : Counts) (tr nd pr vl : List ℕ) (ts : List Tree) (h : rowsOf c tr nd pr vl ≡ tables ts) where
   abbrev ns : List Node

@@ -6,7 +6,7 @@ use mathlib.Core.Path.{_≡_, refl, sym, ap, ap₂, _∙_, subst}
 use native.Mathlib.Omega.{arith}
 use lib.Dec.{eqb, leb}
 use lib.ListN.{length}
-use borrow.Author.Tests.{eq-eqb, ne-eqb, le-leb, lt-leb}
+use borrow.Author.Tests.{eq-eqb, le-leb, lt-leb}
 use Rattle.lists.specs.Pick.{pick}
 use Rattle.tables.specs.Numbers.{none}
 use Rattle.tables.specs.Record.{Node}
@@ -15,11 +15,9 @@ use Rattle.tables.specs.Columns.{parentAt, childAt, siblingAt}
 use Rattle.tables.specs.Each.{each, tabulate}
 use Rattle.links.specs.Nodes.{firstUnder, nextOf, childRight, siblingRight}
 use Rattle.fit.specs.Record.{nodeRow}
-use Rattle.lists.proofs.Tests.{same-or}
+use Rattle.lists.proofs.Tests.{same-or, eqb-sym}
 use Rattle.tables.proofs.Each.{each-all}
-
-eqb-sym : (a b : ℕ) → eqb a b ≡ eqb b a
-eqb-sym a b = same-or a b (λ e. eq-eqb a b e ∙ sym (eq-eqb b a (sym e))) (λ e. ne-eqb a b e ∙ sym (ne-eqb b a (λ z. e (sym z))))
+use Rattle.tables.proofs.Lengths.{parents-length}
 
 -- the table has these parents from k on
 abbrev pub Tells : List ℕ → ℕ → List ℕ → Type 0
@@ -65,10 +63,6 @@ links nd qs f b (n ∷ ns) e =
     ap (λ (z : NodeRow). z .sibling) row ∙ ap (λ (z : ℕ). pick (eqb z none) none (next z (suc b) 0 qs)) (sym p) in
     let r = links nd qs (f + length (n .props)) (suc b) ns (tail-eq-of-cons-eq e) in
     ((p, r .0), (λ i a d. same-or i b (λ w. subst (Linked nd qs) (sym w) (c, s)) (λ w. r .1 i (omega arith) (omega arith))))
-
-parents-length : (ns : List Node) → length (parents ns) ≡ length ns
-parents-length [] = refl
-parents-length (n ∷ ns) = ap suc (parents-length ns)
 
 module _ (nd : List ℕ) (ns : List Node) (rows : tabulate (nodeRow nd) 0 (length ns) ≡ nodeRows (parents ns) 0 0 ns) where
   all-links : Tells nd 0 (parents ns) × ((i : ℕ) → 0 ≤ i → i < 0 + length ns → Linked nd (parents ns) i)

@@ -2,7 +2,7 @@
 use Prim.Native.Nat.{ℕ, _-_, _/_, _≤_}
 use mathlib.Core.Bool.{Bool, true, _&&_}
 use mathlib.Core.List.{List}
-use mathlib.Core.Path.{_≡_}
+use mathlib.Core.Path.{_≡_, refl}
 use lib.Dec.{leb}
 use lib.ListN.{length, take}
 use borrow.Author.Tests.{leb-true, le-leb}
@@ -13,8 +13,10 @@ use Rattle.links.specs.Nodes.{nodesFit, linksFit}
 use Rattle.spans.specs.Parts.{partsFit}
 use Rattle.spans.specs.Ranges.{rangesFit}
 use Rattle.spans.specs.Spans.{spansFit}
-use Rattle.fit.specs.Fit.{lentFor, fitText, Fit}
+use Rattle.fit.specs.Fit.{lentFor, sound, fitText, Fit}
 use Rattle.fit.specs.Locals.{Held}
+use Rattle.utf8.specs.Text.{Ink, blank, inked, whole}
+use Rattle.utf8.specs.Trim.{shown}
 
 module _ (c : Counts) (tr nd pr vl : List ℕ) (held : Held c tr nd pr vl) where
   pub links-held : linksFit c tr nd ≡ nodesFit c tr nd
@@ -52,3 +54,9 @@ module _ (t : List ℕ) (used : ℕ) (c : Counts) (tr nd pr vl : List ℕ) where
   pub fit-lent : Fit t used c tr nd pr vl ≡ true → (used ≤ length t) × Held c tr nd pr vl
   unfolding Fit
   fit-lent fit = lent-is (and-left (lentFor t used c tr nd pr vl) (fitText (take used t) c tr nd pr vl) fit)
+
+-- ---- of the text
+
+pub whole-sound : (k : Ink) → sound (shown (whole k)) ≡ true
+whole-sound blank = refl
+whole-sound (inked f l) = refl

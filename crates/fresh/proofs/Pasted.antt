@@ -6,12 +6,13 @@ use mathlib.Core.Path.{_≡_, refl, sym, ap, ap₂, _∙_, subst}
 use native.Mathlib.Omega.{arith}
 use lib.ListN.{length, take, drop, getD, take-append-drop, length-append, List·getD-append, List·getD-eq-default}
 use lib.Seq.{slice, take-suc, take-take, take-append-le, take-append-add, drop-append-add, drop-cons, getD-append-add, getD-take, length-take-le, take-at}
-use Rattle.utf8.specs.Text.{Ink, blank, inked, Utf, whole, part, bad, utfs}
+use Rattle.utf8.specs.Text.{Ink, blank, Utf, whole, part, bad, utfs}
 use Rattle.utf8.specs.Trim.{shown, trimmed}
 use Rattle.tokens.proofs.Kept.{kept}
 use Rattle.fit.specs.Fit.{sound, validUtf8}
 use Rattle.tables.proofs.Cases.{below-or}
 use Rattle.splice.specs.Splice.{pasted}
+use Rattle.fit.proofs.Whole.{whole-sound}
 
 slice-add : (p r : List ℕ) (n a b : ℕ) → length p ≡ n → slice (n + a) (n + b) (p ++ r) ≡ slice a b r
 slice-add p r n a b h =
@@ -94,10 +95,6 @@ module _ (t new : List ℕ) (q e : ℕ) (qe : q ≤ e) (el : e ≤ length t) whe
     sound-whole (whole k) h = (k, refl)
     sound-whole (part k s n r x) h = absurd (false≢true h)
     sound-whole (bad p) h = absurd (false≢true h)
-
-    whole-sound : (k : Ink) → sound (shown (whole k)) ≡ true
-    whole-sound blank = refl
-    whole-sound (inked f l) = refl
 
     valid-by : (u : Utf) {k : Ink} → u ≡ whole k → sound (shown u) ≡ true
     valid-by u {k} e = ap (λ (z : Utf). sound (shown z)) e ∙ whole-sound k

@@ -1,7 +1,7 @@
 -- The game type that a property says: the identifier GM, exactly one value, a number, exactly `1`. Assumes nothing.
 use Prim.Native.Nat.{ℕ, suc, _+_, _^_, _≤_, _-_}
 use mathlib.Core.Path.{_≡_, refl, sym, ap, _∙_}
-use mathlib.Core.Bool.{Bool, true, false, _&&_}
+use mathlib.Core.Bool.{Bool, true, false, _&&_, and-true, and-false}
 use mathlib.Core.List.{List, [], _∷_}
 use native.Mathlib.Omega.{arith}
 use native.Mathlib.Numerals.{add-one}
@@ -30,14 +30,6 @@ use Rattle.game.specs.declared.GameType.{GameType}
 use Rattle.game.specs.declared.GameType.the-variants.{Is, Refused}
 use Rattle.game.specs.Game.{typeOf}
 use Rattle.game.proofs.Variants.{not-value}
-
-and-false : (b : Bool) → (b && false) ≡ false
-and-false true = refl
-and-false false = refl
-
-and-true : (b : Bool) → (b && true) ≡ b
-and-true true = refl
-and-true false = refl
 
 -- ---- GM
 

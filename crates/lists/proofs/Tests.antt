@@ -1,9 +1,11 @@
 -- Tests that are Booleans: what a conjunction and a disjunction say; what cannot be; and numbers that are equal or not. Assumes nothing.
 use Prim.Native.Nat.{ℕ}
-use mathlib.Core.Path.{_≡_, refl}
+use mathlib.Core.Path.{_≡_, refl, sym, _∙_}
 use mathlib.Core.Bool.{Bool, true, false, _&&_, _||_, false≢true, true≢false}
 use native.Mathlib.Omega.{arith}
 use native.Mathlib.Decide.{ℕ-discrete}
+use lib.Dec.{eqb}
+use borrow.Author.Tests.{eq-eqb, ne-eqb}
 
 pub and-both : (x y : Bool) → x && y ≡ true → (x ≡ true) × (y ≡ true)
 and-both true y h = (refl, h)
@@ -24,3 +26,6 @@ never e = absurd (omega (arith, e))
 -- two numbers are equal or not
 pub same-or {ℓ} : {X : Type ℓ} (a b : ℕ) → (a ≡ b → X) → ((a ≡ b → ⊥) → X) → X
 same-or a b f g = elim (ℕ-discrete a b) [ yes h ↦ f h | no h ↦ g h ]
+
+pub eqb-sym : (a b : ℕ) → eqb a b ≡ eqb b a
+eqb-sym a b = same-or a b (λ e. eq-eqb a b e ∙ sym (eq-eqb b a (sym e))) (λ e. ne-eqb a b e ∙ sym (ne-eqb b a (λ z. e (sym z))))

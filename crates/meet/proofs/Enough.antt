@@ -18,8 +18,8 @@ use Rattle.parser.specs.Split.{slices}
 use Rattle.parser.specs.Walk.{Opts}
 use Rattle.parser.specs.Read.{Answer, accepted, lex, read}
 use Rattle.reader.specs.Lent.{Lent, answers}
-use Rattle.reader.proofs.Rooms.{tree-count, node-count}
-use Rattle.tables.proofs.Lengths.{prop-rows-length, val-rows-length}
+use Rattle.reader.proofs.Rooms.{tree-count}
+use Rattle.tables.proofs.Lengths.{prop-rows-length, val-rows-length, node-rows-length}
 use Rattle.meet.specs.Enough.{Rows, strictRows, lenientRows, Suffices, Lends}
 use Rattle.meet.proofs.Accepted.{Reading, reading-is}
 use Rattle.meet.proofs.Bracketing.{Ending, Parted, slices-parted}
@@ -69,7 +69,7 @@ module _ (op : Opts) (t : List ℕ) (ts : List Tree) (h : read op t ≡ accepted
   trees-are = tree-count ts
 
   nodes-are : c .nodes ≡ length (allNodes ts)
-  nodes-are = node-count (parents (allNodes ts)) 0 0 (allNodes ts)
+  nodes-are = node-rows-length (parents (allNodes ts)) 0 0 (allNodes ts)
 
   props-are : c .properties ≡ length (allProps (allNodes ts))
   props-are = prop-rows-length 0 (allProps (allNodes ts))

@@ -1,12 +1,12 @@
 -- The tables of an accepted reading fit its text, strict or lenient, with conversion on or off. Assumes nothing.
-use mathlib.Core.Path.{_≡_, refl, sym, ap, _∙_}
+use mathlib.Core.Path.{_≡_, sym, ap, _∙_}
 use Prim.Native.Nat.{ℕ, _≤_}
 use native.Mathlib.Omega.{arith}
 use mathlib.Core.Bool.{true}
 use mathlib.Core.List.{List, _++_}
 use lib.ListN.{length, take, length-append}
 use lib.Seq.{take-length}
-use Rattle.utf8.specs.Text.{Ink, blank, inked, Utf, whole}
+use Rattle.utf8.specs.Text.{Utf}
 use Rattle.utf8.specs.Trim.{trimmed, shown}
 use Rattle.lexer.specs.Token.{Prop}
 use Rattle.tables.specs.Flat.{flatTrees, flatNodes, flatProps, flatVals}
@@ -30,10 +30,7 @@ use Rattle.meet.proofs.Accepted.{Reading, reading-is}
 use Rattle.meet.proofs.Nodes.{roots-fit, parents-fit, kinds-fit}
 use Rattle.meet.proofs.Sizes.{nodes-most}
 use Rattle.meet.proofs.Spans.{names-fit, have-values, ascent-fits, values-fit}
-
-valid-ink : (k : Ink) → sound (shown (whole k)) ≡ true
-valid-ink blank = refl
-valid-ink (inked f l) = refl
+use Rattle.fit.proofs.Whole.{whole-sound}
 
 -- any tables that have the rows of the reading
 module _ (op : Opts) (t : List ℕ) (ts : List Tree) (h : read op t ≡ accepted ts) (c : Counts) (tr nd pr vl : List ℕ) (rows : rowsOf c tr nd pr vl ≡ tables ts) where
@@ -72,7 +69,7 @@ module _ (op : Opts) (t : List ℕ) (ts : List Tree) (h : read op t ≡ accepted
 
   valid : validUtf8 t ≡ true
   unfolding trimmed
-  valid = ap (λ (u : Utf). sound (shown u)) (r .valid) ∙ valid-ink (r .ink)
+  valid = ap (λ (u : Utf). sound (shown u)) (r .valid) ∙ whole-sound (r .ink)
 
   clauses : Room c (lent tr nd pr vl) → Clauses t c tr nd pr vl
   clauses room =

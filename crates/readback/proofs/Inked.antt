@@ -22,8 +22,9 @@ use Rattle.tables.specs.Rows.{parents}
 use Rattle.utf8.proofs.Like.{like-utfs, like-whole}
 use Rattle.utf8.proofs.Steps.{place, place-is, utfs-append}
 use Rattle.chars.specs.White.{white, within}
-use Rattle.utf8.specs.Text.{Ink, Utf, blank, inked, mark, utf, utfs, whole}
+use Rattle.utf8.specs.Text.{Ink, Utf, blank, inked, utf, utfs, whole}
 use Rattle.values.specs.Read.{readIdentifier}
+use Rattle.utf8.proofs.Blocks.{mark-inked}
 
 -- ---- the writing is valid, and trimming takes nothing away
 
@@ -40,13 +41,9 @@ fine-append xs ys h k a l o =
     let y = k a (x .0) (place o xs) in
     (y .0, utfs-append (whole (inked a l)) o xs ys ∙ ap (λ (u : Utf). utfs u (place o xs) ys) (x .1) ∙ y .1)
 
-marked : (w : Bool) (a l s e : ℕ) → (l2 : ℕ) × (mark w (inked a l) s e ≡ inked a l2)
-marked true a l s e = (l, refl)
-marked false a l s e = (e, refl)
-
 fine-ascii : (b : ℕ) → leb b 0x7f ≡ true → Fine (b ∷ [])
 fine-ascii b h a l o =
-    let x = marked (white b) a l o (suc o) in
+    let x = mark-inked (white b) a l o (suc o) in
     (x .0, rw h (ap whole (x .1)))
 
 fine-cons : (b : ℕ) (bs : List ℕ) → leb b 0x7f ≡ true → Fine bs → Fine (b ∷ bs)

@@ -14,7 +14,6 @@ use Rattle.lexer.specs.Token.{Prop, Tok, Val, lexFrom}
 use Rattle.lists.proofs.All.{all-map}
 use Rattle.lists.specs.All.{All}
 use Rattle.lists.specs.Pick.{pick}
-use Rattle.lists.proofs.Tests.{never}
 use Rattle.parser.proofs.Lift.{OfAnswer, OfNode, OfTree, of-tokens}
 use Rattle.parser.specs.Read.{Answer, Growing, accepted, answer, decoded, failing, growAll, growing, planted, read, refused}
 use Rattle.parser.specs.Split.{Slices, Splitting, filled, no, over, sliced, slices, split, splitting, wrong}
@@ -29,11 +28,11 @@ use Rattle.readback.proofs.WrittenProps.{Plain, Shut}
 use Rattle.readback.proofs.Written.{PlainNode, PlainTree}
 use Rattle.tables.specs.Numbers.{depthLimit, none, textLimit}
 use Rattle.tables.specs.Record.{Node, Tree}
-use Rattle.tables.specs.declared.Reason.{Reason}
 use Rattle.tables.specs.declared.Reason.the-variants.{TextTooLong, TooDeep}
 use Rattle.utf8.specs.Text.{Utf, blank, inked, utfs, whole}
 use Rattle.readback.specs.Back.{Named, BeginsAll, Each, toksOf}
 use Rattle.readback.proofs.Sounded.{PreNodes, PreTrees, back-again, all-trees}
+use Rattle.parser.proofs.Answers.{not-both}
 
 abbrev Some : Slices → Type 0
 Some (no n) = Unit {0}
@@ -53,9 +52,6 @@ some-sliced (splitting (suc d) m cur ss) = tt
 some-sliced (over m ss) = some-filled m ss
 some-sliced (wrong n) = tt
 
-not-accepted : {A : Type 0} (n : Reason) (p : ℕ) (ts : List Tree) → refused n p ≡ accepted ts → A
-not-accepted n p ts e = never cc
-
 pre-answer : (c : Bool) (ss : List (List Tok)) (r : Growing) (ts : List Tree) → growAll (strictly c) (growing 0 []) ss ≡ r → answer r ≡ accepted ts
     → All Leads ss → All SliceOk ss → total ss ≤ none → PreTrees 0 ts × (length ts ≡ length ss)
 pre-answer c ss (growing n vs) ts e h b k l =
@@ -64,11 +60,11 @@ pre-answer c ss (growing n vs) ts e h b k l =
     let q : reverse vs ≡ ts = cc in
     let w : g .0 ≡ ts = sym (back-again (g .0)) ∙ ap reverse (sym (g .1)) ∙ q in
     (subst (PreTrees 0) w (g .2), sym (ap length w) ∙ g .3)
-pre-answer c ss (failing j) ts e h b k l = not-accepted j 0 ts h
+pre-answer c ss (failing j) ts e h b k l = not-both j 0 ts h
 
 pre-planted : (c : Bool) (x : Slices) (ts : List Tree) → planted (strictly c) x ≡ accepted ts → Each Leads x → OkSlices x → Within none x → Some x
     → PreTrees 0 ts × (0 < length ts)
-pre-planted c (no n) ts h b k l m = not-accepted n 0 ts h
+pre-planted c (no n) ts h b k l m = not-both n 0 ts h
 pre-planted c (slices ss) ts h b k l m =
     let r = pre-answer c ss (growAll (strictly c) (growing 0 []) ss) ts refl h b k l in (r .0, omega (arith, r .1))
 
@@ -119,7 +115,7 @@ few-trees base (t ∷ ts) p = (omega (arith, p .0, few-nodes base (t .kind) (t .
 -- ---- the theorem
 
 in-bounds : (b : Bool) (a : Answer) (ts : List Tree) → pick b (refused TextTooLong 0) a ≡ accepted ts → b ≡ false
-in-bounds true a ts e = not-accepted TextTooLong 0 ts e
+in-bounds true a ts e = not-both TextTooLong 0 ts e
 in-bounds false a ts e = refl
 
 within-up : (n m : ℕ) (x : Slices) → n ≤ m → Within n x → Within m x

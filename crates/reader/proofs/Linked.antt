@@ -19,7 +19,8 @@ use Rattle.tables.specs.Columns.{parentAt, childAt}
 use Rattle.tables.specs.Links.{least, LinkedFrom}
 use Rattle.trees.specs.Flat.{bareRows}
 use Rattle.reader.proofs.Parents.{Below}
-use Rattle.reader.proofs.Nexts.{next-least, next-skip, cell, five, bare-next, bare-parent, parents-length}
+use Rattle.reader.proofs.Nexts.{next-least, next-skip, cell, five, bare-next, bare-parent}
+use Rattle.tables.proofs.Lengths.{parents-length}
 
 module _ (all : List Node) (t₀ t rest : List ℕ) (few : length all ≤ none) (b : drop 0 t₀ ≡ flatNodes (bareRows 0 all) ++ rest) (L : LinkedFrom (length all) t₀ t 0) where
   abbrev N : ℕ

@@ -1,15 +1,16 @@
 -- The first of the nodes with a parent, as the tables are searched and as the definition says; and rows of five without links. Assumes nothing.
 use Prim.Native.Nat.{ℕ, zero, suc, _+_, _*_, _≤_, _<_}
 use mathlib.Core.Path.{_≡_, refl, sym, ap, _∙_}
-use mathlib.Core.Bool.{Bool, true, false, _&&_}
+use mathlib.Core.Bool.{Bool, _&&_, and-true, and-false}
 use mathlib.Core.List.{List, [], _∷_, _++_}
 use native.Mathlib.Omega.{arith}
 use lib.Dec.{eqb, leb}
-use borrow.Author.Tests.{eq-eqb, ne-eqb, eqb-true, eqb-false, le-leb, lt-leb}
+use borrow.Author.Tests.{le-leb, lt-leb}
 use lib.ListN.{length, drop, getD}
 use lib.Seq.{drop-cons, drop-drop, getD-drop}
 use Rattle.lists.specs.Pick.{pick}
 use Rattle.lists.proofs.Places.{drop-next}
+use Rattle.lists.proofs.Tests.{eqb-sym}
 use Rattle.tables.specs.Numbers.{none}
 use Rattle.tables.specs.Record.{Node}
 use Rattle.tables.specs.Rows.{next, parents}
@@ -19,21 +20,6 @@ use Rattle.tables.specs.Links.{least}
 use Rattle.trees.specs.Flat.{bareRows}
 
 -- ---- the first of the nodes with a parent
-
-eqb-sym : (a b : ℕ) → eqb a b ≡ eqb b a
-eqb-sym a b = go (eqb a b) refl
-  where
-    go : (x : Bool) → eqb a b ≡ x → eqb a b ≡ eqb b a
-    go true e = e ∙ sym (eq-eqb b a (sym (eqb-true a b e)))
-    go false e = e ∙ sym (ne-eqb b a (λ q. eqb-false a b e (sym q)))
-
-and-true : (b : Bool) → (b && true) ≡ b
-and-true true = refl
-and-true false = refl
-
-and-false : (b : Bool) → (b && false) ≡ false
-and-false true = refl
-and-false false = refl
 
 module _ (t : List ℕ) (p : ℕ) (empty : childAt t p ≡ none) where
   pub next-least : (lo k : ℕ) (ps : List ℕ) → lo ≤ k → ((j : ℕ) → j < length ps → parentAt t (k + j) ≡ getD ps j 0) → next p lo k ps ≡ least t p k (length ps)
@@ -93,7 +79,3 @@ module _ (t : List ℕ) (rest : List ℕ) where
       let s : k + suc j ≡ suc k + j = omega arith in
       let w = bare-parent (suc k) (f + length (n .props)) j ns (bare-next k f n ns e) (omega arith) in
       (ap (parentAt t) s ∙ w .0, ap (childAt t) s ∙ w .1)
-
-pub parents-length : (es : List Node) → length (parents es) ≡ length es
-parents-length [] = refl
-parents-length (n ∷ ns) = ap suc (parents-length ns)

@@ -1,38 +1,26 @@
 -- How many rows there are, and what the room test says. Assumes nothing.
-use Prim.Native.Nat.{ℕ, suc, _+_, _*_, _/_, _≤_}
+use Prim.Native.Nat.{suc, _*_, _/_, _≤_}
 use mathlib.Core.Path.{_≡_, refl, ap}
-use mathlib.Core.Bool.{Bool, true, false, _&&_}
+use mathlib.Core.Bool.{true, _&&_}
 use mathlib.Core.List.{List, [], _∷_}
 use native.Mathlib.Omega.{arith}
 use lib.ListN.{length}
 use lib.Dec.{leb}
 use borrow.Author.Tests.{leb-true}
-use Rattle.lists.proofs.Tests.{never}
-use Rattle.tables.specs.Record.{Node, Tree}
-use Rattle.tables.specs.Rows.{treeRows, NodeRow, nodeRows}
+use Rattle.tables.specs.Record.{Tree}
+use Rattle.tables.specs.Rows.{treeRows, NodeRow}
 use Rattle.tables.specs.Flat.{flatNodes}
 use Rattle.tables.specs.declared.Counts.{Counts}
 use Rattle.reader.specs.Lent.{Lent, roomFor}
+use Rattle.tables.proofs.Cases.{and-left, and-right}
 
 pub tree-count : (ts : List Tree) → length (treeRows ts) ≡ length ts
 tree-count [] = refl
 tree-count (t ∷ ts) = ap suc (tree-count ts)
 
-pub node-count : (ps : List ℕ) (k f : ℕ) (ns : List Node) → length (nodeRows ps k f ns) ≡ length ns
-node-count ps k f [] = refl
-node-count ps k f (n ∷ ns) = ap suc (node-count ps (suc k) (f + length (n .props)) ns)
-
 pub flat-nodes : (rs : List NodeRow) → length (flatNodes rs) ≡ length rs * 5
 flat-nodes [] = refl
 flat-nodes (r ∷ rs) = let h = flat-nodes rs in omega arith
-
-and-left : (a b : Bool) → (a && b) ≡ true → a ≡ true
-and-left true b e = refl
-and-left false b e = e
-
-and-right : (a b : Bool) → (a && b) ≡ true → b ≡ true
-and-right true b e = e
-and-right false b e = never cc
 
 -- so many rows are lent
 pub record Room (c : Counts) (l : Lent) : Type 0 where

@@ -30,8 +30,8 @@ use Rattle.reader.specs.declared.slices.Total.the-variants.{Rows, Refuse
 use Rattle.reader.proofs.Parents.{Below, parents-below}
 use Rattle.reader.proofs.Linked.{linked-rows}
 use Rattle.reader.proofs.Plants.{tree-length}
-use Rattle.reader.proofs.Rooms.{tree-count, node-count, flat-nodes, Room, room-true}
-use Rattle.tables.proofs.Lengths.{prop-rows-length, val-rows-length}
+use Rattle.reader.proofs.Rooms.{tree-count, flat-nodes, Room, room-true}
+use Rattle.tables.proofs.Lengths.{prop-rows-length, val-rows-length, node-rows-length}
 
 lent-same : {r t q w r1 t1 q1 w1 : List ℕ} → r1 ≡ r → t1 ≡ t → q1 ≡ q → w1 ≡ w → lent r1 t1 q1 w1 ≡ lent r t q w
 lent-same er et eq ew = rw (er, et, eq, ew)
@@ -47,7 +47,7 @@ module _ (es : List Node) (n : ℕ) (e : n ≡ length es) (few : n ≤ none) (be
   nodes-linked : t2 ≡ over (flatNodes (nodeRows (parents es) 0 0 es)) t
   nodes-linked =
       let l : length (flatNodes (bareRows 0 es)) ≡ length (flatNodes (nodeRows (parents es) 0 0 es)) =
-      node-length 0 es ∙ ap (λ (z : ℕ). z * 5) (sym (node-count (parents es) 0 0 es)) ∙ sym (flat-nodes (nodeRows (parents es) 0 0 es)) in
+      node-length 0 es ∙ ap (λ (z : ℕ). z * 5) (sym (node-rows-length (parents es) 0 0 es)) ∙ sym (flat-nodes (nodeRows (parents es) 0 0 es)) in
       linked-rows es t1 t2 (drop (length (flatNodes (bareRows 0 es))) t) (omega arith) put
       (subst (λ (z : ℕ). LinkedFrom z t1 t2 0) e (links .made room)) (subst (λ (z : ℕ). All (Below z) es) e below)
       ∙ ap (λ (z : ℕ). flatNodes (nodeRows (parents es) 0 0 es) ++ drop z t) l
@@ -61,7 +61,7 @@ module _ {X : Growing} {count n p v : ℕ} {b₀ a₀ : Lent} (G : GrownIs X cou
   counts-are : countsOf (tables (G .ts)) ≡ counts
   counts-are =
       let e1 : length (treeRows (G .ts)) ≡ count = tree-count (G .ts) ∙ G .count-is in
-      let e2 : length (nodeRows (parents (allNodes (G .ts))) 0 0 (allNodes (G .ts))) ≡ n = omega (arith, node-count (parents (allNodes (G .ts))) 0 0 (allNodes (G .ts)), G .stored .nodes) in
+      let e2 : length (nodeRows (parents (allNodes (G .ts))) 0 0 (allNodes (G .ts))) ≡ n = omega (arith, node-rows-length (parents (allNodes (G .ts))) 0 0 (allNodes (G .ts)), G .stored .nodes) in
       let e3 : length (propRows 0 (allProps (allNodes (G .ts)))) ≡ p = omega (arith, prop-rows-length 0 (allProps (allNodes (G .ts))), G .stored .props) in
       let e4 : length (valRows (allVals (allProps (allNodes (G .ts))))) ≡ v = omega (arith, val-rows-length (allVals (allProps (allNodes (G .ts)))), G .stored .vals) in
       rw (e1, e2, e3, e4)

@@ -4,6 +4,7 @@ use mathlib.Core.Bool.{Bool, true, false, not, _&&_, false≢true}
 use mathlib.Core.Path.{_≡_, refl, sym, _∙_}
 use lib.Dec.{ltb}
 use borrow.Author.Tests.{not-true, not-false, ltb-true, ltb-false}
+use Rattle.lists.proofs.Tests.{and-both}
 
 pub either-bool {ℓ} : {X : Type ℓ} (b : Bool) → (b ≡ true → X) → (b ≡ false → X) → X
 either-bool true f g = f refl
@@ -23,9 +24,7 @@ pub passed : {r a : Bool} → r ≡ a → not r ≡ false → a ≡ true
 passed {r} e h = sym e ∙ not-false r h
 
 pub and-left : (a b : Bool) → (a && b) ≡ true → a ≡ true
-and-left true b h = refl
-and-left false b h = h
+and-left a b h = and-both a b h .0
 
 pub and-right : (a b : Bool) → (a && b) ≡ true → b ≡ true
-and-right true b h = h
-and-right false b h = absurd (false≢true h)
+and-right a b h = and-both a b h .1

@@ -12,7 +12,7 @@ use Rattle.utf8.proofs.Decoding.{decoded-taken}
 use Rattle.chars.proofs.White.{ascii-dark}
 use Rattle.chars.proofs.Wide.{decoded-1}
 
-mark-inked : (x : Bool) (f l s e : ℕ) → (l′ : ℕ) × (mark x (inked f l) s e ≡ inked f l′)
+pub mark-inked : (x : Bool) (f l s e : ℕ) → (l′ : ℕ) × (mark x (inked f l) s e ≡ inked f l′)
 mark-inked true f l s e = (l, refl)
 mark-inked false f l s e = (e, refl)
 
