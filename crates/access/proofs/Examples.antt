@@ -1,8 +1,5 @@
 -- The values of `(;C[ab];B[cd])`, accessed. By computation. Assumes nothing.
-use Prim.Native.Nat.{ℕ}
-use mathlib.Core.List.{[], _∷_, map}
-use mathlib.Core.Path.{_≡_, refl}
-use lib.ListN.{set}
+use Rattle.lists.proofs.Prelude.{ℕ, [], _∷_, map, _≡_, refl, set}
 use Rattle.chars.specs.White.{white}
 use Rattle.utf8.specs.Trim.{trimmed}
 use Rattle.access.specs.Access.{accessed, accessNumber, rawValue}

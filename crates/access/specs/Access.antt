@@ -1,9 +1,5 @@
 -- Value access: what is answered, and what is handed out.
-use Prim.Native.Nat.{ℕ}
-use mathlib.Core.List.{List, []}
-use lib.Dec.{ltb}
-use lib.Seq.{slice}
-use Rattle.lists.specs.Pick.{pick}
+use Rattle.lists.specs.Prelude.{ℕ, List, [], ltb, slice, pick}
 use Rattle.tables.specs.Numbers.{numberOf}
 use Rattle.tables.specs.declared.Counts.{Counts}
 use Rattle.tables.specs.declared.Reason.the-variants.{NoSuchNumber, NotFitting}

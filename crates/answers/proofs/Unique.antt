@@ -1,6 +1,5 @@
 -- No second answer: each function's answer is said by one equation. Assumes nothing.
-use mathlib.Core.Path.{_≡_}
-use Prim.Native.Nat.{ℕ}
+use Rattle.lists.proofs.Prelude.{_≡_, ℕ}
 use Rattle.lists.proofs.Once.{once-is}
 use Rattle.lists.specs.Once.{Once}
 use Rattle.tables.specs.declared.Counts.{Counts}

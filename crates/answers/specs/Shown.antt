@@ -1,5 +1,5 @@
 -- Answers shown as numbers, as the C header says them. What is reserved is 0.
-use Prim.Native.Nat.{ℕ}
+use Rattle.lists.specs.Prelude.{ℕ}
 use Rattle.tables.specs.Numbers.{numberOf}
 use Rattle.tables.specs.declared.Counts.{Counts}
 use Rattle.tables.specs.declared.Reading.{Reading}

@@ -1,13 +1,5 @@
 -- Stores side by side are a row put, of any width. Assumes nothing.
-use Prim.Native.Nat.{ℕ, suc, _+_, _*_, _^_, _≤_, _<_}
-use mathlib.Core.Path.{_≡_, refl, ap, _∙_}
-use mathlib.Core.Bool.{true}
-use mathlib.Core.List.{List, [], _∷_, append-assoc}
-use native.Mathlib.Omega.{arith}
-use lib.Dec.{leb}
-use lib.ListN.{length, take, drop, set}
-use lib.Seq.{sets, sets-eq, length-sets}
-use borrow.Author.Tests.{leb-true}
+use Rattle.lists.proofs.Prelude.{ℕ, suc, _+_, _*_, _^_, _≤_, _<_, _≡_, refl, ap, _∙_, true, List, [], _∷_, append-assoc, arith, leb, length, take, drop, set, sets, sets-eq, length-sets, leb-true}
 use mir.Syntax.{w64}
 use mir.Val.{Fits}
 use Rattle.lists.specs.Put.{PutWhole}

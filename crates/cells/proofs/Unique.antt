@@ -1,6 +1,5 @@
 -- No second answer: of each public function, two answers that meet its contract are equal. Assumes nothing.
-use mathlib.Core.List.{List}
-use Prim.Native.Nat.{ℕ}
+use Rattle.lists.proofs.Prelude.{List, ℕ}
 use Rattle.lists.specs.Once.{Once}
 use Rattle.lists.specs.Put.{PutWhole}
 use Rattle.lists.proofs.Put.{put-whole-once}

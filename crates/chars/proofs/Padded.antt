@@ -1,14 +1,6 @@
 -- The bytes at a place of a text, 0 past its end: no sequence of more than one byte goes on with 0. Assumes nothing.
-use mathlib.Core.Path.{_≡_, refl, ap, _∙_}
-use Prim.Native.Nat.{ℕ, zero, suc, _+_, _≤_, _<_}
-use native.Mathlib.Omega.{arith}
+use Rattle.lists.proofs.Prelude.{_≡_, refl, ap, _∙_, ℕ, zero, suc, _+_, _≤_, _<_, arith, lt-of-not-le, Bool, true, not, _&&_, List, [], _∷_, length, take, drop, getD, drop-of-length-le, List·getD-eq-default, drop-cons, not-true}
 use native.Mathlib.Decide.{decLe}
-use native.Mathlib.Nat.{lt-of-not-le}
-use mathlib.Core.Bool.{Bool, true, not, _&&_}
-use mathlib.Core.List.{List, [], _∷_}
-use lib.ListN.{length, take, drop, getD, drop-of-length-le, List·getD-eq-default}
-use lib.Seq.{drop-cons}
-use borrow.Author.Tests.{not-true}
 use Rattle.chars.specs.White.{within}
 use Rattle.chars.specs.Table.{Bytes, table, fits, listed}
 use Rattle.lists.proofs.All.{all-every}

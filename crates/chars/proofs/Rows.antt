@@ -1,12 +1,5 @@
 -- The rows of table 3-7 that bytes begin with. Assumes nothing.
-use mathlib.Core.Path.{_≡_, refl, ap, ap₂, subst}
-use Prim.Native.Nat.{ℕ, zero, suc, _≤_, _<_}
-use native.Mathlib.Omega.{arith}
-use mathlib.Core.Bool.{Bool, true, false, _&&_, _||_, false≢true}
-use mathlib.Core.List.{List, [], _∷_}
-use lib.Dec.{leb, eqb}
-use lib.ListN.{length, take}
-use borrow.Author.Tests.{leb-true, eqb-true, eq-eqb}
+use Rattle.lists.proofs.Prelude.{_≡_, refl, ap, ap₂, subst, ℕ, zero, suc, _≤_, _<_, arith, Bool, true, false, _&&_, _||_, false≢true, List, [], _∷_, leb, eqb, length, take, leb-true, eqb-true, eq-eqb}
 use Rattle.lists.specs.All.{All}
 use Rattle.lists.proofs.All.{all-map}
 use Rattle.chars.specs.White.{within}

@@ -1,9 +1,5 @@
 -- What the test of a range says. Assumes nothing.
-use mathlib.Core.Path.{_≡_, refl}
-use Prim.Native.Nat.{ℕ, _≤_, _<_}
-use mathlib.Core.Bool.{Bool, true, false, _&&_}
-use lib.Dec.{leb}
-use borrow.Author.Tests.{leb-true, le-leb, lt-leb}
+use Rattle.lists.proofs.Prelude.{_≡_, refl, ℕ, _≤_, _<_, Bool, true, false, _&&_, leb, leb-true, le-leb, lt-leb}
 use Rattle.lists.proofs.Tests.{and-both}
 use Rattle.chars.specs.White.{within}
 

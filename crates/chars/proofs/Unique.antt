@@ -1,9 +1,5 @@
 -- No second answer: of each public function, two answers that meet its contract are equal. Assumes nothing.
-use mathlib.Core.Path.{_≡_}
-use mathlib.Core.Bool.{Bool}
-use Prim.Native.Nat.{ℕ}
-use mathlib.Core.List.{List}
-use lib.ListN.{drop}
+use Rattle.lists.proofs.Prelude.{_≡_, Bool, ℕ, List, drop}
 use Rattle.lists.specs.Once.{Once}
 use Rattle.lists.proofs.Once.{once-is}
 use Rattle.chars.specs.declared.Decoded.{Decoded}

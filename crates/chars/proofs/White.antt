@@ -1,9 +1,5 @@
 -- Characters that are no white space. Assumes nothing.
-use mathlib.Core.Path.{_≡_}
-use Prim.Native.Nat.{ℕ, _<_}
-use native.Mathlib.Omega.{arith}
-use mathlib.Core.Bool.{false}
-use borrow.Author.Tests.{ne-eqb}
+use Rattle.lists.proofs.Prelude.{_≡_, ℕ, _<_, arith, false, ne-eqb}
 use Rattle.chars.specs.White.{white}
 use Rattle.chars.proofs.Tests.{above-within, below-within}
 

@@ -1,10 +1,5 @@
 -- The character at a place, from the bytes there. Assumes nothing.
-use mathlib.Core.Path.{_≡_, refl, ap, _∙_}
-use Prim.Native.Nat.{ℕ, suc, _+_, _-_, _≤_, _<_}
-use native.Mathlib.Omega.{arith}
-use mathlib.Core.Bool.{true, false}
-use mathlib.Core.List.{List, [], _∷_}
-use lib.ListN.{length, take, drop, getD, length-drop, drop-of-length-le}
+use Rattle.lists.proofs.Prelude.{_≡_, refl, ap, _∙_, ℕ, suc, _+_, _-_, _≤_, _<_, arith, true, false, List, [], _∷_, length, take, drop, getD, length-drop, drop-of-length-le}
 use Rattle.chars.specs.declared.Decoded.the-variants.{Character, Bad}
 use Rattle.chars.specs.White.{white}
 use Rattle.chars.specs.Table.{table, listed, scalar}

@@ -1,8 +1,5 @@
 -- The rows of table 3-7 by their width: those of one width end alike, and differ in their first two bytes. Assumes nothing.
-use mathlib.Core.Path.{_≡_}
-use Prim.Native.Nat.{ℕ}
-use mathlib.Core.Bool.{Bool, true, false, _&&_, _||_, and-true, and-false, or-false, or-assoc}
-use mathlib.Core.List.{[], _∷_}
+use Rattle.lists.proofs.Prelude.{_≡_, ℕ, Bool, true, false, _&&_, _||_, and-true, and-false, or-false, or-assoc, [], _∷_}
 use Rattle.chars.specs.White.{within}
 use Rattle.chars.specs.Table.{table, listed}
 

@@ -1,10 +1,5 @@
 -- Well-formed UTF-8 as Unicode's table 3-7 has it.
-use Prim.Native.Nat.{ℕ, zero, suc, _+_, _*_, _-_, _<_}
-use mathlib.Core.Path.{_≡_}
-use mathlib.Core.Bool.{Bool, true, false, _||_, _&&_}
-use mathlib.Core.List.{List, [], _∷_}
-use lib.Dec.{eqb}
-use lib.ListN.{length, take, drop}
+use Rattle.lists.specs.Prelude.{ℕ, zero, suc, _+_, _*_, _-_, _<_, _≡_, Bool, true, false, _||_, _&&_, List, [], _∷_, eqb, length, take, drop}
 use Rattle.chars.specs.White.{within}
 
 -- a range of bytes, both ends in it

@@ -1,7 +1,5 @@
 -- Numbers in a range; white space.
-use Prim.Native.Nat.{ℕ}
-use mathlib.Core.Bool.{Bool, _||_, _&&_}
-use lib.Dec.{leb, eqb}
+use Rattle.lists.specs.Prelude.{ℕ, Bool, _||_, _&&_, leb, eqb}
 
 -- a number in lo..hi
 abbrev pub within : ℕ → ℕ → ℕ → Bool

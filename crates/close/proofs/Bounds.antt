@@ -1,12 +1,5 @@
 -- Where a value closes lies in the text. Assumes nothing.
-use Prim.Native.Nat.{ℕ, _+_, _≤_, _<_}
-use mathlib.Core.Path.{_≡_}
-use mathlib.Core.Bool.{Bool, true, false}
-use mathlib.Core.List.{List, [], _∷_}
-use native.Mathlib.Omega.{arith}
-use lib.ListN.{length, drop, length-drop}
-use lib.Dec.{eqb}
-use Rattle.lists.specs.Pick.{pick}
+use Rattle.lists.proofs.Prelude.{ℕ, _+_, _≤_, _<_, _≡_, Bool, true, false, List, [], _∷_, arith, length, drop, length-drop, eqb, pick}
 use Rattle.lists.proofs.Tests.{never}
 use Rattle.close.specs.Close.{closeFrom, closeAt}
 use Rattle.close.specs.declared.Close.{Close}

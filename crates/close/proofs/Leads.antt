@@ -1,12 +1,5 @@
 -- A scan for a closing bracket steps over plain bytes. Assumes nothing.
-use Prim.Native.Nat.{ℕ, zero, suc, _+_, _≤_, _<_}
-use mathlib.Core.Path.{_≡_, refl, ap, sym, _∙_, subst}
-use mathlib.Core.Bool.{Bool, true, not}
-use mathlib.Core.List.{List}
-use native.Mathlib.Omega.{arith}
-use lib.Dec.{eqb}
-use lib.ListN.{length, drop, getD}
-use borrow.Author.Tests.{not-true, eqb-false}
+use Rattle.lists.proofs.Prelude.{ℕ, zero, suc, _+_, _≤_, _<_, _≡_, refl, ap, sym, _∙_, subst, Bool, true, not, List, arith, eqb, length, drop, getD, not-true, eqb-false}
 use Rattle.lists.proofs.Tests.{and-both}
 use Rattle.close.proofs.Steps.{close-on}
 use Rattle.close.specs.Close.{closeFrom, closeAt}

@@ -1,11 +1,5 @@
 -- The definition of a scan for a closing bracket at an offset of a text, one step at a time. Assumes nothing.
-use Prim.Native.Nat.{ℕ, _+_, _≤_, _<_}
-use mathlib.Core.Path.{_≡_}
-use mathlib.Core.Bool.{Bool, true, false}
-use mathlib.Core.List.{List}
-use lib.ListN.{length, drop, getD, drop-of-length-le}
-use lib.Dec.{eqb}
-use borrow.Author.Tests.{eq-eqb, ne-eqb}
+use Rattle.lists.proofs.Prelude.{ℕ, _+_, _≤_, _<_, _≡_, Bool, true, false, List, length, drop, getD, drop-of-length-le, eqb, eq-eqb, ne-eqb}
 use Rattle.lists.proofs.Places.{drop-next}
 use Rattle.close.specs.Close.{closeFrom}
 use Rattle.close.specs.declared.Close.the-variants.{At, Open}

@@ -1,7 +1,5 @@
 -- No second answer of `value_end`. Assumes nothing.
-use mathlib.Core.Path.{_≡_}
-use mathlib.Core.List.{List}
-use Prim.Native.Nat.{ℕ}
+use Rattle.lists.proofs.Prelude.{_≡_, List, ℕ}
 use Rattle.lists.specs.Once.{Once}
 use Rattle.lists.proofs.Once.{once-is}
 use Rattle.close.specs.Close.{closeAt}

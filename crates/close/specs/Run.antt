@@ -1,10 +1,5 @@
 -- Bytes that a scan for a closing bracket may step over.
-use Prim.Native.Nat.{ℕ, _≤_}
-use mathlib.Core.Path.{_≡_}
-use mathlib.Core.Bool.{Bool, _&&_, not}
-use mathlib.Core.List.{List}
-use lib.Dec.{eqb}
-use lib.ListN.{length}
+use Rattle.lists.specs.Prelude.{ℕ, _≤_, _≡_, Bool, _&&_, not, List, eqb, length}
 use Rattle.close.specs.Close.{closeAt}
 
 -- neither `]` nor a backslash

@@ -1,8 +1,5 @@
 -- A value of tables that fit lies in the used text. Assumes nothing.
-use Prim.Native.Nat.{ℕ, _<_}
-use mathlib.Core.Bool.{true}
-use mathlib.Core.List.{List}
-use mathlib.Core.Path.{_≡_}
+use Rattle.lists.proofs.Prelude.{ℕ, _<_, true, List, _≡_}
 use Rattle.tables.specs.declared.Counts.{Counts}
 use Rattle.tables.specs.Columns.{valFromAt, valToAt}
 use Rattle.fit.specs.Fit.{Fit}

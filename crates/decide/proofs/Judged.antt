@@ -1,15 +1,7 @@
 -- What an edit answers, test by test; and what an acceptance says. Assumes nothing.
-use Prim.Native.Nat.{ℕ, _+_, _-_, _≤_, _<_}
-use mathlib.Core.Bool.{Bool, true, false}
-use mathlib.Core.List.{List, [], _∷_}
-use mathlib.Core.Path.{_≡_, refl, sym, ap, _∙_, subst}
-use native.Mathlib.Omega.{arith}
+use Rattle.lists.proofs.Prelude.{ℕ, _+_, _-_, _≤_, _<_, Bool, true, false, List, [], _∷_, _≡_, refl, sym, ap, _∙_, subst, arith, ltb, length, take, lt-ltb, le-ltb, pick}
 use types.Run.{OneOf, miss}
 use denote.Enum.Declared.{tagOf}
-use lib.Dec.{ltb}
-use lib.ListN.{length, take}
-use borrow.Author.Tests.{lt-ltb, le-ltb}
-use Rattle.lists.specs.Pick.{pick}
 use Rattle.lists.specs.Same.{same}
 use Rattle.lists.proofs.Tests.{never}
 use Rattle.utf8.specs.Text.{Ink, blank, inked, Utf, whole, part, bad, utfs}

@@ -1,13 +1,5 @@
 -- What the tests of an edit answer: closed, exactly `GM`, whose value. Assumes nothing.
-use Prim.Native.Nat.{ℕ, _+_, _-_, _≤_, _<_}
-use mathlib.Core.Path.{_≡_, refl, sym, ap, ap₂, _∙_}
-use mathlib.Core.Bool.{Bool, true, false, not, _&&_, and-false, false≢true, and-true}
-use mathlib.Core.List.{List, [], _∷_}
-use native.Mathlib.Omega.{arith}
-use lib.Dec.{eqb}
-use lib.ListN.{length, take, drop, getD, drop-of-length-le}
-use lib.Seq.{slice, slice-empty}
-use borrow.Author.Tests.{lt-ltb, le-ltb}
+use Rattle.lists.proofs.Prelude.{ℕ, _+_, _-_, _≤_, _<_, _≡_, refl, sym, ap, ap₂, _∙_, Bool, true, false, not, _&&_, and-false, false≢true, and-true, List, [], _∷_, arith, eqb, length, take, drop, getD, drop-of-length-le, slice, slice-empty, lt-ltb, le-ltb}
 use Rattle.lists.specs.Same.{same}
 use Rattle.lists.proofs.Places.{drop-next}
 use Rattle.lexer.specs.Closed.{closedFrom, closed}

@@ -1,8 +1,5 @@
 -- What is answered to a value edit, over lent memory.
-use Prim.Native.Nat.{ℕ}
-use mathlib.Core.List.{List}
-use lib.ListN.{length, take}
-use Rattle.lists.specs.Pick.{pick}
+use Rattle.lists.specs.Prelude.{ℕ, List, length, take, pick}
 use Rattle.tables.specs.declared.Counts.{Counts}
 use Rattle.tables.specs.declared.Reason.the-variants.{NotFitting}
 use Rattle.fit.specs.Fit.{Fit}

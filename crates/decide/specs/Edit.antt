@@ -1,11 +1,5 @@
 -- The value edit over the used text and its rows.
-use Prim.Native.Nat.{ℕ, _+_}
-use mathlib.Core.Bool.{Bool, true, false}
-use mathlib.Core.List.{List, [], _∷_}
-use lib.Dec.{ltb}
-use lib.ListN.{length, getD}
-use lib.Seq.{slice}
-use Rattle.lists.specs.Pick.{pick}
+use Rattle.lists.specs.Prelude.{ℕ, _+_, Bool, true, false, List, [], _∷_, ltb, length, getD, slice, pick}
 use Rattle.lists.specs.Same.{same}
 use Rattle.utf8.specs.Text.{Utf, whole, part, bad, blank, utfs}
 use Rattle.lexer.specs.Closed.{closed}

@@ -1,10 +1,5 @@
 -- What the steps of the decision promise each other.
-use Prim.Native.Nat.{ℕ, _+_, _≤_, _<_}
-use mathlib.Core.Path.{_≡_}
-use mathlib.Core.Bool.{true, false}
-use mathlib.Core.List.{List}
-use lib.Dec.{ltb}
-use lib.ListN.{length}
+use Rattle.lists.specs.Prelude.{ℕ, _+_, _≤_, _<_, _≡_, true, false, List, ltb, length}
 use Rattle.utf8.specs.Text.{whole, blank, utfs}
 use Rattle.lexer.specs.Closed.{closed}
 use Rattle.tables.specs.Numbers.{textLimit}

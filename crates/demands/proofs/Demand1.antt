@@ -1,9 +1,7 @@
 -- Demand 1, total: any bytes, options and lent tables get an answer, and a refusal changes no lent byte or row. Assumes nothing.
 -- That every input has an answer, and which, is each contract itself, which has no premise: reader's ReadIs, serialize's WriteIs, edit's EditIs,
 -- record's DisplayIs and goAnswer, fit's Fit and accessed. Where the order of numbers is said: parser/specs/Read, serialize/specs/Form.answer, decide/specs/Edit.outcome.
-use Prim.Native.Nat.{ℕ}
-use mathlib.Core.List.{List}
-use mathlib.Core.Path.{_≡_}
+use Rattle.lists.proofs.Prelude.{ℕ, List, _≡_}
 use Rattle.display.specs.declared.Kind.{Kind}
 use Rattle.tables.specs.declared.Counts.{Counts}
 use Rattle.tables.specs.declared.Reading.the-variants.{Refused}

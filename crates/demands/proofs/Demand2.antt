@@ -1,10 +1,5 @@
 -- Demand 2, right: reading answers as document 01's rules say, accepted tables fit and denote what was read, and a writing is read back. Assumes nothing.
-use Prim.Native.Nat.{ℕ, _≤_}
-use mathlib.Core.Bool.{Bool, true}
-use mathlib.Core.List.{List, map}
-use mathlib.Core.Logic.{_⊎_}
-use mathlib.Core.Path.{_≡_}
-use lib.ListN.{length, take}
+use Rattle.lists.proofs.Prelude.{ℕ, _≤_, Bool, true, List, map, _⊎_, _≡_, length, take}
 use Rattle.lists.specs.All.{All}
 use Rattle.tables.specs.Numbers.{textLimit}
 use Rattle.tables.specs.Record.{Tree, allNodes, allProps}

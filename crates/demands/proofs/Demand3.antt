@@ -1,8 +1,5 @@
 -- Demand 3, editable: after any run of edits, refused ones between them, text and tables are what a fresh strict reading of the new bytes gives. Assumes nothing.
-use mathlib.Core.Bool.{Bool}
-use mathlib.Core.List.{List}
-use mathlib.Core.Path.{_≡_}
-use lib.ListN.{length}
+use Rattle.lists.proofs.Prelude.{Bool, List, _≡_, length}
 use Rattle.tables.specs.Rows.{tables, countsOf}
 use Rattle.tables.specs.declared.Counts.{Counts}
 use Rattle.tables.specs.declared.Reading.the-variants.{Accepted}

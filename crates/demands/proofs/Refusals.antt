@@ -1,11 +1,5 @@
 -- What a refusal leaves, from each contract. Assumes nothing.
-use Prim.Native.Nat.{ℕ}
-use mathlib.Core.Bool.{Bool, true, false}
-use mathlib.Core.List.{List, _++_}
-use mathlib.Core.Path.{_≡_}
-use lib.Dec.{leb}
-use lib.ListN.{length, drop}
-use Rattle.lists.specs.Pick.{pick}
+use Rattle.lists.proofs.Prelude.{ℕ, Bool, true, false, List, _++_, _≡_, leb, length, drop, pick, slice}
 use Rattle.lists.proofs.Tests.{never}
 use Rattle.display.specs.Display.{shown, displayed, displayedIn}
 use Rattle.values.specs.Read.{readValue}
@@ -25,7 +19,6 @@ use Rattle.decide.specs.Answer as decide
 use Rattle.decide.specs.Edit.{Outcome, refuses, gives}
 use Rattle.decide.specs.declared.Edited.the-variants as edited
 use Rattle.edit.specs.Lent as lent
-use lib.Seq.{slice}
 
 pub reading-leaves : (a : Answer) (before after : Lent) (r : Reason) (p : ℕ) → Refused r p ≡ answers a before → after ≡ leaves a before → after ≡ before
 reading-leaves (refused s q) before after r p e l = l

@@ -1,7 +1,5 @@
 -- Memory that a reading left, and a second reading of it. Assumes nothing.
-use mathlib.Core.Bool.{Bool}
-use mathlib.Core.List.{List}
-use mathlib.Core.Path.{_≡_, sym, ap, _∙_}
+use Rattle.lists.proofs.Prelude.{Bool, List, _≡_, sym, ap, _∙_}
 use Rattle.tables.specs.Record.{Tree}
 use Rattle.tables.specs.Rows.{tables}
 use Rattle.tables.specs.declared.Counts.{Counts}

@@ -1,9 +1,5 @@
 -- Document 01's useless builds, each held against its contract on one small input: none meets it. Assumes nothing.
-use Prim.Native.Nat.{ℕ}
-use mathlib.Core.List.{List, [], _∷_, _++_}
-use mathlib.Core.Path.{_≡_, refl, ap, _∙_}
-use native.Mathlib.Omega.{arith}
-use lib.ListN.{getD}
+use Rattle.lists.proofs.Prelude.{ℕ, List, [], _∷_, _++_, _≡_, refl, ap, _∙_, arith, getD}
 use Rattle.lists.proofs.Tests.{never}
 use Rattle.chars.specs.White.{white}
 use Rattle.utf8.specs.Trim.{trimmed}

@@ -1,10 +1,5 @@
 -- What the writer makes of the tables that a reading left. Assumes nothing.
-use Prim.Native.Nat.{ℕ}
-use mathlib.Core.List.{List}
-use mathlib.Core.Path.{_≡_, sym, ap, _∙_}
-use lib.Dec.{ltb}
-use lib.ListN.{length, take, drop}
-use lib.Seq.{take-length, take-at}
+use Rattle.lists.proofs.Prelude.{ℕ, List, _≡_, sym, ap, _∙_, ltb, length, take, drop, take-length, take-at}
 use Rattle.tables.specs.Record.{Tree, allNodes, allProps}
 use Rattle.tables.specs.declared.Counts.{Counts}
 use Rattle.tables.specs.declared.Reading.the-variants.{Accepted}

@@ -1,13 +1,5 @@
 -- What is shown, byte by byte into the output, and the answer. Assumes nothing.
-use Prim.Native.Nat.{ℕ, _-_, _^_, _<_}
-use mathlib.Core.Path.{_≡_, refl, sym, ap, _∙_, subst}
-use mathlib.Core.Bool.{Bool, true, false}
-use mathlib.Core.List.{List, [], _∷_, _++_, append-assoc, append-nil}
-use native.Mathlib.Nat.{le-refl}
-use native.Mathlib.Omega.{arith}
-use lib.Dec.{leb}
-use lib.ListN.{length, drop}
-use borrow.Author.Tests.{le-leb, lt-leb, leb-true, leb-false}
+use Rattle.lists.proofs.Prelude.{ℕ, _-_, _^_, _<_, _≡_, refl, sym, ap, _∙_, subst, Bool, true, false, List, [], _∷_, _++_, append-assoc, append-nil, le-refl, arith, leb, length, drop, le-leb, lt-leb, leb-true, leb-false}
 use Rattle.values.specs.Read.{readValue}
 use Rattle.display.specs.Display.{formatText, oneLine, shown, displayed, displayedIn}
 use Rattle.display.specs.Showing.{Shows}

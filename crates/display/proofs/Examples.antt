@@ -1,7 +1,5 @@
 -- Displays that compute, one table and one statement. Assumes nothing.
-use Prim.Native.Nat.{ℕ}
-use mathlib.Core.Path.{_≡_, refl}
-use mathlib.Core.List.{List, [], _∷_, map}
+use Rattle.lists.proofs.Prelude.{ℕ, _≡_, refl, List, [], _∷_, map}
 use Rattle.values.specs.Read.{readFrom, readValue}
 use Rattle.display.specs.Display.{plain, removed, escaped, itemOf, formatFrom, replaced, oneLine, shown}
 use Rattle.display.specs.declared.Kind.{Kind}

@@ -1,13 +1,5 @@
 -- `format_text`, item by item. Assumes nothing.
-use Prim.Native.Nat.{ℕ, zero, suc, _+_}
-use mathlib.Core.Path.{_≡_, refl, sym, ap, _∙_}
-use mathlib.Core.Bool.{Bool, true, false}
-use mathlib.Core.List.{List, [], _∷_, _++_}
-use native.Mathlib.Omega.{arith}
-use lib.Dec.{eqb}
-use lib.ListN.{getD, drop}
-use borrow.Author.Tests.{ne-eqb}
-use Rattle.lists.specs.Pick.{pick}
+use Rattle.lists.proofs.Prelude.{ℕ, zero, suc, _+_, _≡_, refl, sym, ap, _∙_, Bool, true, false, List, [], _∷_, _++_, arith, eqb, getD, drop, ne-eqb, pick}
 use Rattle.display.specs.Display.{blank1, blank2, blank3, item, plain, removed, escaped, itemOf, formatFrom, formatText}
 use Rattle.display.specs.Showing.{otherBreak}
 

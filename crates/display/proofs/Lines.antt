@@ -1,10 +1,5 @@
 -- The cursor over `SimpleText`. Assumes nothing.
-use Prim.Native.Nat.{ℕ}
-use mathlib.Core.Path.{_≡_, sym, ap, _∙_}
-use mathlib.Core.List.{List, _∷_}
-use native.Mathlib.Omega.{arith}
-use lib.ListN.{getD, drop}
-use lib.Seq.{getD-drop}
+use Rattle.lists.proofs.Prelude.{ℕ, _≡_, sym, ap, _∙_, List, _∷_, arith, getD, drop, getD-drop}
 use Rattle.values.specs.Read.{readValue}
 use Rattle.display.specs.Display.{formatText, oneLine}
 use Rattle.display.specs.Showing.{Shows, Peeks, otherBreak}

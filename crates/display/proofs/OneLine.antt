@@ -1,13 +1,5 @@
 -- The replacements of `SimpleText`, by the first bytes: CR LF, then LF CR, then single line breaks. Assumes nothing.
-use Prim.Native.Nat.{ℕ}
-use mathlib.Core.Path.{_≡_, refl, ap, _∙_}
-use mathlib.Core.Bool.{Bool, true, false, _&&_, and-false}
-use mathlib.Core.List.{List, [], _∷_, map}
-use native.Mathlib.Omega.{arith}
-use lib.Dec.{eqb}
-use lib.ListN.{getD, drop}
-use borrow.Author.Tests.{ne-eqb, eqb-true}
-use Rattle.lists.specs.Pick.{pick}
+use Rattle.lists.proofs.Prelude.{ℕ, _≡_, refl, ap, _∙_, Bool, true, false, _&&_, and-false, List, [], _∷_, map, arith, eqb, getD, drop, ne-eqb, eqb-true, pick}
 use Rattle.lists.proofs.Pick.{pick-elim}
 use Rattle.display.specs.Display.{replaced, spaced, oneLine}
 use Rattle.display.specs.Showing.{otherBreak}

@@ -1,14 +1,5 @@
 -- The cursors of text display. Assumes nothing.
-use Prim.Native.Nat.{ℕ, _≤_}
-use mathlib.Core.Path.{_≡_, refl, sym, ap, _∙_}
-use mathlib.Core.Bool.{Bool, true, false, _||_}
-use mathlib.Core.List.{List, _∷_}
-use native.Mathlib.Omega.{arith}
-use native.Mathlib.Nat.{le-refl}
-use lib.Dec.{ltb, eqb}
-use lib.ListN.{getD, drop}
-use lib.Seq.{drop-drop, getD-drop}
-use borrow.Author.Tests.{ltb-true, eq-eqb, ne-eqb}
+use Rattle.lists.proofs.Prelude.{ℕ, _≤_, _≡_, refl, sym, ap, _∙_, Bool, true, false, _||_, List, _∷_, arith, le-refl, ltb, eqb, getD, drop, drop-drop, getD-drop, ltb-true, eq-eqb, ne-eqb}
 use Rattle.values.specs.Read.{readValue}
 use Rattle.display.specs.Display.{blank1, blank2, blank3, formatText}
 use Rattle.display.specs.Showing.{Shows, Peeks, Begins, Past}

@@ -1,13 +1,5 @@
 -- A display needs no more bytes than the raw value has. Assumes nothing.
-use Prim.Native.Nat.{ℕ, zero, suc, _≤_}
-use mathlib.Core.Path.{_≡_}
-use mathlib.Core.Bool.{Bool, true, false, _&&_}
-use mathlib.Core.List.{List, [], _∷_}
-use native.Mathlib.Nat.{le-refl}
-use native.Mathlib.Omega.{arith}
-use lib.Dec.{eqb}
-use lib.ListN.{length, getD, length-append, length-map}
-use borrow.Author.Tests.{le-leb}
+use Rattle.lists.proofs.Prelude.{ℕ, zero, suc, _≤_, _≡_, Bool, true, false, _&&_, List, [], _∷_, le-refl, arith, eqb, length, getD, length-append, length-map, le-leb}
 use Rattle.lists.proofs.Pick.{pick-elim}
 use Rattle.values.specs.Read.{readFrom, readValue}
 use Rattle.display.specs.Display.{Item, blank1, blank2, blank3, plain, removed, escaped, itemOf, formatFrom, formatText, replaced, spaced, oneLine, shown, displayed}

@@ -1,9 +1,5 @@
 -- The cursor over `format_text`: from here as from the start. Assumes nothing.
-use Prim.Native.Nat.{ℕ, _≤_}
-use mathlib.Core.Path.{_≡_, sym, ap, _∙_}
-use mathlib.Core.List.{List, _∷_}
-use native.Mathlib.Omega.{arith}
-use lib.ListN.{drop}
+use Rattle.lists.proofs.Prelude.{ℕ, _≤_, _≡_, sym, ap, _∙_, List, _∷_, arith, drop}
 use Rattle.values.specs.Read.{readValue}
 use Rattle.display.specs.Display.{formatText}
 use Rattle.display.specs.Showing.{Shows, Begins, otherBreak, Past}

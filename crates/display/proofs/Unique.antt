@@ -1,7 +1,5 @@
 -- No second answer: of the display, two answers that meet its contract are equal. Assumes nothing.
-use mathlib.Core.Path.{_≡_, sym, _∙_}
-use mathlib.Core.List.{List}
-use Prim.Native.Nat.{ℕ}
+use Rattle.lists.proofs.Prelude.{_≡_, sym, _∙_, List, ℕ}
 use Rattle.display.specs.Display.{displayed, displayedIn}
 use Rattle.display.specs.declared.Displayed.{Displayed}
 

@@ -1,10 +1,5 @@
 -- Text display: `format_text` and the replacements of `SimpleText`, over bytes of UTF-8.
-use Prim.Native.Nat.{ℕ, zero, suc}
-use mathlib.Core.Bool.{Bool, _&&_, _||_}
-use mathlib.Core.List.{List, [], _∷_, _++_, map}
-use lib.Dec.{leb, eqb}
-use lib.ListN.{length, getD, drop}
-use Rattle.lists.specs.Pick.{pick}
+use Rattle.lists.specs.Prelude.{ℕ, zero, suc, Bool, _&&_, _||_, List, [], _∷_, _++_, map, leb, eqb, length, getD, drop, pick}
 use Rattle.display.specs.declared.Displayed.{Displayed}
 use Rattle.display.specs.declared.Displayed.the-variants.{Length, NoRoom}
 use Rattle.display.specs.declared.Kind.{Kind}

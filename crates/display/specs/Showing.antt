@@ -1,10 +1,5 @@
 -- What the cursors of text display promise.
-use Prim.Native.Nat.{ℕ, _≤_, _<_}
-use mathlib.Core.Path.{_≡_}
-use mathlib.Core.List.{List, [], _∷_}
-use lib.Dec.{eqb}
-use lib.ListN.{length, getD, drop}
-use Rattle.lists.specs.Pick.{pick}
+use Rattle.lists.specs.Prelude.{ℕ, _≤_, _<_, _≡_, List, [], _∷_, eqb, length, getD, drop, pick}
 use Rattle.display.specs.Display.{formatText}
 use Rattle.values.specs.Read.{readValue}
 use Rattle.values.specs.declared.read.Step.{Step}

@@ -1,12 +1,5 @@
 -- What an accepted edit says: the tables fit, the value is there, the new text is within the limit and the room. Assumes nothing.
-use Prim.Native.Nat.{ℕ, _+_, _-_, _≤_, _<_}
-use mathlib.Core.Bool.{Bool, true, false}
-use mathlib.Core.List.{List, _++_}
-use mathlib.Core.Path.{_≡_, refl, sym, ap, ap₂, _∙_, subst⁻¹}
-use native.Mathlib.Omega.{arith}
-use lib.Dec.{ltb}
-use lib.ListN.{length, take, drop}
-use borrow.Author.Tests.{ltb-true, ltb-false}
+use Rattle.lists.proofs.Prelude.{ℕ, _+_, _-_, _≤_, _<_, Bool, true, false, List, _++_, _≡_, refl, sym, ap, ap₂, _∙_, subst⁻¹, arith, ltb, length, take, drop, ltb-true, ltb-false}
 use Rattle.lists.specs.Same.{same}
 use Rattle.lists.proofs.Tests.{never}
 use Rattle.utf8.specs.Text.{blank, Ink, Utf, whole, part, bad, utfs}

@@ -1,11 +1,5 @@
 -- Rows moved one after another, in place. Assumes nothing.
-use Prim.Native.Nat.{ℕ, _+_, _-_, _*_, _/_, _≤_, _<_}
-use mathlib.Core.List.{List, [], _∷_, _++_, map, map-append}
-use mathlib.Core.Path.{_≡_, refl, sym, ap, _∙_, subst}
-use native.Mathlib.Numerals.{add-one}
-use native.Mathlib.Omega.{arith}
-use lib.ListN.{length, drop, getD, length-map}
-use lib.Seq.{getD-append-add, getD-drop}
+use Rattle.lists.proofs.Prelude.{ℕ, _+_, _-_, _*_, _/_, _≤_, _<_, List, [], _∷_, _++_, map, map-append, _≡_, refl, sym, ap, _∙_, subst, add-one, arith, length, drop, getD, length-map, getD-append-add, getD-drop}
 use Rattle.lists.specs.Put.{PutIs, PutWhole}
 use Rattle.lists.proofs.Put.{put-none, put-more, put-all}
 use Rattle.tables.specs.Flat.{flatProps, flatVals, over}

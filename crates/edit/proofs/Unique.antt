@@ -1,6 +1,5 @@
 -- No second answer: of each public function, two answers that meet its contract are equal. Assumes nothing.
-use Prim.Native.Nat.{ℕ}
-use mathlib.Core.Path.{_≡_, sym, _∙_}
+use Rattle.lists.proofs.Prelude.{ℕ, _≡_, sym, _∙_}
 use Rattle.decide.specs.Edit.{Outcome}
 use Rattle.decide.specs.declared.Edited.{Edited}
 use Rattle.edit.specs.Lent.{Lent, EditIs}

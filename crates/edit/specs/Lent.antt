@@ -1,7 +1,5 @@
 -- The value edit in lent memory: what the text's buffer and the tables hold after it.
-use Prim.Native.Nat.{ℕ}
-use mathlib.Core.Path.{_≡_}
-use mathlib.Core.List.{List}
+use Rattle.lists.specs.Prelude.{ℕ, _≡_, List}
 use Rattle.tables.specs.Flat.{flatProps, flatVals, over}
 use Rattle.splice.specs.Splice.{cleared}
 use Rattle.decide.specs.Answer.{answers}

@@ -1,6 +1,5 @@
 -- What the edit's own steps promise each other.
-use Prim.Native.Nat.{ℕ, _≤_, _<_}
-use mathlib.Core.List.{List, map}
+use Rattle.lists.specs.Prelude.{ℕ, _≤_, _<_, List, map}
 use Rattle.lexer.specs.Move.{startsAt, endsAt}
 use Rattle.tables.specs.Flat.{flatProps, flatVals}
 use Rattle.tables.specs.Move.{moveProps, moveVals}

@@ -1,13 +1,5 @@
 -- The clauses of the fitting rule, each by its name: tables that fit have them, and tables that have them fit. Assumes nothing.
-use Prim.Native.Nat.{ℕ, _/_, _≤_, _<_}
-use mathlib.Core.Bool.{Bool, true, _&&_}
-use mathlib.Core.List.{List}
-use mathlib.Core.Path.{_≡_}
-use native.Mathlib.Omega.{arith}
-use lib.Dec.{leb}
-use lib.ListN.{length, take}
-use lib.Seq.{length-take-le}
-use borrow.Author.Tests.{leb-true, le-leb}
+use Rattle.lists.proofs.Prelude.{ℕ, _/_, _≤_, _<_, Bool, true, _&&_, List, _≡_, arith, leb, length, take, length-take-le, leb-true, le-leb}
 use Rattle.tables.specs.Numbers.{none, textLimit}
 use Rattle.tables.specs.declared.Counts.{Counts}
 use Rattle.tables.specs.Columns.{firstPropAt, propCountAt, nameFromAt, nameToAt, firstValAt, valCountAt, valFromAt, valToAt}

@@ -1,9 +1,5 @@
 -- Tables of `(;C[ab];B[cd])` fit it, and with one cell or count changed they do not. By computation. Assumes nothing.
-use Prim.Native.Nat.{ℕ}
-use mathlib.Core.Bool.{Bool, true, false, _||_}
-use mathlib.Core.List.{List, [], _∷_}
-use mathlib.Core.Path.{_≡_, refl}
-use lib.ListN.{set}
+use Rattle.lists.proofs.Prelude.{ℕ, Bool, true, false, _||_, List, [], _∷_, _≡_, refl, set}
 use Rattle.chars.specs.White.{white}
 use Rattle.utf8.specs.Trim.{trimmed}
 use Rattle.tables.specs.Numbers.{none}

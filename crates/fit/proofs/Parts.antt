@@ -1,11 +1,5 @@
 -- Parts of lists: of a run of numbered elements, and of a list that ranges without gap cut. Assumes nothing.
-use Prim.Native.Nat.{ℕ, zero, suc, _+_, _-_, _≤_, _<_}
-use mathlib.Core.Bool.{true}
-use mathlib.Core.List.{List, [], _∷_, _++_, map}
-use mathlib.Core.Path.{_≡_, refl, sym, ap, ap₂, _∙_}
-use native.Mathlib.Omega.{arith}
-use lib.ListN.{length, take, drop, getD, length-drop}
-use lib.Seq.{drop-drop, take-add, take-length, length-take-le}
+use Rattle.lists.proofs.Prelude.{ℕ, zero, suc, _+_, _-_, _≤_, _<_, true, List, [], _∷_, _++_, map, _≡_, refl, sym, ap, ap₂, _∙_, arith, length, take, drop, getD, length-drop, drop-drop, take-add, take-length, length-take-le}
 use Rattle.tables.specs.Each.{sum, tabulate}
 use Rattle.spans.specs.Ranges.{gapless}
 use Rattle.spans.proofs.Ranges.{sum-suc, sum-up, gapless-first, gapless-sum, gapless-in}

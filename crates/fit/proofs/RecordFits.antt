@@ -1,9 +1,5 @@
 -- Lent tables that have a record's rows: what of fitting follows for any record. Assumes nothing.
-use Prim.Native.Nat.{ℕ}
-use mathlib.Core.Bool.{true}
-use mathlib.Core.List.{List}
-use mathlib.Core.Path.{_≡_, sym, ap, _∙_}
-use lib.ListN.{length}
+use Rattle.lists.proofs.Prelude.{ℕ, true, List, _≡_, sym, ap, _∙_, length}
 use Rattle.lexer.specs.Token.{Prop}
 use Rattle.tables.specs.Record.{Node, Tree, allNodes, allProps, allVals}
 use Rattle.tables.specs.Rows.{Tables, tables, parents, nodeRows, propRows, countsOf}

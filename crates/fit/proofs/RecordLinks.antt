@@ -1,13 +1,5 @@
 -- Lent tables that have a record's rows: first children and next siblings fit. Assumes nothing.
-use Prim.Native.Nat.{ℕ, suc, _+_, _-_, _≤_, _<_}
-use mathlib.Core.Bool.{Bool, true, _&&_, and-true, and-false}
-use mathlib.Core.List.{List, [], _∷_, head-eq-of-cons-eq, tail-eq-of-cons-eq}
-use mathlib.Core.Path.{_≡_, refl, sym, ap, ap₂, _∙_, subst}
-use native.Mathlib.Omega.{arith}
-use lib.Dec.{eqb, leb}
-use lib.ListN.{length}
-use borrow.Author.Tests.{eq-eqb, le-leb, lt-leb}
-use Rattle.lists.specs.Pick.{pick}
+use Rattle.lists.proofs.Prelude.{ℕ, suc, _+_, _-_, _≤_, _<_, Bool, true, _&&_, and-true, and-false, List, [], _∷_, head-eq-of-cons-eq, tail-eq-of-cons-eq, _≡_, refl, sym, ap, ap₂, _∙_, subst, arith, eqb, leb, length, eq-eqb, le-leb, lt-leb, pick}
 use Rattle.tables.specs.Numbers.{none}
 use Rattle.tables.specs.Record.{Node}
 use Rattle.tables.specs.Rows.{NodeRow, next, parents, nodeRows}

@@ -1,13 +1,5 @@
 -- Lent tables that have a record's rows: the ranges of nodes and properties follow one another without gap. Assumes nothing.
-use Prim.Native.Nat.{ℕ, suc, _+_, _≤_, _<_}
-use mathlib.Core.Bool.{true}
-use mathlib.Core.List.{List, [], _∷_, _++_, head-eq-of-cons-eq, tail-eq-of-cons-eq}
-use mathlib.Core.Path.{_≡_, refl, sym, ap, ap₂, _∙_, subst}
-use native.Mathlib.Numerals.{add-one}
-use native.Mathlib.Omega.{arith}
-use lib.Dec.{eqb}
-use lib.ListN.{length, length-append}
-use borrow.Author.Tests.{eq-eqb}
+use Rattle.lists.proofs.Prelude.{ℕ, suc, _+_, _≤_, _<_, true, List, [], _∷_, _++_, head-eq-of-cons-eq, tail-eq-of-cons-eq, _≡_, refl, sym, ap, ap₂, _∙_, subst, add-one, arith, eqb, length, length-append, eq-eqb}
 use Rattle.lexer.specs.Token.{Prop}
 use Rattle.tables.specs.Record.{Node, allProps, allVals}
 use Rattle.tables.specs.Rows.{NodeRow, PropRow, nodeRows, propRows}

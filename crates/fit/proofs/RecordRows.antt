@@ -1,11 +1,5 @@
 -- The rows of tables that fit, and the nodes, properties, values and raw values of the record that they denote over any text. Assumes nothing.
-use Prim.Native.Nat.{ℕ, zero, suc, _+_, _-_, _≤_, _<_}
-use mathlib.Core.Bool.{true}
-use mathlib.Core.List.{List, [], _∷_, _++_, map, append-nil}
-use mathlib.Core.Path.{_≡_, refl, sym, ap, ap₂, _∙_}
-use native.Mathlib.Omega.{arith}
-use lib.ListN.{length, take, drop, length-map, take-append-drop}
-use lib.Seq.{slice, drop-drop}
+use Rattle.lists.proofs.Prelude.{ℕ, zero, suc, _+_, _-_, _≤_, _<_, true, List, [], _∷_, _++_, map, append-nil, _≡_, refl, sym, ap, ap₂, _∙_, arith, length, take, drop, length-map, take-append-drop, slice, drop-drop}
 use Rattle.lexer.specs.Token.{Val, Prop}
 use Rattle.tables.specs.Numbers.{none}
 use Rattle.tables.specs.Record.{Node, allNodes, allProps, allVals}

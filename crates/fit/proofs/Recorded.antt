@@ -1,10 +1,5 @@
 -- The rows of a record denote that record, over a text that its spans denote. Assumes nothing.
-use Prim.Native.Nat.{ℕ, suc, _+_, _-_}
-use mathlib.Core.List.{List, [], _∷_, _++_, map, append-assoc, append-nil}
-use mathlib.Core.Path.{_≡_, refl, sym, ap, ap₂, _∙_}
-use native.Mathlib.Omega.{arith}
-use lib.ListN.{length, take, drop, length-append}
-use lib.Seq.{take-at, drop-at}
+use Rattle.lists.proofs.Prelude.{ℕ, suc, _+_, _-_, List, [], _∷_, _++_, map, append-assoc, append-nil, _≡_, refl, sym, ap, ap₂, _∙_, arith, length, take, drop, length-append, take-at, drop-at}
 use Rattle.lists.proofs.All.{all-append}
 use Rattle.lists.specs.All.{All}
 use Rattle.tokens.proofs.Contents.{Stands, Denotes}

@@ -1,13 +1,6 @@
 -- The roots of tables that fit: the first node is the first root, they ascend, each has no parent, and what stands between two has one. Assumes nothing.
-use Prim.Native.Nat.{ℕ, zero, suc, _+_, _≤_, _<_}
-use mathlib.Core.Bool.{Bool, true, false, false≢true}
-use mathlib.Core.List.{List, [], _∷_}
-use mathlib.Core.Path.{_≡_, refl, sym, ap₂, _∙_, subst}
-use native.Mathlib.Omega.{arith}
-use lib.Dec.{eqb}
-use borrow.Author.Tests.{eqb-true, eqb-false}
+use Rattle.lists.proofs.Prelude.{ℕ, zero, suc, _+_, _≤_, _<_, Bool, true, false, false≢true, List, [], _∷_, _≡_, refl, sym, ap₂, _∙_, subst, arith, eqb, eqb-true, eqb-false, pick}
 use Rattle.lists.specs.Same.{same}
-use Rattle.lists.specs.Pick.{pick}
 use Rattle.lists.proofs.Tests.{and-both, never, same-or}
 use Rattle.tables.specs.Numbers.{none}
 use Rattle.tables.specs.Columns.{rootAt, parentAt}

@@ -1,9 +1,5 @@
 -- The rows that lent tables have: of the flat tables of rows, those rows, whatever stands behind them. Assumes nothing.
-use Prim.Native.Nat.{ℕ, zero, suc, _+_, _*_}
-use mathlib.Core.List.{List, [], _∷_, _++_, append-assoc}
-use mathlib.Core.Path.{_≡_, refl, ap, ap₂, _∙_}
-use native.Mathlib.Omega.{arith}
-use lib.ListN.{length}
+use Rattle.lists.proofs.Prelude.{ℕ, zero, suc, _+_, _*_, List, [], _∷_, _++_, append-assoc, _≡_, refl, ap, ap₂, _∙_, arith, length}
 use Rattle.tables.specs.Flat.{flatTrees, flatNodes, flatProps, flatVals}
 use Rattle.tables.specs.Rows.{TreeRow, NodeRow, PropRow, ValRow, Tables, countsOf}
 use Rattle.tables.specs.Each.{tabulate}

@@ -1,11 +1,5 @@
 -- What is lent for tables that fit; where it is lent, links and parts fit by their clauses alone. Assumes nothing.
-use Prim.Native.Nat.{ℕ, _-_, _/_, _≤_}
-use mathlib.Core.Bool.{Bool, true, _&&_}
-use mathlib.Core.List.{List}
-use mathlib.Core.Path.{_≡_, refl}
-use lib.Dec.{leb}
-use lib.ListN.{length, take}
-use borrow.Author.Tests.{leb-true, le-leb}
+use Rattle.lists.proofs.Prelude.{ℕ, _-_, _/_, _≤_, Bool, true, _&&_, List, _≡_, refl, leb, length, take, leb-true, le-leb}
 use Rattle.tables.specs.Numbers.{none, textLimit}
 use Rattle.tables.specs.declared.Counts.{Counts}
 use Rattle.tables.proofs.Cases.{and-left, and-right}

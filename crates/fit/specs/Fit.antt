@@ -1,9 +1,5 @@
 -- Document 01's rule: when tables fit a text.
-use Prim.Native.Nat.{ℕ, _/_}
-use mathlib.Core.Bool.{Bool, true, false, _&&_}
-use mathlib.Core.List.{List}
-use lib.Dec.{leb}
-use lib.ListN.{length, take}
+use Rattle.lists.specs.Prelude.{ℕ, _/_, Bool, true, false, _&&_, List, leb, length, take}
 use Rattle.utf8.specs.Trim.{trimmed}
 use Rattle.utf8.specs.declared.Trimmed.{Trimmed}
 use Rattle.utf8.specs.declared.Trimmed.the-variants.{NotUtf8, Blank, Kept}

@@ -1,7 +1,5 @@
 -- What the check's own steps promise each other.
-use Prim.Native.Nat.{ℕ, _/_, _≤_}
-use mathlib.Core.List.{List}
-use lib.ListN.{length}
+use Rattle.lists.specs.Prelude.{ℕ, _/_, _≤_, List, length}
 use Rattle.tables.specs.Numbers.{none}
 use Rattle.tables.specs.declared.Counts.{Counts}
 

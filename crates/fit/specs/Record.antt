@@ -1,8 +1,5 @@
 -- The record that tables over a text denote: names and raw values are parts of the text.
-use Prim.Native.Nat.{ℕ, _-_}
-use mathlib.Core.List.{List, [], _∷_, map}
-use lib.ListN.{take, drop}
-use lib.Seq.{slice}
+use Rattle.lists.specs.Prelude.{ℕ, _-_, List, [], _∷_, map, take, drop, slice}
 use Rattle.lexer.specs.Token.{Val, Prop}
 use Rattle.tables.specs.Record.{Node, Tree}
 use Rattle.tables.specs.Rows.{TreeRow, NodeRow, PropRow, ValRow, Tables}

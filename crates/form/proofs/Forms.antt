@@ -1,10 +1,5 @@
 -- Values of each shape as they are written. Assumes nothing.
-use Prim.Native.Nat.{ℕ, _≤_}
-use mathlib.Core.Path.{_≡_, refl, sym, ap, _∙_}
-use mathlib.Core.Bool.{Bool, true, false}
-use mathlib.Core.List.{List, [], _∷_}
-use lib.ListN.{length}
-use borrow.Author.Tests.{eq-eqb}
+use Rattle.lists.proofs.Prelude.{ℕ, _≤_, _≡_, refl, sym, ap, _∙_, Bool, true, false, List, [], _∷_, length, eq-eqb}
 use types.Run.{OneOf}
 use denote.Enum.Declared.{tagOf}
 use Rattle.values.specs.Decimal.{decimal}

@@ -1,8 +1,5 @@
 -- A text written piece by piece. Assumes nothing.
-use Prim.Native.Nat.{ℕ, _+_, _^_, _<_}
-use mathlib.Core.Path.{_≡_, refl, sym, _∙_, subst}
-use mathlib.Core.List.{List, [], _++_, append-assoc, append-nil}
-use lib.ListN.{length}
+use Rattle.lists.proofs.Prelude.{ℕ, _+_, _^_, _<_, _≡_, refl, sym, _∙_, subst, List, [], _++_, append-assoc, append-nil, length}
 use Rattle.put.specs.Wrote.{Wrote}
 use Rattle.put.proofs.Written.{wrote-none, wrote-more, wrote-is}
 

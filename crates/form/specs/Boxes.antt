@@ -1,6 +1,5 @@
 -- Values as they are written.
-use Prim.Native.Nat.{ℕ}
-use mathlib.Core.List.{List, [], _∷_, _++_}
+use Rattle.lists.specs.Prelude.{ℕ, List, [], _∷_, _++_}
 use Rattle.go.specs.Normal.{written}
 use Rattle.go.specs.Value.{valueBy}
 use Rattle.shape.specs.declared.Shape.{Shape}

@@ -1,11 +1,5 @@
 -- What an acceptance says: the text is valid, the tokens end with it, and what holds of each value of the tokens holds of each value of the trees. Assumes nothing.
-use mathlib.Core.Path.{_≡_, refl, subst}
-use Prim.Native.Nat.{ℕ, _-_, _≤_, _<_}
-use native.Mathlib.Omega.{arith}
-use mathlib.Core.Bool.{Bool, true, false}
-use mathlib.Core.List.{List, List·Memᴰ}
-use lib.Dec.{ltb}
-use lib.ListN.{length, take, drop}
+use Rattle.lists.proofs.Prelude.{_≡_, refl, subst, ℕ, _-_, _≤_, _<_, arith, Bool, true, false, List, List·Memᴰ, ltb, length, take, drop, pick}
 use Rattle.fresh.specs.Run.{strictly}
 use Rattle.tokens.proofs.Inside.{OfVals}
 use Rattle.tokens.proofs.Invariant.{keep-rest}
@@ -13,7 +7,6 @@ use Rattle.tokens.proofs.Starting.{Each, each-from, each-value}
 use Rattle.lexer.specs.Token.{End, Prop, Tok, Val, between, broken, done, end, lexFrom}
 use Rattle.lists.proofs.All.{all-mem}
 use Rattle.lists.specs.All.{All}
-use Rattle.lists.specs.Pick.{pick}
 use Rattle.parser.proofs.Answers.{not-both}
 use Rattle.parser.proofs.Lift.{OfAnswer, of-tokens, of-trees}
 use Rattle.parser.specs.Read.{Answer, accepted, decoded, lexing, parsed, read, refused}

@@ -1,13 +1,5 @@
 -- Spans that ascend lie apart: each of them ends before a value of them starts, or starts after it ends, or is that value. Assumes nothing.
-use Prim.Native.Nat.{ℕ, zero, suc, _+_, _≤_, _<_}
-use mathlib.Core.Bool.{Bool, true, _&&_}
-use mathlib.Core.List.{List, _∷_, _++_}
-use mathlib.Core.Logic.{_⊎_, inl, inr}
-use mathlib.Core.Path.{_≡_, sym, ap, _∙_}
-use native.Mathlib.Numerals.{add-one}
-use native.Mathlib.Omega.{arith}
-use lib.Dec.{leb}
-use borrow.Author.Tests.{leb-true, le-leb}
+use Rattle.lists.proofs.Prelude.{ℕ, zero, suc, _+_, _≤_, _<_, Bool, true, _&&_, List, _∷_, _++_, _⊎_, inl, inr, _≡_, sym, ap, _∙_, add-one, arith, leb, leb-true, le-leb}
 use Rattle.tables.specs.Columns.{nameFromAt, nameToAt, firstValAt, valCountAt, valFromAt, valToAt}
 use Rattle.tables.specs.Each.{tabulate, sum}
 use Rattle.spans.specs.Spans.{Span, span, valSpan, spans, ascending}

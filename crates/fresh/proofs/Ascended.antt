@@ -1,11 +1,5 @@
 -- Spans that ascend ascend still once they are moved; and the ranges of moved rows are the ranges of the rows. Assumes nothing.
-use Prim.Native.Nat.{ℕ, zero, suc, _+_, _-_, _≤_, _<_}
-use mathlib.Core.Bool.{Bool, true, _&&_}
-use mathlib.Core.List.{List, [], _∷_, _++_, map, map-append}
-use mathlib.Core.Logic.{_⊎_, inl, inr}
-use mathlib.Core.Path.{_≡_, refl, sym, ap, ap₂, _∙_, subst}
-use native.Mathlib.Omega.{arith}
-use lib.Dec.{leb, eqb}
+use Rattle.lists.proofs.Prelude.{ℕ, zero, suc, _+_, _-_, _≤_, _<_, Bool, true, _&&_, List, [], _∷_, _++_, map, map-append, _⊎_, inl, inr, _≡_, refl, sym, ap, ap₂, _∙_, subst, arith, leb, eqb}
 use Rattle.lists.specs.All.{All}
 use Rattle.lists.proofs.All.{all-append}
 use Rattle.lexer.specs.Move.{startsAt, endsAt}

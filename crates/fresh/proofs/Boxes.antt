@@ -1,14 +1,5 @@
 -- What stands in the spans after an edit: in those that lie apart from the value what stood there, in the value the new bytes. Assumes nothing.
-use Prim.Native.Nat.{ℕ, _+_, _-_, _≤_, _<_}
-use mathlib.Core.Bool.{Bool, true, _&&_}
-use mathlib.Core.List.{List}
-use mathlib.Core.Logic.{_⊎_, inl, inr}
-use mathlib.Core.Path.{_≡_, ap, ap₂, _∙_}
-use native.Mathlib.Omega.{arith}
-use lib.Dec.{ltb, eqb}
-use lib.ListN.{length, getD}
-use lib.Seq.{slice}
-use borrow.Author.Tests.{ltb-true, lt-ltb, eqb-true, eq-eqb}
+use Rattle.lists.proofs.Prelude.{ℕ, _+_, _-_, _≤_, _<_, Bool, true, _&&_, List, _⊎_, inl, inr, _≡_, ap, ap₂, _∙_, arith, ltb, eqb, length, getD, slice, ltb-true, lt-ltb, eqb-true, eq-eqb}
 use Rattle.lexer.specs.Closed.{closed}
 use Rattle.lexer.specs.Move.{startsAt, endsAt}
 use Rattle.tokens.proofs.Replace.{starts-low, starts-high, ends-low, ends-high}

@@ -1,11 +1,5 @@
 -- Calls on tables that fit: they fit all along, so that no call is 19, and the calls do what the definition's run of edits does. Assumes nothing.
-use Prim.Native.Nat.{ℕ}
-use mathlib.Core.Bool.{true}
-use mathlib.Core.List.{List}
-use mathlib.Core.Path.{_≡_, refl, sym, ap, _∙_, subst⁻¹}
-use native.Mathlib.Omega.{arith}
-use lib.ListN.{length}
-use borrow.Author.Tests.{ltb-false}
+use Rattle.lists.proofs.Prelude.{ℕ, true, List, _≡_, refl, sym, ap, _∙_, subst⁻¹, arith, length, ltb-false}
 use Rattle.tables.specs.Rows.{Tables}
 use Rattle.fit.specs.Fit.{Fit}
 use Rattle.decide.specs.Edit.{Outcome, refuses, gives, edit}

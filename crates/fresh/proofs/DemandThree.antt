@@ -1,15 +1,6 @@
 -- Demand 3: a record that strict reading gives stays one under any run of edits. Assumes nothing.
-use mathlib.Core.Path.{_≡_, refl, sym, ap, ap₂, _∙_, subst}
-use Prim.Native.Nat.{ℕ, zero, suc, _+_, _-_}
-use native.Mathlib.Omega.{arith}
-use mathlib.Core.Bool.{Bool, true, false}
-use mathlib.Core.List.{List, [], _∷_}
-use lib.Dec.{ltb}
-use lib.ListN.{length, getD}
-use lib.Seq.{slice, slice-empty}
-use borrow.Author.Tests.{ltb-true, ltb-false, le-ltb, lt-ltb}
+use Rattle.lists.proofs.Prelude.{_≡_, refl, sym, ap, ap₂, _∙_, subst, ℕ, zero, suc, _+_, _-_, arith, Bool, true, false, List, [], _∷_, ltb, length, getD, slice, slice-empty, ltb-true, ltb-false, le-ltb, lt-ltb, pick}
 use Rattle.lists.specs.All.{All}
-use Rattle.lists.specs.Pick.{pick}
 use Rattle.lists.specs.Same.{same}
 use Rattle.utf8.specs.Text.{blank, Utf, whole, part, bad, utfs}
 use Rattle.lexer.specs.Token.{Val, Prop}

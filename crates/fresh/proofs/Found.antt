@@ -1,12 +1,5 @@
 -- The value that starts at the end of what stands before it: where it lies in the trimmed-parts text, and the state of the tokens there. Assumes nothing.
-use mathlib.Core.Path.{_≡_, refl, sym, ap, ap₂, _∙_, subst}
-use mathlib.Core.Logic.{_⊎_, inl, inr}
-use Prim.Native.Nat.{ℕ, suc, _+_, _-_, _≤_, _<_}
-use native.Mathlib.Omega.{arith}
-use mathlib.Core.Bool.{Bool, true, false}
-use mathlib.Core.List.{List, [], _∷_, _++_, List·Memᴰ, tail-eq-of-cons-eq, head-eq-of-cons-eq}
-use lib.ListN.{length, take, drop, length-take, length-drop}
-use lib.Seq.{take-append-add, drop-append-le}
+use Rattle.lists.proofs.Prelude.{_≡_, refl, sym, ap, ap₂, _∙_, subst, _⊎_, inl, inr, ℕ, suc, _+_, _-_, _≤_, _<_, arith, Bool, true, false, List, [], _∷_, _++_, List·Memᴰ, tail-eq-of-cons-eq, head-eq-of-cons-eq, length, take, drop, length-take, length-drop, take-append-add, drop-append-le}
 use Rattle.fresh.proofs.Accepted.{Between, all-between, on-trees}
 use Rattle.fresh.specs.Run.{strictly}
 use Rattle.tokens.proofs.Inside.{Inside, NotAt, OfVals, Only, inside, vals-map}

@@ -1,10 +1,5 @@
 -- What an accepted edit leaves: the used text and its rows are those that the definition gives. Assumes nothing.
-use Prim.Native.Nat.{ℕ, _+_, _-_, _/_, _≤_, _<_}
-use mathlib.Core.List.{List, [], _++_, map, append-assoc}
-use mathlib.Core.Path.{_≡_, refl, ap, ap₂, _∙_, subst}
-use native.Mathlib.Omega.{arith}
-use lib.ListN.{length, take, drop, replicate, length-map, length-append, length-drop, length-replicate}
-use lib.Seq.{take-at}
+use Rattle.lists.proofs.Prelude.{ℕ, _+_, _-_, _/_, _≤_, _<_, List, [], _++_, map, append-assoc, _≡_, refl, ap, ap₂, _∙_, subst, arith, length, take, drop, replicate, length-map, length-append, length-drop, length-replicate, take-at}
 use Rattle.lexer.specs.Move.{startsAt, endsAt}
 use Rattle.tables.specs.Flat.{flatProps, flatVals, over}
 use Rattle.tables.specs.Move.{moveProps, moveVals}

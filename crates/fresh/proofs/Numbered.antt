@@ -1,14 +1,5 @@
 -- The edit of value number k of an accepted text, read again. Assumes nothing.
-use mathlib.Core.Path.{_≡_, refl, sym, ap, ap₂, _∙_, subst}
-use Prim.Native.Nat.{ℕ, zero, suc, _+_, _-_, _≤_, _<_}
-use native.Mathlib.Omega.{arith}
-use mathlib.Core.Bool.{Bool, true, false}
-use mathlib.Core.List.{List, [], _∷_, _++_, map, append-assoc, List·Memᴰ, List·Memᴰ·head, List·Memᴰ·tail}
-use lib.Dec.{ltb}
-use lib.ListN.{length, take, drop, getD, length-append, length-drop, length-take, take-append-drop, List·getD-append}
-use lib.Seq.{length-take-le, take-take, getD-append-add}
-use borrow.Author.Tests.{ltb-true, ltb-false}
-use Rattle.lists.specs.Pick.{pick}
+use Rattle.lists.proofs.Prelude.{_≡_, refl, sym, ap, ap₂, _∙_, subst, ℕ, zero, suc, _+_, _-_, _≤_, _<_, arith, Bool, true, false, List, [], _∷_, _++_, map, append-assoc, List·Memᴰ, List·Memᴰ·head, List·Memᴰ·tail, ltb, length, take, drop, getD, length-append, length-drop, length-take, take-append-drop, List·getD-append, length-take-le, take-take, getD-append-add, ltb-true, ltb-false, pick}
 use Rattle.lists.specs.Same.{same}
 use Rattle.utf8.specs.Text.{Ink, blank, whole, utfs}
 use Rattle.utf8.proofs.Steps.{place, place-is}

@@ -1,10 +1,5 @@
 -- Demand 3 of the code: calls that meet the edit's contract leave what a strict reading of the new text gives. Assumes nothing.
-use Prim.Native.Nat.{ℕ}
-use mathlib.Core.Bool.{Bool, true, false}
-use mathlib.Core.List.{List, [], _∷_}
-use mathlib.Core.Path.{_≡_, refl, sym, ap, ap₂, _∙_, subst, subst⁻¹}
-use lib.ListN.{length}
-use Rattle.lists.specs.Pick.{pick}
+use Rattle.lists.proofs.Prelude.{ℕ, Bool, true, false, List, [], _∷_, _≡_, refl, sym, ap, ap₂, _∙_, subst, subst⁻¹, length, pick}
 use Rattle.tables.specs.Rows.{Tables, tables, countsOf}
 use Rattle.tables.specs.declared.Reason.the-variants.{NotFitting}
 use Rattle.fit.specs.Fit.{Fit}

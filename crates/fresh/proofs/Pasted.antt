@@ -1,11 +1,5 @@
 -- The bytes of a text once a part of it is replaced: what stands before the part, in it, after it; and that it is valid still. Assumes nothing.
-use Prim.Native.Nat.{ℕ, suc, _+_, _-_, _≤_, _<_}
-use mathlib.Core.Bool.{true, false≢true}
-use mathlib.Core.List.{List, [], _∷_, _++_, append-assoc}
-use mathlib.Core.Path.{_≡_, refl, sym, ap, ap₂, _∙_, subst}
-use native.Mathlib.Omega.{arith}
-use lib.ListN.{length, take, drop, getD, take-append-drop, length-append, List·getD-append, List·getD-eq-default}
-use lib.Seq.{slice, take-suc, take-take, take-append-le, take-append-add, drop-append-add, drop-cons, getD-append-add, getD-take, length-take-le, take-at}
+use Rattle.lists.proofs.Prelude.{ℕ, suc, _+_, _-_, _≤_, _<_, true, false≢true, List, [], _∷_, _++_, append-assoc, _≡_, refl, sym, ap, ap₂, _∙_, subst, arith, length, take, drop, getD, take-append-drop, length-append, List·getD-append, List·getD-eq-default, slice, take-suc, take-take, take-append-le, take-append-add, drop-append-add, drop-cons, getD-append-add, getD-take, length-take-le, take-at}
 use Rattle.utf8.specs.Text.{Ink, blank, Utf, whole, part, bad, utfs}
 use Rattle.utf8.specs.Trim.{shown, trimmed}
 use Rattle.tokens.proofs.Kept.{kept}

@@ -1,12 +1,5 @@
 -- A value of an accepted text is replaced by a closed valid text: strict reading accepts the new text, with the same trees, places moved. Assumes nothing.
-use mathlib.Core.Path.{_≡_, refl, sym, ap, ap₂, _∙_, subst₂}
-use Prim.Native.Nat.{ℕ, suc, _+_, _-_, _≤_}
-use native.Mathlib.Omega.{arith}
-use mathlib.Core.Bool.{Bool, true, false, false≢true, true≢false}
-use mathlib.Core.List.{List, [], _∷_, _++_, map, append-assoc, List·Memᴰ}
-use lib.Dec.{ltb}
-use lib.ListN.{length, take, drop, length-append, take-append-drop}
-use borrow.Author.Tests.{le-ltb}
+use Rattle.lists.proofs.Prelude.{_≡_, refl, sym, ap, ap₂, _∙_, subst₂, ℕ, suc, _+_, _-_, _≤_, arith, Bool, true, false, false≢true, true≢false, List, [], _∷_, _++_, map, append-assoc, List·Memᴰ, ltb, length, take, drop, length-append, take-append-drop, le-ltb, pick}
 use Rattle.fresh.proofs.Accepted.{Accepted, accepted-is}
 use Rattle.fresh.proofs.Found.{Found, at-pre, bounds, ends-in, found, trimmed-parts}
 use Rattle.fresh.specs.Run.{strictly}
@@ -21,7 +14,6 @@ use Rattle.lexer.specs.Move.{endsAt, newRaw, startsAt}
 use Rattle.lexer.specs.Token.{End, Lexed, Prop, Tok, Val, between, done, end, ends, lexFrom, node, prop, start, value}
 use Rattle.lists.proofs.All.{all-map}
 use Rattle.lists.specs.All.{All}
-use Rattle.lists.specs.Pick.{pick}
 use Rattle.lists.specs.Same.{same}
 use Rattle.parser.proofs.Moved.{move-tokens, moveAnswer}
 use Rattle.parser.proofs.MovedKind.{GmStays}

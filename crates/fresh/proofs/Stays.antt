@@ -1,12 +1,5 @@
 -- Tables that fit stay fitting: after an accepted edit they fit the new text. Assumes nothing.
-use Prim.Native.Nat.{ℕ, _+_, _-_, _≤_, _<_}
-use mathlib.Core.Bool.{true}
-use mathlib.Core.List.{List, map}
-use mathlib.Core.Logic.{_⊎_, inl, inr}
-use mathlib.Core.Path.{_≡_, refl, ap, _∙_, subst, subst⁻¹}
-use native.Mathlib.Omega.{arith}
-use lib.ListN.{length, take}
-use lib.Seq.{slice, length-take-le}
+use Rattle.lists.proofs.Prelude.{ℕ, _+_, _-_, _≤_, _<_, true, List, map, _⊎_, inl, inr, _≡_, refl, ap, _∙_, subst, subst⁻¹, arith, length, take, slice, length-take-le}
 use Rattle.lexer.specs.Move.{startsAt, endsAt}
 use Rattle.tokens.proofs.Replace.{starts-low}
 use Rattle.lists.specs.All.{All}

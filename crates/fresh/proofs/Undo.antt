@@ -1,14 +1,5 @@
 -- Undo: an accepted edit, and then the old bytes put back, gives the text and the rows from before. Assumes nothing.
-use mathlib.Core.Path.{_≡_, refl, sym, ap, _∙_, subst}
-use Prim.Native.Nat.{ℕ, zero, suc, _+_, _-_, _≤_, _<_}
-use native.Mathlib.Omega.{arith}
-use mathlib.Core.Bool.{Bool, true, false}
-use mathlib.Core.List.{List, [], _∷_, _++_, map, append-assoc}
-use lib.Dec.{ltb}
-use lib.ListN.{length, take, drop, getD, length-map, length-append}
-use lib.Seq.{slice, take-at, drop-at, length-take-le}
-use borrow.Author.Tests.{ltb-true, ltb-false, lt-ltb, le-ltb}
-use Rattle.lists.specs.Pick.{pick}
+use Rattle.lists.proofs.Prelude.{_≡_, refl, sym, ap, _∙_, subst, ℕ, zero, suc, _+_, _-_, _≤_, _<_, arith, Bool, true, false, List, [], _∷_, _++_, map, append-assoc, ltb, length, take, drop, getD, length-map, length-append, slice, take-at, drop-at, length-take-le, ltb-true, ltb-false, lt-ltb, le-ltb, pick}
 use Rattle.lists.specs.Same.{same}
 use Rattle.lists.proofs.All.{all-mem}
 use Rattle.lists.proofs.Tests.{never}

@@ -1,7 +1,5 @@
 -- Runs of calls of the edit, in lent memory.
-use Prim.Native.Nat.{ℕ}
-use mathlib.Core.List.{List, [], _∷_}
-use lib.ListN.{take}
+use Rattle.lists.specs.Prelude.{ℕ, List, [], _∷_, take}
 use Rattle.tables.specs.declared.Counts.{Counts}
 use Rattle.fit.specs.Record.{rowsOf}
 use Rattle.decide.specs.Edit.{Outcome}

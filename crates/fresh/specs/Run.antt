@@ -1,8 +1,5 @@
 -- Runs of edits, and records that a reading gives.
-use mathlib.Core.Path.{_≡_}
-use mathlib.Core.Bool.{Bool, false}
-use Prim.Native.Nat.{ℕ}
-use mathlib.Core.List.{List, [], _∷_}
+use Rattle.lists.specs.Prelude.{_≡_, Bool, false, ℕ, List, [], _∷_}
 use Rattle.tables.specs.Record.{Tree}
 use Rattle.tables.specs.Rows.{Tables, tables}
 use Rattle.parser.specs.Walk.{Opts}

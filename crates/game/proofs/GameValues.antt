@@ -1,17 +1,7 @@
 -- The game type that a property says: the identifier GM, exactly one value, a number, exactly `1`. Assumes nothing.
-use Prim.Native.Nat.{ℕ, suc, _+_, _^_, _≤_, _-_}
-use mathlib.Core.Path.{_≡_, refl, sym, ap, _∙_}
-use mathlib.Core.Bool.{Bool, true, false, _&&_, and-true, and-false}
-use mathlib.Core.List.{List, [], _∷_}
-use native.Mathlib.Omega.{arith}
-use native.Mathlib.Numerals.{add-one}
-use lib.ListN.{length, getD, take, drop}
-use lib.Seq.{slice, take-add, drop-at, length-take-le, slice-cons, slice-empty, length-slice}
-use lib.Dec.{eqb}
-use borrow.Author.Tests.{eq-eqb, ne-eqb}
+use Rattle.lists.proofs.Prelude.{ℕ, suc, _+_, _^_, _≤_, _-_, _≡_, refl, sym, ap, _∙_, Bool, true, false, _&&_, and-true, and-false, List, [], _∷_, arith, add-one, length, getD, take, drop, slice, take-add, drop-at, length-take-le, slice-cons, slice-empty, length-slice, eqb, eq-eqb, ne-eqb, pick}
 use types.Run.{OneOf}
 use denote.Enum.Declared.{tagOf}
-use Rattle.lists.specs.Pick.{pick}
 use Rattle.lists.specs.Same.{same}
 use Rattle.values.specs.Read.{readValue}
 use Rattle.values.specs.Decimal.{decimalOf}

@@ -1,14 +1,7 @@
 -- The properties named GM that follow the first two tokens of a slice, one token at a time. Assumes nothing.
-use Prim.Native.Nat.{ℕ, zero, suc, _≤_}
-use mathlib.Core.Path.{_≡_, refl, sym, ap, _∙_}
-use mathlib.Core.Bool.{Bool, true, false, false≢true}
-use mathlib.Core.List.{List, [], _∷_, _++_, append-nil}
-use native.Mathlib.Omega.{arith}
-use lib.ListN.{length, drop}
-use lib.Seq.{drop-length}
+use Rattle.lists.proofs.Prelude.{ℕ, zero, suc, _≤_, _≡_, refl, sym, ap, _∙_, Bool, true, false, false≢true, List, [], _∷_, _++_, append-nil, arith, length, drop, drop-length, pick}
 use types.Run.{OneOf}
 use denote.Enum.Declared.{tagOf}
-use Rattle.lists.specs.Pick.{pick}
 use Rattle.lists.specs.Same.{same}
 use Rattle.lexer.specs.Token.{Prop, Tok, start, end, node, prop, Lexed, lexAt}
 use Rattle.lexer.specs.Step.{nextAt, valsAt, propAt, stepOn}

@@ -1,7 +1,5 @@
 -- No second answer: of the game type, two answers that meet the contract are equal. Assumes nothing.
-use Prim.Native.Nat.{ℕ}
-use mathlib.Core.List.{List}
-use mathlib.Core.Path.{_≡_}
+use Rattle.lists.proofs.Prelude.{ℕ, List, _≡_}
 use Rattle.lists.specs.Once.{Once}
 use Rattle.lists.proofs.Once.{once-is}
 use Rattle.lexer.specs.Token.{lexAt}

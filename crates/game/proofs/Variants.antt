@@ -1,8 +1,5 @@
 -- What is left of an enum where one variant is shut out. Assumes nothing.
-use Prim.Native.Nat.{ℕ}
-use mathlib.Core.Path.{_≡_, refl}
-use mathlib.Core.Bool.{true}
-use mathlib.Core.List.{List, [], _∷_}
+use Rattle.lists.proofs.Prelude.{ℕ, _≡_, refl, true, List, [], _∷_}
 use types.Run.{OneOf, miss}
 use denote.Enum.Declared.{tagOf}
 use Rattle.values.specs.declared.decimal.Number.{Number}

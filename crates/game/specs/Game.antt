@@ -1,6 +1,5 @@
 -- The game type as the code finds it.
-use mathlib.Core.Bool.{Bool, true, false}
-use mathlib.Core.List.{List, [], _∷_}
+use Rattle.lists.specs.Prelude.{Bool, true, false, List, [], _∷_}
 use Rattle.lexer.specs.Token.{Val, Tok, start, end, node, prop}
 use Rattle.parser.specs.Kind.{Kind, is, unkind, kindVals}
 use Rattle.game.specs.declared.GameType.{GameType}

@@ -1,14 +1,5 @@
 -- Marks added to marks: none, one place, one more, a row and a rectangle. Assumes nothing.
-use Prim.Native.Nat.{ℕ, _+_, _*_, _/_, _%_, _≤_, _<_}
-use mathlib.Core.Path.{_≡_, refl, sym, ap, _∙_}
-use mathlib.Core.Bool.{Bool, true, false, _&&_, _||_, and-false, or-false, or-assoc, and-or-distrib-left, and-or-distrib-right}
-use mathlib.Core.List.{List}
-use native.Mathlib.Nat.{le-refl}
-use native.Mathlib.Omega.{arith}
-use lib.Dec.{leb, ltb, eqb}
-use lib.ListN.{length, getD, set, length-set}
-use lib.Seq.{getD-set-same, getD-set-other}
-use borrow.Author.Tests.{eqb-true, eqb-false, eq-eqb, le-leb, lt-ltb, le-ltb, ltb-true, ltb-false, leb-true}
+use Rattle.lists.proofs.Prelude.{ℕ, _+_, _*_, _/_, _%_, _≤_, _<_, _≡_, refl, sym, ap, _∙_, Bool, true, false, _&&_, _||_, and-false, or-false, or-assoc, and-or-distrib-left, and-or-distrib-right, List, le-refl, arith, leb, ltb, eqb, length, getD, set, length-set, getD-set-same, getD-set-other, eqb-true, eqb-false, eq-eqb, le-leb, lt-ltb, le-ltb, ltb-true, ltb-false, leb-true}
 use Rattle.go.specs.Marks.{Adds, inRect}
 
 pub adds-none : {f : ℕ → Bool} (l : List Bool) → ((i : ℕ) → f i ≡ false) → Adds f l l

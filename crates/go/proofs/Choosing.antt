@@ -1,9 +1,5 @@
 -- The Go value of a property by its game type, its shape and the number of its values. Assumes nothing.
-use Prim.Native.Nat.{ℕ, zero, suc, _+_, _-_, _^_}
-use mathlib.Core.Path.{_≡_, refl, sym, ap, _∙_, subst}
-use mathlib.Core.List.{List, [], _∷_}
-use native.Mathlib.Omega.{arith}
-use borrow.Author.Tests.{eq-eqb, ne-eqb}
+use Rattle.lists.proofs.Prelude.{ℕ, zero, suc, _+_, _-_, _^_, _≡_, refl, sym, ap, _∙_, subst, List, [], _∷_, arith, eq-eqb, ne-eqb}
 use types.Run.{OneOf, miss}
 use denote.Enum.Declared.{tagOf}
 use Rattle.values.specs.Read.{readValue}

@@ -1,12 +1,5 @@
 -- What the normal form keeps: what holds of raw values and of bytes that stand for themselves, and that there is a value. Assumes nothing.
-use Prim.Native.Nat.{ℕ, _+_, _*_, _/_, _%_, _≤_, _<_}
-use mathlib.Core.Path.{_≡_, refl, sym, ap, _∙_, subst}
-use mathlib.Core.Bool.{Bool, true, false, _&&_, _||_, false≢true}
-use mathlib.Core.List.{List, [], _∷_}
-use native.Mathlib.Omega.{arith}
-use lib.Dec.{eqb}
-use lib.ListN.{length, getD}
-use borrow.Author.Tests.{le-leb, lt-ltb}
+use Rattle.lists.proofs.Prelude.{ℕ, _+_, _*_, _/_, _%_, _≤_, _<_, _≡_, refl, sym, ap, _∙_, subst, Bool, true, false, _&&_, _||_, false≢true, List, [], _∷_, arith, eqb, length, getD, le-leb, lt-ltb}
 use Rattle.lists.specs.All.{All}
 use Rattle.lists.proofs.All.{all-map}
 use Rattle.lists.proofs.Pick.{pick-elim}

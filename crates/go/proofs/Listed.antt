@@ -1,12 +1,5 @@
 -- The points of a set, listed one by one, are the set. Assumes nothing.
-use Prim.Native.Nat.{ℕ, zero, suc, _+_, _*_, _/_, _%_, _≤_, _<_}
-use mathlib.Core.Path.{_≡_, refl, sym, ap, ap₂, _∙_}
-use mathlib.Core.Bool.{Bool, true, false, _&&_, _||_, and-true, and-false, or-false, false≢true}
-use mathlib.Core.List.{List, [], _∷_}
-use native.Mathlib.Omega.{arith}
-use lib.Dec.{eqb}
-use lib.ListN.{length, getD}
-use borrow.Author.Tests.{eq-eqb, ne-eqb}
+use Rattle.lists.proofs.Prelude.{ℕ, zero, suc, _+_, _*_, _/_, _%_, _≤_, _<_, _≡_, refl, sym, ap, ap₂, _∙_, Bool, true, false, _&&_, _||_, and-true, and-false, or-false, false≢true, List, [], _∷_, arith, eqb, length, getD, eq-eqb, ne-eqb}
 use Rattle.lists.specs.All.{All}
 use Rattle.values.specs.Read.{readValue}
 use Rattle.values.proofs.Safe.{Safe}

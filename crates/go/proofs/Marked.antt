@@ -1,13 +1,5 @@
 -- Marks by their places, and the union gathered value by value. Assumes nothing.
-use Prim.Native.Nat.{ℕ, zero, suc, _+_, _-_, _≤_, _<_}
-use mathlib.Core.Path.{_≡_, refl, sym, ap, _∙_, subst}
-use mathlib.Core.Bool.{Bool, true, false, _&&_, _||_, or-false, or-assoc, or-comm}
-use mathlib.Core.List.{List, [], _∷_}
-use native.Mathlib.Omega.{arith}
-use lib.Dec.{leb}
-use lib.ListN.{length, getD, getD-replicate, length-replicate, List·getD-eq-default}
-use lib.Seq.{ext-getD}
-use borrow.Author.Tests.{leb-true, leb-false}
+use Rattle.lists.proofs.Prelude.{ℕ, zero, suc, _+_, _-_, _≤_, _<_, _≡_, refl, sym, ap, _∙_, subst, Bool, true, false, _&&_, _||_, or-false, or-assoc, or-comm, List, [], _∷_, arith, leb, length, getD, getD-replicate, length-replicate, List·getD-eq-default, ext-getD, leb-true, leb-false}
 use Rattle.values.specs.Read.{readValue}
 use Rattle.points.specs.Area.{areaOf}
 use Rattle.go.specs.Marks.{Adds, good, inArea, allGood, inSome, marksFrom, marksOf}

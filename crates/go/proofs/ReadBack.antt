@@ -1,12 +1,5 @@
 -- Reading back: the normal form of values has their Go value, and is its own normal form. Assumes nothing.
-use Prim.Native.Nat.{ℕ, _-_, _^_}
-use mathlib.Core.Path.{_≡_, refl, sym, ap, _∙_, subst}
-use mathlib.Core.Bool.{Bool, true, false}
-use mathlib.Core.List.{List, [], _∷_}
-use native.Mathlib.Omega.{arith}
-use lib.Dec.{eqb}
-use borrow.Author.Tests.{le-leb, ne-eqb}
-use Rattle.lists.specs.Pick.{pick}
+use Rattle.lists.proofs.Prelude.{ℕ, _-_, _^_, _≡_, refl, sym, ap, _∙_, subst, Bool, true, false, List, [], _∷_, arith, eqb, le-leb, ne-eqb, pick}
 use Rattle.values.specs.Read.{readFrom}
 use Rattle.values.proofs.RoundTrip.{decimal-back}
 use Rattle.points.specs.Area.{moveOf}

@@ -1,11 +1,5 @@
 -- What one value adds to a set. Assumes nothing.
-use Prim.Native.Nat.{ℕ, _+_, _≤_}
-use mathlib.Core.Path.{_≡_, refl, sym, _∙_, subst}
-use mathlib.Core.Bool.{Bool, true, false, _&&_}
-use mathlib.Core.List.{List, [], _∷_}
-use lib.Dec.{leb, eqb}
-use borrow.Author.Tests.{leb-true}
-use Rattle.lists.specs.Pick.{pick}
+use Rattle.lists.proofs.Prelude.{ℕ, _+_, _≤_, _≡_, refl, sym, _∙_, subst, Bool, true, false, _&&_, List, [], _∷_, leb, eqb, leb-true, pick}
 use Rattle.lists.proofs.Pick.{pick-elim}
 use Rattle.points.specs.Area.{letterOf, cornered, areaOf}
 use Rattle.go.specs.Marks.{Adds, inRect, good, inArea}

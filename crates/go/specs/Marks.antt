@@ -1,10 +1,5 @@
 -- Sets of points as marks in 2,704 places: point (x, y) has place 52 * x + y.
-use Prim.Native.Nat.{ℕ, zero, suc, _+_, _/_, _%_}
-use mathlib.Core.Path.{_≡_}
-use mathlib.Core.Bool.{Bool, true, false, _&&_, _||_}
-use mathlib.Core.List.{List, [], _∷_}
-use lib.Dec.{leb, ltb}
-use lib.ListN.{length, getD}
+use Rattle.lists.specs.Prelude.{ℕ, zero, suc, _+_, _/_, _%_, _≡_, Bool, true, false, _&&_, _||_, List, [], _∷_, leb, ltb, length, getD}
 use Rattle.points.specs.declared.Area.{Area}
 use Rattle.points.specs.declared.Area.the-variants.{Bad, Rect}
 

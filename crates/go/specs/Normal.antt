@@ -1,8 +1,5 @@
 -- The normal form of a property's values: as they are written.
-use Prim.Native.Nat.{ℕ, suc, _/_, _%_}
-use mathlib.Core.Bool.{Bool}
-use mathlib.Core.List.{List, [], _∷_}
-use Rattle.lists.specs.Pick.{pick}
+use Rattle.lists.specs.Prelude.{ℕ, suc, _/_, _%_, Bool, List, [], _∷_, pick}
 use Rattle.values.specs.Decimal.{decimal}
 use Rattle.points.specs.Area.{letter}
 use Rattle.go.specs.Value.{goValue}

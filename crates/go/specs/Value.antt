@@ -1,10 +1,5 @@
 -- The Go value of a property by its read identifier, in Go trees.
-use Prim.Native.Nat.{ℕ, _-_, _^_}
-use mathlib.Core.Bool.{Bool, false}
-use mathlib.Core.List.{List, [], _∷_, map}
-use lib.Dec.{eqb}
-use lib.ListN.{replicate}
-use Rattle.lists.specs.Pick.{pick}
+use Rattle.lists.specs.Prelude.{ℕ, _-_, _^_, Bool, false, List, [], _∷_, map, eqb, replicate, pick}
 use Rattle.values.specs.Read.{readValue}
 use Rattle.values.specs.Decimal.{decimalOf}
 use Rattle.points.specs.Area.{moveOf, areaOf}

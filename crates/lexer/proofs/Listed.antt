@@ -1,10 +1,5 @@
 -- The values of a property, one at a time: which they are. Assumes nothing.
-use Prim.Native.Nat.{ℕ, zero, suc, _+_, _≤_, _<_, _-_}
-use mathlib.Core.Path.{_≡_, refl, sym, ap, _∙_}
-use mathlib.Core.List.{List, [], _∷_}
-use native.Mathlib.Omega.{arith}
-use lib.ListN.{length}
-use lib.Seq.{slice}
+use Rattle.lists.proofs.Prelude.{ℕ, zero, suc, _+_, _≤_, _<_, _-_, _≡_, refl, sym, ap, _∙_, List, [], _∷_, arith, length, slice}
 use Rattle.lexer.specs.Token.{Val}
 use Rattle.scan.specs.Scan.{valueAt, valuesAt}
 use Rattle.lexer.specs.Step.{valsOn, valsBy, valsAt}

@@ -1,11 +1,5 @@
 -- Where the next token lies: in the text, from the place where it was looked for on. Assumes nothing.
-use Prim.Native.Nat.{ℕ, suc, _+_, _^_, _≤_, _<_}
-use mathlib.Core.Path.{_≡_, refl, sym, ap, _∙_, subst}
-use mathlib.Core.List.{List}
-use native.Mathlib.Omega.{arith}
-use lib.ListN.{length, getD}
-use lib.Dec.{eqb, ltb}
-use borrow.Author.Tests.{ltb-true}
+use Rattle.lists.proofs.Prelude.{ℕ, suc, _+_, _^_, _≤_, _<_, _≡_, refl, sym, ap, _∙_, subst, List, arith, length, getD, eqb, ltb, ltb-true}
 use Rattle.lists.proofs.Pick.{pick-elim}
 use Rattle.scan.specs.Scan.{skipAt, identAt, valuesAt}
 use Rattle.lexer.specs.Step.{onIdent, headFrom, headAt, onValues, onHead, nextAt, behind, SteppedIs, valsAt}

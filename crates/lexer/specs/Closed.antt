@@ -1,8 +1,5 @@
 -- Closed values.
-use Prim.Native.Nat.{ℕ}
-use mathlib.Core.Bool.{Bool, false, _||_, _&&_, not}
-use mathlib.Core.List.{List, [], _∷_}
-use lib.Dec.{eqb}
+use Rattle.lists.specs.Prelude.{ℕ, Bool, false, _||_, _&&_, not, List, [], _∷_, eqb}
 
 -- scanned with an escape pending or not: no unescaped `]`, and at the end no pending escape
 abbrev pub closedFrom : Bool → List ℕ → Bool

@@ -1,8 +1,5 @@
 -- Tokens with their places moved, as an edit of a value moves them.
-use Prim.Native.Nat.{ℕ, _+_, _-_}
-use mathlib.Core.List.{List, map}
-use lib.Dec.{leb, ltb, eqb}
-use Rattle.lists.specs.Pick.{pick}
+use Rattle.lists.specs.Prelude.{ℕ, _+_, _-_, List, map, leb, ltb, eqb, pick}
 use Rattle.lexer.specs.Token.{Val, Prop, Tok, start, end, node, prop}
 
 -- where a thing that starts at p starts, once the value at q..e has become n bytes long

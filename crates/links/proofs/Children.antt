@@ -1,11 +1,5 @@
 -- First children, under the rule of the parents: only the next node can be one. Assumes nothing.
-use Prim.Native.Nat.{ℕ, zero, suc, _+_, _≤_, _<_}
-use mathlib.Core.Bool.{true}
-use mathlib.Core.List.{List}
-use mathlib.Core.Path.{_≡_, refl, sym, ap, _∙_, subst}
-use native.Mathlib.Omega.{arith}
-use lib.Dec.{eqb}
-use borrow.Author.Tests.{eq-eqb, ne-eqb}
+use Rattle.lists.proofs.Prelude.{ℕ, zero, suc, _+_, _≤_, _<_, true, List, _≡_, refl, sym, ap, _∙_, subst, arith, eqb, eq-eqb, ne-eqb}
 use Rattle.tables.specs.Numbers.{none}
 use Rattle.tables.specs.Columns.{parentAt, childAt}
 use Rattle.links.specs.Locals.{Ruled}

@@ -1,11 +1,5 @@
 -- The climb from node k - 1 to the parent p of node k: of the nodes it leaves, the child of p is followed by k, the others by none. Assumes nothing.
-use Prim.Native.Nat.{ℕ, suc, _-_, _≤_, _<_}
-use mathlib.Core.Bool.{Bool, true, false}
-use mathlib.Core.List.{List}
-use mathlib.Core.Path.{_≡_, refl, sym, _∙_, subst}
-use native.Mathlib.Omega.{arith}
-use lib.Dec.{eqb}
-use borrow.Author.Tests.{eq-eqb, ne-eqb}
+use Rattle.lists.proofs.Prelude.{ℕ, suc, _-_, _≤_, _<_, Bool, true, false, List, _≡_, refl, sym, _∙_, subst, arith, eqb, eq-eqb, ne-eqb}
 use Rattle.tables.specs.Numbers.{none}
 use Rattle.tables.specs.Columns.{parentAt, siblingAt}
 use Rattle.tables.specs.Each.{each}

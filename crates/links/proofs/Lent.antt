@@ -1,11 +1,5 @@
 -- What is lent where the test of it is passed. Assumes nothing.
-use Prim.Native.Nat.{ℕ, _/_, _≤_}
-use mathlib.Core.Bool.{Bool, true, _&&_}
-use mathlib.Core.List.{List}
-use mathlib.Core.Path.{_≡_}
-use lib.Dec.{leb}
-use lib.ListN.{length}
-use borrow.Author.Tests.{leb-true}
+use Rattle.lists.proofs.Prelude.{ℕ, _/_, _≤_, Bool, true, _&&_, List, _≡_, leb, length, leb-true}
 use Rattle.tables.specs.Numbers.{none}
 use Rattle.tables.specs.declared.Counts.{Counts}
 use Rattle.tables.proofs.Cases.{and-left, and-right}

@@ -1,11 +1,5 @@
 -- The climb that looks for an ancestor, and the rule of one parent. Assumes nothing.
-use Prim.Native.Nat.{ℕ, _-_, _≤_, _<_}
-use mathlib.Core.Bool.{true, false}
-use mathlib.Core.List.{List}
-use mathlib.Core.Path.{_≡_, sym, _∙_, subst}
-use native.Mathlib.Omega.{arith}
-use lib.Dec.{eqb}
-use borrow.Author.Tests.{eq-eqb, ne-eqb, lt-ltb, le-ltb}
+use Rattle.lists.proofs.Prelude.{ℕ, _-_, _≤_, _<_, true, false, List, _≡_, sym, _∙_, subst, arith, eqb, eq-eqb, ne-eqb, lt-ltb, le-ltb}
 use Rattle.tables.specs.Numbers.{none}
 use Rattle.tables.specs.Columns.{parentAt}
 use Rattle.links.specs.Nodes.{onPath, parentRight}

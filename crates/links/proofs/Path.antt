@@ -1,11 +1,5 @@
 -- The path from a node up to its root. Assumes nothing.
-use Prim.Native.Nat.{ℕ, zero, suc, _-_, _≤_, _<_}
-use mathlib.Core.Bool.{Bool, true, false, not, _&&_, _||_, or-false}
-use mathlib.Core.List.{List}
-use mathlib.Core.Path.{_≡_, refl, sym, ap, _∙_, subst}
-use native.Mathlib.Omega.{arith}
-use lib.Dec.{ltb, eqb}
-use borrow.Author.Tests.{eq-eqb, ne-eqb, lt-ltb, le-ltb, eqb-false, ltb-true}
+use Rattle.lists.proofs.Prelude.{ℕ, zero, suc, _-_, _≤_, _<_, Bool, true, false, not, _&&_, _||_, or-false, List, _≡_, refl, sym, ap, _∙_, subst, arith, ltb, eqb, eq-eqb, ne-eqb, lt-ltb, le-ltb, eqb-false, ltb-true}
 use Rattle.tables.specs.Numbers.{none}
 use Rattle.tables.specs.Columns.{parentAt}
 use Rattle.links.specs.Nodes.{hasParent, upward, onPath}

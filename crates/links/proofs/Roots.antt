@@ -1,13 +1,5 @@
 -- The loop that compares the roots with the nodes without parent. Assumes nothing.
-use Prim.Native.Nat.{ℕ, suc, _+_, _-_, _≤_, _<_}
-use mathlib.Core.Bool.{Bool, false}
-use mathlib.Core.List.{List, [], _∷_}
-use mathlib.Core.Path.{_≡_}
-use native.Mathlib.Numerals.{add-one}
-use native.Mathlib.Omega.{arith}
-use lib.Dec.{eqb}
-use borrow.Author.Tests.{eq-eqb, ne-eqb}
-use Rattle.lists.specs.Pick.{pick}
+use Rattle.lists.proofs.Prelude.{ℕ, suc, _+_, _-_, _≤_, _<_, Bool, false, List, [], _∷_, _≡_, add-one, arith, eqb, eq-eqb, ne-eqb, pick}
 use Rattle.lists.specs.Same.{same}
 use Rattle.tables.specs.Numbers.{none}
 use Rattle.tables.specs.Columns.{rootAt, parentAt}

@@ -1,11 +1,5 @@
 -- What the rule of the parents says of paths. Assumes nothing.
-use Prim.Native.Nat.{ℕ, zero, suc, _+_, _-_, _≤_, _<_}
-use mathlib.Core.Bool.{Bool, true, false, _&&_, _||_}
-use mathlib.Core.List.{List}
-use mathlib.Core.Path.{_≡_, refl, _∙_, subst}
-use native.Mathlib.Omega.{arith}
-use lib.Dec.{ltb, eqb}
-use borrow.Author.Tests.{eqb-true, ltb-true}
+use Rattle.lists.proofs.Prelude.{ℕ, zero, suc, _+_, _-_, _≤_, _<_, Bool, true, false, _&&_, _||_, List, _≡_, refl, _∙_, subst, arith, ltb, eqb, eqb-true, ltb-true}
 use Rattle.tables.specs.Numbers.{none}
 use Rattle.tables.specs.Columns.{parentAt}
 use Rattle.links.specs.Locals.{Ruled}

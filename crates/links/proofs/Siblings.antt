@@ -1,9 +1,5 @@
 -- The loop of climbs: past node k, every node before it that is not on the path of k - 1 has the right next sibling. Assumes nothing.
-use Prim.Native.Nat.{ℕ, _+_, _-_, _≤_, _<_}
-use mathlib.Core.Bool.{Bool, true, false}
-use mathlib.Core.List.{List}
-use mathlib.Core.Path.{_≡_, refl, sym, _∙_, subst}
-use native.Mathlib.Omega.{arith}
+use Rattle.lists.proofs.Prelude.{ℕ, _+_, _-_, _≤_, _<_, Bool, true, false, List, _≡_, refl, sym, _∙_, subst, arith}
 use Rattle.tables.specs.Numbers.{none}
 use Rattle.tables.specs.Columns.{parentAt}
 use Rattle.tables.specs.Each.{each}

@@ -1,8 +1,5 @@
 -- What the check's own loops promise each other.
-use Prim.Native.Nat.{ℕ, _-_, _<_, _≤_}
-use mathlib.Core.Bool.{Bool, true, false}
-use mathlib.Core.List.{List}
-use mathlib.Core.Path.{_≡_}
+use Rattle.lists.specs.Prelude.{ℕ, _-_, _<_, _≤_, Bool, true, false, List, _≡_}
 use Rattle.tables.specs.Columns.{parentAt}
 use Rattle.tables.specs.Each.{each}
 use Rattle.tables.specs.Numbers.{none}

@@ -1,7 +1,5 @@
 -- A fact of each element of a list: of joined, mapped and reversed lists. Assumes nothing.
-use mathlib.Core.Path.{_≡_, refl, sym, subst}
-use mathlib.Core.List.{List, [], _∷_, _++_, reverse, reverseAux, List·Memᴰ, List·Memᴰ·head, List·Memᴰ·tail, map}
-use mathlib.Core.Bool.{Bool, true, _&&_}
+use Rattle.lists.proofs.Prelude.{_≡_, refl, sym, subst, List, [], _∷_, _++_, reverse, reverseAux, List·Memᴰ, List·Memᴰ·head, List·Memᴰ·tail, map, Bool, true, _&&_}
 use Rattle.lists.proofs.Tests.{and-both}
 use Rattle.lists.specs.All.{All}
 

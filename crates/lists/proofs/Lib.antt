@@ -3,6 +3,7 @@ pub mod Once
 pub mod Paste
 pub mod Pick
 pub mod Places
+pub mod Prelude
 pub mod Put
 pub mod Run
 pub mod Tests

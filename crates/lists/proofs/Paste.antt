@@ -1,12 +1,5 @@
 -- Copies within a list, from the front and from the back. Assumes nothing.
-use mathlib.Core.Path.{_≡_, refl, sym, ap, _∙_, subst}
-use mathlib.Core.List.{List, [], _∷_, _++_, append-assoc}
-use Prim.Native.Nat.{ℕ, zero, suc, _+_, _-_, _≤_, _<_}
-use native.Mathlib.Omega.{arith}
-use native.Mathlib.Nat.{not-suc-le-zero, le-of-suc-le-suc, le-antisymm}
-use native.Mathlib.Numerals.{add-one}
-use lib.ListN.{length, take, drop, getD, set, take-append-drop, length-append, length-drop, length-set, List·getD-append}
-use lib.Seq.{paste, paste-zero, paste-suc, length-paste-head, length-take-le, drop-cons, drop-length, drop-at, take-at, getD-append-add, getD-drop, getD-take}
+use Rattle.lists.proofs.Prelude.{_≡_, refl, sym, ap, _∙_, subst, List, [], _∷_, _++_, append-assoc, ℕ, zero, suc, _+_, _-_, _≤_, _<_, arith, not-suc-le-zero, le-of-suc-le-suc, le-antisymm, add-one, length, take, drop, getD, set, take-append-drop, length-append, length-drop, length-set, List·getD-append, paste, paste-zero, paste-suc, length-paste-head, length-take-le, drop-cons, drop-length, drop-at, take-at, getD-append-add, getD-drop, getD-take}
 
 -- ---- a copy from the front: t is d with the first i of s at `at`, and n are to come in all
 

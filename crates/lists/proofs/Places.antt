@@ -1,14 +1,5 @@
 -- A list at a place: its first element from there on, and a part that grows by one. Assumes nothing.
-use Prim.Native.Nat.{ℕ, suc, _+_, _≤_, _<_}
-use mathlib.Core.Bool.{Bool, true, false}
-use mathlib.Core.Path.{_≡_, refl, ap, sym, _∙_}
-use mathlib.Core.List.{List, [], _∷_, _++_, head-eq-of-cons-eq, tail-eq-of-cons-eq}
-use native.Mathlib.Omega.{arith}
-use native.Mathlib.Numerals.{add-one}
-use lib.ListN.{length, take, drop, getD, length-drop, take-append-drop, drop-of-length-le}
-use lib.Dec.{ltb}
-use lib.Seq.{take-add, drop-at, slice, take-suc, drop-cons, drop-append-le, length-take-le}
-use borrow.Author.Tests.{ltb-true, ltb-false}
+use Rattle.lists.proofs.Prelude.{ℕ, suc, _+_, _≤_, _<_, Bool, true, false, _≡_, refl, ap, sym, _∙_, List, [], _∷_, _++_, head-eq-of-cons-eq, tail-eq-of-cons-eq, arith, add-one, length, take, drop, getD, length-drop, take-append-drop, drop-of-length-le, ltb, take-add, drop-at, slice, take-suc, drop-cons, drop-append-le, length-take-le, ltb-true, ltb-false}
 
 -- the code's `i + 1`, where the library has `suc i`
 pub drop-next : (s : List ℕ) (i : ℕ) → i < length s → drop i s ≡ getD s i 0 ∷ drop (i + 1) s

@@ -1,13 +1,5 @@
 -- Rows put one behind the other. Assumes nothing.
-use mathlib.Core.Path.{_≡_, refl, sym, ap, _∙_, subst}
-use mathlib.Core.Bool.{Bool, true, false}
-use lib.Dec.{leb}
-use borrow.Author.Tests.{leb-true, leb-false}
-use mathlib.Core.List.{List, [], _++_, append-assoc}
-use Prim.Native.Nat.{ℕ, _+_, _-_, _≤_}
-use native.Mathlib.Omega.{arith}
-use lib.ListN.{length, take, drop, take-append-drop, length-append}
-use lib.Seq.{take-at, drop-at, drop-append-add, drop-drop, length-take-le}
+use Rattle.lists.proofs.Prelude.{_≡_, refl, sym, ap, _∙_, subst, Bool, true, false, leb, leb-true, leb-false, List, [], _++_, append-assoc, ℕ, _+_, _-_, _≤_, arith, length, take, drop, take-append-drop, length-append, take-at, drop-at, drop-append-add, drop-drop, length-take-le}
 use Rattle.lists.specs.Put.{putAt, PutIs, PutWhole}
 
 put-behind : (r d vs : List ℕ) (n : ℕ) → length r ≡ n → putAt (r ++ drop n d) n vs ≡ (r ++ vs) ++ drop (n + length vs) d

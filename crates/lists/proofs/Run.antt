@@ -1,7 +1,5 @@
 -- `run`: with fuel above a measure that falls at each step, its amount does not matter. Assumes nothing.
-use Prim.Native.Nat.{ℕ, zero, suc, _<_}
-use mathlib.Core.Path.{_≡_, refl}
-use native.Mathlib.Omega.{arith}
+use Rattle.lists.proofs.Prelude.{ℕ, zero, suc, _<_, _≡_, refl, arith}
 use Rattle.lists.specs.Run.{Next, more, done, onward, run}
 
 module _ {S A : Type 0} (f : S → Next S A) (d : A) (m : S → ℕ) (falls : (x y : S) → f x ≡ more y → m y < m x) where

@@ -1,11 +1,6 @@
 -- Tests that are Booleans: what a conjunction and a disjunction say; what cannot be; and numbers that are equal or not. Assumes nothing.
-use Prim.Native.Nat.{ℕ}
-use mathlib.Core.Path.{_≡_, refl, sym, _∙_}
-use mathlib.Core.Bool.{Bool, true, false, _&&_, _||_, false≢true, true≢false}
-use native.Mathlib.Omega.{arith}
+use Rattle.lists.proofs.Prelude.{ℕ, _≡_, refl, sym, _∙_, Bool, true, false, _&&_, _||_, false≢true, true≢false, arith, eqb, eq-eqb, ne-eqb}
 use native.Mathlib.Decide.{ℕ-discrete}
-use lib.Dec.{eqb}
-use borrow.Author.Tests.{eq-eqb, ne-eqb}
 
 pub and-both : (x y : Bool) → x && y ≡ true → (x ≡ true) × (y ≡ true)
 and-both true y h = (refl, h)

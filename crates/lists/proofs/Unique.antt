@@ -1,6 +1,5 @@
 -- No second answer: of the one function here, two answers that meet its contract are equal. Assumes nothing.
-use Prim.Native.Nat.{ℕ}
-use mathlib.Core.Path.{_≡_}
+use Rattle.lists.proofs.Prelude.{ℕ, _≡_}
 use Rattle.lists.specs.Once.{Once}
 use Rattle.lists.proofs.Once.{once-is}
 

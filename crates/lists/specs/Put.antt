@@ -1,8 +1,5 @@
 -- Numbers put into a lent list where there is room.
-use mathlib.Core.List.{List, _++_}
-use mathlib.Core.Path.{_≡_}
-use Prim.Native.Nat.{ℕ, _+_, _≤_, _<_}
-use lib.ListN.{length, take, drop}
+use Rattle.lists.specs.Prelude.{List, _++_, _≡_, ℕ, _+_, _≤_, _<_, length, take, drop}
 
 -- the list with `vs` at the place `at`
 abbrev pub putAt : List ℕ → ℕ → List ℕ → List ℕ

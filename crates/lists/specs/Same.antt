@@ -1,8 +1,5 @@
 -- Lists compared.
-use Prim.Native.Nat.{ℕ}
-use mathlib.Core.Bool.{Bool, true, false, _&&_}
-use mathlib.Core.List.{List, [], _∷_}
-use lib.Dec.{eqb}
+use Rattle.lists.specs.Prelude.{ℕ, Bool, true, false, _&&_, List, [], _∷_, eqb}
 
 -- the same numbers in the same order
 abbrev pub same : List ℕ → List ℕ → Bool

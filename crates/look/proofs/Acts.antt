@@ -1,12 +1,5 @@
 -- What a token asks for, by the tests that the code makes. Assumes nothing.
-use Prim.Native.Nat.{ℕ, _+_}
-use mathlib.Core.Path.{_≡_, sym, ap, _∙_}
-use mathlib.Core.Bool.{Bool, true, false, _||_}
-use mathlib.Core.List.{List}
-use lib.Dec.{eqb}
-use lib.Seq.{slice}
-use borrow.Author.Tests.{eq-eqb, ne-eqb}
-use Rattle.lists.specs.Pick.{pick}
+use Rattle.lists.proofs.Prelude.{ℕ, _+_, _≡_, sym, ap, _∙_, Bool, true, false, _||_, List, eqb, slice, eq-eqb, ne-eqb, pick}
 use Rattle.scan.specs.Scan.{valuesAt}
 use Rattle.lexer.specs.Step.{headAt}
 use Rattle.lexer.specs.declared.Head.{Head}

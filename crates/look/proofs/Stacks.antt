@@ -1,13 +1,5 @@
 -- The stack in an array, and the list on top of it. Assumes nothing.
-use Prim.Native.Nat.{ℕ, zero, suc, _+_, _-_, _≤_, _<_}
-use mathlib.Core.Path.{_≡_, refl, sym, ap, _∙_}
-use mathlib.Core.Bool.{Bool, true, false, _&&_}
-use mathlib.Core.List.{List, [], _∷_}
-use native.Mathlib.Omega.{arith}
-use lib.ListN.{getD}
-use lib.Dec.{ltb}
-use borrow.Author.Tests.{eq-eqb, ne-eqb, le-leb, lt-leb}
-use Rattle.lists.specs.Pick.{pick}
+use Rattle.lists.proofs.Prelude.{ℕ, zero, suc, _+_, _-_, _≤_, _<_, _≡_, refl, sym, ap, _∙_, Bool, true, false, _&&_, List, [], _∷_, arith, getD, ltb, eq-eqb, ne-eqb, le-leb, lt-leb, pick}
 use Rattle.tables.specs.Numbers.{depthLimit, none}
 use Rattle.look.specs.Asks.{stackOf, fuller, mayOpen, mayStart}
 

@@ -1,8 +1,5 @@
 -- No second answer: two answers that meet the contract of `look` are equal. Assumes nothing.
-use Prim.Native.Nat.{ℕ}
-use mathlib.Core.Path.{_≡_}
-use mathlib.Core.Bool.{Bool}
-use mathlib.Core.List.{List}
+use Rattle.lists.proofs.Prelude.{ℕ, _≡_, Bool, List}
 use Rattle.lists.specs.Once.{Once}
 use Rattle.lists.proofs.Once.{once-is}
 use Rattle.look.specs.Asks.{asks}

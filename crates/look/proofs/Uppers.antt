@@ -1,14 +1,5 @@
 -- Uppercase letters, one byte a turn. Assumes nothing.
-use Prim.Native.Nat.{ℕ, suc, _+_, _≤_, _<_}
-use mathlib.Core.Path.{_≡_, refl, ap, _∙_}
-use mathlib.Core.Bool.{Bool, true, false, _&&_}
-use mathlib.Core.List.{List, [], _∷_}
-use native.Mathlib.Omega.{arith}
-use native.Mathlib.Numerals.{add-one}
-use lib.ListN.{length, getD}
-use lib.Seq.{slice, length-slice, slice-cons}
-use lib.Dec.{leb}
-use borrow.Author.Tests.{lt-leb, le-leb}
+use Rattle.lists.proofs.Prelude.{ℕ, suc, _+_, _≤_, _<_, _≡_, refl, ap, _∙_, Bool, true, false, _&&_, List, [], _∷_, arith, add-one, length, getD, slice, length-slice, slice-cons, leb, lt-leb, le-leb}
 use Rattle.parser.specs.Walk.{uppers}
 
 module _ (u : List ℕ) (i to : ℕ) (h : i < to) (g : to ≤ length u) where

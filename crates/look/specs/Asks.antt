@@ -1,11 +1,5 @@
 -- What the next token asks for, by the state between two tokens.
-use Prim.Native.Nat.{ℕ, zero, suc, _+_}
-use mathlib.Core.Bool.{Bool, true, false, _||_, _&&_}
-use mathlib.Core.List.{List, [], _∷_}
-use lib.ListN.{getD}
-use lib.Dec.{eqb, ltb, leb}
-use lib.Seq.{slice}
-use Rattle.lists.specs.Pick.{pick}
+use Rattle.lists.specs.Prelude.{ℕ, zero, suc, _+_, Bool, true, false, _||_, _&&_, List, [], _∷_, getD, eqb, ltb, leb, slice, pick}
 use Rattle.scan.specs.Scan.{valuesAt}
 use Rattle.close.specs.declared.Close.{Close}
 use Rattle.close.specs.declared.Close.the-variants.{At, Open}

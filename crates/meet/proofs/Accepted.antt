@@ -1,14 +1,5 @@
 -- What an acceptance says, strict or lenient: the text is valid and short, and the trees grew from slices of its tokens. Assumes nothing.
-use mathlib.Core.Path.{_≡_, refl, sym, ap, _∙_, subst}
-use mathlib.Core.Logic.{_⊎_, inl, inr}
-use Prim.Native.Nat.{ℕ, suc, _≤_}
-use native.Mathlib.Omega.{arith}
-use mathlib.Core.Bool.{Bool, true, false}
-use mathlib.Core.List.{List, [], _∷_, reverse, reverse-reverse}
-use lib.Dec.{ltb}
-use lib.ListN.{length}
-use borrow.Author.Tests.{ltb-false}
-use Rattle.lists.specs.Pick.{pick}
+use Rattle.lists.proofs.Prelude.{_≡_, refl, sym, ap, _∙_, subst, _⊎_, inl, inr, ℕ, suc, _≤_, arith, Bool, true, false, List, [], _∷_, reverse, reverse-reverse, ltb, length, ltb-false, pick}
 use Rattle.utf8.specs.Text.{Ink, blank, Utf, whole, part, bad, utfs}
 use Rattle.lexer.specs.Token.{Tok, End, done, broken}
 use Rattle.tables.specs.Numbers.{textLimit, reasonOf}

@@ -1,12 +1,5 @@
 -- The spans of a text's property tokens lie one after another, and identifiers are plain. Assumes nothing.
-use mathlib.Core.Path.{_≡_, refl}
-use Prim.Native.Nat.{ℕ, suc, _+_, _≤_, _<_}
-use native.Mathlib.Omega.{arith}
-use mathlib.Core.Bool.{Bool, true, false, not, _&&_}
-use mathlib.Core.List.{List, [], _∷_, _++_}
-use lib.Dec.{leb, ltb, eqb}
-use lib.ListN.{length}
-use borrow.Author.Tests.{leb-false, lt-ltb}
+use Rattle.lists.proofs.Prelude.{_≡_, refl, ℕ, suc, _+_, _≤_, _<_, arith, Bool, true, false, not, _&&_, List, [], _∷_, _++_, leb, ltb, eqb, length, leb-false, lt-ltb}
 use Rattle.lists.specs.All.{All}
 use Rattle.lists.proofs.All.{all-append}
 use Rattle.lists.proofs.Tests.{and-both}

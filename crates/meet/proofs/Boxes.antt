@@ -1,9 +1,5 @@
 -- Each value of a text's tokens stands after `[` and before `]`. Assumes nothing.
-use mathlib.Core.Path.{_≡_, ap, _∙_}
-use Prim.Native.Nat.{ℕ, suc, _-_, _<_}
-use native.Mathlib.Omega.{arith}
-use mathlib.Core.List.{List, [], _∷_, _++_}
-use lib.ListN.{take, drop, getD}
+use Rattle.lists.proofs.Prelude.{_≡_, ap, _∙_, ℕ, suc, _-_, _<_, arith, List, [], _∷_, _++_, take, drop, getD}
 use Rattle.lists.specs.All.{All}
 use Rattle.lists.proofs.All.{all-append}
 use Rattle.lists.proofs.Places.{at-place, part-begins}

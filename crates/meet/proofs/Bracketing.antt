@@ -1,12 +1,5 @@
 -- What brackets a slice has: a start and an end, but that the last slice of a lenient reading may lack the end. Assumes nothing.
-use mathlib.Core.Path.{_≡_, refl}
-use mathlib.Core.Logic.{_⊎_, inl, inr}
-use Prim.Native.Nat.{ℕ, zero, suc, _+_, _<_}
-use native.Mathlib.Omega.{arith}
-use mathlib.Core.Bool.{Bool, true, false}
-use mathlib.Core.List.{List, [], _∷_, reverse, reverseAux}
-use lib.Dec.{ltb}
-use lib.ListN.{length, length-reverse}
+use Rattle.lists.proofs.Prelude.{_≡_, refl, _⊎_, inl, inr, ℕ, zero, suc, _+_, _<_, arith, Bool, true, false, List, [], _∷_, reverse, reverseAux, ltb, length, length-reverse}
 use Rattle.lists.specs.All.{All}
 use Rattle.lists.proofs.All.{all-reverse}
 use Rattle.lists.proofs.Pick.{pick-elim}

@@ -1,10 +1,5 @@
 -- Spans that lie one after another. Assumes nothing.
-use mathlib.Core.Path.{_≡_, refl, sym, ap, _∙_}
-use Prim.Native.Nat.{ℕ, suc, _≤_}
-use native.Mathlib.Omega.{arith}
-use mathlib.Core.Bool.{true}
-use mathlib.Core.List.{List, [], _∷_, _++_, append-assoc}
-use borrow.Author.Tests.{le-leb}
+use Rattle.lists.proofs.Prelude.{_≡_, refl, sym, ap, _∙_, ℕ, suc, _≤_, arith, true, List, [], _∷_, _++_, append-assoc, le-leb}
 use Rattle.lexer.specs.Token.{Val, Prop, Tok, start, end, node, prop}
 use Rattle.spans.specs.Spans.{Span, span, ascending}
 

@@ -1,13 +1,5 @@
 -- Fitting tables are the tables of the record that they denote: parents determine the links, counts the ranges. So two that fit and denote one record are equal. Assumes nothing.
-use mathlib.Core.Path.{_≡_, refl, sym, ap, _∙_}
-use Prim.Native.Nat.{ℕ, zero, suc, _+_, _-_, _<_}
-use native.Mathlib.Omega.{arith}
-use mathlib.Core.Bool.{true}
-use mathlib.Core.List.{List}
-use lib.Dec.{eqb}
-use lib.ListN.{length, take}
-use borrow.Author.Tests.{eqb-true}
-use Rattle.lists.specs.Pick.{pick}
+use Rattle.lists.proofs.Prelude.{_≡_, refl, sym, ap, _∙_, ℕ, zero, suc, _+_, _-_, _<_, arith, true, List, eqb, length, take, eqb-true, pick}
 use Rattle.lexer.specs.Token.{Val, Prop}
 use Rattle.tables.specs.Numbers.{none}
 use Rattle.tables.specs.Record.{Node, Tree, allNodes, allProps, allVals}

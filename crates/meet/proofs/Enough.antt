@@ -1,12 +1,5 @@
 -- Numbers of rows that always suffice for a text of so many bytes, strict and lenient. Assumes nothing.
-use mathlib.Core.Path.{_≡_, refl, ap, _∙_, subst}
-use mathlib.Core.Logic.{_⊎_, inl, inr}
-use Prim.Native.Nat.{ℕ, zero, suc, _/_, _<_}
-use native.Mathlib.Omega.{arith}
-use mathlib.Core.Bool.{Bool, true, false}
-use mathlib.Core.List.{List, [], _∷_, head-eq-of-cons-eq}
-use lib.ListN.{length, take, drop}
-use borrow.Author.Tests.{le-leb}
+use Rattle.lists.proofs.Prelude.{_≡_, refl, ap, _∙_, subst, _⊎_, inl, inr, ℕ, zero, suc, _/_, _<_, arith, Bool, true, false, List, [], _∷_, head-eq-of-cons-eq, length, take, drop, le-leb}
 use Rattle.utf8.specs.Text.{Ink, blank, inked}
 use Rattle.lexer.specs.Token.{Tok}
 use Rattle.tables.specs.Record.{Node, Tree, allNodes, allProps, allVals}

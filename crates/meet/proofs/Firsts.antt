@@ -1,10 +1,5 @@
 -- In each tree of an accepted reading the first node has no parent and every other one has. Assumes nothing.
-use mathlib.Core.Path.{_≡_, refl, sym, ap}
-use Prim.Native.Nat.{ℕ, zero, suc, _+_, _≤_}
-use native.Mathlib.Omega.{arith}
-use mathlib.Core.Bool.{false≢true}
-use mathlib.Core.List.{List, [], _∷_, _++_, reverseAux}
-use lib.ListN.{length}
+use Rattle.lists.proofs.Prelude.{_≡_, refl, sym, ap, ℕ, zero, suc, _+_, _≤_, arith, false≢true, List, [], _∷_, _++_, reverseAux, length}
 use Rattle.lists.specs.All.{All}
 use Rattle.lexer.specs.Token.{Prop, Tok, start, end, node, prop}
 use Rattle.tables.specs.Numbers.{none}

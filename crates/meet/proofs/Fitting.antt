@@ -1,11 +1,5 @@
 -- The tables of an accepted reading fit its text, strict or lenient, with conversion on or off. Assumes nothing.
-use mathlib.Core.Path.{_≡_, sym, ap, _∙_}
-use Prim.Native.Nat.{ℕ, _≤_}
-use native.Mathlib.Omega.{arith}
-use mathlib.Core.Bool.{true}
-use mathlib.Core.List.{List, _++_}
-use lib.ListN.{length, take, length-append}
-use lib.Seq.{take-length}
+use Rattle.lists.proofs.Prelude.{_≡_, sym, ap, _∙_, ℕ, _≤_, arith, true, List, _++_, length, take, length-append, take-length}
 use Rattle.utf8.specs.Text.{Utf}
 use Rattle.utf8.specs.Trim.{trimmed, shown}
 use Rattle.lexer.specs.Token.{Prop}

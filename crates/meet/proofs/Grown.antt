@@ -1,10 +1,5 @@
 -- The trees of an accepted reading, strict or lenient: each grew from its slice, and its root is the number of its first node. Assumes nothing.
-use mathlib.Core.Path.{_≡_, refl, sym, ap, _∙_, subst}
-use Prim.Native.Nat.{ℕ, zero, suc, _+_, _-_, _^_, _≤_, _<_}
-use native.Mathlib.Omega.{arith}
-use mathlib.Core.Bool.{Bool, true, false, true≢false}
-use mathlib.Core.List.{List, [], _∷_, reverse, reverseAux}
-use lib.ListN.{length, length-reverse, drop}
+use Rattle.lists.proofs.Prelude.{_≡_, refl, sym, ap, _∙_, subst, ℕ, zero, suc, _+_, _-_, _^_, _≤_, _<_, arith, Bool, true, false, true≢false, List, [], _∷_, reverse, reverseAux, length, length-reverse, drop}
 use Rattle.lists.specs.Same.{same}
 use Rattle.lists.proofs.Pick.{pick-elim}
 use Rattle.lists.proofs.Tests.{never}

@@ -1,12 +1,5 @@
 -- What the reader leaves in lent tables fits the text and has the rows of the record that was read: from the reader's contract. Assumes nothing.
-use mathlib.Core.Path.{_≡_, refl, ap, _∙_}
-use Prim.Native.Nat.{ℕ, _≤_}
-use native.Mathlib.Omega.{arith}
-use mathlib.Core.Bool.{Bool, true, false}
-use mathlib.Core.List.{List}
-use lib.ListN.{length, take, drop}
-use lib.Seq.{take-length}
-use Rattle.lists.specs.Pick.{pick}
+use Rattle.lists.proofs.Prelude.{_≡_, refl, ap, _∙_, ℕ, _≤_, arith, Bool, true, false, List, length, take, drop, take-length, pick}
 use Rattle.tables.specs.Flat.{flatTrees, flatNodes, flatProps, flatVals}
 use Rattle.tables.specs.Record.{Tree}
 use Rattle.tables.specs.Rows.{Tables, tables, countsOf}

@@ -1,10 +1,5 @@
 -- What the nodes, properties and values of a slice weigh: no more than its tokens. Assumes nothing.
-use mathlib.Core.Path.{_≡_, refl, ap, _∙_}
-use Prim.Native.Nat.{ℕ, suc, _+_, _*_, _≤_, _<_}
-use native.Mathlib.Omega.{arith}
-use mathlib.Core.Bool.{Bool, true, false}
-use mathlib.Core.List.{List, [], _∷_, _++_, append-nil}
-use lib.ListN.{length, length-append}
+use Rattle.lists.proofs.Prelude.{_≡_, refl, ap, _∙_, ℕ, suc, _+_, _*_, _≤_, _<_, arith, Bool, true, false, List, [], _∷_, _++_, append-nil, length, length-append}
 use Rattle.lexer.specs.Token.{Prop, Tok}
 use Rattle.tables.specs.Numbers.{none}
 use Rattle.tables.specs.Record.{Node, allVals}

@@ -1,11 +1,5 @@
 -- Lent tables that have the rows of an accepted reading: roots, parents and game types fit. Assumes nothing.
-use mathlib.Core.Path.{_≡_, refl, sym, ap, ap₂, _∙_, subst}
-use Prim.Native.Nat.{ℕ, suc, _+_, _≤_, _<_}
-use native.Mathlib.Omega.{arith}
-use mathlib.Core.Bool.{true}
-use mathlib.Core.List.{List, [], _∷_, _++_, reverseAux, head-eq-of-cons-eq, tail-eq-of-cons-eq}
-use lib.ListN.{length, length-append, length-reverse}
-use borrow.Author.Tests.{eq-eqb, ne-eqb, le-leb}
+use Rattle.lists.proofs.Prelude.{_≡_, refl, sym, ap, ap₂, _∙_, subst, ℕ, suc, _+_, _≤_, _<_, arith, true, List, [], _∷_, _++_, reverseAux, head-eq-of-cons-eq, tail-eq-of-cons-eq, length, length-append, length-reverse, eq-eqb, ne-eqb, le-leb}
 use Rattle.lists.specs.All.{All}
 use Rattle.lists.specs.Same.{same}
 use Rattle.tables.specs.Numbers.{none}

@@ -1,12 +1,5 @@
 -- The parents of an accepted reading follow the rule: each is none, the node before, or an ancestor of it, whatever a slice begins with. Assumes nothing.
-use mathlib.Core.Path.{_≡_, refl, sym, _∙_, subst}
-use mathlib.Core.Logic.{_⊎_, inl, inr}
-use Prim.Native.Nat.{ℕ, suc, _+_, _-_, _≤_, _<_}
-use native.Mathlib.Omega.{arith}
-use mathlib.Core.Bool.{true}
-use mathlib.Core.List.{List, [], _∷_}
-use lib.ListN.{length}
-use borrow.Author.Tests.{eq-eqb, ne-eqb, lt-ltb}
+use Rattle.lists.proofs.Prelude.{_≡_, refl, sym, _∙_, subst, _⊎_, inl, inr, ℕ, suc, _+_, _-_, _≤_, _<_, arith, true, List, [], _∷_, length, eq-eqb, ne-eqb, lt-ltb}
 use Rattle.lexer.specs.Token.{Tok}
 use Rattle.tables.specs.Numbers.{none}
 use Rattle.tables.specs.Record.{Node}

@@ -1,12 +1,5 @@
 -- The properties of an accepted reading: their spans ascend in the text, identifiers are plain, values stand in brackets and are closed. Assumes nothing.
-use mathlib.Core.Path.{_≡_, ap, subst}
-use Prim.Native.Nat.{ℕ, _-_}
-use native.Mathlib.Omega.{arith}
-use mathlib.Core.Bool.{true, false}
-use mathlib.Core.List.{List, [], _∷_}
-use lib.ListN.{length, take, drop, getD, length-drop}
-use lib.Seq.{slice, length-take-le}
-use borrow.Author.Tests.{eq-eqb, lt-ltb}
+use Rattle.lists.proofs.Prelude.{_≡_, ap, subst, ℕ, _-_, arith, true, false, List, [], _∷_, length, take, drop, getD, length-drop, slice, length-take-le, eq-eqb, lt-ltb}
 use Rattle.lists.specs.All.{All}
 use Rattle.lists.proofs.All.{all-append, all-left, all-right}
 use Rattle.utf8.specs.Text.{Ink, blank, inked, whole, utfs}

@@ -1,8 +1,5 @@
 -- The tables of an accepted reading denote its trees. Assumes nothing.
-use mathlib.Core.Path.{_≡_}
-use Prim.Native.Nat.{ℕ, zero, suc, _+_}
-use mathlib.Core.List.{List, [], _∷_}
-use lib.ListN.{length}
+use Rattle.lists.proofs.Prelude.{_≡_, ℕ, zero, suc, _+_, List, [], _∷_, length}
 use Rattle.lexer.specs.Token.{Tok}
 use Rattle.tables.specs.Record.{Tree}
 use Rattle.tables.specs.Rows.{tables}

@@ -1,10 +1,5 @@
 -- How many nodes an accepted reading has: fewer than the number that means none. Assumes nothing.
-use mathlib.Core.Path.{_≡_, refl, sym, ap, subst}
-use mathlib.Core.Logic.{inl, inr}
-use Prim.Native.Nat.{ℕ, zero, suc, _+_, _≤_}
-use native.Mathlib.Omega.{arith}
-use mathlib.Core.List.{List, [], _∷_, _++_}
-use lib.ListN.{length, length-append, length-reverse, length-take, length-drop, take, drop}
+use Rattle.lists.proofs.Prelude.{_≡_, refl, sym, ap, subst, inl, inr, ℕ, zero, suc, _+_, _≤_, arith, List, [], _∷_, _++_, length, length-append, length-reverse, length-take, length-drop, take, drop}
 use Rattle.lists.specs.All.{All}
 use Rattle.utf8.specs.Text.{Ink, blank, inked, whole, utfs}
 use Rattle.lexer.specs.Token.{Tok, start, end, node, prop}

@@ -1,11 +1,5 @@
 -- A property token directly behind another has an identifier that is not empty. Assumes nothing.
-use mathlib.Core.Path.{_≡_, refl, sym, _∙_}
-use Prim.Native.Nat.{ℕ, suc, _<_}
-use native.Mathlib.Omega.{arith}
-use mathlib.Core.Bool.{Bool, true, false, true≢false}
-use mathlib.Core.List.{List, [], _∷_, _++_, append-assoc}
-use lib.Dec.{leb, eqb}
-use lib.ListN.{length, length-append}
+use Rattle.lists.proofs.Prelude.{_≡_, refl, sym, _∙_, ℕ, suc, _<_, arith, Bool, true, false, true≢false, List, [], _∷_, _++_, append-assoc, leb, eqb, length, length-append}
 use Rattle.lexer.specs.Token.{Val, Prop, Tok, start, end, node, prop, St, between, ident, value, after, fault, Out, starts, begins, values, afters, step, emits, ends, finish, lexFrom}
 use Rattle.scan.specs.Scan.{space}
 

@@ -1,12 +1,5 @@
 -- Lent tables that have the rows of an accepted reading: spans ascend, identifiers are plain, each property has a value, values stand in brackets and are closed. Assumes nothing.
-use mathlib.Core.Path.{_≡_, refl, sym, ap, ap₂, _∙_, subst}
-use Prim.Native.Nat.{ℕ, suc, _+_, _≤_, _<_}
-use native.Mathlib.Omega.{arith}
-use mathlib.Core.Bool.{true}
-use mathlib.Core.List.{List, [], _∷_, _++_, head-eq-of-cons-eq, tail-eq-of-cons-eq}
-use lib.ListN.{length}
-use lib.Seq.{slice}
-use borrow.Author.Tests.{le-leb}
+use Rattle.lists.proofs.Prelude.{_≡_, refl, sym, ap, ap₂, _∙_, subst, ℕ, suc, _+_, _≤_, _<_, arith, true, List, [], _∷_, _++_, head-eq-of-cons-eq, tail-eq-of-cons-eq, length, slice, le-leb}
 use Rattle.lists.specs.All.{All}
 use Rattle.lists.proofs.All.{all-map}
 use Rattle.lexer.specs.Token.{Val, Prop}

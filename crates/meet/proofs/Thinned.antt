@@ -1,8 +1,5 @@
 -- The properties of an accepted reading are those of its tokens, in order, some left out: what holds of a list and stays when one is left out holds of them. Assumes nothing.
-use mathlib.Core.Path.{_≡_, refl, sym, ap, _∙_, subst}
-use Prim.Native.Nat.{ℕ, zero, suc, _+_}
-use mathlib.Core.List.{List, [], _∷_, _++_, reverseAux, append-assoc, append-nil}
-use lib.ListN.{length}
+use Rattle.lists.proofs.Prelude.{_≡_, refl, sym, ap, _∙_, subst, ℕ, zero, suc, _+_, List, [], _∷_, _++_, reverseAux, append-assoc, append-nil, length}
 use Rattle.lexer.specs.Token.{Prop, Tok}
 use Rattle.tables.specs.Numbers.{none}
 use Rattle.tables.specs.Record.{Node, Tree, allNodes, allProps}

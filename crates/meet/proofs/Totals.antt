@@ -1,10 +1,5 @@
 -- What all trees of an accepted reading have, against what its tokens weigh, strict and lenient. Assumes nothing.
-use mathlib.Core.Path.{_≡_, refl, sym, ap, _∙_, subst}
-use Prim.Native.Nat.{ℕ, zero, suc, _+_, _*_, _-_, _≤_, _<_, max}
-use native.Mathlib.Omega.{arith}
-use mathlib.Core.Bool.{Bool, true, false}
-use mathlib.Core.List.{List, [], _∷_, _++_}
-use lib.ListN.{length, length-append, length-reverse}
+use Rattle.lists.proofs.Prelude.{_≡_, refl, sym, ap, _∙_, subst, ℕ, zero, suc, _+_, _*_, _-_, _≤_, _<_, max, arith, Bool, true, false, List, [], _∷_, _++_, length, length-append, length-reverse}
 use Rattle.lists.specs.All.{All}
 use Rattle.lexer.specs.Token.{Tok, start, end, node, prop}
 use Rattle.tables.specs.Record.{Node, Tree, allNodes, allProps}

@@ -1,10 +1,5 @@
 -- What holds of the walk over a slice all along, and so of its nodes at the end: one law for any such fact. Assumes nothing.
-use mathlib.Core.Path.{_≡_, refl}
-use Prim.Native.Nat.{ℕ, _+_}
-use mathlib.Core.Bool.{Bool, true, false, _||_}
-use mathlib.Core.List.{List, [], _∷_, _++_}
-use lib.ListN.{length}
-use Rattle.lists.specs.Pick.{pick}
+use Rattle.lists.proofs.Prelude.{_≡_, refl, ℕ, _+_, Bool, true, false, _||_, List, [], _∷_, _++_, length, pick}
 use Rattle.lexer.specs.Token.{Prop, Tok, start, end, node, prop}
 use Rattle.tables.specs.Record.{Node}
 use Rattle.tables.specs.declared.Reason.{Reason}

@@ -1,11 +1,5 @@
 -- What tokens weigh, in bytes: no more than the text has. Assumes nothing.
-use mathlib.Core.Path.{_≡_}
-use Prim.Native.Nat.{ℕ, suc, _+_, _*_, _≤_, _<_}
-use native.Mathlib.Omega.{arith}
-use mathlib.Core.Bool.{Bool, true, false}
-use mathlib.Core.List.{List, [], _∷_, _++_}
-use lib.Dec.{leb, eqb}
-use lib.ListN.{length, length-append}
+use Rattle.lists.proofs.Prelude.{_≡_, ℕ, suc, _+_, _*_, _≤_, _<_, arith, Bool, true, false, List, [], _∷_, _++_, leb, eqb, length, length-append}
 use Rattle.lists.specs.All.{All}
 use Rattle.lexer.specs.Token.{Val, Prop, Tok, start, end, node, prop, St, between, ident, value, after, fault, Out, starts, begins, values, afters, step, emits, ends, finish, lexFrom}
 use Rattle.scan.specs.Scan.{space}

@@ -1,6 +1,5 @@
 -- Numbers of rows that suffice for a text of so many bytes.
-use Prim.Native.Nat.{ℕ, _+_, _-_, _/_, _≤_, max}
-use lib.ListN.{length}
+use Rattle.lists.specs.Prelude.{ℕ, _+_, _-_, _/_, _≤_, max, length}
 use Rattle.tables.specs.declared.Counts.{Counts}
 use Rattle.reader.specs.Lent.{Lent}
 

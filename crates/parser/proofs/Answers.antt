@@ -1,7 +1,5 @@
 -- No answer is a refusal and an acceptance. Assumes nothing.
-use Prim.Native.Nat.{ℕ}
-use mathlib.Core.List.{List}
-use mathlib.Core.Path.{_≡_}
+use Rattle.lists.proofs.Prelude.{ℕ, List, _≡_}
 use Rattle.lists.proofs.Tests.{never}
 use Rattle.tables.specs.Record.{Tree}
 use Rattle.tables.specs.declared.Reason.{Reason}

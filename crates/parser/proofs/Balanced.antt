@@ -1,12 +1,5 @@
 -- Strict splitting accepts exactly when no prefix of the tokens has more ends than starts, starts and ends are equal in number, and an end exists. Assumes nothing.
-use Prim.Native.Nat.{ℕ, zero, suc, _+_, _≤_, _<_, max}
-use mathlib.Core.Path.{_≡_, refl, subst}
-use mathlib.Core.Bool.{Bool, true, false}
-use mathlib.Core.List.{List, [], _∷_, reverse}
-use native.Mathlib.Omega.{arith}
-use lib.Dec.{ltb}
-use lib.ListN.{length, take}
-use Rattle.lists.specs.Pick.{pick}
+use Rattle.lists.proofs.Prelude.{ℕ, zero, suc, _+_, _≤_, _<_, max, _≡_, refl, subst, Bool, true, false, List, [], _∷_, reverse, arith, ltb, length, take, pick}
 use Rattle.lexer.specs.Token.{Tok, start, end, node, prop}
 use Rattle.tables.specs.Numbers.{depthLimit, numberOf}
 use Rattle.tables.specs.declared.Reason.{Reason}

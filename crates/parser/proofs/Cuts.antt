@@ -1,12 +1,6 @@
 -- Splitting against slices cut off from the front, one token at a time, strict and lenient alike. Assumes nothing.
-use Prim.Native.Nat.{ℕ, zero, suc, _+_, _≤_, max}
-use mathlib.Core.Path.{_≡_, refl, sym, ap, _∙_, subst}
-use mathlib.Core.Bool.{Bool, true, false}
-use mathlib.Core.List.{List, [], _∷_, _++_, append-assoc, append-nil, reverse, reverse-cons}
-use native.Mathlib.Omega.{arith}
-use lib.ListN.{length}
+use Rattle.lists.proofs.Prelude.{ℕ, zero, suc, _+_, _≤_, max, _≡_, refl, sym, ap, _∙_, subst, Bool, true, false, List, [], _∷_, _++_, append-assoc, append-nil, reverse, reverse-cons, arith, length, pick}
 use Rattle.lists.specs.All.{All}
-use Rattle.lists.specs.Pick.{pick}
 use Rattle.lexer.specs.Token.{Tok, start, end, node, prop}
 use Rattle.tables.specs.Numbers.{depthLimit}
 use Rattle.tables.specs.declared.Reason.the-variants.{UnexpectedGameTreeEnd}

@@ -1,12 +1,6 @@
 -- What an accepted reading says stands in the text, strict and lenient: each identifier and each value is the bytes between its places. Assumes nothing.
-use mathlib.Core.Path.{_≡_, subst}
-use Prim.Native.Nat.{ℕ}
-use mathlib.Core.Bool.{Bool, true, false}
-use mathlib.Core.List.{List}
-use lib.Dec.{ltb}
-use lib.ListN.{length}
+use Rattle.lists.proofs.Prelude.{_≡_, subst, ℕ, Bool, true, false, List, ltb, length, pick}
 use Rattle.lists.specs.All.{All}
-use Rattle.lists.specs.Pick.{pick}
 use Rattle.utf8.specs.Text.{Ink, blank, inked, Utf, whole, part, bad, utfs}
 use Rattle.lexer.specs.Token.{End, done, broken}
 use Rattle.tokens.proofs.Invariant.{OfTok}

@@ -1,13 +1,9 @@
 -- What holds of every token holds of every token of every slice; what holds of every property token holds of every property of every tree. Assumes nothing.
-use Prim.Native.Nat.{ℕ, zero, suc}
-use mathlib.Core.Bool.{Bool, true, false, _||_}
-use mathlib.Core.List.{List, [], _∷_, reverse}
-use lib.Dec.{ltb}
+use Rattle.lists.proofs.Prelude.{ℕ, zero, suc, Bool, true, false, _||_, List, [], _∷_, reverse, ltb, pick}
 use Rattle.tokens.proofs.Invariant.{OfTok}
 use Rattle.lexer.specs.Token.{Prop, Tok, end, node, prop, start}
 use Rattle.lists.proofs.All.{all-append, all-reverse}
 use Rattle.lists.specs.All.{All}
-use Rattle.lists.specs.Pick.{pick}
 use Rattle.parser.specs.Kind.{Kind, is, kind, unkind}
 use Rattle.parser.specs.Read.{Answer, Growing, accepted, answer, failing, growAll, growing, grown, grows, kinded, planted, refused, rooted}
 use Rattle.parser.specs.Split.{Slices, Splitting, ended, filled, no, over, sliced, slices, split, splits, splitting, wrong}

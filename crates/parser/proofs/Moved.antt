@@ -1,15 +1,9 @@
 -- Tokens with their places moved: the same answer, with its places moved. What a token says besides its places decides the answer. Assumes nothing.
-use mathlib.Core.Path.{_≡_, refl, ap, _∙_}
-use Prim.Native.Nat.{ℕ}
-use mathlib.Core.Bool.{Bool, true, false, _||_}
-use mathlib.Core.List.{List, [], _∷_, map, map-append}
-use lib.Dec.{eqb}
-use lib.ListN.{length-map}
+use Rattle.lists.proofs.Prelude.{_≡_, refl, ap, _∙_, ℕ, Bool, true, false, _||_, List, [], _∷_, map, map-append, eqb, length-map, pick}
 use Rattle.tokens.proofs.Invariant.{OfTok}
 use Rattle.lexer.specs.Move.{moveProp, moveTok}
 use Rattle.lexer.specs.Token.{Prop, Tok, end, node, prop, start}
 use Rattle.lists.specs.All.{All}
-use Rattle.lists.specs.Pick.{pick}
 use Rattle.parser.proofs.Lift.{OfSlices, of-sliced, of-split}
 use Rattle.parser.proofs.MovedKind.{GmStays, move-kind}
 use Rattle.parser.proofs.MovedSlices.{map-reverse, moveSlices, move-split, move-sliced}

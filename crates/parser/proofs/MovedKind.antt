@@ -1,14 +1,9 @@
 -- Tokens with their places moved: the same game type, where the values of a GM property stay. Assumes nothing.
-use mathlib.Core.Path.{_≡_, refl, ap, _∙_}
-use Prim.Native.Nat.{ℕ, zero, suc}
-use mathlib.Core.Bool.{Bool, true, false}
-use mathlib.Core.List.{List, [], _∷_, map}
-use lib.ListN.{drop}
+use Rattle.lists.proofs.Prelude.{_≡_, refl, ap, _∙_, ℕ, zero, suc, Bool, true, false, List, [], _∷_, map, drop, pick}
 use Rattle.tokens.proofs.Invariant.{OfTok}
 use Rattle.lexer.specs.Move.{moveProp, moveTok, moveVal}
 use Rattle.lexer.specs.Token.{Prop, Tok, Val, end, node, prop, start}
 use Rattle.lists.specs.All.{All}
-use Rattle.lists.specs.Pick.{pick}
 use Rattle.lists.specs.Same.{same}
 use Rattle.parser.specs.Kind.{GM, kind, kindOf, kindProps, kindVals, named, props}
 use Rattle.values.specs.Read.{readValue}

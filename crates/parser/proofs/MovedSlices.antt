@@ -1,12 +1,7 @@
 -- Tokens with their places moved: the same slices, with their places moved. Assumes nothing.
-use mathlib.Core.Path.{_≡_, refl, ap, _∙_}
-use Prim.Native.Nat.{ℕ, zero, suc}
-use mathlib.Core.Bool.{Bool, true, false}
-use mathlib.Core.List.{List, [], _∷_, map, reverse, reverseAux}
-use lib.Dec.{ltb}
+use Rattle.lists.proofs.Prelude.{_≡_, refl, ap, _∙_, ℕ, zero, suc, Bool, true, false, List, [], _∷_, map, reverse, reverseAux, ltb, pick}
 use Rattle.lexer.specs.Move.{moveTok}
 use Rattle.lexer.specs.Token.{Tok, end, node, prop, start}
-use Rattle.lists.specs.Pick.{pick}
 use Rattle.parser.specs.Split.{Slices, Splitting, ended, filled, no, over, sliced, slices, split, splits, splitting, wrong}
 use Rattle.tables.specs.Numbers.{depthLimit}
 use Rattle.tables.specs.declared.Reason.the-variants.{TooDeep}

@@ -1,14 +1,6 @@
 -- The slices of an accepted splitting, strict or lenient, are those cut off one by one from the front; no token of them goes too deep; and there are no more of them than tokens. Assumes nothing.
-use Prim.Native.Nat.{ℕ, zero, suc, _≤_}
-use mathlib.Core.Path.{_≡_, refl, sym, ap, _∙_, subst}
-use mathlib.Core.Bool.{Bool, true, false}
-use mathlib.Core.List.{List, [], _∷_, reverse}
-use native.Mathlib.Omega.{arith}
-use lib.ListN.{length}
-use lib.Dec.{ltb}
-use borrow.Author.Tests.{ltb-false}
+use Rattle.lists.proofs.Prelude.{ℕ, zero, suc, _≤_, _≡_, refl, sym, ap, _∙_, subst, Bool, true, false, List, [], _∷_, reverse, arith, length, ltb, ltb-false, pick}
 use Rattle.lists.specs.All.{All}
-use Rattle.lists.specs.Pick.{pick}
 use Rattle.lists.proofs.Tests.{never}
 use Rattle.lexer.specs.Token.{Tok}
 use Rattle.tables.specs.Numbers.{depthLimit}

@@ -1,11 +1,5 @@
 -- Splitting, one token at a time, strict and lenient alike. Assumes nothing.
-use Prim.Native.Nat.{ℕ, zero, suc, _+_, _-_, _≤_, _<_, max}
-use mathlib.Core.Path.{_≡_, refl, sym, ap, _∙_, subst}
-use mathlib.Core.Bool.{Bool}
-use mathlib.Core.List.{List, [], _∷_, reverse}
-use native.Mathlib.Omega.{arith}
-use native.Mathlib.Numerals.{add-one}
-use lib.ListN.{length, length-reverse}
+use Rattle.lists.proofs.Prelude.{ℕ, zero, suc, _+_, _-_, _≤_, _<_, max, _≡_, refl, sym, ap, _∙_, subst, Bool, List, [], _∷_, reverse, arith, add-one, length, length-reverse}
 use Rattle.lexer.specs.Token.{Prop, Tok, start, end, node, prop, Lexed, lexed}
 use Rattle.parser.specs.Split.{Splitting, splitting, split, ended}
 use Rattle.parser.specs.Survey.{Splits, SplitIs, StopsAt, leftAt}

@@ -1,13 +1,6 @@
 -- What the first pass finds, from where splitting stops. Assumes nothing.
-use Prim.Native.Nat.{ℕ, zero, suc, _+_, _≤_, _<_}
-use mathlib.Core.Path.{_≡_, refl, sym, ap, _∙_}
-use mathlib.Core.Bool.{Bool, true, false}
-use mathlib.Core.List.{List, [], _∷_, reverse}
-use native.Mathlib.Omega.{arith}
-use lib.ListN.{length, length-reverse}
-use lib.Dec.{ltb}
+use Rattle.lists.proofs.Prelude.{ℕ, zero, suc, _+_, _≤_, _<_, _≡_, refl, sym, ap, _∙_, Bool, true, false, List, [], _∷_, reverse, arith, length, length-reverse, ltb, pick}
 use Rattle.lists.specs.All.{All}
-use Rattle.lists.specs.Pick.{pick}
 use Rattle.lists.proofs.All.{all-reverse}
 use Rattle.lexer.specs.Token.{Tok, End, Lexed, lexAt}
 use Rattle.lexer.specs.declared.Fault.{Fault}

@@ -1,9 +1,5 @@
 -- A text has no more tokens than bytes. Assumes nothing.
-use Prim.Native.Nat.{ℕ, zero, suc, _+_, _-_, _≤_, _<_}
-use mathlib.Core.Path.{sym, subst}
-use mathlib.Core.List.{List}
-use native.Mathlib.Omega.{arith}
-use lib.ListN.{length}
+use Rattle.lists.proofs.Prelude.{ℕ, zero, suc, _+_, _-_, _≤_, _<_, sym, subst, List, arith, length}
 use Rattle.lexer.specs.Token.{Lexed, lexAt}
 use Rattle.lexer.specs.Step.{nextAt, stepOn}
 use Rattle.lexer.specs.declared.Step.{Step}

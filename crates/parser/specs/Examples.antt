@@ -1,9 +1,7 @@
 -- Texts and options for tables of examples.
-use Prim.Native.Nat.{ℕ, zero, suc}
+use Rattle.lists.specs.Prelude.{ℕ, zero, suc, true, false, List, [], _∷_}
 use Prim.Native.Char.{code}
 use Prim.Native.String.{String, len, charAt}
-use mathlib.Core.Bool.{true, false}
-use mathlib.Core.List.{List, [], _∷_}
 use Rattle.parser.specs.Walk.{Opts}
 
 -- the codes of the n characters from place i on

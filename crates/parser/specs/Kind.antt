@@ -1,9 +1,5 @@
 -- The game type of a slice.
-use Prim.Native.Nat.{ℕ, _-_, _^_}
-use mathlib.Core.Bool.{Bool, true, false}
-use mathlib.Core.List.{List, [], _∷_}
-use lib.ListN.{drop}
-use Rattle.lists.specs.Pick.{pick}
+use Rattle.lists.specs.Prelude.{ℕ, _-_, _^_, Bool, true, false, List, [], _∷_, drop, pick}
 use Rattle.lists.specs.Same.{same}
 use Rattle.lexer.specs.Token.{Val, Prop, Tok, start, end, node, prop}
 use Rattle.values.specs.Read.{readValue}

@@ -1,10 +1,5 @@
 -- Reading: a text to a record, or a number and a place.
-use Prim.Native.Nat.{ℕ, suc, _+_}
-use mathlib.Core.Bool.{Bool, true, false}
-use mathlib.Core.List.{List, [], _∷_, reverse}
-use lib.ListN.{length, take, drop}
-use lib.Dec.{ltb}
-use Rattle.lists.specs.Pick.{pick}
+use Rattle.lists.specs.Prelude.{ℕ, suc, _+_, Bool, true, false, List, [], _∷_, reverse, length, take, drop, ltb, pick}
 use Rattle.utf8.specs.Text.{Ink, blank, inked, Utf, whole, part, bad, utfs}
 use Rattle.lexer.specs.Token.{Tok, End, done, broken, Lexed, lexFrom}
 use Rattle.tables.specs.Numbers.{textLimit, none, reasonOf}

@@ -1,6 +1,5 @@
 -- Slices cut off one by one from the front of the tokens: what the code does, beside the fold of `Split`.
-use Prim.Native.Nat.{ℕ, zero, suc, _<_}
-use mathlib.Core.List.{List, [], _∷_}
+use Rattle.lists.specs.Prelude.{ℕ, zero, suc, _<_, List, [], _∷_}
 use Rattle.lexer.specs.Token.{Tok, start, end, node, prop}
 use Rattle.tables.specs.Numbers.{depthLimit}
 

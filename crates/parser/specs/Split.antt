@@ -1,9 +1,5 @@
 -- Splitting: tokens to slices, a fold over the tokens.
-use Prim.Native.Nat.{ℕ, zero, suc, max}
-use mathlib.Core.Bool.{Bool, true, false}
-use mathlib.Core.List.{List, [], _∷_, reverse}
-use lib.Dec.{ltb}
-use Rattle.lists.specs.Pick.{pick}
+use Rattle.lists.specs.Prelude.{ℕ, zero, suc, max, Bool, true, false, List, [], _∷_, reverse, ltb, pick}
 use Rattle.lexer.specs.Token.{Tok, start, end, node, prop}
 use Rattle.tables.specs.Numbers.{depthLimit}
 use Rattle.tables.specs.declared.Reason.{Reason}

@@ -1,9 +1,5 @@
 -- What the first pass over the tokens finds.
-use Prim.Native.Nat.{ℕ, suc, _+_, _≤_, _<_}
-use mathlib.Core.Path.{_≡_}
-use mathlib.Core.Bool.{Bool, true, false}
-use mathlib.Core.List.{List, [], _∷_}
-use lib.ListN.{length}
+use Rattle.lists.specs.Prelude.{ℕ, suc, _+_, _≤_, _<_, _≡_, Bool, true, false, List, [], _∷_, length}
 use Rattle.lists.specs.All.{All}
 use Rattle.lexer.specs.Token.{Tok, end, End, done, broken, Lexed, lexed, lexAt}
 use Rattle.tables.specs.Numbers.{reasonOf}

@@ -1,10 +1,5 @@
 -- The tree of a slice: a fold over its tokens.
-use Prim.Native.Nat.{ℕ, _+_}
-use mathlib.Core.Bool.{Bool, true, false, _||_, _&&_}
-use mathlib.Core.List.{List, [], _∷_, _++_}
-use lib.ListN.{length}
-use lib.Dec.{leb, eqb}
-use Rattle.lists.specs.Pick.{pick}
+use Rattle.lists.specs.Prelude.{ℕ, _+_, Bool, true, false, _||_, _&&_, List, [], _∷_, _++_, length, leb, eqb, pick}
 use Rattle.lexer.specs.Token.{Prop, Tok, start, end, node, prop}
 use Rattle.tables.specs.Record.{Node}
 use Rattle.tables.specs.declared.Reason.{Reason}

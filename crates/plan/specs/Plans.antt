@@ -1,10 +1,5 @@
 -- What is read of a text before any tree is: which slices, or that it is refused.
-use Prim.Native.Nat.{ℕ}
-use mathlib.Core.Bool.{Bool}
-use mathlib.Core.List.{List}
-use lib.Dec.{ltb}
-use lib.ListN.{length, take}
-use Rattle.lists.specs.Pick.{pick}
+use Rattle.lists.specs.Prelude.{ℕ, Bool, List, ltb, length, take, pick}
 use Rattle.utf8.specs.Trim.{trimmed}
 use Rattle.utf8.specs.declared.Trimmed.{Trimmed}
 use Rattle.utf8.specs.declared.Trimmed.the-variants.{NotUtf8, Blank, Kept}

@@ -1,10 +1,5 @@
 -- Points and areas by their letters. Assumes nothing.
-use Prim.Native.Nat.{ℕ}
-use mathlib.Core.Path.{_≡_, refl, sym, ap}
-use mathlib.Core.Bool.{true, false, _&&_}
-use mathlib.Core.List.{List, [], _∷_}
-use lib.Dec.{leb}
-use borrow.Author.Tests.{ne-eqb}
+use Rattle.lists.proofs.Prelude.{ℕ, _≡_, refl, sym, ap, true, false, _&&_, List, [], _∷_, leb, ne-eqb}
 use Rattle.points.specs.Area.{letterOf, moveTo, moveOf, cornered, areaOf}
 use Rattle.points.specs.declared.Area.the-variants.{Bad, Rect}
 use Rattle.points.specs.declared.Value.{Value}

@@ -1,11 +1,5 @@
 -- Letters and points read back, and stand for themselves. Assumes nothing.
-use Prim.Native.Nat.{ℕ, _+_, _-_, _<_}
-use mathlib.Core.Path.{_≡_, ap, _∙_}
-use mathlib.Core.List.{[], _∷_}
-use native.Mathlib.Nat.{le-refl}
-use native.Mathlib.Omega.{arith}
-use lib.Dec.{ltb}
-use borrow.Author.Tests.{le-leb, lt-leb, ltb-true, ltb-false}
+use Rattle.lists.proofs.Prelude.{ℕ, _+_, _-_, _<_, _≡_, ap, _∙_, [], _∷_, le-refl, arith, ltb, le-leb, lt-leb, ltb-true, ltb-false}
 use Rattle.lists.specs.All.{All}
 use Rattle.lists.proofs.Pick.{pick-elim}
 use Rattle.values.specs.Read.{readValue}

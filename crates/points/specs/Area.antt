@@ -1,9 +1,5 @@
 -- Letters, points and areas: what a read value stands for as a move or in a list of points.
-use Prim.Native.Nat.{ℕ, _+_, _-_}
-use mathlib.Core.Bool.{_&&_}
-use mathlib.Core.List.{List, [], _∷_}
-use lib.Dec.{leb, ltb, eqb}
-use Rattle.lists.specs.Pick.{pick}
+use Rattle.lists.specs.Prelude.{ℕ, _+_, _-_, _&&_, List, [], _∷_, leb, ltb, eqb, pick}
 use Rattle.points.specs.declared.Area.{Area}
 use Rattle.points.specs.declared.Area.the-variants.{Bad, Rect}
 use Rattle.points.specs.declared.Value.{Value}

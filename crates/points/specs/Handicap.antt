@@ -1,6 +1,5 @@
 -- Handicaps: what a number stands for.
-use lib.Dec.{leb}
-use Rattle.lists.specs.Pick.{pick}
+use Rattle.lists.specs.Prelude.{leb, pick}
 use Rattle.values.specs.declared.decimal.Number.{Number}
 use Rattle.values.specs.declared.decimal.Number.the-variants.{Bad, Plus, Minus}
 use Rattle.points.specs.declared.Value.{Value}

@@ -1,15 +1,5 @@
 -- Elements stored one by one from a place on: joined, and beyond the end. Assumes nothing.
-use Prim.Native.Nat.{ℕ, suc, _+_, _-_, _≤_, _<_, min}
-use mathlib.Core.Path.{_≡_, refl, sym, ap, _∙_}
-use mathlib.Core.Bool.{Bool, true, false}
-use mathlib.Core.List.{List, [], _∷_, _++_}
-use native.Mathlib.Nat.{add-zero, add-suc, suc-add}
-use native.Mathlib.Numerals.{add-one}
-use native.Mathlib.Omega.{arith}
-use lib.Dec.{leb}
-use lib.ListN.{length, take, drop, getD, set, take-append-drop}
-use lib.Seq.{sets, set-out, take-suc, take-all, length-take-le, length-sets}
-use borrow.Author.Tests.{leb-true, leb-false}
+use Rattle.lists.proofs.Prelude.{ℕ, suc, _+_, _-_, _≤_, _<_, min, _≡_, refl, sym, ap, _∙_, Bool, true, false, List, [], _∷_, _++_, add-zero, add-suc, suc-add, add-one, arith, leb, length, take, drop, getD, set, take-append-drop, sets, set-out, take-suc, take-all, length-take-le, length-sets, leb-true, leb-false}
 
 module _ {A : Type 0} where
   pub sets-append : (l : List A) (i : ℕ) (vs ws : List A) → sets l i (vs ++ ws) ≡ sets (sets l i vs) (i + length vs) ws

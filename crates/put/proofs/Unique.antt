@@ -1,7 +1,5 @@
 -- No second answer: what is put leaves one place and one memory. Assumes nothing.
-use mathlib.Core.Path.{_≡_, sym, _∙_}
-use mathlib.Core.List.{List}
-use Prim.Native.Nat.{ℕ}
+use Rattle.lists.proofs.Prelude.{_≡_, sym, _∙_, List, ℕ}
 use Rattle.put.specs.Wrote.{Wrote}
 
 -- of put_byte, put_bytes and values::spell::put_decimal, whatever is put: the place after it, and all of the memory

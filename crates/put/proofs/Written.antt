@@ -1,13 +1,5 @@
 -- Bytes written one after another. Assumes nothing.
-use Prim.Native.Nat.{ℕ, _+_, _-_, _^_, _≤_, _<_, min}
-use mathlib.Core.Path.{_≡_, refl, sym, ap, _∙_, subst}
-use mathlib.Core.Bool.{Bool, true, false}
-use mathlib.Core.List.{List, [], _++_}
-use native.Mathlib.Omega.{arith}
-use lib.Dec.{leb}
-use lib.ListN.{length, drop, length-append}
-use lib.Seq.{sets, sets-eq, length-sets}
-use borrow.Author.Tests.{leb-true, leb-false}
+use Rattle.lists.proofs.Prelude.{ℕ, _+_, _-_, _^_, _≤_, _<_, min, _≡_, refl, sym, ap, _∙_, subst, Bool, true, false, List, [], _++_, arith, leb, length, drop, length-append, sets, sets-eq, length-sets, leb-true, leb-false}
 use Rattle.put.specs.Wrote.{Wrote}
 use Rattle.put.proofs.Lists.{sets-append, sets-out}
 

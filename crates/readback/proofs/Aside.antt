@@ -1,7 +1,5 @@
 -- Places aside: the form of the values and the writing look at no place, and a form of the form is the form. Assumes nothing.
-use mathlib.Core.Path.{_≡_, refl, sym, ap, ap₂, _∙_}
-use Prim.Native.Nat.{ℕ}
-use mathlib.Core.List.{List, [], _∷_, map}
+use Rattle.lists.proofs.Prelude.{_≡_, refl, sym, ap, ap₂, _∙_, ℕ, List, [], _∷_, map}
 use Rattle.lexer.specs.Token.{Prop}
 use Rattle.readback.proofs.FormProps.{form-places, form-twice}
 use Rattle.readback.proofs.ReadBack.{zero-trees}

@@ -1,18 +1,8 @@
 -- A writing within the text limit is read back, or is refused with 9. Assumes nothing.
-use mathlib.Core.Path.{_≡_, refl, sym, ap, _∙_}
-use mathlib.Core.Logic.{_⊎_, inl, inr}
-use Prim.Native.Nat.{ℕ, _≤_, _<_}
-use native.Mathlib.Omega.{arith}
-use mathlib.Core.Bool.{Bool, true, false}
-use mathlib.Core.List.{List, [], map, reverse, reverseAux}
-use lib.Dec.{ltb}
-use lib.ListN.{length, length-map, length-reverseAux}
-use lib.Seq.{take-length}
-use borrow.Author.Tests.{le-ltb, ltb-true, ltb-false}
+use Rattle.lists.proofs.Prelude.{_≡_, refl, sym, ap, _∙_, _⊎_, inl, inr, ℕ, _≤_, _<_, arith, Bool, true, false, List, [], map, reverse, reverseAux, ltb, length, length-map, length-reverseAux, take-length, le-ltb, ltb-true, ltb-false, pick}
 use Rattle.fresh.proofs.Reread.{in-textLimit}
 use Rattle.fresh.specs.Run.{strictly}
 use Rattle.lexer.specs.Token.{End, Lexed, Tok, lexFrom}
-use Rattle.lists.specs.Pick.{pick}
 use Rattle.lists.proofs.Tests.{never}
 use Rattle.parser.proofs.Moved.{move-tokens, moveAnswer}
 use Rattle.parser.specs.Read.{Answer, accepted, decoded, lexing, planted, read, refused}

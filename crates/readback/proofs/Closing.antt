@@ -1,14 +1,8 @@
 -- Slices: the depth falls to 0 at the last token, and not before. Assumes nothing.
-use mathlib.Core.Path.{_≡_, refl, sym, subst}
-use mathlib.Core.Logic.{_⊎_, inl, inr}
-use Prim.Native.Nat.{ℕ, zero, suc}
-use mathlib.Core.Bool.{Bool, true, false}
-use mathlib.Core.List.{List, [], _∷_, reverse, reverseAux}
-use lib.Dec.{ltb}
+use Rattle.lists.proofs.Prelude.{_≡_, refl, sym, subst, _⊎_, inl, inr, ℕ, zero, suc, Bool, true, false, List, [], _∷_, reverse, reverseAux, ltb, pick}
 use Rattle.lexer.specs.Token.{Tok, end, node, prop, start}
 use Rattle.lists.proofs.All.{all-reverse}
 use Rattle.lists.specs.All.{All}
-use Rattle.lists.specs.Pick.{pick}
 use Rattle.parser.specs.Split.{Slices, Splitting, filled, no, over, sliced, slices, split, splits, splitting, wrong}
 use Rattle.tables.specs.Numbers.{depthLimit}
 use Rattle.tables.specs.declared.Reason.the-variants.{TooDeep}

@@ -1,11 +1,5 @@
 -- One property in its normal form: still plain and valid, the game type as it was, places ignored, twice is once. Assumes nothing.
-use Prim.Native.Nat.{ℕ, suc, _<_}
-use mathlib.Core.Path.{_≡_, refl, sym, ap, _∙_, subst}
-use native.Mathlib.Omega.{arith}
-use mathlib.Core.Bool.{Bool, true, false}
-use mathlib.Core.List.{List, [], _∷_, map}
-use lib.ListN.{length-map}
-use borrow.Author.Tests.{ne-eqb, le-leb}
+use Rattle.lists.proofs.Prelude.{ℕ, suc, _<_, _≡_, refl, sym, ap, _∙_, subst, arith, Bool, true, false, List, [], _∷_, map, length-map, ne-eqb, le-leb, pick}
 use Rattle.fit.proofs.RootRows.{same-equal}
 use Rattle.go.proofs.Keeps.{normal-all, normal-some}
 use Rattle.go.proofs.ReadBack.{normal-game, normal-twice}
@@ -14,7 +8,6 @@ use Rattle.lexer.specs.Closed.{closedFrom}
 use Rattle.lexer.specs.Move.{moveVal}
 use Rattle.lexer.specs.Token.{Prop, Val}
 use Rattle.lists.specs.All.{All}
-use Rattle.lists.specs.Pick.{pick}
 use Rattle.lists.specs.Same.{same}
 use Rattle.parser.specs.Kind.{GM, kindProps, kindVals, named}
 use Rattle.readback.proofs.Inked.{ValidProp}

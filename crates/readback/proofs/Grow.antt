@@ -1,12 +1,5 @@
 -- Reading back, the nodes of a tree after its root. Assumes nothing.
-use mathlib.Core.Path.{_≡_, refl, sym, ap, _∙_}
-use Prim.Native.Nat.{ℕ, suc, _+_, _≤_}
-use native.Mathlib.Omega.{arith}
-use mathlib.Core.Bool.{Bool, true}
-use mathlib.Core.List.{List, [], _∷_, _++_, map, reverseAux}
-use lib.Dec.{eqb}
-use lib.ListN.{length}
-use borrow.Author.Tests.{eq-eqb}
+use Rattle.lists.proofs.Prelude.{_≡_, refl, sym, ap, _∙_, ℕ, suc, _+_, _≤_, arith, Bool, true, List, [], _∷_, _++_, map, reverseAux, eqb, length, eq-eqb}
 use Rattle.fresh.specs.Run.{strictly}
 use Rattle.lexer.specs.Token.{Prop, Tok, node}
 use Rattle.lists.specs.All.{All}

@@ -1,16 +1,8 @@
 -- Reading back, one node: the writer's path of open nodes is the reader's stack. Assumes nothing.
-use mathlib.Core.Path.{_≡_, refl, ap, _∙_, subst}
-use mathlib.Core.Logic.{_⊎_, inl, inr}
-use Prim.Native.Nat.{ℕ, suc, _+_, _≤_, _<_}
-use native.Mathlib.Omega.{arith}
-use mathlib.Core.Bool.{Bool, true, false, _||_, false≢true}
-use mathlib.Core.List.{List, [], _∷_, _++_, map, reverseAux, append-assoc, append-nil}
-use lib.Dec.{eqb}
-use borrow.Author.Tests.{le-leb, eq-eqb, ne-eqb}
+use Rattle.lists.proofs.Prelude.{_≡_, refl, ap, _∙_, subst, _⊎_, inl, inr, ℕ, suc, _+_, _≤_, _<_, arith, Bool, true, false, _||_, false≢true, List, [], _∷_, _++_, map, reverseAux, append-assoc, append-nil, eqb, le-leb, eq-eqb, ne-eqb, pick}
 use Rattle.fresh.specs.Run.{strictly}
 use Rattle.lexer.specs.Token.{Prop, Tok, prop, start}
 use Rattle.lists.specs.All.{All}
-use Rattle.lists.specs.Pick.{pick}
 use Rattle.parser.specs.Walk.{Gate, Opts, Walk, children, opens, shut, takes, walk, walked, walks}
 use Rattle.readback.proofs.WrittenProps.{Plain}
 use Rattle.readback.proofs.Written.{tokEnds, tokOpened, tokProps, tokShuts}

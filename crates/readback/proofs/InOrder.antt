@@ -1,13 +1,5 @@
 -- From the nodes, last first, to the nodes in order, as the writer asks it. Assumes nothing.
-use mathlib.Core.Path.{_≡_, refl, sym, ap, _∙_, subst}
-use mathlib.Core.Logic.{inl, inr}
-use Prim.Native.Nat.{ℕ, suc, _+_, _<_}
-use native.Mathlib.Omega.{arith}
-use mathlib.Core.Bool.{Bool, true, false}
-use mathlib.Core.List.{List, [], _∷_, reverseAux}
-use lib.Dec.{eqb}
-use lib.ListN.{length}
-use Rattle.lists.specs.Pick.{pick}
+use Rattle.lists.proofs.Prelude.{_≡_, refl, sym, ap, _∙_, subst, inl, inr, ℕ, suc, _+_, _<_, arith, Bool, true, false, List, [], _∷_, reverseAux, eqb, length, pick}
 use Rattle.readback.proofs.Grow.{Good, opening}
 use Rattle.readback.proofs.GrowNode.{On}
 use Rattle.serialize.specs.Write.{Open, left}

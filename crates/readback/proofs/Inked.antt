@@ -1,16 +1,8 @@
 -- The writing is valid UTF-8, and trimming takes nothing away. Assumes nothing.
-use mathlib.Core.Path.{_≡_, refl, sym, ap, _∙_, subst}
-use Prim.Native.Nat.{ℕ, suc, _<_}
-use native.Mathlib.Omega.{arith}
-use mathlib.Core.Bool.{Bool, true, false}
-use mathlib.Core.List.{List, [], _∷_, _++_, append-assoc, append-nil}
-use lib.Dec.{leb, eqb}
-use lib.ListN.{length, length-append}
-use borrow.Author.Tests.{le-leb}
+use Rattle.lists.proofs.Prelude.{_≡_, refl, sym, ap, _∙_, subst, ℕ, suc, _<_, arith, Bool, true, false, List, [], _∷_, _++_, append-assoc, append-nil, leb, eqb, length, length-append, le-leb, pick}
 use Rattle.lexer.specs.Token.{Prop, Val}
 use Rattle.lists.proofs.Tests.{and-both}
 use Rattle.lists.specs.All.{All}
-use Rattle.lists.specs.Pick.{pick}
 use Rattle.parser.specs.Walk.{uppers}
 use Rattle.chars.proofs.Tests.{within-true}
 use Rattle.readback.proofs.WrittenProps.{Plain, letters-same}

@@ -1,9 +1,5 @@
 -- What trees that are the normal form of others, places aside, have in common with them. Assumes nothing.
-use Prim.Native.Nat.{ℕ, suc, _+_}
-use mathlib.Core.Path.{_≡_, refl, sym, ap, ap₂, _∙_}
-use mathlib.Core.Bool.{false, false≢true}
-use mathlib.Core.List.{List, [], _∷_, _++_, map, map-map, head-eq-of-cons-eq, tail-eq-of-cons-eq}
-use lib.ListN.{length}
+use Rattle.lists.proofs.Prelude.{ℕ, suc, _+_, _≡_, refl, sym, ap, ap₂, _∙_, false, false≢true, List, [], _∷_, _++_, map, map-map, head-eq-of-cons-eq, tail-eq-of-cons-eq, length}
 use Rattle.lists.proofs.Tests.{never}
 use Rattle.go.proofs.ReadBack.{normal-value}
 use Rattle.go.specs.Normal.{normal, written}

@@ -1,16 +1,7 @@
 -- The walk over a slice that begins with `(`: the stack holds open nodes, from the current one down. Assumes nothing.
-use mathlib.Core.Path.{_≡_, refl, sym, subst}
-use mathlib.Core.Logic.{_⊎_, inl, inr}
-use Prim.Native.Nat.{ℕ, zero, suc, _+_, _≤_, _<_}
-use native.Mathlib.Omega.{arith}
-use mathlib.Core.Bool.{Bool, true, false, _||_}
-use mathlib.Core.List.{List, [], _∷_}
-use lib.Dec.{eqb}
-use lib.ListN.{length}
-use borrow.Author.Tests.{eq-eqb, ne-eqb}
+use Rattle.lists.proofs.Prelude.{_≡_, refl, sym, subst, _⊎_, inl, inr, ℕ, zero, suc, _+_, _≤_, _<_, arith, Bool, true, false, _||_, List, [], _∷_, eqb, length, eq-eqb, ne-eqb, pick}
 use Rattle.fresh.specs.Run.{strictly}
 use Rattle.lexer.specs.Token.{Prop, Tok, end, node, prop, start}
-use Rattle.lists.specs.Pick.{pick}
 use Rattle.parser.specs.Walk.{Gate, Walk, adds, children, closes, gated, halted, opens, shut, skips, stopped, takes, uppers, walk, walked}
 use Rattle.tables.specs.Numbers.{none}
 use Rattle.tables.specs.Record.{Node}

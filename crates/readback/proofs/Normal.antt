@@ -1,8 +1,5 @@
 -- Trees that can be written and read back can be so with their values in normal form. Assumes nothing.
-use mathlib.Core.Path.{_≡_, refl, sym, ap, _∙_, subst}
-use Prim.Native.Nat.{ℕ, suc, _+_, _≤_, _<_}
-use mathlib.Core.List.{List, [], _∷_, map}
-use lib.ListN.{length, length-map}
+use Rattle.lists.proofs.Prelude.{_≡_, refl, sym, ap, _∙_, subst, ℕ, suc, _+_, _≤_, _<_, List, [], _∷_, map, length, length-map}
 use Rattle.lexer.specs.Token.{Prop}
 use Rattle.lists.specs.All.{All}
 use Rattle.readback.proofs.FormProps.{form-plain, form-valid, form-kinds}

@@ -1,11 +1,5 @@
 -- A tree whose first byte is `(` begins with that token: no other token stands at such a byte. Assumes nothing.
-use mathlib.Core.Path.{_≡_, refl, sym, _∙_}
-use Prim.Native.Nat.{ℕ, suc}
-use mathlib.Core.Bool.{Bool, true, false}
-use mathlib.Core.List.{List, [], _∷_, _++_}
-use lib.Dec.{leb, eqb}
-use lib.ListN.{getD, take, drop}
-use borrow.Author.Tests.{eqb-false}
+use Rattle.lists.proofs.Prelude.{_≡_, refl, sym, _∙_, ℕ, suc, Bool, true, false, List, [], _∷_, _++_, leb, eqb, getD, take, drop, eqb-false}
 use Rattle.lexer.specs.Token.{Out, Prop, St, Tok, Val, after, afters, begins, between, emits, end, ends, fault, finish, ident, node, prop, start, starts, step, value, values}
 use Rattle.scan.specs.Scan.{space}
 use Rattle.lists.proofs.Places.{at-place, part-begins}

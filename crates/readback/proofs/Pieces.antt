@@ -1,7 +1,5 @@
 -- Reading back, the tokens: bytes that read as tokens wherever they stand between tokens. Assumes nothing.
-use mathlib.Core.Path.{_≡_, refl, sym, ap, _∙_}
-use Prim.Native.Nat.{ℕ}
-use mathlib.Core.List.{List, [], _∷_, _++_, map, append-assoc, append-nil, map-append}
+use Rattle.lists.proofs.Prelude.{_≡_, refl, sym, ap, _∙_, ℕ, List, [], _∷_, _++_, map, append-assoc, append-nil, map-append}
 use Rattle.tokens.proofs.Machine.{emits-append, ends-append}
 use Rattle.lexer.specs.Token.{St, Tok, after, between, emits, end, ends, fault, ident, node, prop, start, value}
 use Rattle.scan.specs.Scan.{space}

@@ -1,12 +1,5 @@
 -- Strict reading of a writing gives the same trees, places aside; the writer sees no places. Assumes nothing.
-use mathlib.Core.Path.{_≡_, refl, sym, ap, ap₂, _∙_}
-use Prim.Native.Nat.{ℕ, suc, _≤_, _<_}
-use mathlib.Core.Bool.{Bool, false}
-use mathlib.Core.List.{List, [], _∷_, _++_, map}
-use lib.Dec.{ltb}
-use lib.ListN.{length}
-use lib.Seq.{take-length}
-use borrow.Author.Tests.{le-ltb}
+use Rattle.lists.proofs.Prelude.{_≡_, refl, sym, ap, ap₂, _∙_, ℕ, suc, _≤_, _<_, Bool, false, List, [], _∷_, _++_, map, ltb, length, take-length, le-ltb}
 use Rattle.fresh.proofs.Reread.{in-textLimit}
 use Rattle.fresh.specs.Run.{strictly}
 use Rattle.tokens.proofs.Invariant.{OfTok}

@@ -1,15 +1,8 @@
 -- Reading back, the trees: the tokens of a tree grow that tree. Assumes nothing.
-use mathlib.Core.Path.{_≡_, refl, sym, ap, ap₂, _∙_, subst}
-use Prim.Native.Nat.{ℕ, suc, _+_, _≤_, _<_}
-use native.Mathlib.Omega.{arith}
-use mathlib.Core.Bool.{Bool, true, false}
-use mathlib.Core.List.{List, [], _∷_, _++_, map, reverse, reverseAux, append-assoc, append-nil}
-use lib.Dec.{eqb}
-use lib.ListN.{length, length-map, length-reverseAux}
+use Rattle.lists.proofs.Prelude.{_≡_, refl, sym, ap, ap₂, _∙_, subst, ℕ, suc, _+_, _≤_, _<_, arith, Bool, true, false, List, [], _∷_, _++_, map, reverse, reverseAux, append-assoc, append-nil, eqb, length, length-map, length-reverseAux, pick}
 use Rattle.fresh.specs.Run.{strictly}
 use Rattle.lexer.specs.Token.{Prop, Tok, Val, end, node, start}
 use Rattle.lists.specs.All.{All}
-use Rattle.lists.specs.Pick.{pick}
 use Rattle.parser.proofs.MovedKind.{move-kindProps, move-named}
 use Rattle.parser.specs.Kind.{GM, Kind, is, kind, kindProps, named, props}
 use Rattle.parser.specs.Read.{Growing, growAll, growing, grown, grows, kinded, rooted}

@@ -1,16 +1,8 @@
 -- Reading back, splitting: the tokens of trees are split into these trees, and grow them. Assumes nothing.
-use mathlib.Core.Path.{_≡_, refl, sym, ap, _∙_}
-use Prim.Native.Nat.{ℕ, suc, _+_, _≤_, _<_, max}
-use native.Mathlib.Omega.{arith}
-use mathlib.Core.Bool.{Bool, true, false}
-use mathlib.Core.List.{List, [], _∷_, _++_, map, reverse, reverseAux, append-nil}
-use lib.Dec.{ltb, eqb}
-use lib.ListN.{length, length-map, length-reverseAux}
-use borrow.Author.Tests.{le-ltb, ne-eqb}
+use Rattle.lists.proofs.Prelude.{_≡_, refl, sym, ap, _∙_, ℕ, suc, _+_, _≤_, _<_, max, arith, Bool, true, false, List, [], _∷_, _++_, map, reverse, reverseAux, append-nil, ltb, eqb, length, length-map, length-reverseAux, le-ltb, ne-eqb, pick}
 use Rattle.fresh.specs.Run.{strictly}
 use Rattle.lexer.specs.Token.{Prop, Tok, end, node, prop, start}
 use Rattle.lists.specs.All.{All}
-use Rattle.lists.specs.Pick.{pick}
 use Rattle.parser.specs.Read.{accepted, answer, growAll, growing, planted}
 use Rattle.parser.specs.Split.{Splitting, deep, filled, no, over, sliced, slices, split, splits, splitting, wrong}
 use Rattle.readback.proofs.Grow.{opening}

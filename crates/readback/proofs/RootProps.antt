@@ -1,12 +1,7 @@
 -- The root's properties are the properties that follow the first two tokens of a slice. Assumes nothing.
-use mathlib.Core.Path.{_≡_, refl, sym, ap, _∙_, subst}
-use Prim.Native.Nat.{ℕ, _+_}
-use mathlib.Core.Bool.{Bool, true, false, _||_}
-use mathlib.Core.List.{List, [], _∷_, _++_, append-assoc, append-nil}
-use lib.ListN.{length, drop}
+use Rattle.lists.proofs.Prelude.{_≡_, refl, sym, ap, _∙_, subst, ℕ, _+_, Bool, true, false, _||_, List, [], _∷_, _++_, append-assoc, append-nil, length, drop, pick}
 use Rattle.fresh.specs.Run.{strictly}
 use Rattle.lexer.specs.Token.{Prop, Tok, end, node, prop, start}
-use Rattle.lists.specs.Pick.{pick}
 use Rattle.parser.specs.Kind.{props}
 use Rattle.parser.specs.Walk.{Gate, Walk, adds, children, halted, shut, skips, stopped, takes, uppers, walk, walked}
 use Rattle.readback.proofs.Closing.{Closes}

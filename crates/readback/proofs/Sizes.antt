@@ -1,15 +1,8 @@
 -- How many tokens, slices' tokens and nodes a text can have. Assumes nothing.
-use mathlib.Core.Path.{_≡_}
-use Prim.Native.Nat.{ℕ, zero, suc, _+_, _≤_}
-use native.Mathlib.Omega.{arith}
-use mathlib.Core.Bool.{Bool, true, false, _||_}
-use mathlib.Core.List.{List, [], _∷_, reverse, reverseAux}
-use lib.Dec.{ltb, eqb}
-use lib.ListN.{length, length-append, length-reverse}
+use Rattle.lists.proofs.Prelude.{_≡_, ℕ, zero, suc, _+_, _≤_, arith, Bool, true, false, _||_, List, [], _∷_, reverse, reverseAux, ltb, eqb, length, length-append, length-reverse, pick}
 use Rattle.fresh.specs.Run.{strictly}
 use Rattle.lexer.specs.Token.{Out, Prop, St, Tok, after, afters, begins, between, emits, end, ends, fault, finish, ident, lexFrom, node, prop, start, step, value}
 use Rattle.scan.specs.Scan.{space}
-use Rattle.lists.specs.Pick.{pick}
 use Rattle.parser.specs.Split.{Slices, Splitting, ended, filled, no, over, sliced, slices, split, splits, splitting, wrong}
 use Rattle.parser.specs.Walk.{Gate, Walk, adds, children, closes, gated, halted, opens, shut, skips, stopped, takes, uppers, walk, walked, walks}
 use Rattle.tables.specs.Numbers.{depthLimit}

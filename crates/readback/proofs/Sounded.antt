@@ -1,12 +1,5 @@
 -- Reading back: a slice that begins with `(` and that strict reading accepts gives a tree as the writer asks it. Assumes nothing.
-use mathlib.Core.Path.{_≡_, refl, sym, ap, ap₂, _∙_, subst}
-use Prim.Native.Nat.{ℕ, zero, suc, _+_, _≤_}
-use native.Mathlib.Omega.{arith}
-use native.Mathlib.Nat.{zero-add}
-use mathlib.Core.Bool.{Bool, false}
-use mathlib.Core.List.{List, [], _∷_, reverse, reverseAux, append-nil}
-use lib.ListN.{length, length-reverse, drop}
-use borrow.Author.Tests.{lt-leb, ne-eqb}
+use Rattle.lists.proofs.Prelude.{_≡_, refl, sym, ap, ap₂, _∙_, subst, ℕ, zero, suc, _+_, _≤_, arith, zero-add, Bool, false, List, [], _∷_, reverse, reverseAux, append-nil, length, length-reverse, drop, lt-leb, ne-eqb}
 use Rattle.fresh.specs.Run.{strictly}
 use Rattle.lexer.specs.Token.{Prop, Tok, end, node, prop, start}
 use Rattle.lists.specs.All.{All}

@@ -1,19 +1,11 @@
 -- Reading back: what strict reading accepts can be written and read back. Assumes nothing.
-use mathlib.Core.Path.{_≡_, refl, sym, ap, _∙_, subst}
-use Prim.Native.Nat.{ℕ, zero, suc, _+_, _≤_, _<_}
-use native.Mathlib.Omega.{arith}
-use mathlib.Core.Bool.{Bool, true, false}
-use mathlib.Core.List.{List, [], _∷_, reverse}
-use lib.Dec.{ltb}
-use lib.ListN.{length, length-reverse, length-drop, length-take, take, drop}
-use borrow.Author.Tests.{ltb-false}
+use Rattle.lists.proofs.Prelude.{_≡_, refl, sym, ap, _∙_, subst, ℕ, zero, suc, _+_, _≤_, _<_, arith, Bool, true, false, List, [], _∷_, reverse, ltb, length, length-reverse, length-drop, length-take, take, drop, ltb-false, pick}
 use Rattle.fresh.proofs.Accepted.{Accepted, accepted-is}
 use Rattle.fresh.specs.Run.{strictly}
 use Rattle.tokens.proofs.Proper.{HasProper, Proper, proper-tokens}
 use Rattle.lexer.specs.Token.{Prop, Tok, Val, lexFrom}
 use Rattle.lists.proofs.All.{all-map}
 use Rattle.lists.specs.All.{All}
-use Rattle.lists.specs.Pick.{pick}
 use Rattle.parser.proofs.Lift.{OfAnswer, OfNode, OfTree, of-tokens}
 use Rattle.parser.specs.Read.{Answer, Growing, accepted, answer, decoded, failing, growAll, growing, planted, read, refused}
 use Rattle.parser.specs.Split.{Slices, Splitting, filled, no, over, sliced, slices, split, splitting, wrong}

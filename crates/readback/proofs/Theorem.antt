@@ -1,10 +1,5 @@
 -- Document 01's "Reading back". Assumes nothing.
-use mathlib.Core.Path.{_≡_, _∙_}
-use mathlib.Core.Logic.{_⊎_, inl, inr}
-use Prim.Native.Nat.{ℕ, _≤_}
-use mathlib.Core.Bool.{Bool}
-use mathlib.Core.List.{List, [], _∷_, map}
-use lib.ListN.{length}
+use Rattle.lists.proofs.Prelude.{_≡_, _∙_, _⊎_, inl, inr, ℕ, _≤_, Bool, List, [], _∷_, map, length}
 use Rattle.fresh.specs.Run.{strictly}
 use Rattle.lists.proofs.All.{all-left, all-right}
 use Rattle.lists.specs.All.{All}

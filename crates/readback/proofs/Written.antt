@@ -1,12 +1,7 @@
 -- Reading back, the tokens: what the lexer makes of the writing, places aside. Assumes nothing.
-use mathlib.Core.Path.{_≡_, refl, ap, _∙_, subst}
-use Prim.Native.Nat.{ℕ, suc}
-use mathlib.Core.Bool.{Bool, true, false}
-use mathlib.Core.List.{List, [], _∷_, _++_, map, append-assoc, map-append}
-use lib.Dec.{eqb}
+use Rattle.lists.proofs.Prelude.{_≡_, refl, ap, _∙_, subst, ℕ, suc, Bool, true, false, List, [], _∷_, _++_, map, append-assoc, map-append, eqb, pick}
 use Rattle.lexer.specs.Token.{Prop, St, Tok, after, between, done, emits, end, ends, fault, finish, ident, lexFrom, node, prop, start, value}
 use Rattle.lists.specs.All.{All}
-use Rattle.lists.specs.Pick.{pick}
 use Rattle.serialize.specs.Write.{Open, boxed, bracketed, left, opened, writeNodes, writeProps, writeTree, writeTrees}
 use Rattle.tables.specs.Numbers.{none}
 use Rattle.tables.specs.Record.{Node, Tree}

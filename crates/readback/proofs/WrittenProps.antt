@@ -1,12 +1,5 @@
 -- Reading back, the tokens: a written property is read as it is, places aside. Assumes nothing.
-use mathlib.Core.Path.{_≡_, refl, sym, ap, ap₂, _∙_, subst}
-use Prim.Native.Nat.{ℕ, suc, _<_}
-use native.Mathlib.Omega.{arith}
-use mathlib.Core.Bool.{true, false, false≢true}
-use mathlib.Core.List.{List, [], _∷_, _++_, map, append-assoc, append-nil, map-append}
-use lib.Dec.{leb, eqb}
-use lib.ListN.{length}
-use borrow.Author.Tests.{lt-leb, ne-eqb}
+use Rattle.lists.proofs.Prelude.{_≡_, refl, sym, ap, ap₂, _∙_, subst, ℕ, suc, _<_, arith, true, false, false≢true, List, [], _∷_, _++_, map, append-assoc, append-nil, map-append, leb, eqb, length, lt-leb, ne-eqb}
 use Rattle.chars.proofs.Tests.{within-true}
 use Rattle.tokens.proofs.Machine.{emits-append, ends-append, grown, over-value}
 use Rattle.lexer.specs.Closed.{closedFrom}

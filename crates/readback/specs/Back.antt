@@ -1,9 +1,5 @@
 -- Reading back: what is asked of a text and its trees; and trees places aside.
-use Prim.Native.Nat.{ℕ}
-use mathlib.Core.Path.{_≡_}
-use mathlib.Core.Bool.{Bool, true, false}
-use mathlib.Core.List.{List, [], _∷_}
-use lib.ListN.{getD}
+use Rattle.lists.specs.Prelude.{ℕ, _≡_, Bool, true, false, List, [], _∷_, getD}
 use Rattle.lists.specs.All.{All}
 use Rattle.utf8.specs.Text.{Utf, whole, part, bad, blank, utfs}
 use Rattle.lexer.specs.Token.{Prop, Tok, start, end, node, prop}

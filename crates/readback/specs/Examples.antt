@@ -1,9 +1,6 @@
 -- Document 01's examples P1 to P10: one table, one statement.
-use mathlib.Core.Path.{_≡_, refl}
-use Prim.Native.Nat.{ℕ}
+use Rattle.lists.specs.Prelude.{_≡_, refl, ℕ, true, List, [], _∷_}
 use Prim.Native.String.{String}
-use mathlib.Core.Bool.{true}
-use mathlib.Core.List.{List, [], _∷_}
 use Rattle.chars.specs.White.{white}
 use Rattle.scan.specs.Scan.{space}
 use Rattle.values.specs.Read.{readFrom, readIdentifier}

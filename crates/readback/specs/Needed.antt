@@ -1,8 +1,6 @@
 -- Rows of texts that show why reading back asks what it asks, and of what is written: one table each, one statement each.
-use mathlib.Core.Path.{_≡_, refl}
-use Prim.Native.Nat.{ℕ}
+use Rattle.lists.specs.Prelude.{_≡_, refl, ℕ, List, [], _∷_, map}
 use Prim.Native.String.{String}
-use mathlib.Core.List.{List, [], _∷_, map}
 use Rattle.chars.specs.White.{white}
 use Rattle.scan.specs.Scan.{space}
 use Rattle.values.specs.Read.{readFrom, readIdentifier}

@@ -1,8 +1,5 @@
 -- What reading back keeps: parents, roots, game types, identifiers, Go values and other raw values.
-use Prim.Native.Nat.{ℕ}
-use mathlib.Core.Path.{_≡_}
-use mathlib.Core.Bool.{Bool, true, false}
-use mathlib.Core.List.{List, [], _∷_}
+use Rattle.lists.specs.Prelude.{ℕ, _≡_, Bool, true, false, List, [], _∷_}
 use Rattle.record.specs.Ask.{goOf}
 use Rattle.lexer.specs.Token.{Prop}
 use Rattle.values.specs.Read.{readIdentifier}

@@ -1,8 +1,5 @@
 -- A slice by its game type, as the option takes it. Assumes nothing.
-use Prim.Native.Nat.{ℕ}
-use mathlib.Core.Path.{_≡_, refl, sym, ap, _∙_}
-use mathlib.Core.Bool.{Bool, true, false}
-use mathlib.Core.List.{List, [], _∷_}
+use Rattle.lists.proofs.Prelude.{ℕ, _≡_, refl, sym, ap, _∙_, Bool, true, false, List, [], _∷_}
 use Rattle.lists.proofs.Tests.{never}
 use Rattle.lexer.specs.Token.{Tok}
 use Rattle.tables.specs.Numbers.{none}

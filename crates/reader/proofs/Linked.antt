@@ -1,15 +1,5 @@
 -- The node table with its links is the definition's rows. Assumes nothing.
-use Prim.Native.Nat.{ℕ, suc, _+_, _-_, _*_, _≤_, _<_}
-use mathlib.Core.Path.{_≡_, sym, ap, _∙_}
-use mathlib.Core.Bool.{Bool}
-use mathlib.Core.Logic.{inl, inr}
-use mathlib.Core.List.{List, [], _∷_, _++_}
-use native.Mathlib.Omega.{arith}
-use lib.Dec.{eqb}
-use borrow.Author.Tests.{eq-eqb, ne-eqb, lt-ltb, le-ltb}
-use lib.ListN.{length, drop, getD, length-drop}
-use lib.Seq.{getD-drop, ext-getD}
-use Rattle.lists.specs.Pick.{pick}
+use Rattle.lists.proofs.Prelude.{ℕ, suc, _+_, _-_, _*_, _≤_, _<_, _≡_, sym, ap, _∙_, Bool, inl, inr, List, [], _∷_, _++_, arith, eqb, eq-eqb, ne-eqb, lt-ltb, le-ltb, length, drop, getD, length-drop, getD-drop, ext-getD, pick}
 use Rattle.lists.specs.All.{All}
 use Rattle.tables.specs.Numbers.{none}
 use Rattle.tables.specs.Record.{Node}

@@ -1,14 +1,5 @@
 -- The first of the nodes with a parent, as the tables are searched and as the definition says; and rows of five without links. Assumes nothing.
-use Prim.Native.Nat.{ℕ, zero, suc, _+_, _*_, _≤_, _<_}
-use mathlib.Core.Path.{_≡_, refl, sym, ap, _∙_}
-use mathlib.Core.Bool.{Bool, _&&_, and-true, and-false}
-use mathlib.Core.List.{List, [], _∷_, _++_}
-use native.Mathlib.Omega.{arith}
-use lib.Dec.{eqb, leb}
-use borrow.Author.Tests.{le-leb, lt-leb}
-use lib.ListN.{length, drop, getD}
-use lib.Seq.{drop-cons, drop-drop, getD-drop}
-use Rattle.lists.specs.Pick.{pick}
+use Rattle.lists.proofs.Prelude.{ℕ, zero, suc, _+_, _*_, _≤_, _<_, _≡_, refl, sym, ap, _∙_, Bool, _&&_, and-true, and-false, List, [], _∷_, _++_, arith, eqb, leb, le-leb, lt-leb, length, drop, getD, drop-cons, drop-drop, getD-drop, pick}
 use Rattle.lists.proofs.Places.{drop-next}
 use Rattle.lists.proofs.Tests.{eqb-sym}
 use Rattle.tables.specs.Numbers.{none}

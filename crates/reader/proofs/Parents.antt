@@ -1,11 +1,5 @@
 -- The parent of each node that is read is none or a node: a fact of the definition, strict and lenient. Assumes nothing.
-use Prim.Native.Nat.{ℕ, suc, _+_, _≤_, _<_}
-use mathlib.Core.Path.{_≡_, refl, subst}
-use mathlib.Core.Bool.{Bool, true, false, _||_}
-use mathlib.Core.Logic.{_⊎_, inl, inr}
-use mathlib.Core.List.{List, [], _∷_, reverse, reverse-reverse}
-use native.Mathlib.Omega.{arith}
-use lib.ListN.{length}
+use Rattle.lists.proofs.Prelude.{ℕ, suc, _+_, _≤_, _<_, _≡_, refl, subst, Bool, true, false, _||_, _⊎_, inl, inr, List, [], _∷_, reverse, reverse-reverse, arith, length}
 use Rattle.lists.specs.All.{All}
 use Rattle.lists.proofs.All.{all-append, all-map, all-reverse}
 use Rattle.lists.proofs.Pick.{pick-elim}

@@ -1,10 +1,5 @@
 -- The trees of the slices, one slice at a time. Assumes nothing.
-use Prim.Native.Nat.{ℕ, suc, _+_, _-_, _*_, _≤_, _<_}
-use mathlib.Core.Path.{_≡_, refl, sym, ap, _∙_, subst, subst⁻¹}
-use mathlib.Core.Bool.{Bool}
-use mathlib.Core.List.{List, [], _∷_, _++_, append-assoc, append-nil, reverse, reverse-cons, reverse-reverse}
-use native.Mathlib.Omega.{arith}
-use lib.ListN.{length, length-reverse}
+use Rattle.lists.proofs.Prelude.{ℕ, suc, _+_, _-_, _*_, _≤_, _<_, _≡_, refl, sym, ap, _∙_, subst, subst⁻¹, Bool, List, [], _∷_, _++_, append-assoc, append-nil, reverse, reverse-cons, reverse-reverse, arith, length, length-reverse}
 use Rattle.lists.specs.All.{All}
 use Rattle.lists.specs.Put.{PutIs}
 use Rattle.lists.proofs.Put.{put-none, put-more}

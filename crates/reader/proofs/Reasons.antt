@@ -1,15 +1,9 @@
 -- Which reasons a reading can give, by its options: a fact of the definition. Assumes nothing.
-use Prim.Native.Nat.{ℕ, zero, suc, _-_, _^_}
-use mathlib.Core.Path.{_≡_, refl, subst}
-use mathlib.Core.Bool.{Bool, true, false, _||_}
-use mathlib.Core.List.{List, [], _∷_}
-use lib.ListN.{length, drop}
-use lib.Dec.{ltb}
+use Rattle.lists.proofs.Prelude.{ℕ, zero, suc, _-_, _^_, _≡_, refl, subst, Bool, true, false, _||_, List, [], _∷_, length, drop, ltb, pick}
 use Rattle.lists.proofs.Pick.{pick-elim}
 use Rattle.utf8.specs.Text.{Utf, whole, part, bad, blank, utfs}
 use Rattle.values.specs.Read.{readValue}
 use Rattle.values.specs.Decimal.{decimalOf}
-use Rattle.lists.specs.Pick.{pick}
 use Rattle.lists.specs.Same.{same}
 use Rattle.lexer.specs.Token.{Val, Prop, Tok, start, end, node, prop, End, done, broken}
 use Rattle.lexer.specs.declared.Fault.{Fault}

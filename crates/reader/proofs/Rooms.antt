@@ -1,12 +1,5 @@
 -- How many rows there are, and what the room test says. Assumes nothing.
-use Prim.Native.Nat.{suc, _*_, _/_, _≤_}
-use mathlib.Core.Path.{_≡_, refl, ap}
-use mathlib.Core.Bool.{true, _&&_}
-use mathlib.Core.List.{List, [], _∷_}
-use native.Mathlib.Omega.{arith}
-use lib.ListN.{length}
-use lib.Dec.{leb}
-use borrow.Author.Tests.{leb-true}
+use Rattle.lists.proofs.Prelude.{suc, _*_, _/_, _≤_, _≡_, refl, ap, true, _&&_, List, [], _∷_, arith, length, leb, leb-true}
 use Rattle.tables.specs.Record.{Tree}
 use Rattle.tables.specs.Rows.{treeRows, NodeRow}
 use Rattle.tables.specs.Flat.{flatNodes}

@@ -1,14 +1,5 @@
 -- From the whole text to its tokens: the limit, UTF-8, trimming. Assumes nothing.
-use Prim.Native.Nat.{ℕ, _≤_, _<_}
-use mathlib.Core.Path.{_≡_, refl, sym, ap, _∙_, subst}
-use mathlib.Core.Bool.{Bool, true, false}
-use mathlib.Core.List.{List, []}
-use native.Mathlib.Omega.{arith}
-use lib.Dec.{ltb}
-use lib.ListN.{length, take, drop}
-use lib.Seq.{length-take-le, take-take}
-use borrow.Author.Tests.{lt-ltb, le-ltb, ltb-true, ltb-false}
-use Rattle.lists.specs.Pick.{pick}
+use Rattle.lists.proofs.Prelude.{ℕ, _≤_, _<_, _≡_, refl, sym, ap, _∙_, subst, Bool, true, false, List, [], arith, ltb, length, take, drop, length-take-le, take-take, lt-ltb, le-ltb, ltb-true, ltb-false, pick}
 use Rattle.lists.proofs.Tests.{never}
 use Rattle.utf8.specs.Text.{Utf, whole, part, bad, blank, inked, utfs}
 use Rattle.utf8.specs.Trim.{shown, trimmed}

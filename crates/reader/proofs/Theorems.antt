@@ -1,11 +1,5 @@
 -- What follows from the contract of a reading: which numbers it can give, and the counts. Assumes nothing.
-use Prim.Native.Nat.{ℕ}
-use mathlib.Core.Path.{_≡_, refl, ap}
-use mathlib.Core.Bool.{Bool, true, false}
-use mathlib.Core.Logic.{_⊎_, inl, inr}
-use mathlib.Core.List.{List}
-use native.Mathlib.Omega.{arith}
-use Rattle.lists.specs.Pick.{pick}
+use Rattle.lists.proofs.Prelude.{ℕ, _≡_, refl, ap, Bool, true, false, _⊎_, inl, inr, List, arith, pick}
 use Rattle.lists.proofs.Tests.{never}
 use Rattle.tables.specs.Numbers.{numberOf}
 use Rattle.tables.specs.Record.{Tree}

@@ -1,5 +1,5 @@
 -- No second answer: two answers that meet the contract of `read` are equal, and so are the lent tables after them. Assumes nothing.
-use mathlib.Core.Path.{_≡_, sym, _∙_}
+use Rattle.lists.proofs.Prelude.{_≡_, sym, _∙_}
 use Rattle.tables.specs.declared.Reading.{Reading}
 use Rattle.parser.specs.Read.{Answer}
 use Rattle.reader.specs.Lent.{Lent, ReadIs}

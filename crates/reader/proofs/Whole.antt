@@ -1,10 +1,5 @@
 -- The reading put together: the run that counts, the room, the run that writes, the links. Assumes nothing.
-use Prim.Native.Nat.{ℕ, _+_, _*_, _≤_}
-use mathlib.Core.Path.{_≡_, refl, sym, ap, _∙_, subst, subst⁻¹}
-use mathlib.Core.Bool.{Bool, true, false}
-use mathlib.Core.List.{List, _++_, reverse, reverse-reverse}
-use native.Mathlib.Omega.{arith}
-use lib.ListN.{length, drop}
+use Rattle.lists.proofs.Prelude.{ℕ, _+_, _*_, _≤_, _≡_, refl, sym, ap, _∙_, subst, subst⁻¹, Bool, true, false, List, _++_, reverse, reverse-reverse, arith, length, drop}
 use Rattle.lists.specs.All.{All}
 use Rattle.lists.proofs.Put.{put-all}
 use Rattle.lists.proofs.Tests.{never}

@@ -1,11 +1,5 @@
 -- A reading: what is answered, and what the lent tables hold after it.
-use Prim.Native.Nat.{ℕ, _/_}
-use mathlib.Core.Path.{_≡_}
-use mathlib.Core.Bool.{Bool, _&&_}
-use mathlib.Core.List.{List}
-use lib.Dec.{leb}
-use lib.ListN.{length}
-use Rattle.lists.specs.Pick.{pick}
+use Rattle.lists.specs.Prelude.{ℕ, _/_, _≡_, Bool, _&&_, List, leb, length, pick}
 use Rattle.tables.specs.Rows.{Tables, countsOf, tables}
 use Rattle.tables.specs.Flat.{flatTrees, flatNodes, flatProps, flatVals, over}
 use Rattle.tables.specs.declared.Counts.{Counts}

@@ -1,9 +1,5 @@
 -- The trees of the slices from a place on.
-use Prim.Native.Nat.{ℕ, _+_, _≤_}
-use mathlib.Core.Path.{_≡_}
-use mathlib.Core.Bool.{Bool, true, false}
-use mathlib.Core.List.{List, [], reverse}
-use lib.ListN.{length}
+use Rattle.lists.specs.Prelude.{ℕ, _+_, _≤_, _≡_, Bool, true, false, List, [], reverse, length}
 use Rattle.lists.specs.All.{All}
 use Rattle.lists.specs.Put.{PutIs}
 use Rattle.lexer.specs.Token.{Tok, done, lexAt}

@@ -1,11 +1,5 @@
 -- The answer of a Go value: what fitting tables give its steps, and each of its cases. Assumes nothing.
-use Prim.Native.Nat.{ℕ, _-_, _≤_, _<_}
-use mathlib.Core.Bool.{true, false}
-use mathlib.Core.List.{List}
-use mathlib.Core.Path.{_≡_, sym, ap, _∙_}
-use native.Mathlib.Omega.{arith}
-use lib.ListN.{take}
-use borrow.Author.Tests.{lt-ltb, le-ltb}
+use Rattle.lists.proofs.Prelude.{ℕ, _-_, _≤_, _<_, true, false, List, _≡_, sym, ap, _∙_, arith, take, lt-ltb, le-ltb}
 use Rattle.values.specs.Read.{readIdentifier}
 use Rattle.rows.specs.Rows.{valuesAt}
 use Rattle.go.specs.Value.{goValue}

@@ -1,10 +1,5 @@
 -- The loop that finds the tree of a property. Assumes nothing.
-use Prim.Native.Nat.{ℕ, suc, _+_, _-_, _≤_, _<_}
-use mathlib.Core.List.{List}
-use mathlib.Core.Path.{_≡_, ap, _∙_, subst}
-use native.Mathlib.Omega.{arith}
-use native.Mathlib.Numerals.{add-one}
-use borrow.Author.Tests.{lt-ltb, le-ltb}
+use Rattle.lists.proofs.Prelude.{ℕ, suc, _+_, _-_, _≤_, _<_, List, _≡_, ap, _∙_, subst, arith, add-one, lt-ltb, le-ltb}
 use Rattle.tables.specs.Columns.{rootAt, kindAt, firstPropAt}
 use Rattle.record.specs.Locals.{kindFrom}
 

@@ -1,8 +1,5 @@
 -- What a display shows, by what access gives. Assumes nothing.
-use Prim.Native.Nat.{ℕ, _-_}
-use mathlib.Core.List.{List}
-use mathlib.Core.Path.{_≡_, sym, ap, _∙_}
-use lib.ListN.{take, drop}
+use Rattle.lists.proofs.Prelude.{ℕ, _-_, List, _≡_, sym, ap, _∙_, take, drop}
 use Rattle.values.specs.Read.{readIdentifier}
 use Rattle.display.specs.declared.Kind.{Kind}
 use Rattle.rows.specs.Rows.{valuesAt}

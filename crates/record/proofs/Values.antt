@@ -1,9 +1,5 @@
 -- The values of a property of tables that fit are the raw values by their rows. Assumes nothing.
-use Prim.Native.Nat.{ℕ, _<_}
-use mathlib.Core.List.{List, map}
-use mathlib.Core.Path.{_≡_}
-use native.Mathlib.Omega.{arith}
-use lib.ListN.{take, drop}
+use Rattle.lists.proofs.Prelude.{ℕ, _<_, List, map, _≡_, arith, take, drop}
 use Rattle.tables.specs.declared.Counts.{Counts}
 use Rattle.rows.specs.Rows.{valuesAt}
 use Rattle.rows.proofs.Valued.{values-none, values-more}

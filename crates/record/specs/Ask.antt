@@ -1,11 +1,5 @@
 -- What a record in memory answers by number: how a value is displayed, and the Go value of a property.
-use Prim.Native.Nat.{ℕ, _-_}
-use mathlib.Core.Path.{_≡_}
-use mathlib.Core.List.{List, [], _∷_}
-use lib.Dec.{ltb}
-use lib.ListN.{length, getD, take}
-use lib.Seq.{slice}
-use Rattle.lists.specs.Pick.{pick}
+use Rattle.lists.specs.Prelude.{ℕ, _-_, _≡_, List, [], _∷_, ltb, length, getD, take, slice, pick}
 use Rattle.lexer.specs.Token.{Prop}
 use Rattle.values.specs.Read.{readValue, readIdentifier}
 use Rattle.display.specs.Display.{shown, displayed, displayedIn}

@@ -1,10 +1,5 @@
 -- What the steps of a question promise each other.
-use Prim.Native.Nat.{ℕ, zero, suc, _/_, _<_, _≤_}
-use mathlib.Core.List.{List}
-use lib.Dec.{ltb}
-use lib.ListN.{length}
-use lib.Seq.{slice}
-use Rattle.lists.specs.Pick.{pick}
+use Rattle.lists.specs.Prelude.{ℕ, zero, suc, _/_, _<_, _≤_, List, ltb, length, slice, pick}
 use Rattle.tables.specs.Columns.{rootAt, kindAt, firstPropAt, nameFromAt, nameToAt}
 
 -- there are m trees, at least one, and each root is a row

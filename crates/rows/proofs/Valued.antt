@@ -1,13 +1,5 @@
 -- Raw values by their rows: one of them, and all that are left. Assumes nothing.
-use Prim.Native.Nat.{ℕ, suc, _+_, _-_, _*_, _/_, _≤_, _<_, min}
-use mathlib.Core.Path.{_≡_, refl, sym, ap, ap₂, _∙_}
-use mathlib.Core.Bool.{Bool, true, false}
-use mathlib.Core.List.{List, [], _∷_}
-use native.Mathlib.Omega.{arith}
-use lib.Dec.{leb}
-use lib.ListN.{length, getD, take, drop, length-drop}
-use lib.Seq.{take-all}
-use borrow.Author.Tests.{leb-true, leb-false, lt-ltb, le-ltb}
+use Rattle.lists.proofs.Prelude.{ℕ, suc, _+_, _-_, _*_, _/_, _≤_, _<_, min, _≡_, refl, sym, ap, ap₂, _∙_, Bool, true, false, List, [], _∷_, arith, leb, length, getD, take, drop, length-drop, take-all, leb-true, leb-false, lt-ltb, le-ltb}
 use Rattle.rows.specs.Rows.{cut, valueAt, valuesAt}
 
 -- a span that ends beyond the text ends with it

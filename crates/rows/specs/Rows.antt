@@ -1,9 +1,5 @@
 -- Raw values by their rows: a flat table with two numbers a value, its start and its end in the text.
-use Prim.Native.Nat.{ℕ, zero, suc, _+_, _-_, _*_, _/_}
-use mathlib.Core.List.{List, [], _∷_}
-use lib.Dec.{ltb}
-use lib.ListN.{length, getD, take, drop}
-use Rattle.lists.specs.Pick.{pick}
+use Rattle.lists.specs.Prelude.{ℕ, zero, suc, _+_, _-_, _*_, _/_, List, [], _∷_, ltb, length, getD, take, drop, pick}
 
 -- the bytes from `from` up to `to`
 abbrev pub cut : List ℕ → (from to : ℕ) → List ℕ

@@ -1,14 +1,5 @@
 -- Where the scans' answers lie. Assumes nothing.
-use Prim.Native.Nat.{ℕ, suc, _+_, _≤_, _<_}
-use mathlib.Core.Path.{_≡_, refl, sym, _∙_}
-use mathlib.Core.Bool.{Bool, true, false}
-use mathlib.Core.List.{List, [], _∷_}
-use native.Mathlib.Omega.{arith}
-use lib.ListN.{length, drop, getD, length-drop, List·getD-eq-default}
-use lib.Seq.{getD-drop}
-use lib.Dec.{eqb, leb}
-use borrow.Author.Tests.{eq-eqb, ne-eqb, eqb-true}
-use Rattle.lists.specs.Pick.{pick}
+use Rattle.lists.proofs.Prelude.{ℕ, suc, _+_, _≤_, _<_, _≡_, refl, sym, _∙_, Bool, true, false, List, [], _∷_, arith, length, drop, getD, length-drop, List·getD-eq-default, getD-drop, eqb, leb, eq-eqb, ne-eqb, eqb-true, pick}
 use Rattle.lists.proofs.Pick.{pick-elim}
 use Rattle.lists.proofs.Tests.{never}
 use Rattle.scan.specs.Scan.{space, skipFrom, skipAt, identFrom, identAt, onClose, valueAt}

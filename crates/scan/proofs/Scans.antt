@@ -1,10 +1,5 @@
 -- The scans' definitions at an offset of a text, one step at a time. Assumes nothing.
-use Prim.Native.Nat.{ℕ, _+_, _≤_, _<_}
-use mathlib.Core.Path.{_≡_}
-use mathlib.Core.Bool.{true, false}
-use mathlib.Core.List.{List}
-use lib.ListN.{length, drop, getD, drop-of-length-le}
-use borrow.Author.Tests.{eq-eqb, ne-eqb, lt-leb, le-leb}
+use Rattle.lists.proofs.Prelude.{ℕ, _+_, _≤_, _<_, _≡_, true, false, List, length, drop, getD, drop-of-length-le, eq-eqb, ne-eqb, lt-leb, le-leb}
 use Rattle.scan.specs.declared.Ident.the-variants.{Opens, Missing, Foreign}
 use Rattle.lists.proofs.Places.{drop-next}
 use Rattle.scan.specs.Scan.{space, skipFrom, identFrom}

@@ -1,9 +1,5 @@
 -- The values of a property, one at a time: where they end. Assumes nothing.
-use Prim.Native.Nat.{ℕ, zero, suc, _≤_, _<_, _-_}
-use mathlib.Core.Path.{_≡_, refl, sym, ap, _∙_}
-use mathlib.Core.List.{List}
-use native.Mathlib.Omega.{arith}
-use lib.ListN.{length}
+use Rattle.lists.proofs.Prelude.{ℕ, zero, suc, _≤_, _<_, _-_, _≡_, refl, sym, ap, _∙_, List, arith, length}
 use Rattle.lists.specs.Run.{more}
 use Rattle.lists.proofs.Run.{run-more, run-done}
 use Rattle.scan.specs.Scan.{onValue, valueAt, valuesAt}

@@ -1,10 +1,5 @@
 -- What the scans of the token rules find, over the list of a text's bytes.
-use Prim.Native.Nat.{ℕ, suc, _+_}
-use mathlib.Core.Bool.{Bool, _||_}
-use mathlib.Core.List.{List, [], _∷_}
-use lib.Dec.{eqb, leb}
-use lib.ListN.{length, drop, getD}
-use Rattle.lists.specs.Pick.{pick}
+use Rattle.lists.specs.Prelude.{ℕ, suc, _+_, Bool, _||_, List, [], _∷_, eqb, leb, length, drop, getD, pick}
 use Rattle.lists.specs.Run.{Next, more, done, run}
 use Rattle.close.specs.Close.{closeAt}
 use Rattle.close.specs.declared.Close.{Close}

@@ -1,12 +1,5 @@
 -- The names that the walk asks are those of the record that fitting tables denote. Assumes nothing.
-use Prim.Native.Nat.{ℕ, zero, suc, _+_, _-_}
-use mathlib.Core.Bool.{Bool, true, false, not, _&&_, _||_, or-false}
-use mathlib.Core.List.{List, [], _∷_, _++_}
-use mathlib.Core.Path.{_≡_, refl, sym, ap, _∙_}
-use native.Mathlib.Omega.{arith}
-use lib.Dec.{leb, ltb}
-use lib.ListN.{length, take}
-use borrow.Author.Tests.{lt-ltb, le-ltb, lt-leb, le-leb}
+use Rattle.lists.proofs.Prelude.{ℕ, zero, suc, _+_, _-_, Bool, true, false, not, _&&_, _||_, or-false, List, [], _∷_, _++_, _≡_, refl, sym, ap, _∙_, arith, leb, ltb, length, take, lt-ltb, le-ltb, lt-leb, le-leb}
 use Rattle.lexer.specs.Token.{Prop}
 use Rattle.values.specs.Read.{readIdentifier}
 use Rattle.tables.specs.Record.{allNodes, allProps}

@@ -1,13 +1,5 @@
 -- Where nodes stand in brackets, and the climb over their ends. Assumes nothing.
-use Prim.Native.Nat.{ℕ, zero, suc, _^_, _≤_, _<_, _-_}
-use mathlib.Core.Bool.{Bool, true, not}
-use mathlib.Core.List.{List, [], _∷_, _++_, append-nil}
-use mathlib.Core.Path.{_≡_, refl, sym, ap, _∙_, subst}
-use native.Mathlib.Omega.{arith}
-use lib.Dec.{eqb}
-use lib.ListN.{length}
-use borrow.Author.Tests.{eq-eqb, ne-eqb}
-use Rattle.lists.specs.Pick.{pick}
+use Rattle.lists.proofs.Prelude.{ℕ, zero, suc, _^_, _≤_, _<_, _-_, Bool, true, not, List, [], _∷_, _++_, append-nil, _≡_, refl, sym, ap, _∙_, subst, arith, eqb, length, eq-eqb, ne-eqb, pick}
 use Rattle.put.specs.Wrote.{Wrote}
 use Rattle.tables.specs.Numbers.{none}
 use Rattle.tables.specs.Columns.{parentAt, childAt, siblingAt}

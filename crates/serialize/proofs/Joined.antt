@@ -1,8 +1,5 @@
 -- Texts one after another, counted from the first: what the walk joins from the last. Assumes nothing.
-use Prim.Native.Nat.{ℕ, zero, suc, _+_}
-use mathlib.Core.List.{List, [], _++_, append-assoc, append-nil}
-use mathlib.Core.Path.{_≡_, refl, sym, ap, _∙_}
-use native.Mathlib.Omega.{arith}
+use Rattle.lists.proofs.Prelude.{ℕ, zero, suc, _+_, List, [], _++_, append-assoc, append-nil, _≡_, refl, sym, ap, _∙_, arith}
 use Rattle.serialize.specs.Walk.{texts}
 
 -- the texts of the m numbers from k on

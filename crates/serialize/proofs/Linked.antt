@@ -1,10 +1,5 @@
 -- The writing of the record that fitting tables denote is the walk along their links. Assumes nothing.
-use Prim.Native.Nat.{ℕ, zero, suc, _+_, _≤_, _<_, _-_}
-use mathlib.Core.Bool.{true}
-use mathlib.Core.List.{List, _∷_, _++_, map, append-assoc, append-nil}
-use mathlib.Core.Path.{_≡_, refl, sym, ap, ap₂, _∙_}
-use native.Mathlib.Omega.{arith}
-use lib.ListN.{take, drop}
+use Rattle.lists.proofs.Prelude.{ℕ, zero, suc, _+_, _≤_, _<_, _-_, true, List, _∷_, _++_, map, append-assoc, append-nil, _≡_, refl, sym, ap, ap₂, _∙_, arith, take, drop}
 use Rattle.lexer.specs.Token.{Prop}
 use Rattle.tables.specs.Numbers.{none}
 use Rattle.tables.specs.Record.{Node}

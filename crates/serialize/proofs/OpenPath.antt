@@ -1,12 +1,5 @@
 -- The open nodes of the writing are the chain of parents: what they end, and which are left. Assumes nothing.
-use Prim.Native.Nat.{ℕ, zero, suc, _≤_, _<_}
-use mathlib.Core.Bool.{Bool, true, false}
-use mathlib.Core.List.{List, [], _∷_, _++_, append-assoc}
-use mathlib.Core.Path.{_≡_, refl, sym, ap, ap₂, _∙_, subst}
-use native.Mathlib.Omega.{arith}
-use lib.Dec.{eqb}
-use borrow.Author.Tests.{eq-eqb, ne-eqb}
-use Rattle.lists.specs.Pick.{pick}
+use Rattle.lists.proofs.Prelude.{ℕ, zero, suc, _≤_, _<_, Bool, true, false, List, [], _∷_, _++_, append-assoc, _≡_, refl, sym, ap, ap₂, _∙_, subst, arith, eqb, eq-eqb, ne-eqb, pick}
 use Rattle.tables.specs.Numbers.{none}
 use Rattle.tables.proofs.Cases.{true-false}
 use Rattle.lists.proofs.Tests.{same-or}

@@ -1,9 +1,5 @@
 -- The properties of a node, as the record is written and as the walk writes them. Assumes nothing.
-use Prim.Native.Nat.{ℕ, zero, suc, _+_, _/_, _≤_, _<_}
-use mathlib.Core.List.{List, [], _∷_, _++_, map, append-assoc}
-use mathlib.Core.Path.{_≡_, refl, sym, ap, ap₂, _∙_}
-use native.Mathlib.Omega.{arith}
-use lib.ListN.{length, take, drop}
+use Rattle.lists.proofs.Prelude.{ℕ, zero, suc, _+_, _/_, _≤_, _<_, List, [], _∷_, _++_, map, append-assoc, _≡_, refl, sym, ap, ap₂, _∙_, arith, length, take, drop}
 use Rattle.lexer.specs.Token.{Val, Prop}
 use Rattle.values.specs.Read.{readIdentifier}
 use Rattle.go.specs.Normal.{normal}

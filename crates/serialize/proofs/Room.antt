@@ -1,11 +1,5 @@
 -- What the writer wrote lies in the bytes lent. Assumes nothing.
-use Prim.Native.Nat.{ℕ, _≤_}
-use mathlib.Core.Bool.{Bool, true, false}
-use mathlib.Core.List.{List, _++_}
-use mathlib.Core.Path.{_≡_, sym, ap, _∙_}
-use native.Mathlib.Omega.{arith}
-use lib.Dec.{ltb}
-use lib.ListN.{length, take, drop, length-append}
+use Rattle.lists.proofs.Prelude.{ℕ, _≤_, Bool, true, false, List, _++_, _≡_, sym, ap, _∙_, arith, ltb, length, take, drop, length-append}
 use Rattle.lists.proofs.Tests.{never}
 use Rattle.tables.specs.Record.{allNodes, allProps}
 use Rattle.tables.specs.declared.Counts.{Counts}

@@ -1,12 +1,5 @@
 -- How many nodes have one parent: two or more where a node is not the first child or has a next sibling. Assumes nothing.
-use Prim.Native.Nat.{ℕ, zero, suc, _+_, _≤_, _<_, _-_}
-use mathlib.Core.Bool.{Bool, true, not, or-true}
-use mathlib.Core.List.{List}
-use mathlib.Core.Path.{_≡_, refl, ap, _∙_, subst}
-use native.Mathlib.Omega.{arith}
-use lib.Dec.{eqb, leb}
-use borrow.Author.Tests.{eq-eqb, ne-eqb, le-leb}
-use Rattle.lists.specs.Pick.{pick}
+use Rattle.lists.proofs.Prelude.{ℕ, zero, suc, _+_, _≤_, _<_, _-_, Bool, true, not, or-true, List, _≡_, refl, ap, _∙_, subst, arith, eqb, leb, eq-eqb, ne-eqb, le-leb, pick}
 use Rattle.tables.specs.Numbers.{none}
 use Rattle.tables.proofs.Cases.{true-false}
 use Rattle.lists.proofs.Tests.{same-or}

@@ -1,10 +1,5 @@
 -- Texts written one after another. Assumes nothing.
-use Prim.Native.Nat.{ℕ, _+_, _^_, _≤_, _<_}
-use mathlib.Core.Path.{_≡_, subst}
-use mathlib.Core.List.{List, _++_}
-use native.Mathlib.Numerals.{add-one}
-use native.Mathlib.Omega.{arith}
-use lib.ListN.{length}
+use Rattle.lists.proofs.Prelude.{ℕ, _+_, _^_, _≤_, _<_, _≡_, subst, List, _++_, add-one, arith, length}
 use Rattle.put.specs.Wrote.{Wrote}
 use Rattle.put.proofs.Written.{wrote-none, wrote-more, wrote-is}
 use Rattle.serialize.specs.Walk.{texts}

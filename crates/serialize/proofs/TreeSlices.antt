@@ -1,9 +1,5 @@
 -- The trees of tables that fit: each root begins a stretch of nodes that ends at the next root, and its tree's game type is theirs. Assumes nothing.
-use Prim.Native.Nat.{ℕ, zero, suc, _+_, _≤_, _<_, _-_}
-use mathlib.Core.List.{List}
-use mathlib.Core.Path.{_≡_, ap, _∙_, subst}
-use native.Mathlib.Omega.{arith}
-use borrow.Author.Tests.{eq-eqb, ne-eqb, eqb-true}
+use Rattle.lists.proofs.Prelude.{ℕ, zero, suc, _+_, _≤_, _<_, _-_, List, _≡_, ap, _∙_, subst, arith, eq-eqb, ne-eqb, eqb-true}
 use Rattle.tables.specs.Numbers.{none}
 use Rattle.tables.specs.declared.Counts.{Counts}
 use Rattle.tables.proofs.Cases.{below-or}

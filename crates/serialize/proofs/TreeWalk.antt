@@ -1,13 +1,6 @@
 -- One tree, written from its nodes and along the links. Assumes nothing.
-use Prim.Native.Nat.{ℕ, zero, suc, _+_, _≤_, _<_, _-_}
-use mathlib.Core.Bool.{Bool, true, false}
-use mathlib.Core.List.{List, [], _∷_, _++_, append-assoc}
-use mathlib.Core.Path.{_≡_, refl, sym, ap, ap₂, _∙_, subst}
-use native.Mathlib.Omega.{arith}
-use lib.Dec.{leb}
-use borrow.Author.Tests.{eq-eqb}
+use Rattle.lists.proofs.Prelude.{ℕ, zero, suc, _+_, _≤_, _<_, _-_, Bool, true, false, List, [], _∷_, _++_, append-assoc, _≡_, refl, sym, ap, ap₂, _∙_, subst, arith, leb, eq-eqb, pick}
 use Rattle.lexer.specs.Token.{Prop}
-use Rattle.lists.specs.Pick.{pick}
 use Rattle.tables.specs.Numbers.{none}
 use Rattle.tables.specs.Record.{Node}
 use Rattle.tables.specs.Rows.{parents}

@@ -1,8 +1,5 @@
 -- No second answer: of the writer, two answers that meet its contract are equal, and so is all of the memory. Assumes nothing.
-use Prim.Native.Nat.{ℕ}
-use mathlib.Core.List.{List}
-use mathlib.Core.Path.{_≡_, sym, ap, _∙_}
-use lib.ListN.{take}
+use Rattle.lists.proofs.Prelude.{ℕ, List, _≡_, sym, ap, _∙_, take}
 use Rattle.tables.specs.declared.Counts.{Counts}
 use Rattle.fit.specs.Record.{rowsOf, recordOf}
 use Rattle.serialize.specs.Form.{writing, output, WriteIs}

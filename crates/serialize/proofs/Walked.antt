@@ -1,13 +1,5 @@
 -- The walk: names, game types, properties and nodes. Assumes nothing.
-use Prim.Native.Nat.{ℕ, zero, suc, _+_, _/_, _^_, _≤_, _<_, _-_}
-use mathlib.Core.Bool.{Bool, true, false, _&&_}
-use mathlib.Core.List.{List, [], _∷_, _++_}
-use mathlib.Core.Path.{_≡_, refl, sym, ap, ap₂, _∙_, subst}
-use native.Mathlib.Numerals.{add-one}
-use native.Mathlib.Omega.{arith}
-use lib.Dec.{leb, ltb, eqb}
-use lib.ListN.{length, getD, take, drop, List·getD-eq-default}
-use borrow.Author.Tests.{eq-eqb, ne-eqb, lt-ltb}
+use Rattle.lists.proofs.Prelude.{ℕ, zero, suc, _+_, _/_, _^_, _≤_, _<_, _-_, Bool, true, false, _&&_, List, [], _∷_, _++_, _≡_, refl, sym, ap, ap₂, _∙_, subst, add-one, arith, leb, ltb, eqb, length, getD, take, drop, List·getD-eq-default, eq-eqb, ne-eqb, lt-ltb}
 use Rattle.lists.proofs.Pick.{pick-elim}
 use Rattle.values.specs.Read.{readIdentifier}
 use Rattle.put.specs.Wrote.{Wrote}

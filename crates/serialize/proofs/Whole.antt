@@ -1,13 +1,5 @@
 -- The writer's answer: 19, 15, 14, then the writing. Assumes nothing.
-use Prim.Native.Nat.{ℕ, _+_, _^_, _≤_, _<_}
-use mathlib.Core.Bool.{Bool, true, false, not}
-use mathlib.Core.List.{List, [], _++_}
-use mathlib.Core.Path.{_≡_, refl, sym, ap, ap₂, _∙_, subst}
-use native.Mathlib.Omega.{arith}
-use lib.Dec.{ltb}
-use lib.ListN.{length, take, drop}
-use lib.Seq.{length-take-le}
-use borrow.Author.Tests.{lt-ltb, le-ltb, not-true, not-false}
+use Rattle.lists.proofs.Prelude.{ℕ, _+_, _^_, _≤_, _<_, Bool, true, false, not, List, [], _++_, _≡_, refl, sym, ap, ap₂, _∙_, subst, arith, ltb, length, take, drop, length-take-le, lt-ltb, le-ltb, not-true, not-false}
 use Rattle.put.specs.Wrote.{Wrote}
 use Rattle.put.proofs.Lists.{sets-out}
 use Rattle.put.proofs.Written.{wrote-all}

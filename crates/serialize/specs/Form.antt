@@ -1,10 +1,5 @@
 -- What is written: the form of the values, the writing of a record, and the writer's answer.
-use Prim.Native.Nat.{ℕ}
-use mathlib.Core.Path.{_≡_}
-use mathlib.Core.Bool.{Bool, true, false}
-use mathlib.Core.List.{List, _++_, map}
-use lib.Dec.{ltb}
-use lib.ListN.{length, drop, take}
+use Rattle.lists.specs.Prelude.{ℕ, _≡_, Bool, true, false, List, _++_, map, ltb, length, drop, take}
 use Rattle.lexer.specs.Token.{Val, Prop}
 use Rattle.values.specs.Read.{readIdentifier}
 use Rattle.go.specs.Normal.{normal}

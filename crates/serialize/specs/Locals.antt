@@ -1,9 +1,5 @@
 -- What the writer's own functions promise and ask of each other.
-use Prim.Native.Nat.{ℕ, suc, _+_, _/_, _<_, _≤_, _-_}
-use mathlib.Core.Bool.{true}
-use mathlib.Core.List.{List}
-use mathlib.Core.Path.{_≡_}
-use lib.ListN.{length}
+use Rattle.lists.specs.Prelude.{ℕ, suc, _+_, _/_, _<_, _≤_, _-_, true, List, _≡_, length}
 use Rattle.tables.specs.Numbers.{none}
 use Rattle.tables.specs.Columns.{parentAt, firstPropAt, propCountAt, nameFromAt, nameToAt}
 use Rattle.links.specs.Locals.{Ruled}

@@ -1,11 +1,5 @@
 -- The writing as the code walks: node by node along the links, where a tree is a node in brackets without parent.
-use Prim.Native.Nat.{ℕ, zero, suc, _+_, _-_}
-use mathlib.Core.Bool.{Bool, _||_, not}
-use mathlib.Core.List.{List, [], _∷_, _++_}
-use lib.Dec.{ltb, eqb}
-use lib.ListN.{length}
-use lib.Seq.{slice}
-use Rattle.lists.specs.Pick.{pick}
+use Rattle.lists.specs.Prelude.{ℕ, zero, suc, _+_, _-_, Bool, _||_, not, List, [], _∷_, _++_, ltb, eqb, length, slice, pick}
 use Rattle.values.specs.Read.{readIdentifier}
 use Rattle.go.specs.Normal.{normal}
 use Rattle.rows.specs.Rows.{valuesAt}

@@ -1,10 +1,5 @@
 -- Writing: a walk over the nodes, in order, with the open nodes on a path; values as they are raw.
-use Prim.Native.Nat.{ℕ, suc}
-use mathlib.Core.Bool.{Bool, true, false, _||_}
-use mathlib.Core.List.{List, [], _∷_, _++_}
-use lib.ListN.{length}
-use lib.Dec.{leb, eqb}
-use Rattle.lists.specs.Pick.{pick}
+use Rattle.lists.specs.Prelude.{ℕ, suc, Bool, true, false, _||_, List, [], _∷_, _++_, length, leb, eqb, pick}
 use Rattle.lexer.specs.Token.{Val, Prop}
 use Rattle.tables.specs.Numbers.{none}
 use Rattle.tables.specs.Record.{Node, Tree}

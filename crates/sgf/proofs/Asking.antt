@@ -1,9 +1,5 @@
 -- Answers about a record in memory as they are shown. Assumes nothing.
-use Prim.Native.Nat.{ℕ}
-use mathlib.Core.List.{List}
-use mathlib.Core.Path.{_≡_, ap, _∙_}
-use lib.ListN.{take}
-use borrow.Author.Tests.{eq-eqb, ne-eqb}
+use Rattle.lists.proofs.Prelude.{ℕ, List, _≡_, ap, _∙_, take, eq-eqb, ne-eqb}
 use Rattle.display.specs.declared.Kind.{Kind}
 use Rattle.display.specs.declared.Kind.the-variants.{Text, SimpleText}
 use Rattle.access.specs.declared.Accessed.{Accessed}

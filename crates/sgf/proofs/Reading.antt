@@ -1,5 +1,5 @@
 -- A reading shown as numbers. Assumes nothing.
-use mathlib.Core.Path.{_≡_, ap, _∙_}
+use Rattle.lists.proofs.Prelude.{_≡_, ap, _∙_}
 use Rattle.tables.specs.declared.Reading.{Reading}
 use Rattle.parser.specs.Read.{Answer}
 use Rattle.reader.specs.Lent.{Lent, ReadIs}

@@ -1,10 +1,7 @@
 -- No second answer: what is shown of an answer leaves no other numbers. Assumes nothing.
-use mathlib.Core.Path.{_≡_, sym, _∙_}
-use Prim.Native.Nat.{ℕ}
+use Rattle.lists.proofs.Prelude.{_≡_, sym, _∙_, ℕ, Bool, List}
 use Rattle.parser.specs.Read.{Answer}
 use Rattle.reader.specs.Lent.{Lent}
-use mathlib.Core.Bool.{Bool}
-use mathlib.Core.List.{List}
 use Rattle.lists.proofs.Once.{once-is}
 use Rattle.lists.specs.Once.{Once}
 use Rattle.tables.specs.declared.Counts.{Counts}

@@ -1,10 +1,5 @@
 -- Answers about a record in memory, shown as numbers, as the C header says them.
-use Prim.Native.Nat.{ℕ}
-use mathlib.Core.Bool.{Bool, true, false}
-use mathlib.Core.List.{List}
-use mathlib.Core.Path.{_≡_}
-use lib.Dec.{eqb}
-use Rattle.lists.specs.Pick.{pick}
+use Rattle.lists.specs.Prelude.{ℕ, Bool, true, false, List, _≡_, eqb, pick}
 use Rattle.access.specs.declared.Accessed.{Accessed}
 use Rattle.display.specs.declared.Kind.{Kind}
 use Rattle.display.specs.declared.Kind.the-variants.{Text, SimpleText}

@@ -1,8 +1,5 @@
 -- A writing and an edit, shown as numbers, as the C header says them.
-use Prim.Native.Nat.{ℕ}
-use mathlib.Core.List.{List}
-use mathlib.Core.Path.{_≡_}
-use lib.ListN.{length, take}
+use Rattle.lists.specs.Prelude.{ℕ, List, _≡_, length, take}
 use Rattle.tables.specs.declared.Counts.{Counts}
 use Rattle.fit.specs.Record.{rowsOf, recordOf}
 use Rattle.serialize.specs.Form.{writing, written, output}

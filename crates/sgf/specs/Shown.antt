@@ -1,7 +1,5 @@
 -- A reading as the C header says it.
-use Prim.Native.Nat.{ℕ, _/_, _%_}
-use lib.Dec.{eqb}
-use mathlib.Core.Path.{_≡_}
+use Rattle.lists.specs.Prelude.{ℕ, _/_, _%_, eqb, _≡_}
 use Rattle.parser.specs.Walk.{Opts}
 use Rattle.parser.specs.Read.{Answer}
 use Rattle.reader.specs.Lent.{Lent, answers, leaves}

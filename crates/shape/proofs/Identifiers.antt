@@ -1,10 +1,5 @@
 -- The letters of a read identifier, from a place on. Assumes nothing.
-use Prim.Native.Nat.{ℕ, _+_, _≤_, _<_}
-use mathlib.Core.Path.{_≡_, ap, _∙_}
-use mathlib.Core.Bool.{true, false, _&&_}
-use mathlib.Core.List.{List, [], _∷_}
-use lib.Dec.{leb}
-use lib.ListN.{length, getD, drop, drop-of-length-le}
+use Rattle.lists.proofs.Prelude.{ℕ, _+_, _≤_, _<_, _≡_, ap, _∙_, true, false, _&&_, List, [], _∷_, leb, length, getD, drop, drop-of-length-le}
 use Rattle.lists.proofs.Places.{drop-next}
 use Rattle.values.specs.Read.{readIdentifier}
 

@@ -1,8 +1,5 @@
 -- The letters of a read identifier, one at a time.
-use Prim.Native.Nat.{ℕ}
-use mathlib.Core.Path.{_≡_}
-use mathlib.Core.List.{List, [], _∷_}
-use lib.ListN.{drop}
+use Rattle.lists.specs.Prelude.{ℕ, _≡_, List, [], _∷_, drop}
 use Rattle.values.specs.Read.{readIdentifier}
 use Rattle.values.specs.declared.read.Step.{Step}
 use Rattle.values.specs.declared.read.Step.the-variants.{Byte, End}

@@ -1,6 +1,5 @@
 -- No second answer: what is shown of an answer leaves no other numbers. Assumes nothing.
-use mathlib.Core.Path.{_≡_, sym, _∙_}
-use Prim.Native.Nat.{ℕ}
+use Rattle.lists.proofs.Prelude.{_≡_, sym, _∙_, ℕ}
 use Rattle.utf8.specs.declared.Trimmed.{Trimmed}
 use Rattle.utf8.specs.declared.Trimmed.the-variants.{NotUtf8, Blank, Kept}
 use Rattle.lexer.specs.declared.Step.{Step}

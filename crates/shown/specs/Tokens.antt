@@ -1,6 +1,5 @@
 -- Answers about tokens shown as numbers, as the C header says them.
-use Prim.Native.Nat.{ℕ, _+_}
-use mathlib.Core.Path.{_≡_}
+use Rattle.lists.specs.Prelude.{ℕ, _+_, _≡_}
 use Rattle.utf8.specs.declared.Trimmed.{Trimmed}
 use Rattle.utf8.specs.declared.Trimmed.the-variants.{NotUtf8, Blank, Kept}
 use Rattle.lexer.specs.Token.{numberOf}

@@ -1,12 +1,5 @@
 -- Spans one after another: one span, a run of values, a property, all properties. Assumes nothing.
-use Prim.Native.Nat.{ℕ, suc, _+_, _-_, _≤_, _<_}
-use mathlib.Core.Bool.{Bool, true, false, _&&_, and-assoc, and-false}
-use mathlib.Core.List.{List, [], _∷_, _++_}
-use mathlib.Core.Path.{_≡_, sym, ap, _∙_}
-use native.Mathlib.Numerals.{add-one}
-use native.Mathlib.Omega.{arith}
-use lib.Dec.{leb}
-use borrow.Author.Tests.{le-leb, lt-leb}
+use Rattle.lists.proofs.Prelude.{ℕ, suc, _+_, _-_, _≤_, _<_, Bool, true, false, _&&_, and-assoc, and-false, List, [], _∷_, _++_, _≡_, sym, ap, _∙_, add-one, arith, leb, le-leb, lt-leb}
 use Rattle.tables.specs.Columns.{firstValAt, valCountAt, nameFromAt, nameToAt, valFromAt, valToAt}
 use Rattle.tables.specs.Each.{tabulate}
 use Rattle.spans.specs.Locals.{Spanned}

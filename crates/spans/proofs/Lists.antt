@@ -1,10 +1,5 @@
 -- A part of a list, as it is lent and as it is written. Assumes nothing.
-use Prim.Native.Nat.{ℕ, zero, suc, _-_}
-use mathlib.Core.List.{List, [], _∷_}
-use mathlib.Core.Path.{_≡_, ap, _∙_}
-use native.Mathlib.Omega.{arith}
-use lib.ListN.{take, drop}
-use lib.Seq.{slice, take-nil}
+use Rattle.lists.proofs.Prelude.{ℕ, zero, suc, _-_, List, [], _∷_, _≡_, ap, _∙_, arith, take, drop, slice, take-nil}
 
 pub part-slice : {A : Type 0} (a e : ℕ) (t : List A) → take (e - a) (drop a t) ≡ slice a e t
 part-slice zero e t = let q : e - 0 ≡ e = omega arith in ap (λ (n : ℕ). take n t) q

@@ -1,12 +1,5 @@
 -- Where the spans ascend, each lies in the text. Assumes nothing.
-use Prim.Native.Nat.{ℕ, zero, suc, _+_, _≤_, _<_}
-use mathlib.Core.Bool.{true, _&&_}
-use mathlib.Core.List.{List, _∷_, _++_}
-use mathlib.Core.Path.{_≡_, sym, ap, _∙_, subst}
-use native.Mathlib.Numerals.{add-one}
-use native.Mathlib.Omega.{arith}
-use lib.Dec.{leb}
-use borrow.Author.Tests.{leb-true}
+use Rattle.lists.proofs.Prelude.{ℕ, zero, suc, _+_, _≤_, _<_, true, _&&_, List, _∷_, _++_, _≡_, sym, ap, _∙_, subst, add-one, arith, leb, leb-true}
 use Rattle.tables.specs.Columns.{nameFromAt, nameToAt, firstValAt, valCountAt, valFromAt, valToAt}
 use Rattle.tables.specs.Each.{tabulate, sum}
 use Rattle.spans.specs.Ranges.{gapless}

@@ -1,12 +1,5 @@
 -- The loop over ranges, and what gapless ranges say. Assumes nothing.
-use Prim.Native.Nat.{ℕ, zero, suc, _+_, _*_, _-_, _≤_, _<_}
-use mathlib.Core.Bool.{Bool, true, false, and-false}
-use mathlib.Core.Path.{_≡_, refl, sym, _∙_, subst}
-use native.Mathlib.Nat.{suc-mul, mul-le-mul-right}
-use native.Mathlib.Numerals.{add-one}
-use native.Mathlib.Omega.{arith}
-use lib.Dec.{eqb}
-use borrow.Author.Tests.{eq-eqb, ne-eqb, eqb-true}
+use Rattle.lists.proofs.Prelude.{ℕ, zero, suc, _+_, _*_, _-_, _≤_, _<_, Bool, true, false, and-false, _≡_, refl, sym, _∙_, subst, suc-mul, mul-le-mul-right, add-one, arith, eqb, eq-eqb, ne-eqb, eqb-true}
 use Rattle.tables.specs.Each.{each, sum}
 use Rattle.spans.specs.Ranges.{gapless}
 use Rattle.tables.proofs.Cases.{and-left, and-right}

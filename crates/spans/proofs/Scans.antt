@@ -1,14 +1,5 @@
 -- The lexer's scans answer what fitting asks of identifiers and values. Assumes nothing.
-use Prim.Native.Nat.{ℕ, suc, _+_, _-_, _≤_, _<_}
-use mathlib.Core.Bool.{Bool, true, false, not, _&&_, and-false}
-use mathlib.Core.List.{List, [], _∷_, _++_}
-use mathlib.Core.Path.{_≡_, refl, sym, ap, _∙_, subst}
-use native.Mathlib.Omega.{arith}
-use lib.Dec.{leb, ltb, eqb}
-use lib.ListN.{length, getD, take, drop, take-append-drop, List·getD-eq-default}
-use lib.Seq.{slice, take-at, getD-at, getD-drop, drop-cons, drop-append-le, length-take-le, length-slice}
-use borrow.Author.Tests.{eq-eqb, ne-eqb, eqb-true, lt-ltb, le-ltb, leb-true, leb-false}
-use Rattle.lists.specs.Pick.{pick}
+use Rattle.lists.proofs.Prelude.{ℕ, suc, _+_, _-_, _≤_, _<_, Bool, true, false, not, _&&_, and-false, List, [], _∷_, _++_, _≡_, refl, sym, ap, _∙_, subst, arith, leb, ltb, eqb, length, getD, take, drop, take-append-drop, List·getD-eq-default, slice, take-at, getD-at, getD-drop, drop-cons, drop-append-le, length-take-le, length-slice, eq-eqb, ne-eqb, eqb-true, lt-ltb, le-ltb, leb-true, leb-false, pick}
 use Rattle.tokens.proofs.Exactly.{CloseIs, close-is, close-exactly}
 use Rattle.lexer.specs.Closed.{closed}
 use Rattle.scan.specs.Scan.{identFrom}

@@ -1,8 +1,5 @@
 -- What the check's own loops promise each other.
-use Prim.Native.Nat.{ℕ}
-use mathlib.Core.Bool.{Bool, _&&_}
-use mathlib.Core.List.{List, _++_}
-use mathlib.Core.Path.{_≡_}
+use Rattle.lists.specs.Prelude.{ℕ, Bool, _&&_, List, _++_, _≡_}
 use Rattle.spans.specs.Spans.{Span, ascending}
 
 -- the spans of a run lie one after another, the first at o or later, in a text of `used` bytes, and what follows them may start at `next`

@@ -1,9 +1,5 @@
 -- Fitting, ranges and spans together, whatever is lent.
-use Prim.Native.Nat.{ℕ, _/_}
-use mathlib.Core.Bool.{Bool, _&&_}
-use mathlib.Core.List.{List}
-use lib.Dec.{leb}
-use lib.ListN.{length}
+use Rattle.lists.specs.Prelude.{ℕ, _/_, Bool, _&&_, List, leb, length}
 use Rattle.tables.specs.Numbers.{textLimit}
 use Rattle.tables.specs.declared.Counts.{Counts}
 use Rattle.spans.specs.Ranges.{rangesFit}

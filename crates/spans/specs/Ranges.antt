@@ -1,8 +1,5 @@
 -- Fitting, the ranges: which properties a node has, and which values a property.
-use Prim.Native.Nat.{ℕ}
-use mathlib.Core.Bool.{Bool, _&&_}
-use mathlib.Core.List.{List}
-use lib.Dec.{leb, eqb}
+use Rattle.lists.specs.Prelude.{ℕ, Bool, _&&_, List, leb, eqb}
 use Rattle.tables.specs.declared.Counts.{Counts}
 use Rattle.tables.specs.Columns.{firstPropAt, propCountAt, firstValAt, valCountAt}
 use Rattle.tables.specs.Each.{each, sum}

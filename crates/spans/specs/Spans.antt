@@ -1,10 +1,5 @@
 -- Fitting, the spans: where identifiers and values stand in the text, and what stands in them.
-use Prim.Native.Nat.{ℕ, zero, suc, _-_}
-use mathlib.Core.Bool.{Bool, true, _&&_, not}
-use mathlib.Core.List.{List, [], _∷_, _++_}
-use lib.Dec.{leb, ltb, eqb}
-use lib.ListN.{length, getD}
-use lib.Seq.{slice}
+use Rattle.lists.specs.Prelude.{ℕ, zero, suc, _-_, Bool, true, _&&_, not, List, [], _∷_, _++_, leb, ltb, eqb, length, getD, slice}
 use Rattle.lexer.specs.Closed.{closed}
 use Rattle.tables.specs.declared.Counts.{Counts}
 use Rattle.tables.specs.Columns.{nameFromAt, nameToAt, firstValAt, valCountAt, valFromAt, valToAt}

@@ -1,12 +1,5 @@
 -- Whether a part may be replaced, and what the buffer then is. Assumes nothing.
-use Prim.Native.Nat.{ℕ, _+_, _-_, _≤_, _<_}
-use mathlib.Core.Bool.{Bool, true, false, _&&_}
-use mathlib.Core.List.{List}
-use mathlib.Core.Path.{_≡_, refl, sym}
-use native.Mathlib.Omega.{arith}
-use lib.Dec.{leb}
-use lib.ListN.{length, take}
-use borrow.Author.Tests.{leb-true, leb-false, le-leb, lt-leb}
+use Rattle.lists.proofs.Prelude.{ℕ, _+_, _-_, _≤_, _<_, Bool, true, false, _&&_, List, _≡_, refl, sym, arith, leb, length, take, leb-true, leb-false, le-leb, lt-leb}
 use Rattle.lists.specs.Put.{putAt}
 use Rattle.lists.proofs.Tests.{and-both}
 use Rattle.splice.specs.Locals.{Replaceable}

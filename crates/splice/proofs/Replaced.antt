@@ -1,10 +1,5 @@
 -- A part of a buffer replaced by copies within it: the tail moved, freed bytes cleared, the new bytes put in. Assumes nothing.
-use mathlib.Core.Path.{_≡_, sym, ap, ap₂, _∙_}
-use mathlib.Core.List.{List, _++_, append-assoc}
-use Prim.Native.Nat.{ℕ, _+_, _-_, _≤_, _<_}
-use native.Mathlib.Omega.{arith}
-use lib.ListN.{length, take, drop, replicate, take-append-drop, length-append, length-drop, length-replicate}
-use lib.Seq.{paste, length-paste-head, length-take-le, drop-drop, take-all, take-length, take-take}
+use Rattle.lists.proofs.Prelude.{_≡_, sym, ap, ap₂, _∙_, List, _++_, append-assoc, ℕ, _+_, _-_, _≤_, _<_, arith, length, take, drop, replicate, take-append-drop, length-append, length-drop, length-replicate, paste, length-paste-head, length-take-le, drop-drop, take-all, take-length, take-take}
 use Rattle.lists.proofs.Paste.{paste-block}
 use Rattle.lists.proofs.Places.{drop-take}
 use Rattle.lists.specs.Put.{putAt}

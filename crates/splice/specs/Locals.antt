@@ -1,7 +1,5 @@
 -- What the steps of a replacement promise each other.
-use Prim.Native.Nat.{ℕ, _+_, _-_, _≤_}
-use mathlib.Core.List.{List}
-use lib.ListN.{length}
+use Rattle.lists.specs.Prelude.{ℕ, _+_, _-_, _≤_, List, length}
 
 -- a part of the first `used` bytes of a buffer
 pub record Within (b : List ℕ) (used start end : ℕ) : Type 0 where

@@ -1,10 +1,5 @@
 -- A part of a text replaced, in a buffer whose first bytes are the text.
-use Prim.Native.Nat.{ℕ, _+_, _-_}
-use mathlib.Core.Bool.{Bool, _&&_}
-use mathlib.Core.List.{List, _++_}
-use lib.Dec.{leb}
-use lib.ListN.{length, take, drop, replicate}
-use Rattle.lists.specs.Pick.{pick}
+use Rattle.lists.specs.Prelude.{ℕ, _+_, _-_, Bool, _&&_, List, _++_, leb, length, take, drop, replicate, pick}
 use Rattle.lists.specs.Put.{putAt}
 
 -- the new bytes replace those from `start` to `end`

@@ -1,9 +1,5 @@
 -- Cases: equal numbers or not, truth values, tests that a negation passes. Assumes nothing.
-use Prim.Native.Nat.{ℕ, _≤_, _<_}
-use mathlib.Core.Bool.{Bool, true, false, not, _&&_, false≢true}
-use mathlib.Core.Path.{_≡_, refl, sym, _∙_}
-use lib.Dec.{ltb}
-use borrow.Author.Tests.{not-true, not-false, ltb-true, ltb-false}
+use Rattle.lists.proofs.Prelude.{ℕ, _≤_, _<_, Bool, true, false, not, _&&_, false≢true, _≡_, refl, sym, _∙_, ltb, not-true, not-false, ltb-true, ltb-false}
 use Rattle.lists.proofs.Tests.{and-both}
 
 pub either-bool {ℓ} : {X : Type ℓ} (b : Bool) → (b ≡ true → X) → (b ≡ false → X) → X

@@ -1,12 +1,5 @@
 -- Cells of rows of five: they are there and can be counted. Assumes nothing.
-use Prim.Native.Nat.{ℕ, _+_, _-_, _*_, _/_, _^_, _≤_, _<_}
-use mathlib.Core.Path.{_≡_}
-use mathlib.Core.Bool.{true}
-use mathlib.Core.List.{List}
-use native.Mathlib.Omega.{arith}
-use lib.Dec.{leb}
-use lib.ListN.{length, set, length-set}
-use borrow.Author.Tests.{leb-true}
+use Rattle.lists.proofs.Prelude.{ℕ, _+_, _-_, _*_, _/_, _^_, _≤_, _<_, _≡_, true, List, arith, leb, length, set, length-set, leb-true}
 use mir.Syntax.{w32, w64}
 use mir.Val.{Fits}
 use Rattle.tables.specs.Numbers.{none}

@@ -1,9 +1,5 @@
 -- `each`: a loop that goes on, that stops, that ends. Assumes nothing.
-use Prim.Native.Nat.{ℕ, zero, suc, _+_, _≤_, _<_}
-use mathlib.Core.Bool.{Bool, true, false, _&&_, and-false}
-use mathlib.Core.Path.{_≡_, refl, sym, ap, _∙_, subst}
-use native.Mathlib.Numerals.{add-one}
-use native.Mathlib.Omega.{arith}
+use Rattle.lists.proofs.Prelude.{ℕ, zero, suc, _+_, _≤_, _<_, Bool, true, false, _&&_, and-false, _≡_, refl, sym, ap, _∙_, subst, add-one, arith}
 use Rattle.tables.specs.Each.{each}
 use Rattle.tables.proofs.Cases.{and-left, and-right}
 use Rattle.lists.proofs.Tests.{same-or}

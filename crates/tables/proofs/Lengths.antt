@@ -1,8 +1,5 @@
 -- A row and a parent for each node, a row for each property and for each value. Assumes nothing.
-use Prim.Native.Nat.{ℕ, suc, _+_}
-use mathlib.Core.List.{List, [], _∷_}
-use mathlib.Core.Path.{_≡_, refl, ap}
-use lib.ListN.{length}
+use Rattle.lists.proofs.Prelude.{ℕ, suc, _+_, List, [], _∷_, _≡_, refl, ap, length}
 use Rattle.lexer.specs.Token.{Prop, Val}
 use Rattle.tables.specs.Record.{Node}
 use Rattle.tables.specs.Rows.{nodeRows, parents, propRows, valRows}

@@ -1,14 +1,6 @@
 -- The links of the nodes, by one pass from the back. Assumes nothing.
-use mathlib.Core.Path.{_≡_, refl, sym, _∙_, subst}
-use mathlib.Core.List.{List}
-use Prim.Native.Nat.{ℕ, suc, _+_, _-_, _*_, _≤_, _<_}
-use native.Mathlib.Omega.{arith}
-use lib.Dec.{eqb}
-use borrow.Author.Tests.{eq-eqb, ne-eqb, lt-ltb, le-ltb}
-use lib.ListN.{length, getD, set, length-set}
-use lib.Seq.{getD-set-same, getD-set-other}
+use Rattle.lists.proofs.Prelude.{_≡_, refl, sym, _∙_, subst, List, ℕ, suc, _+_, _-_, _*_, _≤_, _<_, arith, eqb, eq-eqb, ne-eqb, lt-ltb, le-ltb, length, getD, set, length-set, getD-set-same, getD-set-other, pick}
 use Rattle.lists.proofs.Tests.{same-or}
-use Rattle.lists.specs.Pick.{pick}
 use Rattle.tables.specs.Numbers.{none}
 use Rattle.tables.specs.Columns.{parentAt, childAt}
 use Rattle.tables.specs.Links.{least, LinkedFrom, HasRows, LinksIs}

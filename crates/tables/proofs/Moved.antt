@@ -1,8 +1,5 @@
 -- The rows of trees whose places are moved: the rows, with their places moved. Assumes nothing.
-use mathlib.Core.Path.{_≡_, refl}
-use Prim.Native.Nat.{ℕ, suc, _+_}
-use mathlib.Core.List.{List, [], _∷_, map, map-append}
-use lib.ListN.{length, length-map}
+use Rattle.lists.proofs.Prelude.{_≡_, refl, ℕ, suc, _+_, List, [], _∷_, map, map-append, length, length-map}
 use Rattle.lexer.specs.Move.{moveProp, moveVal}
 use Rattle.lexer.specs.Token.{Prop, Val}
 use Rattle.tables.specs.Move.{moveProps, moveVals, moveNode, moveTables, moveTree}

@@ -1,14 +1,5 @@
 -- No second answer: of each public function, two answers that meet its contract are equal. Assumes nothing.
-use mathlib.Core.Path.{_≡_, refl, sym, _∙_}
-use mathlib.Core.List.{List}
-use Prim.Native.Nat.{ℕ, _+_, _*_, _/_, _%_, _<_}
-use mathlib.Core.Bool.{Bool, true, false}
-use native.Mathlib.Omega.{arith}
-use native.Mathlib.Nat.{div-add-mod', mod-lt}
-use lib.Dec.{leb, ltb, eqb}
-use lib.ListN.{length, getD}
-use lib.Seq.{ext-getD}
-use borrow.Author.Tests.{leb-true, leb-false, ltb-true, ltb-false, eqb-true, eqb-false}
+use Rattle.lists.proofs.Prelude.{_≡_, refl, sym, _∙_, List, ℕ, _+_, _*_, _/_, _%_, _<_, Bool, true, false, arith, div-add-mod', mod-lt, leb, ltb, eqb, length, getD, ext-getD, leb-true, leb-false, ltb-true, ltb-false, eqb-true, eqb-false}
 use Rattle.lists.specs.Once.{Once}
 use Rattle.lists.proofs.Once.{once-is}
 use Rattle.lexer.specs.declared.Fault.{Fault}

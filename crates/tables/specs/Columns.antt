@@ -1,7 +1,5 @@
 -- The cells of the four lent tables: the numbers of the rows stand one behind the other, 2 for a tree, 5 for a node, 4 for a property, 2 for a value.
-use Prim.Native.Nat.{ℕ, _+_, _*_}
-use mathlib.Core.List.{List}
-use lib.ListN.{getD}
+use Rattle.lists.specs.Prelude.{ℕ, _+_, _*_, List, getD}
 
 -- tree k: its root node
 abbrev pub rootAt : List ℕ → ℕ → ℕ

@@ -1,7 +1,5 @@
 -- Tests and values over a run of numbers.
-use Prim.Native.Nat.{ℕ, zero, suc, _+_}
-use mathlib.Core.Bool.{Bool, true, _&&_}
-use mathlib.Core.List.{List, [], _∷_}
+use Rattle.lists.specs.Prelude.{ℕ, zero, suc, _+_, Bool, true, _&&_, List, [], _∷_}
 
 -- each number below n passes
 unfoldable pub each : ℕ → (ℕ → Bool) → Bool

@@ -1,7 +1,5 @@
 -- The tables as they are lent: the numbers of the rows, one behind the other.
-use Prim.Native.Nat.{ℕ}
-use mathlib.Core.List.{List, [], _∷_, _++_}
-use lib.ListN.{length, drop}
+use Rattle.lists.specs.Prelude.{ℕ, List, [], _∷_, _++_, length, drop}
 use Rattle.tables.specs.Rows.{TreeRow, NodeRow, PropRow, ValRow}
 
 -- root, game type

@@ -1,10 +1,5 @@
 -- First children and next siblings in the node table, as the parents say.
-use mathlib.Core.Path.{_≡_}
-use mathlib.Core.List.{List}
-use Prim.Native.Nat.{ℕ, zero, suc, _+_, _-_, _*_, _/_, _≤_, _<_}
-use lib.Dec.{ltb, eqb}
-use lib.ListN.{length, getD}
-use Rattle.lists.specs.Pick.{pick}
+use Rattle.lists.specs.Prelude.{_≡_, List, ℕ, zero, suc, _+_, _-_, _*_, _/_, _≤_, _<_, ltb, eqb, length, getD, pick}
 use Rattle.tables.specs.Columns.{parentAt, childAt}
 use Rattle.tables.specs.Numbers.{none}
 

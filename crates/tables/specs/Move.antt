@@ -1,6 +1,5 @@
 -- Records and rows with their places moved, as an edit of a value moves them.
-use Prim.Native.Nat.{ℕ}
-use mathlib.Core.List.{List, map}
+use Rattle.lists.specs.Prelude.{ℕ, List, map}
 use Rattle.lexer.specs.Move.{moveProp}
 use Rattle.tables.specs.Record.{Node, Tree}
 use Rattle.tables.specs.Rows.{Tables, PropRow, ValRow}

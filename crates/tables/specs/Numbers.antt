@@ -1,5 +1,5 @@
 -- The limits, "none", and the numbers given back.
-use Prim.Native.Nat.{ℕ}
+use Rattle.lists.specs.Prelude.{ℕ}
 use Rattle.lexer.specs.declared.Fault.{Fault}
 use Rattle.lexer.specs.declared.Fault.the-variants.{MissingPropertyIdentifier as no-identifier, UnexpectedEndOfPropertyIdentifier as foreign, UnexpectedEndOfPropertyValue as unclosed}
 use Rattle.tables.specs.declared.Reason.{Reason}

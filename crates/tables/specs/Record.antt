@@ -1,6 +1,5 @@
 -- A record: trees of nodes of properties of values, with names and raw values beside their places.
-use Prim.Native.Nat.{ℕ}
-use mathlib.Core.List.{List, [], _∷_, _++_}
+use Rattle.lists.specs.Prelude.{ℕ, List, [], _∷_, _++_}
 use Rattle.lexer.specs.Token.{Val, Prop}
 
 -- a node: the number of its parent or none, and its properties

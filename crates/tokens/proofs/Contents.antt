@@ -1,10 +1,5 @@
 -- What a token says is what stands at its places: an identifier and a value are the bytes between their places. Assumes nothing.
-use mathlib.Core.Path.{_≡_, sym, ap, _∙_}
-use Prim.Native.Nat.{ℕ, suc, _≤_}
-use native.Mathlib.Omega.{arith}
-use mathlib.Core.List.{List, [], _∷_, _++_}
-use lib.ListN.{take, drop}
-use lib.Seq.{slice, slice-empty}
+use Rattle.lists.proofs.Prelude.{_≡_, sym, ap, _∙_, ℕ, suc, _≤_, arith, List, [], _∷_, _++_, take, drop, slice, slice-empty}
 use Rattle.lists.specs.All.{All}
 use Rattle.lists.proofs.All.{all-append}
 use Rattle.lists.proofs.Places.{at-place, slice-snoc, part-begins}

@@ -1,9 +1,5 @@
 -- Numbers 3, 4 and 5: the first token from a place on that is at fault, and its start. Assumes nothing.
-use Prim.Native.Nat.{ℕ, zero, suc, _<_, _-_}
-use mathlib.Core.Path.{_≡_, refl, sym, ap, _∙_, subst}
-use mathlib.Core.List.{List}
-use native.Mathlib.Omega.{arith}
-use lib.ListN.{length}
+use Rattle.lists.proofs.Prelude.{ℕ, zero, suc, _<_, _-_, _≡_, refl, sym, ap, _∙_, subst, List, arith, length}
 use Rattle.lexer.specs.Token.{Lexed, done, broken, lexAt}
 use Rattle.lexer.specs.Step.{nextAt, behind, stepOn}
 use Rattle.lists.proofs.Tests.{never}

@@ -1,12 +1,6 @@
 -- Where a value of the tokens stands in the text: the state before it, and what it is. Assumes nothing.
-use mathlib.Core.Path.{_≡_, refl, sym, ap, _∙_}
-use mathlib.Core.Logic.{_⊎_, inl, inr}
-use Prim.Native.Nat.{ℕ, suc, _+_, _-_}
-use native.Mathlib.Omega.{arith}
+use Rattle.lists.proofs.Prelude.{_≡_, refl, sym, ap, _∙_, _⊎_, inl, inr, ℕ, suc, _+_, _-_, arith, true, false, List, [], _∷_, _++_, append-assoc, length, getD}
 use native.Mathlib.Decide.{ℕ-discrete}
-use mathlib.Core.Bool.{true, false}
-use mathlib.Core.List.{List, [], _∷_, _++_, append-assoc}
-use lib.ListN.{length, getD}
 use Rattle.lists.specs.All.{All}
 use Rattle.lists.proofs.All.{all-append, all-map}
 use Rattle.utf8.proofs.Steps.{place, place-is}

@@ -1,10 +1,5 @@
 -- What holds of the machine's states all along, and so of every property that comes out: one law for any such fact. Assumes nothing.
-use mathlib.Core.Path.{_≡_, refl}
-use Prim.Native.Nat.{ℕ, suc}
-use mathlib.Core.Bool.{Bool, true, false}
-use mathlib.Core.List.{List, [], _∷_, _++_}
-use lib.Dec.{leb, eqb}
-use borrow.Author.Tests.{eqb-true, eqb-false}
+use Rattle.lists.proofs.Prelude.{_≡_, refl, ℕ, suc, Bool, true, false, List, [], _∷_, _++_, leb, eqb, eqb-true, eqb-false}
 use Rattle.lists.specs.All.{All}
 use Rattle.lists.proofs.All.{all-append}
 use Rattle.utf8.proofs.Steps.{place}

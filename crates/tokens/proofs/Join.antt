@@ -1,14 +1,5 @@
 -- The steps and the machine: what the machine gives from a place on is the next token, then what it gives from behind that. Assumes nothing.
-use Prim.Native.Nat.{ℕ, zero, suc, _+_, _≤_, _<_, _-_}
-use mathlib.Core.Path.{_≡_, refl, sym, ap, _∙_}
-use mathlib.Core.Bool.{Bool, true, false}
-use mathlib.Core.List.{List, [], _∷_, _++_, append-assoc, append-nil}
-use native.Mathlib.Omega.{arith}
-use native.Mathlib.Numerals.{add-one}
-use lib.ListN.{length, drop, getD}
-use lib.Seq.{slice, slice-empty}
-use lib.Dec.{eqb, ltb}
-use borrow.Author.Tests.{ne-eqb, eq-eqb, eqb-true, eqb-false, ltb-true, ltb-false}
+use Rattle.lists.proofs.Prelude.{ℕ, zero, suc, _+_, _≤_, _<_, _-_, _≡_, refl, sym, ap, _∙_, Bool, true, false, List, [], _∷_, _++_, append-assoc, append-nil, arith, add-one, length, drop, getD, slice, slice-empty, eqb, ltb, ne-eqb, eq-eqb, eqb-true, eqb-false, ltb-true, ltb-false}
 use Rattle.lists.proofs.Pick.{pick-elim}
 use Rattle.lexer.specs.Token.{Val, Tok, start, end, node, prop, between, ident, value, after, Out, silent, step, Lexed, lexed, lexAt, done, broken}
 use Rattle.scan.specs.Scan.{space, skipAt, identAt, valuesAt}

@@ -1,9 +1,5 @@
 -- UTF-8 and trimming after an edit: another well-formed text in the place of one that stands between `[` and `]`. Assumes nothing.
-use mathlib.Core.Path.{_≡_, refl, ap, _∙_}
-use Prim.Native.Nat.{ℕ, suc, _+_, _≤_}
-use native.Mathlib.Omega.{arith}
-use mathlib.Core.List.{List, _∷_, _++_}
-use lib.ListN.{length}
+use Rattle.lists.proofs.Prelude.{_≡_, refl, ap, _∙_, ℕ, suc, _+_, _≤_, arith, List, _∷_, _++_, length}
 use Rattle.chars.specs.White.{white}
 use Rattle.utf8.specs.Text.{Ink, blank, inked, Utf, whole, utf, utfs}
 use Rattle.utf8.proofs.Steps.{place, place-is, utfs-append}

@@ -1,9 +1,5 @@
 -- What the layers above may cite of the tokens: each law is stated here and proved elsewhere in this crate. Assumes nothing.
-use mathlib.Core.Path.{_≡_}
-use Prim.Native.Nat.{ℕ, _≤_}
-use mathlib.Core.Bool.{true, false}
-use mathlib.Core.List.{List, [], _∷_, _++_}
-use lib.ListN.{length, take, drop}
+use Rattle.lists.proofs.Prelude.{_≡_, ℕ, _≤_, true, false, List, [], _∷_, _++_, length, take, drop}
 use Rattle.lists.specs.All.{All}
 use Rattle.utf8.specs.Text.{Ink, blank, whole, utfs}
 use Rattle.utf8.proofs.Steps.{place}

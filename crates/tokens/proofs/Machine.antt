@@ -1,9 +1,5 @@
 -- The token machine over joined texts, and over a closed text within a value. Assumes nothing.
-use mathlib.Core.Path.{_≡_, refl, sym, ap, _∙_}
-use Prim.Native.Nat.{ℕ, suc}
-use mathlib.Core.Bool.{Bool, true, false, not, _&&_, false≢true}
-use mathlib.Core.List.{List, [], _∷_, _++_, append-assoc, append-nil}
-use lib.Dec.{eqb}
+use Rattle.lists.proofs.Prelude.{_≡_, refl, sym, ap, _∙_, ℕ, suc, Bool, true, false, not, _&&_, false≢true, List, [], _∷_, _++_, append-assoc, append-nil, eqb}
 use Rattle.utf8.proofs.Steps.{place}
 use Rattle.lexer.specs.Token.{Val, Prop, Tok, St, value, after, values, step, emits, ends}
 use Rattle.lexer.specs.Closed.{closedFrom}

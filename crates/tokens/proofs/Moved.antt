@@ -1,10 +1,5 @@
 -- Places moved: bytes at places that are moved evenly give the same tokens, with their places moved. Assumes nothing.
-use mathlib.Core.Path.{_≡_, refl, sym, ap, _∙_}
-use Prim.Native.Nat.{ℕ, suc, _≤_, _<_}
-use native.Mathlib.Omega.{arith}
-use mathlib.Core.Bool.{Bool, true, false}
-use mathlib.Core.List.{List, [], _∷_, _++_, map, map-append}
-use lib.Dec.{leb, eqb}
+use Rattle.lists.proofs.Prelude.{_≡_, refl, sym, ap, _∙_, ℕ, suc, _≤_, _<_, arith, Bool, true, false, List, [], _∷_, _++_, map, map-append, leb, eqb}
 use Rattle.utf8.proofs.Steps.{place, place-is}
 use Rattle.lexer.specs.Token.{Val, Prop, Tok, end, St, between, ident, value, after, fault, Out, silent, starts, begins, values, afters, step, emits, ends, finish, Lexed, End, done, broken}
 use Rattle.scan.specs.Scan.{space}

@@ -1,13 +1,5 @@
 -- What the tokens of a valid text are: each property has a value, and each value is closed and valid UTF-8 by itself. Assumes nothing.
-use mathlib.Core.Path.{_≡_, refl, sym, ap, _∙_, subst}
-use Prim.Native.Nat.{ℕ, suc, _<_}
-use native.Mathlib.Omega.{arith}
-use mathlib.Core.Bool.{Bool, true, false}
-use mathlib.Core.List.{List, [], _∷_, _++_, append-assoc, append-nil}
-use lib.Dec.{eqb}
-use lib.ListN.{length, take, drop, length-append, take-append-drop}
-use lib.Seq.{take-suc, length-take-le}
-use borrow.Author.Tests.{ne-eqb}
+use Rattle.lists.proofs.Prelude.{_≡_, refl, sym, ap, _∙_, subst, ℕ, suc, _<_, arith, Bool, true, false, List, [], _∷_, _++_, append-assoc, append-nil, eqb, length, take, drop, length-append, take-append-drop, take-suc, length-take-le, ne-eqb}
 use Rattle.lists.specs.All.{All}
 use Rattle.lists.proofs.All.{all-append}
 use Rattle.lists.proofs.Places.{at-place, part-begins}

@@ -1,11 +1,5 @@
 -- Another closed text in the place of a value: the same tokens, with their places moved. Assumes nothing.
-use mathlib.Core.Path.{_≡_, refl, sym, ap, _∙_}
-use Prim.Native.Nat.{ℕ, suc, _+_, _≤_, _<_, _-_}
-use native.Mathlib.Omega.{arith}
-use mathlib.Core.Bool.{true, false}
-use mathlib.Core.List.{List, [], _∷_, _++_, map, append-assoc, map-append}
-use lib.ListN.{length}
-use borrow.Author.Tests.{le-leb, lt-leb, lt-ltb, le-ltb, eq-eqb, ne-eqb}
+use Rattle.lists.proofs.Prelude.{_≡_, refl, sym, ap, _∙_, ℕ, suc, _+_, _≤_, _<_, _-_, arith, true, false, List, [], _∷_, _++_, map, append-assoc, map-append, length, le-leb, lt-leb, lt-ltb, le-ltb, eq-eqb, ne-eqb}
 use Rattle.utf8.proofs.Steps.{place, place-is}
 use Rattle.lexer.specs.Token.{Val, Prop, between, value, after, emits, ends, finish, lexFrom}
 use Rattle.lexer.specs.Closed.{closedFrom}

@@ -1,15 +1,5 @@
 -- The scans and the machine: what the machine gives from within an identifier, from within a value and in white space is what the scan finds. Assumes nothing.
-use Prim.Native.Nat.{ℕ, suc, _+_, _≤_, _<_}
-use mathlib.Core.Path.{_≡_, refl, sym, ap, _∙_}
-use mathlib.Core.Bool.{Bool, true, false, false≢true}
-use mathlib.Core.List.{List, [], _∷_, _++_, append-assoc}
-use native.Mathlib.Omega.{arith}
-use native.Mathlib.Numerals.{add-one}
-use lib.ListN.{length, drop, getD, length-drop, drop-of-length-le, List·getD-eq-default}
-use lib.Seq.{slice, drop-cons}
-use lib.Dec.{eqb, leb}
-use borrow.Author.Tests.{ne-eqb}
-use Rattle.lists.specs.Pick.{pick}
+use Rattle.lists.proofs.Prelude.{ℕ, suc, _+_, _≤_, _<_, _≡_, refl, sym, ap, _∙_, Bool, true, false, false≢true, List, [], _∷_, _++_, append-assoc, arith, add-one, length, drop, getD, length-drop, drop-of-length-le, List·getD-eq-default, slice, drop-cons, eqb, leb, ne-eqb, pick}
 use Rattle.lists.proofs.Places.{at-place, slice-snoc}
 use Rattle.lexer.specs.Token.{Val, Prop, Tok, St, between, ident, value, after, fault, Out, silent, starts, begins, values, afters, step, emits, ends, finish, Lexed, lexed, broken}
 use Rattle.scan.specs.Scan.{space, skipFrom, skipAt, identFrom}

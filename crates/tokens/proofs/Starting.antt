@@ -1,13 +1,5 @@
 -- A value from its start on: facts of every value that could start, how far it is read, and where it closes. Assumes nothing.
-use mathlib.Core.Path.{_≡_, refl, ap, _∙_}
-use mathlib.Core.Logic.{_⊎_, inl, inr}
-use Prim.Native.Nat.{ℕ, suc, _+_, _≤_, _<_, _-_}
-use native.Mathlib.Omega.{arith}
-use mathlib.Core.Bool.{Bool, true, false}
-use mathlib.Core.List.{List, [], _∷_, _++_}
-use lib.Dec.{eqb}
-use lib.ListN.{length, getD, length-append}
-use borrow.Author.Tests.{eqb-true}
+use Rattle.lists.proofs.Prelude.{_≡_, refl, ap, _∙_, _⊎_, inl, inr, ℕ, suc, _+_, _≤_, _<_, _-_, arith, Bool, true, false, List, [], _∷_, _++_, eqb, length, getD, length-append, eqb-true}
 use Rattle.lists.specs.All.{All}
 use Rattle.lists.proofs.All.{all-append}
 use Rattle.utf8.proofs.Steps.{place, place-is}

@@ -1,12 +1,5 @@
 -- What the walk makes of what the next token asks for. Assumes nothing.
-use Prim.Native.Nat.{ℕ, _≤_}
-use mathlib.Core.Path.{_≡_, refl, sym, ap, _∙_, subst⁻¹}
-use mathlib.Core.Bool.{Bool, true, false, _||_, _&&_}
-use mathlib.Core.List.{List}
-use native.Mathlib.Omega.{arith}
-use lib.Dec.{eqb}
-use lib.Seq.{slice}
-use borrow.Author.Tests.{eqb-true, eqb-false, le-leb}
+use Rattle.lists.proofs.Prelude.{ℕ, _≤_, _≡_, refl, sym, ap, _∙_, subst⁻¹, Bool, true, false, _||_, _&&_, List, arith, eqb, slice, eqb-true, eqb-false, le-leb}
 use Rattle.lists.proofs.Pick.{pick-elim}
 use Rattle.lexer.specs.Token.{done, lexAt}
 use Rattle.scan.specs.Scan.{valuesAt}

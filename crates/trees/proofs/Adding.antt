@@ -1,12 +1,5 @@
 -- A turn of the walk at a property: added, dropped, or the tree stops. Assumes nothing.
-use Prim.Native.Nat.{ℕ, _+_, _≤_, _<_}
-use mathlib.Core.Path.{_≡_, refl, sym, ap, _∙_, subst, subst⁻¹}
-use mathlib.Core.Bool.{Bool, true, false, _||_}
-use mathlib.Core.List.{List, [], _∷_, _++_, reverse, reverse-cons}
-use native.Mathlib.Omega.{arith}
-use lib.ListN.{length}
-use lib.Seq.{slice}
-use Rattle.lists.specs.Pick.{pick}
+use Rattle.lists.proofs.Prelude.{ℕ, _+_, _≤_, _<_, _≡_, refl, sym, ap, _∙_, subst, subst⁻¹, Bool, true, false, _||_, List, [], _∷_, _++_, reverse, reverse-cons, arith, length, slice, pick}
 use Rattle.lists.proofs.Tests.{never}
 use Rattle.lexer.specs.Token.{prop, lexed, lexAt}
 use Rattle.scan.specs.Scan.{valuesAt}

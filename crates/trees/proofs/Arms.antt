@@ -1,12 +1,5 @@
 -- A turn of the walk at a start, an end, a node. Assumes nothing.
-use Prim.Native.Nat.{ℕ, suc, _+_, _-_, _*_, _≤_, _<_}
-use mathlib.Core.Path.{_≡_, refl, sym, ap, _∙_, subst, subst⁻¹}
-use mathlib.Core.Bool.{Bool, true, false, false≢true}
-use mathlib.Core.List.{List, [], _∷_, reverse, reverse-cons}
-use native.Mathlib.Omega.{arith}
-use native.Mathlib.Numerals.{add-one}
-use lib.ListN.{length, getD, set, length-set}
-use Rattle.lists.specs.Pick.{pick}
+use Rattle.lists.proofs.Prelude.{ℕ, suc, _+_, _-_, _*_, _≤_, _<_, _≡_, refl, sym, ap, _∙_, subst, subst⁻¹, Bool, true, false, false≢true, List, [], _∷_, reverse, reverse-cons, arith, add-one, length, getD, set, length-set, pick}
 use Rattle.lists.specs.Put.{PutIs}
 use Rattle.lexer.specs.Token.{lexAt}
 use Rattle.lexer.specs.Step.{headAt}

@@ -1,10 +1,5 @@
 -- The slice that is left, one token a turn: its tokens, those behind it, and how deep it goes. Assumes nothing.
-use Prim.Native.Nat.{ℕ, zero, suc, _+_, _-_, _≤_, _<_}
-use mathlib.Core.Path.{_≡_, refl, sym, ap, _∙_, subst, subst⁻¹}
-use mathlib.Core.List.{List, [], _∷_}
-use native.Mathlib.Omega.{arith}
-use native.Mathlib.Numerals.{add-one}
-use lib.ListN.{length}
+use Rattle.lists.proofs.Prelude.{ℕ, zero, suc, _+_, _-_, _≤_, _<_, _≡_, refl, sym, ap, _∙_, subst, subst⁻¹, List, [], _∷_, arith, add-one, length}
 use Rattle.lexer.specs.Token.{Prop, Tok, start, end, node, prop, Lexed, lexed, lexAt}
 use Rattle.parser.specs.Slice.{sliceFrom, restFrom, Shallow}
 use Rattle.trees.specs.Turns.{BehindIs}

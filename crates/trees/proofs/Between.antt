@@ -1,10 +1,5 @@
 -- Slice after slice: what holds between two walks. Assumes nothing.
-use Prim.Native.Nat.{ℕ, suc, _+_, _≤_}
-use mathlib.Core.Path.{_≡_, _∙_, subst}
-use mathlib.Core.Bool.{false}
-use mathlib.Core.List.{List}
-use native.Mathlib.Omega.{arith}
-use lib.ListN.{length}
+use Rattle.lists.proofs.Prelude.{ℕ, suc, _+_, _≤_, _≡_, _∙_, subst, false, List, arith, length}
 use Rattle.lists.specs.All.{All}
 use Rattle.lexer.specs.Token.{Tok, done, lexAt}
 use Rattle.tables.specs.Numbers.{textLimit}

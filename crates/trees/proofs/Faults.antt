@@ -1,8 +1,5 @@
 -- A property that a value leaves open: no token. Assumes nothing.
-use Prim.Native.Nat.{ℕ}
-use mathlib.Core.Path.{_≡_, refl, sym, ap, _∙_}
-use mathlib.Core.Bool.{Bool, true, false, false≢true}
-use mathlib.Core.List.{List, []}
+use Rattle.lists.proofs.Prelude.{ℕ, _≡_, refl, sym, ap, _∙_, Bool, true, false, false≢true, List, []}
 use Rattle.lexer.specs.Token.{done, broken, Lexed, lexAt}
 use Rattle.scan.specs.Scan.{valuesAt}
 use Rattle.close.specs.declared.Close.{Close}

@@ -1,9 +1,5 @@
 -- The numbers of rows: of joined lists, and how many there are. Assumes nothing.
-use Prim.Native.Nat.{ℕ, _+_, _*_}
-use mathlib.Core.Path.{_≡_, refl, sym, ap, _∙_}
-use mathlib.Core.List.{List, [], _∷_, _++_, append-assoc}
-use native.Mathlib.Omega.{arith}
-use lib.ListN.{length, length-append}
+use Rattle.lists.proofs.Prelude.{ℕ, _+_, _*_, _≡_, refl, sym, ap, _∙_, List, [], _∷_, _++_, append-assoc, arith, length, length-append}
 use Rattle.lexer.specs.Token.{Val, Prop}
 use Rattle.tables.specs.Numbers.{none}
 use Rattle.tables.specs.Record.{Node, allProps, allVals}

@@ -1,12 +1,5 @@
 -- What the walk gives back: a tree, its empty root, or a refusal. Assumes nothing.
-use Prim.Native.Nat.{ℕ, zero, suc, _+_, _*_, _<_}
-use mathlib.Core.Path.{_≡_, refl, sym, ap, _∙_, subst, subst⁻¹}
-use mathlib.Core.Bool.{Bool, true, false}
-use mathlib.Core.List.{List, [], _∷_, reverse}
-use native.Mathlib.Omega.{arith}
-use lib.ListN.{length, length-reverse}
-use lib.Dec.{eqb}
-use borrow.Author.Tests.{eqb-true, eqb-false}
+use Rattle.lists.proofs.Prelude.{ℕ, zero, suc, _+_, _*_, _<_, _≡_, refl, sym, ap, _∙_, subst, subst⁻¹, Bool, true, false, List, [], _∷_, reverse, arith, length, length-reverse, eqb, eqb-true, eqb-false}
 use Rattle.lists.specs.Put.{PutIs}
 use Rattle.lexer.specs.Token.{Tok, Lexed, lexAt}
 use Rattle.lexer.specs.Step.{headAt}

@@ -1,14 +1,5 @@
 -- When the list of an open node is empty: node p on the stack has children exactly where node p + 1 exists. Assumes nothing.
-use Prim.Native.Nat.{ℕ, suc, _+_, _≤_, _<_}
-use mathlib.Core.Path.{_≡_, refl, sym, ap, _∙_, subst}
-use mathlib.Core.Logic.{_⊎_, inl, inr}
-use mathlib.Core.Bool.{Bool, true, false, _||_}
-use mathlib.Core.List.{List, [], _∷_}
-use native.Mathlib.Omega.{arith}
-use lib.ListN.{length}
-use lib.Dec.{eqb, ltb}
-use borrow.Author.Tests.{eq-eqb, ne-eqb, lt-ltb, le-ltb, ltb-true}
-use Rattle.lists.specs.Pick.{pick}
+use Rattle.lists.proofs.Prelude.{ℕ, suc, _+_, _≤_, _<_, _≡_, refl, sym, ap, _∙_, subst, _⊎_, inl, inr, Bool, true, false, _||_, List, [], _∷_, arith, length, eqb, ltb, eq-eqb, ne-eqb, lt-ltb, le-ltb, ltb-true, pick}
 use Rattle.lexer.specs.Token.{Prop}
 use Rattle.tables.specs.Numbers.{none}
 use Rattle.tables.specs.Record.{Node}

@@ -1,7 +1,5 @@
 -- A token that was met, and what is left behind it. Assumes nothing.
-use Prim.Native.Nat.{ℕ}
-use mathlib.Core.Path.{_≡_, ap, _∙_, subst}
-use mathlib.Core.List.{List}
+use Rattle.lists.proofs.Prelude.{ℕ, _≡_, ap, _∙_, subst, List}
 use Rattle.lexer.specs.Token.{lexAt}
 use Rattle.scan.specs.Scan.{valuesAt}
 use Rattle.lexer.specs.Step.{headAt, onValues, onHead, nextAt, stepOn}

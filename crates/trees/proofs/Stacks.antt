@@ -1,11 +1,5 @@
 -- A push onto the stack in an array. Assumes nothing.
-use Prim.Native.Nat.{ℕ, zero, suc, _+_, _≤_, _<_}
-use mathlib.Core.Path.{_≡_, refl}
-use mathlib.Core.List.{List, _∷_}
-use native.Mathlib.Omega.{arith}
-use native.Mathlib.Numerals.{add-one}
-use lib.ListN.{length, set}
-use lib.Seq.{getD-set-same, getD-set-other}
+use Rattle.lists.proofs.Prelude.{ℕ, zero, suc, _+_, _≤_, _<_, _≡_, refl, List, _∷_, arith, add-one, length, set, getD-set-same, getD-set-other}
 use Rattle.look.specs.Asks.{stackOf}
 
 stack-over : (a : List ℕ) (d k v : ℕ) → d ≤ k → stackOf (set a k v) d ≡ stackOf a d

@@ -1,9 +1,5 @@
 -- Nodes in the tables: none, one more, one more property, and nodes behind nodes. Assumes nothing.
-use Prim.Native.Nat.{ℕ, _+_, _-_, _*_}
-use mathlib.Core.Path.{_≡_, refl, sym, ap, _∙_, subst}
-use mathlib.Core.List.{List, [], _∷_, _++_, append-assoc, append-nil}
-use native.Mathlib.Omega.{arith}
-use lib.ListN.{length, length-append}
+use Rattle.lists.proofs.Prelude.{ℕ, _+_, _-_, _*_, _≡_, refl, sym, ap, _∙_, subst, List, [], _∷_, _++_, append-assoc, append-nil, arith, length, length-append}
 use Rattle.lists.specs.Put.{PutIs}
 use Rattle.lists.proofs.Put.{put-none, put-more, put-last}
 use Rattle.lexer.specs.Token.{Val, Prop}

@@ -1,10 +1,5 @@
 -- The values of a property, one a turn. Assumes nothing.
-use Prim.Native.Nat.{ℕ, _+_, _-_, _*_, _≤_}
-use mathlib.Core.Path.{_≡_, refl, sym, ap, _∙_, subst}
-use mathlib.Core.List.{List, [], _∷_, _++_, append-assoc, append-nil}
-use native.Mathlib.Omega.{arith}
-use lib.ListN.{length, length-append}
-use lib.Seq.{slice}
+use Rattle.lists.proofs.Prelude.{ℕ, _+_, _-_, _*_, _≤_, _≡_, refl, sym, ap, _∙_, subst, List, [], _∷_, _++_, append-assoc, append-nil, arith, length, length-append, slice}
 use Rattle.lists.specs.Put.{PutIs}
 use Rattle.lists.proofs.Put.{put-none, put-more}
 use Rattle.lexer.specs.Token.{Val}

@@ -1,10 +1,5 @@
 -- The walk over the tokens of a slice: what holds between two tokens, and a start, an end, a node. Assumes nothing.
-use Prim.Native.Nat.{ℕ, suc, _+_, _≤_, _<_}
-use mathlib.Core.Path.{_≡_, refl, ap, _∙_, subst, subst⁻¹}
-use mathlib.Core.Bool.{Bool, true, false, false≢true}
-use mathlib.Core.List.{List, [], _∷_, reverse, reverse-cons}
-use native.Mathlib.Omega.{arith}
-use lib.ListN.{length, length-append, length-reverse}
+use Rattle.lists.proofs.Prelude.{ℕ, suc, _+_, _≤_, _<_, _≡_, refl, ap, _∙_, subst, subst⁻¹, Bool, true, false, false≢true, List, [], _∷_, reverse, reverse-cons, arith, length, length-append, length-reverse}
 use Rattle.lexer.specs.Token.{Tok, Lexed, lexAt}
 use Rattle.tables.specs.Numbers.{depthLimit}
 use Rattle.tables.specs.Record.{Node, allProps}

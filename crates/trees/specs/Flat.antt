@@ -1,7 +1,5 @@
 -- The rows of nodes before their links are made.
-use Prim.Native.Nat.{ℕ, _+_}
-use mathlib.Core.List.{List, [], _∷_}
-use lib.ListN.{length}
+use Rattle.lists.specs.Prelude.{ℕ, _+_, List, [], _∷_, length}
 use Rattle.tables.specs.Numbers.{none}
 use Rattle.tables.specs.Record.{Node}
 use Rattle.tables.specs.Rows.{NodeRow}

@@ -1,10 +1,5 @@
 -- What the steps of the walk do, in the code's own terms. Nothing public is stated by these.
-use Prim.Native.Nat.{ℕ, _+_, _-_, _*_, _≤_, _<_}
-use mathlib.Core.Path.{_≡_}
-use mathlib.Core.Bool.{Bool, true, false}
-use mathlib.Core.List.{List, [], _∷_}
-use lib.ListN.{length, getD}
-use lib.Dec.{eqb}
+use Rattle.lists.specs.Prelude.{ℕ, _+_, _-_, _*_, _≤_, _<_, _≡_, Bool, true, false, List, [], _∷_, length, getD, eqb}
 use Rattle.lists.specs.Put.{PutIs}
 use Rattle.lexer.specs.Token.{lexAt}
 use Rattle.scan.specs.Scan.{valuesAt}

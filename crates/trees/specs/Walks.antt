@@ -1,9 +1,5 @@
 -- The tree of one slice, read from the tokens from a place on.
-use Prim.Native.Nat.{ℕ, _+_, _*_, _≤_, _<_}
-use mathlib.Core.Path.{_≡_}
-use mathlib.Core.Bool.{Bool, false}
-use mathlib.Core.List.{List, [], _∷_}
-use lib.ListN.{length}
+use Rattle.lists.specs.Prelude.{ℕ, _+_, _*_, _≤_, _<_, _≡_, Bool, false, List, [], _∷_, length}
 use Rattle.lists.specs.Put.{PutIs}
 use Rattle.lexer.specs.Token.{Tok, done, lexAt}
 use Rattle.tables.specs.Numbers.{textLimit, none}

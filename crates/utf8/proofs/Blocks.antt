@@ -1,10 +1,5 @@
 -- ASCII bytes after ink, the last of them no white space: the ink ends behind them. Assumes nothing.
-use mathlib.Core.Path.{_≡_, refl, ap, _∙_}
-use Prim.Native.Nat.{ℕ, zero, suc, _+_, _≤_, _<_}
-use native.Mathlib.Omega.{arith}
-use mathlib.Core.Bool.{Bool, true, false}
-use mathlib.Core.List.{List}
-use lib.ListN.{length, drop, getD}
+use Rattle.lists.proofs.Prelude.{_≡_, refl, ap, _∙_, ℕ, zero, suc, _+_, _≤_, _<_, arith, Bool, true, false, List, length, drop, getD}
 use Rattle.chars.specs.White.{white}
 use Rattle.utf8.specs.Text.{Ink, inked, mark, whole, utfs}
 use Rattle.utf8.specs.Locals.{Plain}

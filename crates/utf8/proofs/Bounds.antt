@@ -1,8 +1,5 @@
 -- Where ink begins and ends, within the text. Assumes nothing.
-use Prim.Native.Nat.{ℕ, zero, suc, _+_, _-_, _*_, _≤_}
-use native.Mathlib.Omega.{arith}
-use mathlib.Core.Bool.{Bool, true, false}
-use mathlib.Core.List.{List, [], _∷_}
+use Rattle.lists.proofs.Prelude.{ℕ, zero, suc, _+_, _-_, _*_, _≤_, arith, Bool, true, false, List, [], _∷_}
 use Rattle.chars.specs.White.{white}
 use Rattle.utf8.specs.Text.{Ink, blank, inked, mark, holds, Utf, whole, part, bad, later, utf, utfs}
 use Rattle.utf8.proofs.Steps.{place, utf-both}

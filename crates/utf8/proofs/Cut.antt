@@ -1,13 +1,6 @@
 -- Where no sequence of table 3-7 begins, the machine says that this place is bad. Assumes nothing.
-use mathlib.Core.Path.{_≡_, refl, sym, ap, _∙_}
-use Prim.Native.Nat.{ℕ, zero, suc, _+_, _*_, _-_, _≤_}
-use native.Mathlib.Omega.{arith}
+use Rattle.lists.proofs.Prelude.{_≡_, refl, sym, ap, _∙_, ℕ, zero, suc, _+_, _*_, _-_, _≤_, arith, lt-of-not-le, Bool, true, false, true≢false, and-true, List, [], _∷_, leb, eqb, leb-true, eqb-true, eqb-false}
 use native.Mathlib.Decide.{decLe}
-use native.Mathlib.Nat.{lt-of-not-le}
-use mathlib.Core.Bool.{Bool, true, false, true≢false, and-true}
-use mathlib.Core.List.{List, [], _∷_}
-use lib.Dec.{leb, eqb}
-use borrow.Author.Tests.{leb-true, eqb-true, eqb-false}
 use Rattle.lists.specs.All.{All}
 use Rattle.utf8.specs.declared.Trimmed.the-variants.{NotUtf8}
 use Rattle.chars.specs.White.{within}

@@ -1,12 +1,5 @@
 -- The character at a place, and what the machine does with it. Assumes nothing.
-use mathlib.Core.Path.{_≡_, refl, _∙_}
-use Prim.Native.Nat.{ℕ, zero, suc, _+_, _≤_, _<_}
-use native.Mathlib.Omega.{arith}
-use mathlib.Core.Bool.{Bool, true, false}
-use mathlib.Core.List.{List, _∷_}
-use lib.ListN.{length, take, drop, getD, length-drop}
-use lib.Seq.{drop-drop}
-use Rattle.lists.specs.Pick.{pick}
+use Rattle.lists.proofs.Prelude.{_≡_, refl, _∙_, ℕ, zero, suc, _+_, _≤_, _<_, arith, Bool, true, false, List, _∷_, length, take, drop, getD, length-drop, drop-drop, pick}
 use Rattle.lists.proofs.Places.{drop-next}
 use Rattle.lists.proofs.Tests.{never}
 use Rattle.utf8.specs.declared.Trimmed.the-variants.{NotUtf8}

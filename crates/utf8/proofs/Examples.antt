@@ -1,7 +1,5 @@
 -- Texts and what trimming keeps of them, by computation. Assumes nothing.
-use mathlib.Core.Path.{_≡_, refl}
-use Prim.Native.Nat.{ℕ}
-use mathlib.Core.List.{List, [], _∷_, map}
+use Rattle.lists.proofs.Prelude.{_≡_, refl, ℕ, List, [], _∷_, map}
 use Rattle.utf8.specs.declared.Trimmed.{Trimmed}
 use Rattle.utf8.specs.declared.Trimmed.the-variants.{NotUtf8, Blank, Kept}
 use Rattle.chars.specs.White.{white}

@@ -1,10 +1,5 @@
 -- What trimming keeps is not empty and lies in the text; the start of a bad sequence does too. Assumes nothing.
-use mathlib.Core.Path.{_≡_, subst}
-use Prim.Native.Nat.{ℕ, zero, suc, _+_, _-_, _*_, _≤_, _<_}
-use native.Mathlib.Omega.{arith}
-use mathlib.Core.Bool.{Bool, true, false}
-use mathlib.Core.List.{List, [], _∷_}
-use lib.ListN.{length}
+use Rattle.lists.proofs.Prelude.{_≡_, subst, ℕ, zero, suc, _+_, _-_, _*_, _≤_, _<_, arith, Bool, true, false, List, [], _∷_, length}
 use Rattle.utf8.specs.declared.Trimmed.{Trimmed}
 use Rattle.utf8.specs.declared.Trimmed.the-variants.{NotUtf8, Blank, Kept}
 use Rattle.chars.specs.White.{white}

@@ -1,8 +1,5 @@
 -- Whether bytes are well formed depends neither on the place where they begin nor on the ink before them. Assumes nothing.
-use mathlib.Core.Path.{_≡_, refl, ap}
-use Prim.Native.Nat.{ℕ, zero, suc, _+_, _-_, _*_}
-use mathlib.Core.Bool.{Bool, true, false}
-use mathlib.Core.List.{List, [], _∷_}
+use Rattle.lists.proofs.Prelude.{_≡_, refl, ap, ℕ, zero, suc, _+_, _-_, _*_, Bool, true, false, List, [], _∷_}
 use Rattle.chars.specs.White.{white}
 use Rattle.utf8.specs.Text.{Ink, blank, inked, mark, holds, Utf, whole, part, bad, later, utf, utfs}
 use Rattle.utf8.proofs.Steps.{utf-both}

@@ -1,9 +1,5 @@
 -- Ink whose end moves with the places: the same bytes at moved places. Assumes nothing.
-use mathlib.Core.Path.{_≡_, refl}
-use Prim.Native.Nat.{ℕ, zero, suc, _+_, _-_, _*_, _≤_}
-use native.Mathlib.Omega.{arith}
-use mathlib.Core.Bool.{Bool, true, false}
-use mathlib.Core.List.{List, [], _∷_}
+use Rattle.lists.proofs.Prelude.{_≡_, refl, ℕ, zero, suc, _+_, _-_, _*_, _≤_, arith, Bool, true, false, List, [], _∷_}
 use Rattle.chars.specs.White.{white}
 use Rattle.utf8.specs.Text.{blank, inked, mark, holds, Utf, whole, part, bad, later, utf, utfs}
 use Rattle.utf8.proofs.Steps.{utf-both}

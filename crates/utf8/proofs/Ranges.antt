@@ -1,8 +1,5 @@
 -- The ranges of the machine and those of table 3-7. Assumes nothing.
-use mathlib.Core.Path.{_≡_, refl}
-use Prim.Native.Nat.{ℕ}
-use mathlib.Core.List.{List, _∷_}
-use lib.ListN.{replicate}
+use Rattle.lists.proofs.Prelude.{_≡_, refl, ℕ, List, _∷_, replicate}
 use Rattle.chars.specs.White.{within}
 use Rattle.utf8.specs.Text.{Range, any, from-a0, to-9f, from-90, to-8f, holds}
 use Rattle.chars.specs.Table.{Bytes, to}

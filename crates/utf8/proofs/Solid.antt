@@ -1,9 +1,5 @@
 -- An ASCII byte that is no white space, as `[` and `]`: it stands in no longer character, and the ink ends behind it. Assumes nothing.
-use mathlib.Core.Path.{_≡_, refl, sym, ap, _∙_}
-use Prim.Native.Nat.{ℕ, suc}
-use mathlib.Core.Bool.{true, false}
-use mathlib.Core.List.{List}
-use lib.Dec.{leb}
+use Rattle.lists.proofs.Prelude.{_≡_, refl, sym, ap, _∙_, ℕ, suc, true, false, List, leb}
 use Rattle.chars.specs.White.{white}
 use Rattle.utf8.specs.Text.{Ink, blank, inked, Range, any, from-a0, to-9f, from-90, to-8f, holds, Utf, whole, part, bad, utf, utfs}
 use Rattle.utf8.proofs.Steps.{utfs-bad, bad-whole}

@@ -1,11 +1,5 @@
 -- The machine over joined texts and after a bad byte; and the first byte of a character, all its ranges in one law. Assumes nothing.
-use mathlib.Core.Path.{_≡_, refl}
-use Prim.Native.Nat.{ℕ, suc, _+_}
-use native.Mathlib.Omega.{arith}
-use mathlib.Core.Bool.{Bool, true, false}
-use mathlib.Core.List.{List, [], _∷_, _++_}
-use lib.Dec.{leb, eqb}
-use lib.ListN.{length}
+use Rattle.lists.proofs.Prelude.{_≡_, refl, ℕ, suc, _+_, arith, Bool, true, false, List, [], _∷_, _++_, leb, eqb, length}
 use Rattle.lists.proofs.Tests.{never}
 use Rattle.chars.specs.White.{within, white}
 use Rattle.utf8.specs.Text.{Ink, mark, Range, Utf, whole, part, bad, first, utf, utfs}

@@ -1,13 +1,5 @@
 -- From a place between characters the machine takes a sequence of table 3-7 whole. Assumes nothing.
-use mathlib.Core.Path.{_≡_, refl, ap, _∙_, subst}
-use Prim.Native.Nat.{ℕ, zero, suc, _+_, _*_, _-_, _≤_}
-use native.Mathlib.Omega.{arith}
-use native.Mathlib.Numerals.{add-one}
-use mathlib.Core.Bool.{Bool, true, false, false≢true}
-use mathlib.Core.List.{List, [], _∷_}
-use lib.ListN.{length, take, drop, length-replicate}
-use lib.Seq.{length-take-le}
-use borrow.Author.Tests.{lt-leb, le-leb, ne-eqb}
+use Rattle.lists.proofs.Prelude.{_≡_, refl, ap, _∙_, subst, ℕ, zero, suc, _+_, _*_, _-_, _≤_, arith, add-one, Bool, true, false, false≢true, List, [], _∷_, length, take, drop, length-replicate, length-take-le, lt-leb, le-leb, ne-eqb}
 use Rattle.chars.specs.White.{white}
 use Rattle.utf8.specs.Text.{Ink, mark, Range, any, from-a0, to-9f, from-90, to-8f, Utf, whole, part, later, utf, utfs}
 use Rattle.chars.specs.Table.{to, table, fits, listed, base, bits, scalar}

@@ -1,11 +1,5 @@
 -- The turns of the loop of `trim`: what the machine gives from here, as from the start. Assumes nothing.
-use mathlib.Core.Path.{_≡_, refl, sym, ap, _∙_}
-use Prim.Native.Nat.{ℕ, _+_, _-_, _≤_, _<_}
-use native.Mathlib.Omega.{arith}
-use mathlib.Core.Bool.{Bool, true, false}
-use mathlib.Core.List.{List}
-use lib.ListN.{length, drop, getD, drop-of-length-le}
-use borrow.Author.Tests.{eq-eqb, ne-eqb}
+use Rattle.lists.proofs.Prelude.{_≡_, refl, sym, ap, _∙_, ℕ, _+_, _-_, _≤_, _<_, arith, Bool, true, false, List, length, drop, getD, drop-of-length-le, eq-eqb, ne-eqb}
 use Rattle.utf8.specs.declared.Trimmed.the-variants.{NotUtf8, Blank, Kept}
 use Rattle.chars.specs.declared.Decoded.the-variants.{Character, Bad}
 use Rattle.utf8.specs.declared.Seen.{Seen}

@@ -1,7 +1,5 @@
 -- `trim` has no second answer. Assumes nothing.
-use mathlib.Core.Path.{_≡_}
-use Prim.Native.Nat.{ℕ}
-use mathlib.Core.List.{List}
+use Rattle.lists.proofs.Prelude.{_≡_, ℕ, List}
 use Rattle.lists.specs.Once.{Once}
 use Rattle.lists.proofs.Once.{once-is}
 use Rattle.utf8.specs.declared.Trimmed.{Trimmed}

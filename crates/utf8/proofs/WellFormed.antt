@@ -1,12 +1,5 @@
 -- What trimming refuses, and where, is what table 3-7 says: in both directions, with no word of the machine. Assumes nothing.
-use mathlib.Core.Path.{_≡_, refl, sym, ap, _∙_, subst}
-use mathlib.Core.Logic.{_⊎_, inl, inr, ⊎-elim}
-use Prim.Native.Nat.{ℕ, zero, suc, _+_, _<_}
-use native.Mathlib.Omega.{arith}
-use mathlib.Core.Bool.{Bool, true, false}
-use mathlib.Core.List.{List, [], _∷_}
-use lib.ListN.{length, take, drop, getD, length-drop, take-append-drop}
-use lib.Seq.{drop-drop, length-take-le}
+use Rattle.lists.proofs.Prelude.{_≡_, refl, sym, ap, _∙_, subst, _⊎_, inl, inr, ⊎-elim, ℕ, zero, suc, _+_, _<_, arith, Bool, true, false, List, [], _∷_, length, take, drop, getD, length-drop, take-append-drop, drop-drop, length-take-le}
 use Rattle.lists.proofs.Places.{drop-next}
 use Rattle.utf8.specs.declared.Trimmed.the-variants.{NotUtf8}
 use Rattle.chars.specs.declared.Decoded.{Decoded}

@@ -1,9 +1,5 @@
 -- What the locals of `trim` stand for.
-use Prim.Native.Nat.{ℕ, _+_, _≤_, _<_}
-use mathlib.Core.List.{List}
-use lib.Dec.{eqb}
-use lib.ListN.{length, getD}
-use Rattle.lists.specs.Pick.{pick}
+use Rattle.lists.specs.Prelude.{ℕ, _+_, _≤_, _<_, List, eqb, length, getD, pick}
 use Rattle.utf8.specs.declared.Seen.{Seen}
 use Rattle.utf8.specs.Text.{Ink, blank, inked}
 

@@ -1,8 +1,5 @@
 -- Bytes, UTF-8 and trimming: one machine, one step for each byte. `chars/specs/Table` says the same of UTF-8 without a machine.
-use Prim.Native.Nat.{ℕ, zero, suc, _+_, _*_, _-_}
-use mathlib.Core.Bool.{Bool, true, false}
-use mathlib.Core.List.{List, [], _∷_}
-use lib.Dec.{leb, eqb}
+use Rattle.lists.specs.Prelude.{ℕ, zero, suc, _+_, _*_, _-_, Bool, true, false, List, [], _∷_, leb, eqb}
 use Rattle.chars.specs.White.{within, white}
 
 -- what is kept of the text so far: nothing but white space, or from the first other character to the end of the last one

@@ -1,6 +1,5 @@
 -- What trimming keeps of a text, or where the text is not UTF-8.
-use Prim.Native.Nat.{ℕ}
-use mathlib.Core.List.{List}
+use Rattle.lists.specs.Prelude.{ℕ, List}
 use Rattle.utf8.specs.declared.Trimmed.{Trimmed}
 use Rattle.utf8.specs.declared.Trimmed.the-variants.{NotUtf8, Blank, Kept}
 use Rattle.utf8.specs.Text.{blank, inked, Utf, whole, part, bad, utfs}

@@ -1,9 +1,5 @@
 -- A number that is read lies within the bound. Assumes nothing.
-use Prim.Native.Nat.{ℕ, _+_, _*_, _≤_}
-use mathlib.Core.Bool.{Bool, true, false}
-use mathlib.Core.List.{List, [], _∷_}
-use lib.Dec.{leb, eqb}
-use borrow.Author.Tests.{leb-true}
+use Rattle.lists.proofs.Prelude.{ℕ, _+_, _*_, _≤_, Bool, true, false, List, [], _∷_, leb, eqb, leb-true}
 use Rattle.lists.proofs.Pick.{pick-elim}
 use Rattle.values.specs.Decimal.{digitOf, digitsFrom, decimalOf}
 use Rattle.values.specs.declared.decimal.Number.{Number}

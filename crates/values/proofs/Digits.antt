@@ -1,13 +1,5 @@
 -- Digits, one byte of the read value at a time, over the bound `most`. Assumes nothing.
-use Prim.Native.Nat.{ℕ, _+_, _*_, _≤_, _<_}
-use mathlib.Core.Path.{_≡_, refl}
-use mathlib.Core.Bool.{Bool, true, false, and-false}
-use mathlib.Core.List.{List, [], _∷_}
-use native.Mathlib.Omega.{arith}
-use lib.Dec.{leb}
-use lib.ListN.{drop}
-use borrow.Author.Tests.{lt-leb, le-leb, eq-eqb, ne-eqb}
-use Rattle.lists.specs.Pick.{pick}
+use Rattle.lists.proofs.Prelude.{ℕ, _+_, _*_, _≤_, _<_, _≡_, refl, Bool, true, false, and-false, List, [], _∷_, arith, leb, drop, lt-leb, le-leb, eq-eqb, ne-eqb, pick}
 use Rattle.values.specs.Read.{readValue}
 use Rattle.values.specs.Decimal.{signed, digitOf, digitsFrom, decimalOf}
 use Rattle.values.specs.declared.decimal.Number.{Number}

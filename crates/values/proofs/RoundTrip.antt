@@ -1,12 +1,5 @@
 -- What is written reads back, over the number of digits and the bound. Assumes nothing.
-use Prim.Native.Nat.{ℕ, zero, suc, _+_, _-_, _*_, _/_, _%_, _^_, _≤_, _<_}
-use mathlib.Core.Path.{_≡_, ap, _∙_}
-use mathlib.Core.Bool.{Bool, true, false}
-use mathlib.Core.List.{List, [], _∷_}
-use native.Mathlib.Nat.{pow-suc}
-use native.Mathlib.Omega.{arith}
-use lib.Dec.{ltb}
-use borrow.Author.Tests.{ltb-true, le-leb, ne-eqb}
+use Rattle.lists.proofs.Prelude.{ℕ, zero, suc, _+_, _-_, _*_, _/_, _%_, _^_, _≤_, _<_, _≡_, ap, _∙_, Bool, true, false, List, [], _∷_, pow-suc, arith, ltb, ltb-true, le-leb, ne-eqb}
 use Rattle.lists.proofs.Pick.{pick-elim}
 use Rattle.values.specs.Read.{readValue}
 use Rattle.values.specs.Decimal.{digitOf, digitsFrom, decimalOf, spell, decimal}

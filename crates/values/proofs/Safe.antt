@@ -1,10 +1,5 @@
 -- Bytes that stand for themselves in a value: ASCII, and neither a backslash nor `]`. Assumes nothing.
-use Prim.Native.Nat.{ℕ, zero, suc, _+_, _/_, _%_, _<_}
-use mathlib.Core.Path.{_≡_, refl, ap}
-use mathlib.Core.List.{List, [], _∷_}
-use native.Mathlib.Omega.{arith}
-use lib.Dec.{ltb}
-use borrow.Author.Tests.{ne-eqb}
+use Rattle.lists.proofs.Prelude.{ℕ, zero, suc, _+_, _/_, _%_, _<_, _≡_, refl, ap, List, [], _∷_, arith, ltb, ne-eqb}
 use Rattle.lists.specs.All.{All}
 use Rattle.lists.proofs.Pick.{pick-elim}
 use Rattle.values.specs.Read.{readFrom, readValue}

@@ -1,14 +1,5 @@
 -- Digits before digits: a turn of the loop that spells. Assumes nothing.
-use Prim.Native.Nat.{ℕ, zero, suc, _+_, _-_, _/_, _%_, _<_, _≤_}
-use mathlib.Core.Path.{_≡_, _∙_}
-use mathlib.Core.List.{List, _∷_}
-use native.Mathlib.Numerals.{sub-one}
-use native.Mathlib.Nat.{not-suc-le-zero}
-use native.Mathlib.Omega.{arith}
-use lib.Dec.{ltb}
-use lib.ListN.{length, take, drop, set, length-drop}
-use lib.Seq.{take-all, drop-cons, getD-set-same, drop-set-lt, lt-length-set}
-use Rattle.lists.specs.Pick.{pick}
+use Rattle.lists.proofs.Prelude.{ℕ, zero, suc, _+_, _-_, _/_, _%_, _<_, _≤_, _≡_, _∙_, List, _∷_, sub-one, not-suc-le-zero, arith, ltb, length, take, drop, set, length-drop, take-all, drop-cons, getD-set-same, drop-set-lt, lt-length-set, pick}
 use Rattle.values.specs.Decimal.{spell}
 
 drop-set : (l : List ℕ) (k v : ℕ) → k < length l → drop k (set l k v) ≡ v ∷ drop (suc k) l

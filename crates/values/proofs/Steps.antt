@@ -1,15 +1,5 @@
 -- The cursor over read values: what a step says of the read value from its place on. Assumes nothing.
-use Prim.Native.Nat.{ℕ, suc, _+_, _≤_, _<_}
-use mathlib.Core.Path.{_≡_, sym, ap, _∙_, subst}
-use mathlib.Core.Bool.{true, false}
-use mathlib.Core.List.{List, [], _∷_}
-use native.Mathlib.Numerals.{add-one, add-two}
-use native.Mathlib.Omega.{arith}
-use lib.Dec.{ltb, eqb}
-use lib.ListN.{length, getD, drop, drop-of-length-le}
-use lib.Seq.{drop-cons}
-use borrow.Author.Tests.{ltb-true, ltb-false}
-use Rattle.lists.specs.Pick.{pick}
+use Rattle.lists.proofs.Prelude.{ℕ, suc, _+_, _≤_, _<_, _≡_, sym, ap, _∙_, subst, true, false, List, [], _∷_, add-one, add-two, arith, ltb, eqb, length, getD, drop, drop-of-length-le, drop-cons, ltb-true, ltb-false, pick}
 use Rattle.lists.proofs.Pick.{pick-elim}
 use Rattle.values.specs.Read.{readFrom, readValue, nextRead}
 use Rattle.values.specs.declared.read.Step.{Step}

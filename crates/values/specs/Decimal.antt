@@ -1,9 +1,5 @@
 -- Decimals: an optional sign and digits, over the largest number `most`. i32 has 2 ^ 31 - 1, i64 has 2 ^ 63 - 1.
-use Prim.Native.Nat.{ℕ, zero, suc, _+_, _-_, _*_, _/_, _%_}
-use mathlib.Core.Bool.{Bool, true, false, _&&_}
-use mathlib.Core.List.{List, [], _∷_}
-use lib.Dec.{leb, ltb, eqb}
-use Rattle.lists.specs.Pick.{pick}
+use Rattle.lists.specs.Prelude.{ℕ, zero, suc, _+_, _-_, _*_, _/_, _%_, Bool, true, false, _&&_, List, [], _∷_, leb, ltb, eqb, pick}
 use Rattle.values.specs.declared.decimal.Number.{Number}
 use Rattle.values.specs.declared.decimal.Number.the-variants.{Bad, Plus, Minus}
 

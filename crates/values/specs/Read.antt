@@ -1,10 +1,5 @@
 -- Read values and read identifiers: what raw bytes read as.
-use Prim.Native.Nat.{ℕ, _+_}
-use mathlib.Core.Bool.{Bool, true, false, _&&_}
-use mathlib.Core.List.{List, [], _∷_}
-use lib.Dec.{leb, ltb, eqb}
-use lib.ListN.{length, getD}
-use Rattle.lists.specs.Pick.{pick}
+use Rattle.lists.specs.Prelude.{ℕ, _+_, Bool, true, false, _&&_, List, [], _∷_, leb, ltb, eqb, length, getD, pick}
 use Rattle.values.specs.declared.read.Step.{Step}
 use Rattle.values.specs.declared.read.Step.the-variants.{Byte, End}
 

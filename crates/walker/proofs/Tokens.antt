@@ -1,7 +1,5 @@
 -- Successive steps give the tokens of the definition, one after the other. Assumes nothing.
-use Prim.Native.Nat.{ℕ}
-use mathlib.Core.Path.{_≡_, refl, ap, sym, _∙_}
-use mathlib.Core.List.{List}
+use Rattle.lists.proofs.Prelude.{ℕ, _≡_, refl, ap, sym, _∙_, List}
 use Rattle.lexer.specs.Token.{lexAt}
 use Rattle.lexer.specs.Step.{behind, stepOn, SteppedIs}
 use Rattle.tokens.proofs.Join.{lex-next}

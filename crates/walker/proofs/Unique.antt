@@ -1,7 +1,5 @@
 -- No second answer: of each public function, two answers that meet its contract are equal. Assumes nothing.
-use Prim.Native.Nat.{ℕ}
-use mathlib.Core.Path.{_≡_, ap, sym, _∙_}
-use mathlib.Core.List.{List}
+use Rattle.lists.proofs.Prelude.{ℕ, _≡_, ap, sym, _∙_, List}
 use denote.Ref.{RefT}
 use Rattle.lists.specs.Once.{Once}
 use Rattle.lexer.specs.Step.{SteppedIs}

@@ -1,6 +1,5 @@
 -- What a step of the walker says of the tokens of its text.
-use Prim.Native.Nat.{ℕ}
-use mathlib.Core.List.{List, [], _∷_}
+use Rattle.lists.specs.Prelude.{ℕ, List, [], _∷_}
 use Rattle.lexer.specs.Token.{start, end, node, prop, done, broken, Lexed, lexed, lexAt}
 use Rattle.lexer.specs.Step.{propAt}
 use Rattle.lexer.specs.declared.Step.{Step}

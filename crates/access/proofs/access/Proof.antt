@@ -1,8 +1,6 @@
 -- `access::access` meets its contract. Assumes nothing.
-use native.Mathlib.Omega.{arith}
+use Rattle.lists.proofs.Prelude.{arith, needs, le-ltb, lt-ltb}
 use denote.Ref.{now}
-use borrow.Author.Needs.{needs}
-use borrow.Author.Tests.{le-ltb, lt-ltb}
 use Rattle.access.specs.Access.{accessed}
 use Rattle.tables.proofs.Cases.{passed, refused}
 use Rattle.fit.proofs.Whole.{fit-lent}

@@ -1,8 +1,6 @@
 -- `access::value` meets its contract. Assumes nothing.
-use mathlib.Core.Path.{sym, ap, _∙_}
-use native.Mathlib.Omega.{arith}
+use Rattle.lists.proofs.Prelude.{sym, ap, _∙_, arith, needs}
 use denote.Ref.{now}
-use borrow.Author.Needs.{needs}
 use Rattle.access.specs.Access.{handed}
 use Rattle.access.proofs.Inside.{access-inside, part-handed}
 use Rattle.access.proofs.value.Statement.{statement}

@@ -1,7 +1,6 @@
 -- `answers::figures_of` meets its contract. Assumes nothing.
 use Rattle.answers.specs.Shown.{figuresShown}
-use mathlib.Core.Path.{sym, ap}
-use borrow.Author.Needs.{needs}
+use Rattle.lists.proofs.Prelude.{sym, ap, needs}
 use Rattle.answers.proofs.figures_of.Statement.{statement}
 use Rattle.answers.proofs.figures_of.Tie as tie
 

@@ -1,7 +1,6 @@
 -- `answers::go_shown` meets its contract. Assumes nothing.
 use Rattle.answers.specs.declared.Figures.{Figures}
-use mathlib.Core.Path.{ap}
-use borrow.Author.Needs.{needs}
+use Rattle.lists.proofs.Prelude.{ap, needs}
 use Rattle.answers.proofs.go_shown.Statement.{statement}
 use Rattle.answers.proofs.go_shown.Tie as tie
 

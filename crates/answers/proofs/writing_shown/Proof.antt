@@ -1,7 +1,5 @@
 -- `answers::writing_shown` meets its contract. Assumes nothing.
-use Prim.Native.Nat.{ℕ}
-use mathlib.Core.Path.{sym, ap, _∙_}
-use borrow.Author.Needs.{needs}
+use Rattle.lists.proofs.Prelude.{ℕ, sym, ap, _∙_, needs}
 use Rattle.answers.specs.Shown.{writingShown}
 use Rattle.answers.proofs.writing_shown.Statement.{statement}
 use Rattle.answers.proofs.writing_shown.Tie as tie

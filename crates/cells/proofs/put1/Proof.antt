@@ -1,6 +1,5 @@
 -- `cells::put1` meets its contract. Assumes nothing.
-use native.Mathlib.Omega.{arith}
-use mathlib.Core.List.{[], _∷_}
+use Rattle.lists.proofs.Prelude.{arith, [], _∷_}
 use Rattle.cells.proofs.Stores.{row-length, row-put, row-none}
 use Rattle.cells.proofs.put1.Statement.{statement}
 use Rattle.cells.proofs.put1.Tie as tie

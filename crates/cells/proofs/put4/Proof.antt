@@ -1,7 +1,5 @@
 -- `cells::put4` meets its contract. Assumes nothing.
-use native.Mathlib.Omega.{arith}
-use mathlib.Core.List.{[], _∷_}
-use mathlib.Core.Path.{refl}
+use Rattle.lists.proofs.Prelude.{arith, [], _∷_, refl}
 use Rattle.cells.proofs.Stores.{row-length, row-room, row-put, row-none, Room, place-fits, bytes-fit, place-there}
 use Rattle.cells.proofs.put4.Statement.{statement}
 use Rattle.cells.proofs.put4.Tie as tie

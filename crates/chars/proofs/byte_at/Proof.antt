@@ -1,8 +1,6 @@
 -- `chars::byte_at` meets its contract. Assumes nothing.
-use lib.ListN.{List·getD-eq-default}
+use Rattle.lists.proofs.Prelude.{List·getD-eq-default, sym, needs}
 use denote.Ref.{now}
-use mathlib.Core.Path.{sym}
-use borrow.Author.Needs.{needs}
 use Rattle.chars.proofs.byte_at.Statement.{statement}
 use Rattle.chars.proofs.byte_at.Tie as tie
 

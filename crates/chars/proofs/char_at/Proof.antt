@@ -1,7 +1,6 @@
 -- `chars::char_at` meets its contract. Assumes nothing.
-use mathlib.Core.Path.{sym}
+use Rattle.lists.proofs.Prelude.{sym, needs}
 use denote.Ref.{now}
-use borrow.Author.Needs.{needs}
 use Rattle.chars.proofs.Wide.{decoded-1, decoded-past}
 use Rattle.chars.proofs.char_at.Statement.{statement}
 use Rattle.chars.proofs.char_at.Tie as tie

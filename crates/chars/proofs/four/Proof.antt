@@ -1,6 +1,6 @@
 -- `chars::four` meets its contract. Assumes nothing.
 use Rattle.chars.proofs.Widths.{listed-4}
-use borrow.Author.Needs.{needs}
+use Rattle.lists.proofs.Prelude.{needs}
 use Rattle.chars.proofs.four.Statement.{statement}
 use Rattle.chars.proofs.four.Tie as tie
 

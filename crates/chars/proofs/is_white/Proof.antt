@@ -1,7 +1,7 @@
 -- `chars::is_white` meets its contract. Assumes nothing.
 use Rattle.chars.proofs.White.{far-dark}
 use Rattle.chars.specs.White.{white}
-use mathlib.Core.Path.{refl, sym}
+use Rattle.lists.proofs.Prelude.{refl, sym}
 use Rattle.chars.proofs.is_white.Statement.{statement}
 use Rattle.chars.proofs.is_white.Tie as tie
 

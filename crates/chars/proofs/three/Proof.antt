@@ -1,6 +1,6 @@
 -- `chars::three` meets its contract. Assumes nothing.
 use Rattle.chars.proofs.Widths.{listed-3}
-use borrow.Author.Needs.{needs}
+use Rattle.lists.proofs.Prelude.{needs}
 use Rattle.chars.proofs.three.Statement.{statement}
 use Rattle.chars.proofs.three.Tie as tie
 

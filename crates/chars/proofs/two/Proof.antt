@@ -1,6 +1,6 @@
 -- `chars::two` meets its contract. Assumes nothing.
 use Rattle.chars.proofs.Widths.{listed-2}
-use borrow.Author.Needs.{needs}
+use Rattle.lists.proofs.Prelude.{needs}
 use Rattle.chars.proofs.two.Statement.{statement}
 use Rattle.chars.proofs.two.Tie as tie
 

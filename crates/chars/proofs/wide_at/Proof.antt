@@ -1,7 +1,6 @@
 -- `chars::wide_at` meets its contract: the widths are tried in the definition's order. Assumes nothing.
-use mathlib.Core.Path.{sym, _∙_}
+use Rattle.lists.proofs.Prelude.{sym, _∙_, needs}
 use denote.Ref.{now}
-use borrow.Author.Needs.{needs}
 use Rattle.chars.proofs.Wide.{decoded-2, decoded-3, decoded-4, decoded-0}
 use Rattle.chars.proofs.wide_at.Statement.{statement}
 use Rattle.chars.proofs.wide_at.Tie as tie

@@ -1,14 +1,7 @@
 -- `close::far_end` meets its contract. The loop's invariant: the scan that goes on from here, with the flag as it is, finds what the scan from the start finds.
 -- Assumes nothing.
-use Prim.Native.Nat.{_+_, _-_}
-use mathlib.Core.Path.{_≡_, ap, sym, _∙_}
-use mathlib.Core.Bool.{Bool, not}
-use native.Mathlib.Omega.{arith}
+use Rattle.lists.proofs.Prelude.{_+_, _-_, _≡_, ap, sym, _∙_, Bool, not, arith, eqb, leb, length, drop, getD, needs, not-true}
 use denote.Ref.{now}
-use lib.Dec.{eqb, leb}
-use lib.ListN.{length, drop, getD}
-use borrow.Author.Needs.{needs}
-use borrow.Author.Tests.{not-true}
 use Rattle.lists.proofs.Tests.{and-both}
 use Rattle.close.proofs.Steps.{close-past, close-escaped, close-here, close-on}
 use Rattle.close.specs.Close.{closeFrom, closeAt}

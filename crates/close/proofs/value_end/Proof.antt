@@ -1,7 +1,5 @@
 -- `close::value_end` meets its contract. Assumes nothing.
-use mathlib.Core.Path.{sym, _∙_}
-use native.Mathlib.Omega.{arith}
-use borrow.Author.Needs.{needs}
+use Rattle.lists.proofs.Prelude.{sym, _∙_, arith, needs}
 use Rattle.close.proofs.Steps.{close-past}
 use Rattle.close.proofs.value_end.Statement.{statement}
 use Rattle.close.proofs.value_end.Tie as tie

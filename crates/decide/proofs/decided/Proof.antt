@@ -4,11 +4,8 @@ use Rattle.fit.proofs.Clauses.{fit-short, fit-names}
 use Rattle.fit.proofs.Whole.{fit-lent as fit-held}
 use Rattle.decide.proofs.Fitting.{fit-within}
 use Rattle.tables.proofs.Cases.{passed, refused}
-use lib.Seq.{length-take-le}
-use native.Mathlib.Omega.{arith}
-use mathlib.Core.Path.{sym, _∙_}
+use Rattle.lists.proofs.Prelude.{length-take-le, arith, sym, _∙_, needs}
 use denote.Ref.{now}
-use borrow.Author.Needs.{needs}
 use Rattle.decide.proofs.decided.Statement.{statement}
 use Rattle.decide.proofs.decided.Tie as tie
 

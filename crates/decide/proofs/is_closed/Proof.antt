@@ -1,10 +1,7 @@
 -- `is_closed` meets its contract. Assumes nothing.
 use Rattle.decide.proofs.Tested.{closed-more, closed-not, closed-end}
 use Rattle.lexer.specs.Closed.{closedFrom, closed}
-use lib.ListN.{length, drop}
-use mathlib.Core.Path.{_≡_, refl}
-use Prim.Native.Nat.{_-_}
-use borrow.Author.Needs.{needs}
+use Rattle.lists.proofs.Prelude.{length, drop, _≡_, refl, _-_, needs}
 use Rattle.decide.proofs.is_closed.Statement.{statement}
 use Rattle.decide.proofs.is_closed.Tie as tie
 

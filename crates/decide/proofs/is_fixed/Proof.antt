@@ -1,8 +1,6 @@
 -- `is_fixed` meets its contract. Assumes nothing.
 use Rattle.decide.proofs.Tested.{Owner, owner-first, owner-more, owner-is, owner-none}
-use native.Mathlib.Omega.{arith}
-use Prim.Native.Nat.{_-_}
-use borrow.Author.Needs.{needs}
+use Rattle.lists.proofs.Prelude.{arith, _-_, needs}
 use Rattle.decide.proofs.is_fixed.Statement.{statement}
 use Rattle.decide.proofs.is_fixed.Tie as tie
 

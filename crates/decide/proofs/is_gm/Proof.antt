@@ -1,7 +1,7 @@
 -- `is_gm` meets its contract. Assumes nothing.
 use denote.Ref.{now}
 use Rattle.decide.proofs.Tested.{gm-not, gm-two}
-use borrow.Author.Needs.{needs}
+use Rattle.lists.proofs.Prelude.{needs}
 use Rattle.decide.proofs.is_gm.Statement.{statement}
 use Rattle.decide.proofs.is_gm.Tie as tie
 

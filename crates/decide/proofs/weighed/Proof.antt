@@ -1,8 +1,6 @@
 -- `weighed` meets its contract. Assumes nothing.
 use Rattle.decide.proofs.Judged.{weighed-bad, weighed-open, weighed-long, weighed-full, weighed-good}
-use borrow.Author.Tests.{not-true, not-false}
-use mathlib.Core.Path.{sym, _∙_}
-use borrow.Author.Needs.{needs}
+use Rattle.lists.proofs.Prelude.{not-true, not-false, sym, _∙_, needs}
 use Rattle.decide.proofs.weighed.Statement.{statement}
 use Rattle.decide.proofs.weighed.Tie as tie
 

@@ -1,7 +1,5 @@
 -- `display::display` meets its contract. Assumes nothing.
-use native.Mathlib.Omega.{arith}
-use borrow.Author.Needs.{needs}
-use borrow.Author.Tests.{not-true, not-false}
+use Rattle.lists.proofs.Prelude.{arith, needs, not-true, not-false}
 use Rattle.display.specs.Display.{shown}
 use Rattle.values.specs.Read.{readValue}
 use Rattle.display.proofs.Displays.{display-refused, display-done}

@@ -1,9 +1,5 @@
 -- `display::has_room` meets its contract. Assumes nothing.
-use mathlib.Core.Path.{refl, sym}
-use native.Mathlib.Omega.{arith}
-use borrow.Author.Needs.{needs}
-use borrow.Author.Tests.{le-leb}
-use lib.ListN.{length}
+use Rattle.lists.proofs.Prelude.{refl, sym, arith, needs, le-leb, length}
 use Rattle.display.specs.Display.{shown}
 use Rattle.values.specs.Read.{readValue}
 use Rattle.display.proofs.Displays.{room-measured}

@@ -1,5 +1,5 @@
 -- `display::next_shown` meets its contract. Assumes nothing.
-use borrow.Author.Needs.{needs}
+use Rattle.lists.proofs.Prelude.{needs}
 use Rattle.display.proofs.Displays.{shows-text, shows-simple}
 use Rattle.display.proofs.next_shown.Statement.{statement}
 use Rattle.display.proofs.next_shown.Tie as tie

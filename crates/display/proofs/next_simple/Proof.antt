@@ -1,6 +1,5 @@
 -- `display::next_simple` meets its contract. Assumes nothing.
-use mathlib.Core.Path.{subst}
-use borrow.Author.Needs.{needs}
+use Rattle.lists.proofs.Prelude.{subst, needs}
 use Rattle.display.specs.Display.{formatText}
 use Rattle.display.specs.Showing.{Shows}
 use Rattle.display.proofs.Lines.{simple-end, simple-other, simple-cr-lf, simple-cr, simple-lf, simple-lf-cr-lf, simple-lf-cr}

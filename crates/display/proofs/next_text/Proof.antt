@@ -1,10 +1,5 @@
 -- `display::next_text` meets its contract. Assumes nothing.
-use Prim.Native.Nat.{_-_}
-use mathlib.Core.Path.{refl}
-use native.Mathlib.Nat.{le-refl}
-use native.Mathlib.Omega.{arith}
-use borrow.Author.Needs.{needs}
-use lib.ListN.{length}
+use Rattle.lists.proofs.Prelude.{_-_, refl, le-refl, arith, needs, length}
 use Rattle.values.proofs.Steps.{stepped}
 use Rattle.display.proofs.Texts.{Same, text-end, text-plain, text-last, text-shown, text-removed}
 use Rattle.display.proofs.next_text.Statement.{statement}

@@ -1,5 +1,5 @@
 -- `display::other_break` meets its contract. Assumes nothing.
-use borrow.Author.Tests.{eq-eqb, ne-eqb}
+use Rattle.lists.proofs.Prelude.{eq-eqb, ne-eqb}
 use Rattle.display.specs.Showing.{otherBreak}
 use Rattle.display.proofs.other_break.Statement.{statement}
 use Rattle.display.proofs.other_break.Tie as tie

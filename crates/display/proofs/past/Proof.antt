@@ -1,5 +1,5 @@
 -- `display::past` meets its contract. Assumes nothing.
-use borrow.Author.Needs.{needs}
+use Rattle.lists.proofs.Prelude.{needs}
 use Rattle.display.proofs.Shown.{past-it, past-none}
 use Rattle.display.proofs.past.Statement.{statement}
 use Rattle.display.proofs.past.Tie as tie

@@ -1,5 +1,5 @@
 -- `display::peek` meets its contract. Assumes nothing.
-use borrow.Author.Needs.{needs}
+use Rattle.lists.proofs.Prelude.{needs}
 use Rattle.display.proofs.Shown.{peek-byte, peek-end}
 use Rattle.values.proofs.Steps.{stepped}
 use Rattle.display.proofs.peek.Statement.{statement}

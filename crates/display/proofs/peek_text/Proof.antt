@@ -1,6 +1,5 @@
 -- `display::peek_text` meets its contract. Assumes nothing.
-use mathlib.Core.Path.{subst}
-use borrow.Author.Needs.{needs}
+use Rattle.lists.proofs.Prelude.{subst, needs}
 use Rattle.display.specs.Display.{formatText}
 use Rattle.display.specs.Showing.{Shows}
 use Rattle.display.proofs.Shown.{peek-byte, peek-end}

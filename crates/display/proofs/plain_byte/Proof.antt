@@ -1,5 +1,5 @@
 -- `display::plain_byte` meets its contract. Assumes nothing.
-use borrow.Author.Needs.{needs}
+use Rattle.lists.proofs.Prelude.{needs}
 use Rattle.display.proofs.Shown.{begins-blank1, begins-outside, begins-blank2, begins-blank3, begins-plain}
 use Rattle.display.proofs.plain_byte.Statement.{statement}
 use Rattle.display.proofs.plain_byte.Tie as tie

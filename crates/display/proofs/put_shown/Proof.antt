@@ -1,9 +1,5 @@
 -- `display::put_shown` meets its contract. Assumes nothing.
-use Prim.Native.Nat.{_-_}
-use mathlib.Core.Path.{subst}
-use native.Mathlib.Omega.{arith}
-use borrow.Author.Needs.{needs}
-use lib.ListN.{length}
+use Rattle.lists.proofs.Prelude.{_-_, subst, arith, needs, length}
 use Rattle.display.specs.Display.{shown}
 use Rattle.display.specs.Showing.{Shows}
 use Rattle.display.proofs.Displays.{Displaying, display-first, display-next, display-end}

@@ -1,10 +1,8 @@
 -- `edit::edit` meets its contract. Assumes nothing.
 use Rattle.edit.proofs.Given.{given, given-replaceable, given-new, given-end, given-names, given-values, edit-refused, edit-given}
 use Rattle.fit.proofs.Whole.{fit-lent as fit-held}
-use native.Mathlib.Omega.{arith}
-use mathlib.Core.Path.{sym, _∙_}
+use Rattle.lists.proofs.Prelude.{arith, sym, _∙_, needs}
 use denote.Ref.{now}
-use borrow.Author.Needs.{needs}
 use Rattle.edit.proofs.edit.Statement.{statement}
 use Rattle.edit.proofs.edit.Tie as tie
 

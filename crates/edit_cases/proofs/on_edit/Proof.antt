@@ -1,5 +1,5 @@
 -- `edit_cases::on_edit` meets its contract. Assumes nothing.
-use borrow.Author.Needs.{needs}
+use Rattle.lists.proofs.Prelude.{needs}
 use Rattle.edit_cases.proofs.on_edit.Statement.{statement}
 use Rattle.edit_cases.proofs.on_edit.Tie as tie
 

@@ -1,6 +1,5 @@
 -- `edit_cases::on_line` meets its contract. Assumes nothing.
-use mathlib.Core.Path.{refl}
-use borrow.Author.Needs.{needs}
+use Rattle.lists.proofs.Prelude.{refl, needs}
 use Rattle.edit_cases.proofs.on_line.Statement.{statement}
 use Rattle.edit_cases.proofs.on_line.Tie as tie
 

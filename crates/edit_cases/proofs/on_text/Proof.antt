@@ -1,6 +1,5 @@
 -- `edit_cases::on_text` meets its contract. Assumes nothing.
-use lib.Seq.{length-take-le}
-use mathlib.Core.Path.{sym}
+use Rattle.lists.proofs.Prelude.{length-take-le, sym}
 use Rattle.edit_cases.proofs.on_text.Statement.{statement}
 use Rattle.edit_cases.proofs.on_text.Tie as tie
 

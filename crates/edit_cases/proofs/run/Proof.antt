@@ -1,8 +1,5 @@
 -- `edit_cases::run` meets its contract. Assumes nothing.
-use borrow.Author.Needs.{needs}
-use lib.ListN.{length}
-use mathlib.Core.Path.{_≡_}
-use Prim.Native.Nat.{_-_}
+use Rattle.lists.proofs.Prelude.{needs, length, _≡_, _-_}
 use Rattle.edit_cases.proofs.run.Statement.{statement}
 use Rattle.edit_cases.proofs.run.Tie as tie
 

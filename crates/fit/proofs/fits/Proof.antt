@@ -1,8 +1,6 @@
 -- `fit::fits` meets its contract. Assumes nothing.
-use mathlib.Core.Path.{sym}
-use lib.Seq.{length-take-le}
+use Rattle.lists.proofs.Prelude.{sym, length-take-le, needs}
 use denote.Ref.{now}
-use borrow.Author.Needs.{needs}
 use Rattle.fit.specs.Fit.{Fit}
 use Rattle.tables.proofs.Cases.{passed, refused}
 use Rattle.fit.proofs.Whole.{lent-is}

@@ -1,7 +1,5 @@
 -- `fit::fits_text` meets its contract. Assumes nothing.
-use mathlib.Core.Path.{_∙_}
-use borrow.Author.Needs.{needs}
-use borrow.Author.Tests.{le-leb, lt-leb}
+use Rattle.lists.proofs.Prelude.{_∙_, needs, le-leb, lt-leb}
 use Rattle.tables.proofs.Cases.{passed, refused}
 use Rattle.fit.specs.Fit.{fitText}
 use Rattle.fit.proofs.Whole.{links-held, parts-held}

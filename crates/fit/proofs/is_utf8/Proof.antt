@@ -1,6 +1,5 @@
 -- `fit::is_utf8` meets its contract. Assumes nothing.
-use mathlib.Core.Path.{sym, ap, _∙_}
-use borrow.Author.Needs.{needs}
+use Rattle.lists.proofs.Prelude.{sym, ap, _∙_, needs}
 use Rattle.fit.specs.Fit.{sound}
 use Rattle.fit.proofs.is_utf8.Statement.{statement}
 use Rattle.fit.proofs.is_utf8.Tie as tie

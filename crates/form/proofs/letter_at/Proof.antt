@@ -1,5 +1,5 @@
 -- `form::letter_at` meets its contract. Assumes nothing.
-use borrow.Author.Needs.{needs}
+use Rattle.lists.proofs.Prelude.{needs}
 use Rattle.form.proofs.Boxed.{letter-low, letter-high}
 use Rattle.form.proofs.letter_at.Statement.{statement}
 use Rattle.form.proofs.letter_at.Tie as tie

@@ -1,6 +1,5 @@
 -- `form::put_box` meets its contract. Assumes nothing.
-use native.Mathlib.Omega.{arith}
-use borrow.Author.Needs.{needs}
+use Rattle.lists.proofs.Prelude.{arith, needs}
 use Rattle.form.proofs.Boxed.{box-wrote}
 use Rattle.form.proofs.put_box.Statement.{statement}
 use Rattle.form.proofs.put_box.Tie as tie

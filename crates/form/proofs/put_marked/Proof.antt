@@ -1,6 +1,5 @@
 -- `form::put_marked` meets its contract. Assumes nothing.
-use native.Mathlib.Omega.{arith}
-use borrow.Author.Needs.{needs}
+use Rattle.lists.proofs.Prelude.{arith, needs}
 use Rattle.put.proofs.Written.{wrote-none, wrote-is}
 use Rattle.form.proofs.Boxed.{marked-point, unmarked-point}
 use Rattle.form.proofs.put_marked.Statement.{statement}

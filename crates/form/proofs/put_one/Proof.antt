@@ -1,7 +1,5 @@
 -- `form::put_one` meets its contract. Assumes nothing.
-use mathlib.Core.Path.{ap}
-use native.Mathlib.Omega.{arith}
-use borrow.Author.Needs.{needs}
+use Rattle.lists.proofs.Prelude.{ap, arith, needs}
 use Rattle.put.proofs.Written.{wrote-is}
 use Rattle.values.specs.Decimal.{decimal}
 use Rattle.rows.specs.Rows.{valuesAt}

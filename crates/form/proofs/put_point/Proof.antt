@@ -1,6 +1,5 @@
 -- `form::put_point` meets its contract. Assumes nothing.
-use native.Mathlib.Omega.{arith}
-use borrow.Author.Needs.{needs}
+use Rattle.lists.proofs.Prelude.{arith, needs}
 use Rattle.form.proofs.Boxed.{point-wrote}
 use Rattle.form.proofs.put_point.Statement.{statement}
 use Rattle.form.proofs.put_point.Tie as tie

@@ -1,9 +1,5 @@
 -- `form::put_points` meets its contract. Assumes nothing.
-use Prim.Native.Nat.{_-_}
-use mathlib.Core.Path.{_≡_}
-use native.Mathlib.Omega.{arith}
-use lib.ListN.{length, drop}
-use borrow.Author.Needs.{needs}
+use Rattle.lists.proofs.Prelude.{_-_, _≡_, arith, length, drop, needs}
 use Rattle.put.proofs.Written.{wrote-length}
 use Rattle.go.specs.Normal.{pointsFrom}
 use Rattle.form.specs.Boxes.{boxes}

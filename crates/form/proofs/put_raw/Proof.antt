@@ -1,7 +1,5 @@
 -- `form::put_raw` meets its contract. Assumes nothing.
-use Prim.Native.Nat.{_+_, _-_}
-use native.Mathlib.Omega.{arith}
-use borrow.Author.Needs.{needs}
+use Rattle.lists.proofs.Prelude.{_+_, _-_, arith, needs}
 use Rattle.put.proofs.Written.{wrote-length}
 use Rattle.rows.specs.Rows.{valuesAt}
 use Rattle.form.specs.Boxes.{boxes}

@@ -1,6 +1,5 @@
 -- `form::put_set` meets its contract. Assumes nothing.
-use mathlib.Core.Path.{refl, ap}
-use borrow.Author.Needs.{needs}
+use Rattle.lists.proofs.Prelude.{refl, ap, needs}
 use Rattle.put.proofs.Written.{wrote-is}
 use Rattle.rows.specs.Rows.{valuesAt}
 use Rattle.form.specs.Boxes.{boxes}

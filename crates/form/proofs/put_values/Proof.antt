@@ -1,6 +1,5 @@
 -- `form::put_values` meets its contract. Assumes nothing.
-use mathlib.Core.Path.{refl, sym, ap}
-use borrow.Author.Needs.{needs}
+use Rattle.lists.proofs.Prelude.{refl, sym, ap, needs}
 use Rattle.put.proofs.Written.{wrote-is}
 use Rattle.values.specs.Read.{readIdentifier}
 use Rattle.go.proofs.Choosing.{not-set}

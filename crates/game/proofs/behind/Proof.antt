@@ -1,13 +1,11 @@
 -- `game::behind` meets its contract. Assumes nothing.
-use mathlib.Core.Path.{sym, ap, _∙_}
+use Rattle.lists.proofs.Prelude.{sym, ap, _∙_, arith, needs}
 use denote.Ref.{now}
-use native.Mathlib.Omega.{arith}
 use Rattle.lexer.specs.Token.{Lexed}
 use Rattle.lexer.proofs.Within.{found-within}
 use Rattle.parser.proofs.Meets.{meets}
 use Rattle.game.specs.Game.{behindOf}
 use Rattle.game.proofs.Gather.{past-toks}
-use borrow.Author.Needs.{needs}
 use Rattle.game.proofs.behind.Statement.{statement}
 use Rattle.game.proofs.behind.Tie as tie
 

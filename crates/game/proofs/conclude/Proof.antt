@@ -1,10 +1,8 @@
 -- `game::conclude` meets its contract. Assumes nothing.
 use denote.Ref.{now}
-use mathlib.Core.Path.{sym, ap, _∙_}
-use mathlib.Core.Bool.{Bool}
+use Rattle.lists.proofs.Prelude.{sym, ap, _∙_, Bool, needs}
 use Rattle.lexer.specs.Step.{valsAt}
 use Rattle.game.specs.Game.{typeOf, concluded}
-use borrow.Author.Needs.{needs}
 use Rattle.game.proofs.conclude.Statement.{statement}
 use Rattle.game.proofs.conclude.Tie as tie
 

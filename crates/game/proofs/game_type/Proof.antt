@@ -1,15 +1,11 @@
 -- `game::game_type` meets its contract. Assumes nothing.
-use Prim.Native.Nat.{_-_}
-use mathlib.Core.Path.{ap}
-use lib.ListN.{length}
+use Rattle.lists.proofs.Prelude.{_-_, ap, length, arith, needs}
 use denote.Ref.{now}
-use native.Mathlib.Omega.{arith}
 use Rattle.lexer.specs.Step.{propAt}
 use Rattle.lexer.specs.Token.{Lexed, lexAt}
 use Rattle.lexer.proofs.Within.{found-within}
 use Rattle.parser.proofs.Meets.{meets}
 use Rattle.game.proofs.Gather.{Gathering, gather-first, gather-other, gather-one, gather-two, gather-end, kind-slice, no-property}
-use borrow.Author.Needs.{needs}
 use Rattle.game.proofs.game_type.Statement.{statement}
 use Rattle.game.proofs.game_type.Tie as tie
 

@@ -1,7 +1,7 @@
 -- `game::is_gm` meets its contract. Assumes nothing.
 use denote.Ref.{now}
 use Rattle.game.proofs.GameValues.{gm-not, gm-two}
-use borrow.Author.Needs.{needs}
+use Rattle.lists.proofs.Prelude.{needs}
 use Rattle.game.proofs.is_gm.Statement.{statement}
 use Rattle.game.proofs.is_gm.Tie as tie
 

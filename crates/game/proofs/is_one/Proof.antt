@@ -2,7 +2,7 @@
 use denote.Ref.{now}
 use Rattle.values.proofs.Steps.{stepped}
 use Rattle.game.proofs.GameValues.{one-none, one-other, one-more, one-yes}
-use borrow.Author.Needs.{needs}
+use Rattle.lists.proofs.Prelude.{needs}
 use Rattle.game.proofs.is_one.Statement.{statement}
 use Rattle.game.proofs.is_one.Tie as tie
 

@@ -1,11 +1,10 @@
 -- `game::kind_of` meets its contract. Assumes nothing.
 use denote.Ref.{now}
-use mathlib.Core.Path.{sym, ap, _∙_}
+use Rattle.lists.proofs.Prelude.{sym, ap, _∙_, needs}
 use Rattle.values.specs.Read.{readValue}
 use Rattle.parser.specs.Kind.{numbered}
 use Rattle.game.proofs.Variants.{not-bad}
 use Rattle.game.proofs.GameValues.{kind-bad, kind-go, kind-unknown}
-use borrow.Author.Needs.{needs}
 use Rattle.game.proofs.kind_of.Statement.{statement}
 use Rattle.game.proofs.kind_of.Tie as tie
 

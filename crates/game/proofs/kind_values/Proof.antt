@@ -1,15 +1,11 @@
 -- `game::kind_values` meets its contract. Assumes nothing.
 use denote.Ref.{now}
-use native.Mathlib.Omega.{arith}
-use Prim.Native.Nat.{ℕ}
-use mathlib.Core.Path.{sym, ap, _∙_}
-use mathlib.Core.List.{List}
+use Rattle.lists.proofs.Prelude.{arith, ℕ, sym, ap, _∙_, List, needs}
 use Rattle.game.specs.Game.{typeOf}
 use Rattle.values.specs.Read.{readValue}
 use Rattle.parser.specs.Kind.{kindOf}
 use Rattle.scan.proofs.Bounds.{value-is}
 use Rattle.game.proofs.GameValues.{kind-none, kind-many, kind-one, part-is}
-use borrow.Author.Needs.{needs}
 use Rattle.game.proofs.kind_values.Statement.{statement}
 use Rattle.game.proofs.kind_values.Tie as tie
 

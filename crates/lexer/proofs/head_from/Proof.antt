@@ -1,7 +1,6 @@
 -- `lexer::head_from` meets its contract. Assumes nothing.
-use borrow.Author.Tests.{le-ltb, lt-ltb, eq-eqb, ne-eqb}
+use Rattle.lists.proofs.Prelude.{le-ltb, lt-ltb, eq-eqb, ne-eqb, needs}
 use Rattle.lexer.specs.Step.{headFrom}
-use borrow.Author.Needs.{needs}
 use Rattle.lexer.proofs.head_from.Statement.{statement}
 use Rattle.lexer.proofs.head_from.Tie as tie
 

@@ -1,6 +1,6 @@
 -- `lexer::next_head` meets its contract. Assumes nothing.
 use Rattle.lexer.specs.Step.{headAt}
-use borrow.Author.Needs.{needs}
+use Rattle.lists.proofs.Prelude.{needs}
 use Rattle.lexer.proofs.next_head.Statement.{statement}
 use Rattle.lexer.proofs.next_head.Tie as tie
 

@@ -1,6 +1,6 @@
 -- `lexer::next_token` meets its contract. Assumes nothing.
 use Rattle.lexer.specs.Step.{nextAt}
-use borrow.Author.Needs.{needs}
+use Rattle.lists.proofs.Prelude.{needs}
 use Rattle.lexer.proofs.next_token.Statement.{statement}
 use Rattle.lexer.proofs.next_token.Tie as tie
 

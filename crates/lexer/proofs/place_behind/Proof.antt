@@ -1,8 +1,5 @@
 -- `lexer::place_behind` meets its contract. Assumes nothing.
-use Prim.Native.Nat.{ℕ, _^_, _<_}
-use mathlib.Core.Path.{_≡_, sym, ap, subst}
-use native.Mathlib.Omega.{arith}
-use borrow.Author.Needs.{needs}
+use Rattle.lists.proofs.Prelude.{ℕ, _^_, _<_, _≡_, sym, ap, subst, arith, needs}
 use mir.Syntax.{w64}
 use mir.Val.{Fits}
 use Rattle.lexer.specs.Step.{behind}

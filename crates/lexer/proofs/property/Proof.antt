@@ -1,5 +1,5 @@
 -- `lexer::property` meets its contract. Assumes nothing.
-use borrow.Author.Needs.{needs}
+use Rattle.lists.proofs.Prelude.{needs}
 use Rattle.lexer.proofs.property.Statement.{statement}
 use Rattle.lexer.proofs.property.Tie as tie
 

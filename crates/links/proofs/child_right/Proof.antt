@@ -1,7 +1,5 @@
 -- `links::child_right` meets its contract. Assumes nothing.
-use mathlib.Core.Path.{_∙_}
-use native.Mathlib.Omega.{arith}
-use borrow.Author.Needs.{needs}
+use Rattle.lists.proofs.Prelude.{_∙_, arith, needs}
 use Rattle.links.proofs.Children.{child-right, child-off}
 use Rattle.links.proofs.child_right.Statement.{statement}
 use Rattle.links.proofs.child_right.Tie as tie

@@ -1,9 +1,5 @@
 -- `links::climb` meets its contract. Assumes nothing.
-use Prim.Native.Nat.{_/_, _≤_}
-use mathlib.Core.Path.{sym, _∙_}
-use native.Mathlib.Omega.{arith}
-use lib.ListN.{length}
-use borrow.Author.Needs.{needs}
+use Rattle.lists.proofs.Prelude.{_/_, _≤_, sym, _∙_, arith, length, needs}
 use Rattle.links.proofs.Climbs.{Climbing, climb-self, climb-first, climb-in, climb-less, climb-root, climb-child, climb-bad, climb-up}
 use Rattle.links.proofs.climb.Statement.{statement}
 use Rattle.links.proofs.climb.Tie as tie

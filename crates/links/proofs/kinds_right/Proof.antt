@@ -1,9 +1,5 @@
 -- `links::kinds_right` meets its contract. Assumes nothing.
-use Prim.Native.Nat.{_-_, _≤_}
-use mathlib.Core.Bool.{true}
-use mathlib.Core.Path.{_≡_}
-use borrow.Author.Needs.{needs}
-use borrow.Author.Tests.{le-leb, lt-leb}
+use Rattle.lists.proofs.Prelude.{_-_, _≤_, true, _≡_, needs, le-leb, lt-leb}
 use Rattle.tables.specs.Each.{each}
 use Rattle.links.specs.Nodes.{kindRight}
 use Rattle.tables.proofs.Each.{each-none, each-more, each-end, each-fails}

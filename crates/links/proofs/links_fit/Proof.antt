@@ -1,6 +1,6 @@
 -- `links::links_fit` meets its contract. Assumes nothing.
 use denote.Ref.{now}
-use borrow.Author.Needs.{needs}
+use Rattle.lists.proofs.Prelude.{needs}
 use Rattle.tables.proofs.Cases.{passed, refused}
 use Rattle.links.specs.Nodes.{linksFit}
 use Rattle.links.proofs.Lent.{lent-is}

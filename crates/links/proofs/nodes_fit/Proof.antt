@@ -1,5 +1,5 @@
 -- `links::nodes_fit` meets its contract. Assumes nothing.
-use borrow.Author.Needs.{needs}
+use Rattle.lists.proofs.Prelude.{needs}
 use Rattle.links.specs.Nodes.{nodesFit}
 use Rattle.tables.proofs.Cases.{passed, refused}
 use Rattle.links.proofs.nodes_fit.Statement.{statement}

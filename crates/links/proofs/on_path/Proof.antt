@@ -1,9 +1,6 @@
 -- `links::on_path` meets its contract. Assumes nothing.
-use Prim.Native.Nat.{ℕ, _≤_}
-use mathlib.Core.Path.{_≡_, refl, sym, ap, _∙_}
-use native.Mathlib.Omega.{arith}
+use Rattle.lists.proofs.Prelude.{ℕ, _≤_, _≡_, refl, sym, ap, _∙_, arith, needs}
 use denote.Ref.{now}
-use borrow.Author.Needs.{needs}
 use Rattle.links.specs.Nodes.{onPath}
 use Rattle.links.proofs.Parents.{climb-on, climb-none, climb-late, climb-end}
 use Rattle.links.proofs.on_path.Statement.{statement}

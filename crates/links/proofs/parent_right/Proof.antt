@@ -1,8 +1,6 @@
 -- `links::parent_right` meets its contract. Assumes nothing.
-use Prim.Native.Nat.{_-_}
-use mathlib.Core.Path.{ap, _∙_}
+use Rattle.lists.proofs.Prelude.{_-_, ap, _∙_, needs}
 use denote.Ref.{now}
-use borrow.Author.Needs.{needs}
 use Rattle.links.specs.Nodes.{onPath}
 use Rattle.links.proofs.Parents.{rule-none, rule-zero, rule-path}
 use Rattle.links.proofs.parent_right.Statement.{statement}

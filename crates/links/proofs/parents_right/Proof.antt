@@ -1,8 +1,5 @@
 -- `links::parents_right` meets its contract. Assumes nothing.
-use Prim.Native.Nat.{_-_, _≤_}
-use mathlib.Core.Bool.{true}
-use mathlib.Core.Path.{_≡_}
-use borrow.Author.Needs.{needs}
+use Rattle.lists.proofs.Prelude.{_-_, _≤_, true, _≡_, needs}
 use Rattle.tables.specs.Each.{each}
 use Rattle.links.specs.Nodes.{parentRight}
 use Rattle.tables.proofs.Cases.{passed, refused}

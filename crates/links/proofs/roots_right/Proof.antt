@@ -1,9 +1,6 @@
 -- `links::roots_right` meets its contract. Assumes nothing.
-use Prim.Native.Nat.{_-_, _≤_}
-use mathlib.Core.Path.{_≡_, sym, _∙_}
-use native.Mathlib.Omega.{arith}
+use Rattle.lists.proofs.Prelude.{_-_, _≤_, _≡_, sym, _∙_, arith, needs}
 use denote.Ref.{now}
-use borrow.Author.Needs.{needs}
 use Rattle.links.specs.Nodes.{rootsRight}
 use Rattle.links.proofs.Roots.{rest, root-first, root-other, root-over, root-wrong, root-right, root-end}
 use Rattle.links.proofs.roots_right.Statement.{statement}

@@ -1,10 +1,5 @@
 -- `links::siblings_right` meets its contract. Assumes nothing.
-use Prim.Native.Nat.{_-_, _/_, _≤_}
-use mathlib.Core.Path.{sym}
-use native.Mathlib.Omega.{arith}
-use lib.ListN.{length}
-use borrow.Author.Needs.{needs}
-use borrow.Author.Tests.{not-true, not-false}
+use Rattle.lists.proofs.Prelude.{_-_, _/_, _≤_, sym, arith, length, needs, not-true, not-false}
 use Rattle.tables.proofs.Each.{each-none}
 use Rattle.links.proofs.Siblings.{Past, past-first, past-next, past-last, past-more, past-end}
 use Rattle.links.proofs.siblings_right.Statement.{statement}

@@ -1,12 +1,10 @@
 -- `look::look` meets its contract. Assumes nothing.
 use denote.Ref.{now}
-use mathlib.Core.Path.{_≡_, sym, _∙_, subst}
-use native.Mathlib.Omega.{arith}
+use Rattle.lists.proofs.Prelude.{_≡_, sym, _∙_, subst, arith, needs}
 use Rattle.lexer.specs.declared.Head.the-variants.{Start, End, Name}
 use Rattle.lexer.specs.Step.{headAt}
 use Rattle.lexer.proofs.Within.{HeadWithin, head-within}
 use Rattle.look.proofs.Acts.{asks-by, asks-start, asks-none, asks-last, asks-end, asks-name}
-use borrow.Author.Needs.{needs}
 use Rattle.look.proofs.look.Statement.{statement}
 use Rattle.look.proofs.look.Tie as tie
 

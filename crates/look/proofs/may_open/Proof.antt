@@ -1,7 +1,7 @@
 -- `look::may_open` meets its contract. Assumes nothing.
 use denote.Ref.{now}
 use Rattle.look.proofs.Stacks.{may-empty, may-deep, may-none, may-node}
-use borrow.Author.Needs.{needs}
+use Rattle.lists.proofs.Prelude.{needs}
 use Rattle.look.proofs.may_open.Statement.{statement}
 use Rattle.look.proofs.may_open.Tie as tie
 

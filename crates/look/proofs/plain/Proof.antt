@@ -1,11 +1,8 @@
 -- `look::plain` meets its contract. Assumes nothing.
 use denote.Ref.{now}
-use Prim.Native.Nat.{_-_}
-use mathlib.Core.Path.{_≡_, sym, _∙_}
-use lib.Seq.{slice}
+use Rattle.lists.proofs.Prelude.{_-_, _≡_, sym, _∙_, slice, needs}
 use Rattle.parser.specs.Walk.{uppers}
 use Rattle.look.proofs.Uppers.{uppers-low, uppers-high, uppers-on, uppers-end}
-use borrow.Author.Needs.{needs}
 use Rattle.look.proofs.plain.Statement.{statement}
 use Rattle.look.proofs.plain.Tie as tie
 

@@ -1,9 +1,6 @@
 -- `look::property` meets its contract. Assumes nothing.
-use borrow.Author.Tests.{not-true, not-false}
-use mathlib.Core.Bool.{true, false}
-use mathlib.Core.Path.{refl}
+use Rattle.lists.proofs.Prelude.{not-true, not-false, true, false, refl, needs}
 use Rattle.look.proofs.Acts.{act-shut, act-skips, act-takes, taken-by, taken-as}
-use borrow.Author.Needs.{needs}
 use Rattle.look.proofs.property.Statement.{statement}
 use Rattle.look.proofs.property.Tie as tie
 

@@ -1,10 +1,7 @@
 -- `look::unclosed` meets its contract. Assumes nothing.
-use borrow.Author.Tests.{not-true, not-false}
-use mathlib.Core.Bool.{Bool, true, false}
-use mathlib.Core.Path.{_≡_, sym, ap, _∙_}
+use Rattle.lists.proofs.Prelude.{not-true, not-false, Bool, true, false, _≡_, sym, ap, _∙_, needs}
 use Rattle.close.specs.declared.Close.{Close}
 use Rattle.look.specs.Asks.{unclosed}
-use borrow.Author.Needs.{needs}
 use Rattle.look.proofs.unclosed.Statement.{statement}
 use Rattle.look.proofs.unclosed.Tie as tie
 

@@ -1,9 +1,6 @@
 -- `parser::fault_or_end` meets its contract. Assumes nothing.
-use Prim.Native.Nat.{_-_}
-use mathlib.Core.Path.{_≡_, refl, sym, ap, _∙_}
-use lib.ListN.{length}
+use Rattle.lists.proofs.Prelude.{_-_, _≡_, refl, sym, ap, _∙_, length, needs}
 use denote.Ref.{now}
-use borrow.Author.Needs.{needs}
 use Rattle.lexer.specs.Token.{End, Lexed, lexAt}
 use Rattle.parser.specs.declared.Survey.the-variants.{Refused}
 use Rattle.tables.specs.declared.Reason.the-variants.{UnexpectedGameTreeEnd}

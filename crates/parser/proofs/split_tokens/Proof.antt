@@ -1,14 +1,10 @@
 -- `parser::split_tokens` meets its contract. Assumes nothing.
-use Prim.Native.Nat.{ℕ, _-_}
-use mathlib.Core.Path.{refl, subst}
-use lib.ListN.{length}
+use Rattle.lists.proofs.Prelude.{ℕ, _-_, refl, subst, length, arith, needs}
 use denote.Ref.{now}
-use native.Mathlib.Omega.{arith}
 use Rattle.lexer.specs.Token.{lexAt}
 use Rattle.lexer.proofs.Within.{found-within}
 use Rattle.parser.proofs.Meets.{meets}
 use Rattle.parser.proofs.Splits.{Splitting-at, split-first, split-start, split-node, split-prop, split-slice, split-end, split-stop}
-use borrow.Author.Needs.{needs}
 use Rattle.parser.proofs.split_tokens.Statement.{statement}
 use Rattle.parser.proofs.split_tokens.Tie as tie
 

@@ -1,7 +1,6 @@
 -- `parser::survey_lenient` meets its contract. Assumes nothing.
-use mathlib.Core.Path.{sym, _∙_}
+use Rattle.lists.proofs.Prelude.{sym, _∙_, needs}
 use Rattle.parser.proofs.Surveys.{lenient-empty, lenient-slices, lenient-open}
-use borrow.Author.Needs.{needs}
 use Rattle.parser.proofs.survey_lenient.Statement.{statement}
 use Rattle.parser.proofs.survey_lenient.Tie as tie
 

@@ -1,11 +1,9 @@
 -- `parser::survey_strict` meets its contract. Assumes nothing.
-use mathlib.Core.Path.{sym, ap, _∙_}
-use native.Mathlib.Omega.{arith}
+use Rattle.lists.proofs.Prelude.{sym, ap, _∙_, arith, needs}
 use Rattle.parser.specs.declared.Survey.the-variants.{Refused}
 use Rattle.tables.specs.declared.Reason.{Reason}
 use Rattle.parser.proofs.Surveys.{strict-end, strict-fault, strict-open, strict-none, strict-slices}
 use Rattle.parser.proofs.Splits.{stop-as}
-use borrow.Author.Needs.{needs}
 use Rattle.parser.proofs.survey_strict.Statement.{statement}
 use Rattle.parser.proofs.survey_strict.Tie as tie
 

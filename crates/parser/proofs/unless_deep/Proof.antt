@@ -1,5 +1,5 @@
 -- `parser::unless_deep` meets its contract. Assumes nothing.
-use borrow.Author.Tests.{lt-ltb, le-ltb}
+use Rattle.lists.proofs.Prelude.{lt-ltb, le-ltb}
 use Rattle.parser.proofs.unless_deep.Statement.{statement}
 use Rattle.parser.proofs.unless_deep.Tie as tie
 

@@ -1,15 +1,6 @@
 -- `plan::plan_text` meets its contract. Assumes nothing.
-use Prim.Native.Nat.{ℕ, _≤_, _<_}
+use Rattle.lists.proofs.Prelude.{ℕ, _≤_, _<_, _≡_, sym, ap, _∙_, Bool, List, arith, lt-ltb, le-ltb, ltb, length, length-take-le, pick, needs}
 use denote.Ref.{now}
-use mathlib.Core.Path.{_≡_, sym, ap, _∙_}
-use mathlib.Core.Bool.{Bool}
-use mathlib.Core.List.{List}
-use native.Mathlib.Omega.{arith}
-use borrow.Author.Tests.{lt-ltb, le-ltb}
-use lib.Dec.{ltb}
-use lib.ListN.{length}
-use lib.Seq.{length-take-le}
-use Rattle.lists.specs.Pick.{pick}
 use Rattle.utf8.specs.Trim.{trimmed}
 use Rattle.utf8.specs.declared.Trimmed.{Trimmed}
 use Rattle.utf8.proofs.Extent.{trim-bounds}
@@ -17,7 +8,6 @@ use Rattle.tables.specs.Numbers.{textLimit}
 use Rattle.tables.specs.declared.Reason.the-variants.{TextTooLong}
 use Rattle.plan.specs.Plans.{planKept, planText}
 use Rattle.plan.specs.declared.Plan.the-variants.{Refused}
-use borrow.Author.Needs.{needs}
 use Rattle.plan.proofs.plan_text.Statement.{statement}
 use Rattle.plan.proofs.plan_text.Tie as tie
 

@@ -1,9 +1,7 @@
 -- `plan::plan_tokens` meets its contract. Assumes nothing.
 use denote.Ref.{now}
-use mathlib.Core.Path.{sym, ap, _∙_}
-use lib.ListN.{length}
+use Rattle.lists.proofs.Prelude.{sym, ap, _∙_, length, needs}
 use Rattle.plan.specs.Plans.{planFound}
-use borrow.Author.Needs.{needs}
 use Rattle.plan.proofs.plan_tokens.Statement.{statement}
 use Rattle.plan.proofs.plan_tokens.Tie as tie
 

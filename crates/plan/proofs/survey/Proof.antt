@@ -1,10 +1,8 @@
 -- `plan::survey` meets its contract. Assumes nothing.
 use denote.Ref.{now}
-use mathlib.Core.Path.{sym, ap, _∙_}
-use mathlib.Core.Bool.{Bool}
+use Rattle.lists.proofs.Prelude.{sym, ap, _∙_, Bool, needs}
 use Rattle.lexer.specs.Token.{lexAt}
 use Rattle.parser.specs.Survey.{surveyOf}
-use borrow.Author.Needs.{needs}
 use Rattle.plan.proofs.survey.Statement.{statement}
 use Rattle.plan.proofs.survey.Tie as tie
 

@@ -1,5 +1,5 @@
 -- `points::area_of` meets its contract. Assumes nothing.
-use borrow.Author.Needs.{needs}
+use Rattle.lists.proofs.Prelude.{needs}
 use Rattle.points.proofs.Areas.{area-inside, area-outside}
 use Rattle.points.proofs.area_of.Statement.{statement}
 use Rattle.points.proofs.area_of.Tie as tie

@@ -1,8 +1,5 @@
 -- `points::area_to` meets its contract. Assumes nothing.
-use mathlib.Core.Path.{_≡_, sym, ap, _∙_}
-use mathlib.Core.List.{List, _∷_}
-use Prim.Native.Nat.{ℕ}
-use borrow.Author.Needs.{needs}
+use Rattle.lists.proofs.Prelude.{_≡_, sym, ap, _∙_, List, _∷_, ℕ, needs}
 use Rattle.values.proofs.Steps.{stepped, read-cons}
 use Rattle.points.specs.Area.{areaOf}
 use Rattle.points.proofs.area_to.Statement.{statement}

@@ -1,9 +1,5 @@
 -- `points::letter_of` meets its contract. Assumes nothing.
-use mathlib.Core.Path.{_≡_}
-use mathlib.Core.Bool.{true, _&&_}
-use lib.Dec.{leb}
-use borrow.Author.Needs.{needs}
-use borrow.Author.Tests.{leb-true}
+use Rattle.lists.proofs.Prelude.{_≡_, true, _&&_, leb, needs, leb-true}
 use Rattle.lists.proofs.Tests.{and-both}
 use Rattle.points.specs.Area.{letterOf}
 use Rattle.points.proofs.letter_of.Statement.{statement}

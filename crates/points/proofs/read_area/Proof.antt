@@ -1,7 +1,5 @@
 -- `points::read_area` meets its contract. Assumes nothing.
-use mathlib.Core.Path.{sym, ap, _∙_}
-use lib.ListN.{drop}
-use borrow.Author.Needs.{needs}
+use Rattle.lists.proofs.Prelude.{sym, ap, _∙_, drop, needs}
 use Rattle.values.specs.Read.{readValue}
 use Rattle.values.proofs.Steps.{stepped, read-cons}
 use Rattle.points.specs.Area.{areaOf}

@@ -1,7 +1,5 @@
 -- `points::read_handicap` meets its contract. Assumes nothing.
-use mathlib.Core.Path.{sym, _∙_}
-use borrow.Author.Needs.{needs}
-use borrow.Author.Tests.{le-leb, lt-leb}
+use Rattle.lists.proofs.Prelude.{sym, _∙_, needs, le-leb, lt-leb}
 use Rattle.points.specs.Handicap.{handicapOf}
 use Rattle.points.proofs.read_handicap.Statement.{statement}
 use Rattle.points.proofs.read_handicap.Tie as tie

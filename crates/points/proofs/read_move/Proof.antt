@@ -1,6 +1,5 @@
 -- `points::read_move` meets its contract. Assumes nothing.
-use mathlib.Core.Path.{sym, ap, _∙_}
-use borrow.Author.Needs.{needs}
+use Rattle.lists.proofs.Prelude.{sym, ap, _∙_, needs}
 use Rattle.values.proofs.Steps.{stepped, read-cons}
 use Rattle.points.specs.Area.{moveOf}
 use Rattle.points.proofs.Areas.{move-point}

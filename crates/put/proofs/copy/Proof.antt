@@ -1,10 +1,5 @@
 -- `put::copy` meets its contract. Assumes nothing.
-use Prim.Native.Nat.{_+_, _-_, _≤_}
-use mathlib.Core.Path.{_≡_, refl, ap, _∙_}
-use native.Mathlib.Omega.{arith}
-use borrow.Author.Needs.{needs}
-use lib.ListN.{length, take, getD, set, length-set}
-use lib.Seq.{sets, take-all}
+use Rattle.lists.proofs.Prelude.{_+_, _-_, _≤_, _≡_, refl, ap, _∙_, arith, needs, length, take, getD, set, length-set, sets, take-all}
 use Rattle.put.proofs.Lists.{sets-next}
 use Rattle.put.proofs.copy.Statement.{statement}
 use Rattle.put.proofs.copy.Tie as tie

@@ -1,7 +1,5 @@
 -- `put::put_byte` meets its contract. Assumes nothing.
-use mathlib.Core.Path.{sym}
-use borrow.Author.Needs.{needs}
-use lib.Seq.{set-out}
+use Rattle.lists.proofs.Prelude.{sym, needs, set-out}
 use Rattle.put.proofs.put_byte.Statement.{statement}
 use Rattle.put.proofs.put_byte.Tie as tie
 

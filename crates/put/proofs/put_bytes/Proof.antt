@@ -1,9 +1,5 @@
 -- `put::put_bytes` meets its contract. Assumes nothing.
-use mathlib.Core.Path.{sym, _∙_}
-use native.Mathlib.Omega.{arith}
-use borrow.Author.Needs.{needs}
-use lib.ListN.{length-take}
-use lib.Seq.{length-take-le}
+use Rattle.lists.proofs.Prelude.{sym, _∙_, arith, needs, length-take, length-take-le}
 use Rattle.put.proofs.Lists.{sets-out, sets-room}
 use Rattle.put.proofs.put_bytes.Statement.{statement}
 use Rattle.put.proofs.put_bytes.Tie as tie

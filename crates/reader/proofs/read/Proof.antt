@@ -1,14 +1,11 @@
 -- `reader::read` meets its contract. Assumes nothing.
 use denote.Ref.{now}
-use native.Mathlib.Omega.{arith}
-use mathlib.Core.Path.{refl}
-use lib.Seq.{length-take-le}
+use Rattle.lists.proofs.Prelude.{arith, refl, length-take-le, needs}
 use Rattle.parser.specs.Read.{read}
 use Rattle.trees.specs.Walks.{opts}
 use Rattle.plan.specs.declared.Plan.the-variants.{Slices}
 use Rattle.reader.proofs.Surveyed.{PlanIs, read-as}
 use Rattle.reader.proofs.Texts.{planned}
-use borrow.Author.Needs.{needs}
 use Rattle.reader.proofs.read.Statement.{statement}
 use Rattle.reader.proofs.read.Tie as tie
 

@@ -3,9 +3,7 @@ use Rattle.record.proofs.Shows.{part-shown, part-shown-in}
 use Rattle.record.specs.Ask.{display, displayIn}
 use Rattle.access.proofs.Inside.{access-inside}
 use denote.Ref.{now}
-use native.Mathlib.Omega.{arith}
-use mathlib.Core.Path.{sym, ap, _∙_}
-use borrow.Author.Needs.{needs}
+use Rattle.lists.proofs.Prelude.{arith, sym, ap, _∙_, needs}
 use Rattle.record.proofs.display.Statement.{statement}
 use Rattle.record.proofs.display.Tie as tie
 

@@ -2,10 +2,8 @@
 use Rattle.record.proofs.Answers.{go-unfit, go-no, go-rooted, go-named, go-yes}
 use Rattle.fit.proofs.Whole.{fit-lent}
 use Rattle.tables.proofs.Cases.{refused, passed}
-use lib.Seq.{length-take-le}
+use Rattle.lists.proofs.Prelude.{length-take-le, sym, _∙_, needs}
 use denote.Ref.{now}
-use mathlib.Core.Path.{sym, _∙_}
-use borrow.Author.Needs.{needs}
 use Rattle.record.proofs.go_value.Statement.{statement}
 use Rattle.record.proofs.go_value.Tie as tie
 

@@ -1,12 +1,8 @@
 -- `record::kind_over` meets its contract. Assumes nothing.
-use Prim.Native.Nat.{_+_}
+use Rattle.lists.proofs.Prelude.{_+_, arith, _≡_, _∙_, _-_, _<_, needs}
 use Rattle.record.proofs.Kind.{kindOn, kind-here, kind-on, kind-end, kind-first}
 use Rattle.record.specs.Locals.{kindFrom}
 use denote.Ref.{now}
-use native.Mathlib.Omega.{arith}
-use mathlib.Core.Path.{_≡_, _∙_}
-use Prim.Native.Nat.{_-_, _<_}
-use borrow.Author.Needs.{needs}
 use Rattle.record.proofs.kind_over.Statement.{statement}
 use Rattle.record.proofs.kind_over.Tie as tie
 

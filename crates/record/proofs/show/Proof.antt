@@ -1,7 +1,6 @@
 -- `record::show` meets its contract. Assumes nothing.
 use Rattle.record.specs.Ask.{shownFor}
-use mathlib.Core.Path.{sym, ap, _∙_}
-use borrow.Author.Needs.{needs}
+use Rattle.lists.proofs.Prelude.{sym, ap, _∙_, needs}
 use Rattle.record.proofs.show.Statement.{statement}
 use Rattle.record.proofs.show.Tie as tie
 

@@ -1,7 +1,7 @@
 -- `record::value_of` meets its contract. Assumes nothing.
 use Rattle.record.proofs.Shows.{go-is}
 use denote.Ref.{now}
-use borrow.Author.Needs.{needs}
+use Rattle.lists.proofs.Prelude.{needs}
 use Rattle.record.proofs.value_of.Statement.{statement}
 use Rattle.record.proofs.value_of.Tie as tie
 

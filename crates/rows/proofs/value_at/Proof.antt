@@ -1,7 +1,5 @@
 -- `rows::value_at` meets its contract. Assumes nothing.
-use Prim.Native.Nat.{_+_}
-use native.Mathlib.Omega.{arith}
-use borrow.Author.Needs.{needs}
+use Rattle.lists.proofs.Prelude.{_+_, arith, needs}
 use Rattle.rows.proofs.Valued.{value-none, value-part}
 use Rattle.rows.proofs.value_at.Statement.{statement}
 use Rattle.rows.proofs.value_at.Tie as tie

@@ -1,10 +1,7 @@
 -- `scan::ident_end` meets its contract. The loop's invariant: the scan from here finds what the scan from the start finds.
 -- Assumes nothing.
-use Prim.Native.Nat.{_-_}
-use mathlib.Core.Path.{_≡_, sym, _∙_}
-use lib.ListN.{length}
+use Rattle.lists.proofs.Prelude.{_-_, _≡_, sym, _∙_, length, needs}
 use denote.Ref.{now}
-use borrow.Author.Needs.{needs}
 use Rattle.scan.specs.Scan.{identAt}
 use Rattle.scan.proofs.Scans.{ident-past, ident-here, ident-foreign, ident-on}
 use Rattle.scan.proofs.ident_end.Statement.{statement}

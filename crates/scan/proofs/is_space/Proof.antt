@@ -1,5 +1,5 @@
 -- `scan::is_space` meets its contract. Assumes nothing.
-use borrow.Author.Needs.{needs}
+use Rattle.lists.proofs.Prelude.{needs}
 use Rattle.scan.specs.Scan.{space}
 use Rattle.scan.proofs.is_space.Statement.{statement}
 use Rattle.scan.proofs.is_space.Tie as tie

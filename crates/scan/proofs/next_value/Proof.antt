@@ -1,8 +1,6 @@
 -- `scan::next_value` meets its contract. Assumes nothing.
-use mathlib.Core.Path.{sym, _∙_}
-use native.Mathlib.Omega.{arith}
+use Rattle.lists.proofs.Prelude.{sym, _∙_, arith, needs}
 use denote.Ref.{now}
-use borrow.Author.Needs.{needs}
 use Rattle.close.proofs.Bounds.{close-bounds}
 use Rattle.scan.proofs.Bounds.{past, value-on, value-open, value-none}
 use Rattle.scan.proofs.next_value.Statement.{statement}

@@ -1,11 +1,7 @@
 -- `scan::skip_space` meets its contract. The loop's invariant: skipping from here ends where skipping from the start ends.
 -- Assumes nothing.
-use Prim.Native.Nat.{_-_}
-use mathlib.Core.Path.{_≡_, sym, _∙_}
-use lib.ListN.{length}
+use Rattle.lists.proofs.Prelude.{_-_, _≡_, sym, _∙_, length, not-true, not-false, needs}
 use denote.Ref.{now}
-use borrow.Author.Tests.{not-true, not-false}
-use borrow.Author.Needs.{needs}
 use Rattle.scan.specs.Scan.{skipAt}
 use Rattle.scan.proofs.Scans.{skip-past, skip-on, skip-stop}
 use Rattle.scan.proofs.skip_space.Statement.{statement}

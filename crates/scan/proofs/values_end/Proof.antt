@@ -1,10 +1,6 @@
 -- `scan::values_end` meets its contract. The loop's invariant: the values from here on end where those from the start end. Assumes nothing.
-use Prim.Native.Nat.{_+_, _-_}
-use mathlib.Core.Path.{_≡_, refl, sym, _∙_}
-use native.Mathlib.Omega.{arith}
+use Rattle.lists.proofs.Prelude.{_+_, _-_, _≡_, refl, sym, _∙_, arith, length, needs}
 use denote.Ref.{now}
-use lib.ListN.{length}
-use borrow.Author.Needs.{needs}
 use Rattle.close.proofs.Bounds.{close-bounds}
 use Rattle.scan.specs.Scan.{skipAt, valuesAt}
 use Rattle.scan.proofs.Bounds.{skip-bounds, past, value-on, value-open, value-none}

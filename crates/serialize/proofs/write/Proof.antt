@@ -1,7 +1,5 @@
 -- `serialize::write` meets its contract. Assumes nothing.
-use native.Mathlib.Omega.{arith}
-use borrow.Author.Needs.{needs}
-use borrow.Author.Tests.{not-true}
+use Rattle.lists.proofs.Prelude.{arith, needs, not-true}
 use Rattle.tables.proofs.Cases.{passed, refused}
 use Rattle.serialize.proofs.Whole.{fit-used, fit-property, fit-nodes, write-unfit, write-nameless, write-short, write-done}
 use Rattle.serialize.proofs.write.Statement.{statement}

@@ -1,7 +1,6 @@
 -- `sgf::refusal_number` meets its contract. Assumes nothing.
 use Rattle.record.specs.Ask.{refusalNumber}
-use mathlib.Core.Path.{sym, ap, _∙_}
-use borrow.Author.Needs.{needs}
+use Rattle.lists.proofs.Prelude.{sym, ap, _∙_, needs}
 use Rattle.sgf.proofs.refusal_number.Statement.{statement}
 use Rattle.sgf.proofs.refusal_number.Tie as tie
 

@@ -1,6 +1,6 @@
 -- `sgf::sgf_display` meets its contract. Assumes nothing.
 use Rattle.sgf.proofs.Asking.{display-shown}
-use borrow.Author.Needs.{needs}
+use Rattle.lists.proofs.Prelude.{needs}
 use Rattle.sgf.proofs.sgf_display.Statement.{statement}
 use Rattle.sgf.proofs.sgf_display.Tie as tie
 

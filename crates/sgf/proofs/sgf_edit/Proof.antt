@@ -1,6 +1,6 @@
 -- `sgf::sgf_edit` meets its contract. Assumes nothing.
 use Rattle.sgf.proofs.Asking.{edit-shown}
-use borrow.Author.Needs.{needs}
+use Rattle.lists.proofs.Prelude.{needs}
 use Rattle.sgf.proofs.sgf_edit.Statement.{statement}
 use Rattle.sgf.proofs.sgf_edit.Tie as tie
 

@@ -1,7 +1,6 @@
 -- `sgf::sgf_fits` meets its contract. Assumes nothing.
 use Rattle.sgf.specs.Asked.{fitsShown}
-use mathlib.Core.Path.{sym, ap, _∙_}
-use borrow.Author.Needs.{needs}
+use Rattle.lists.proofs.Prelude.{sym, ap, _∙_, needs}
 use Rattle.sgf.proofs.sgf_fits.Statement.{statement}
 use Rattle.sgf.proofs.sgf_fits.Tie as tie
 

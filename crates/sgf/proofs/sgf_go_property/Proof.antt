@@ -1,7 +1,6 @@
 -- `sgf::sgf_go_property` meets its contract. Assumes nothing.
 use Rattle.answers.specs.Shown.{goShown}
-use mathlib.Core.Path.{ap, _∙_}
-use borrow.Author.Needs.{needs}
+use Rattle.lists.proofs.Prelude.{ap, _∙_, needs}
 use Rattle.sgf.proofs.sgf_go_property.Statement.{statement}
 use Rattle.sgf.proofs.sgf_go_property.Tie as tie
 

@@ -1,8 +1,7 @@
 -- `sgf::sgf_go_value` meets its contract. Assumes nothing.
 use Rattle.answers.specs.Shown.{goShown}
 use Rattle.sgf.specs.Asked.{answerShown}
-use mathlib.Core.Path.{ap, _∙_}
-use borrow.Author.Needs.{needs}
+use Rattle.lists.proofs.Prelude.{ap, _∙_, needs}
 use Rattle.sgf.proofs.sgf_go_value.Statement.{statement}
 use Rattle.sgf.proofs.sgf_go_value.Tie as tie
 

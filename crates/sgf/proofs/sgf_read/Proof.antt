@@ -1,6 +1,6 @@
 -- `sgf::sgf_read` meets its contract. Assumes nothing.
 use Rattle.sgf.proofs.Reading.{read-shown}
-use borrow.Author.Needs.{needs}
+use Rattle.lists.proofs.Prelude.{needs}
 use Rattle.sgf.proofs.sgf_read.Statement.{statement}
 use Rattle.sgf.proofs.sgf_read.Tie as tie
 

@@ -1,7 +1,6 @@
 -- `sgf::sgf_value` meets its contract. Assumes nothing.
 use Rattle.answers.specs.Shown.{spanShown}
-use mathlib.Core.Path.{ap, _∙_}
-use borrow.Author.Needs.{needs}
+use Rattle.lists.proofs.Prelude.{ap, _∙_, needs}
 use Rattle.sgf.proofs.sgf_value.Statement.{statement}
 use Rattle.sgf.proofs.sgf_value.Tie as tie
 

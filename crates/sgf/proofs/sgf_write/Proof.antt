@@ -1,6 +1,6 @@
 -- `sgf::sgf_write` meets its contract. Assumes nothing.
 use Rattle.sgf.proofs.Asking.{write-shown}
-use borrow.Author.Needs.{needs}
+use Rattle.lists.proofs.Prelude.{needs}
 use Rattle.sgf.proofs.sgf_write.Statement.{statement}
 use Rattle.sgf.proofs.sgf_write.Tie as tie
 

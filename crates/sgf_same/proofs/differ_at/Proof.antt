@@ -1,6 +1,5 @@
 -- `sgf_same::differ_at` meets its contract. Assumes nothing.
-use Prim.Native.Nat.{_-_}
-use borrow.Author.Needs.{needs}
+use Rattle.lists.proofs.Prelude.{_-_, needs}
 use Rattle.sgf_same.proofs.differ_at.Statement.{statement}
 use Rattle.sgf_same.proofs.differ_at.Tie as tie
 

@@ -1,6 +1,5 @@
 -- `sgf_show::say_record` meets its contract. Assumes nothing.
-use Prim.Native.Nat.{_-_}
-use borrow.Author.Needs.{needs}
+use Rattle.lists.proofs.Prelude.{_-_, needs}
 use Rattle.sgf_show.proofs.say_record.Statement.{statement}
 use Rattle.sgf_show.proofs.say_record.Tie as tie
 

@@ -1,7 +1,6 @@
 -- `sgf_tokens::say_next` meets its contract. Assumes nothing.
 use denote.Ref.{now}
-use native.Mathlib.Omega.{arith}
-use borrow.Author.Needs.{needs}
+use Rattle.lists.proofs.Prelude.{arith, needs}
 use Rattle.lexer.proofs.Within.{found-within}
 use Rattle.sgf_tokens.proofs.say_next.Statement.{statement}
 use Rattle.sgf_tokens.proofs.say_next.Tie as tie

@@ -1,7 +1,5 @@
 -- `sgf_tokens::say_text` meets its contract. Assumes nothing.
-use mathlib.Core.Path.{sym, _∙_}
-use lib.Seq.{length-take-le}
-use borrow.Author.Needs.{needs}
+use Rattle.lists.proofs.Prelude.{sym, _∙_, length-take-le, needs}
 use Rattle.utf8.proofs.Extent.{trim-bounds}
 use Rattle.sgf_tokens.proofs.say_text.Statement.{statement}
 use Rattle.sgf_tokens.proofs.say_text.Tie as tie

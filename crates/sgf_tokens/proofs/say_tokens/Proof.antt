@@ -1,7 +1,5 @@
 -- `sgf_tokens::say_tokens` meets its contract. Assumes nothing.
-use Prim.Native.Nat.{_+_, _-_}
-use borrow.Author.Needs.{needs}
-use lib.ListN.{length}
+use Rattle.lists.proofs.Prelude.{_+_, _-_, needs, length}
 use Rattle.sgf_tokens.proofs.say_tokens.Statement.{statement}
 use Rattle.sgf_tokens.proofs.say_tokens.Tie as tie
 

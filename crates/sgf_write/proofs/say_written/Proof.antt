@@ -1,7 +1,5 @@
 -- `sgf_write::say_written` meets its contract. Assumes nothing.
-use mathlib.Core.Path.{sym}
-use lib.Seq.{length-take-le}
-use borrow.Author.Needs.{needs}
+use Rattle.lists.proofs.Prelude.{sym, length-take-le, needs}
 use Rattle.sgf_write.proofs.say_written.Statement.{statement}
 use Rattle.sgf_write.proofs.say_written.Tie as tie
 use Rattle.serialize.proofs.Room.{write-room}

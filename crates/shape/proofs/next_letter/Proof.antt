@@ -1,8 +1,5 @@
 -- `shape::next_letter` meets its contract. Assumes nothing.
-use Prim.Native.Nat.{_-_}
-use mathlib.Core.Path.{_≡_, refl, _∙_}
-use borrow.Author.Needs.{needs}
-use lib.ListN.{length, drop}
+use Rattle.lists.proofs.Prelude.{_-_, _≡_, refl, _∙_, needs, length, drop}
 use Rattle.values.specs.Read.{readIdentifier}
 use Rattle.shape.proofs.Identifiers.{letter-past, letter-here, letter-on}
 use Rattle.shape.proofs.next_letter.Statement.{statement}

@@ -1,6 +1,5 @@
 -- `shape::shape_of` meets its contract. Assumes nothing.
-use mathlib.Core.Path.{sym, ap, _∙_, subst}
-use borrow.Author.Needs.{needs}
+use Rattle.lists.proofs.Prelude.{sym, ap, _∙_, subst, needs}
 use Rattle.shape.specs.Identifier.{Letters}
 use Rattle.shape.specs.Shape.{shapeOf}
 use Rattle.shape.proofs.Identifiers.{letter-cons}

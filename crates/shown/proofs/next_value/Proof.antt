@@ -1,6 +1,5 @@
 -- `shown::next_value` meets its contract. Assumes nothing.
-use mathlib.Core.Path.{refl}
-use borrow.Author.Needs.{needs}
+use Rattle.lists.proofs.Prelude.{refl, needs}
 use Rattle.shown.proofs.next_value.Statement.{statement}
 use Rattle.shown.proofs.next_value.Tie as tie
 

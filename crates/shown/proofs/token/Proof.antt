@@ -1,9 +1,7 @@
 -- `shown::token` meets its contract. Assumes nothing.
 use Rattle.lexer.proofs.Within.{found-within}
-use native.Mathlib.Omega.{arith}
+use Rattle.lists.proofs.Prelude.{arith, refl, _∙_, needs}
 use denote.Ref.{now}
-use mathlib.Core.Path.{refl, _∙_}
-use borrow.Author.Needs.{needs}
 use Rattle.shown.proofs.token.Statement.{statement}
 use Rattle.shown.proofs.token.Tie as tie
 

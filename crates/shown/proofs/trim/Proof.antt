@@ -1,6 +1,5 @@
 -- `shown::trim` meets its contract. Assumes nothing.
-use mathlib.Core.Path.{refl}
-use borrow.Author.Needs.{needs}
+use Rattle.lists.proofs.Prelude.{refl, needs}
 use Rattle.shown.proofs.trim.Statement.{statement}
 use Rattle.shown.proofs.trim.Tie as tie
 

@@ -1,7 +1,6 @@
 -- `spans::is_boxed` meets its contract. Assumes nothing.
-use mathlib.Core.Path.{sym, _∙_}
+use Rattle.lists.proofs.Prelude.{sym, _∙_, needs}
 use denote.Ref.{now}
-use borrow.Author.Needs.{needs}
 use Rattle.spans.proofs.Scans.{boxed-none, boxed-other, boxed-is}
 use Rattle.spans.proofs.is_boxed.Statement.{statement}
 use Rattle.spans.proofs.is_boxed.Tie as tie

@@ -1,6 +1,5 @@
 -- `spans::is_plain` meets its contract. Assumes nothing.
-use mathlib.Core.Path.{sym, ap, _∙_}
-use borrow.Author.Needs.{needs}
+use Rattle.lists.proofs.Prelude.{sym, ap, _∙_, needs}
 use Rattle.spans.proofs.Scans.{runsOut, plain-runs-out}
 use Rattle.spans.proofs.is_plain.Statement.{statement}
 use Rattle.spans.proofs.is_plain.Tie as tie

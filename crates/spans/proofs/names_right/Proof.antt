@@ -1,10 +1,6 @@
 -- `spans::names_right` meets its contract. Assumes nothing.
-use Prim.Native.Nat.{_-_, _≤_}
-use mathlib.Core.Bool.{true}
-use mathlib.Core.Path.{_≡_}
-use native.Mathlib.Omega.{arith}
+use Rattle.lists.proofs.Prelude.{_-_, _≤_, true, _≡_, arith, needs}
 use denote.Ref.{now}
-use borrow.Author.Needs.{needs}
 use Rattle.tables.specs.Each.{each}
 use Rattle.spans.specs.Spans.{nameRight}
 use Rattle.tables.proofs.Cases.{passed, refused}

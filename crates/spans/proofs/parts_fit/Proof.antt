@@ -1,6 +1,6 @@
 -- `spans::parts_fit` meets its contract. Assumes nothing.
 use denote.Ref.{now}
-use borrow.Author.Needs.{needs}
+use Rattle.lists.proofs.Prelude.{needs}
 use Rattle.tables.proofs.Cases.{passed, refused}
 use Rattle.spans.specs.Parts.{partsFit}
 use Rattle.spans.proofs.Lent.{lent-is, ranges-values}

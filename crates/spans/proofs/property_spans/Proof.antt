@@ -1,7 +1,6 @@
 -- `spans::property_spans` meets its contract. Assumes nothing.
 use denote.Ref.{now}
-use borrow.Author.Needs.{needs}
-use borrow.Author.Tests.{not-true, not-false}
+use Rattle.lists.proofs.Prelude.{needs, not-true, not-false}
 use Rattle.spans.proofs.Ascents.{property-not, property-is}
 use Rattle.spans.proofs.property_spans.Statement.{statement}
 use Rattle.spans.proofs.property_spans.Tie as tie

@@ -1,7 +1,5 @@
 -- `spans::ranges_fit` meets its contract. Assumes nothing.
-use mathlib.Core.Path.{ap₂}
-use mathlib.Core.Bool.{_&&_}
-use borrow.Author.Needs.{needs}
+use Rattle.lists.proofs.Prelude.{ap₂, _&&_, needs}
 use Rattle.spans.specs.Ranges.{rangesFit}
 use Rattle.spans.proofs.ranges_fit.Statement.{statement}
 use Rattle.spans.proofs.ranges_fit.Tie as tie

@@ -1,8 +1,5 @@
 -- `spans::ranges_follow` meets its contract. Assumes nothing.
-use Prim.Native.Nat.{_-_, _*_, _+_}
-use native.Mathlib.Omega.{arith}
-use lib.ListN.{getD}
-use borrow.Author.Needs.{needs}
+use Rattle.lists.proofs.Prelude.{_-_, _*_, _+_, arith, getD, needs}
 use Rattle.spans.proofs.Ranges.{Ranged, ranged-none, ranged-more, ranged-gap, ranged-over, ranged-end, cell-in}
 use Rattle.spans.proofs.ranges_follow.Statement.{statement}
 use Rattle.spans.proofs.ranges_follow.Tie as tie

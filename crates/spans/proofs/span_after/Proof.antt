@@ -1,5 +1,5 @@
 -- `spans::span_after` meets its contract. Assumes nothing.
-use borrow.Author.Needs.{needs}
+use Rattle.lists.proofs.Prelude.{needs}
 use Rattle.spans.proofs.Ascents.{span-out, span-in}
 use Rattle.spans.proofs.span_after.Statement.{statement}
 use Rattle.spans.proofs.span_after.Tie as tie

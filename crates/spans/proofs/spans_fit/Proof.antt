@@ -1,5 +1,5 @@
 -- `spans::spans_fit` meets its contract. Assumes nothing.
-use native.Mathlib.Omega.{arith}
+use Rattle.lists.proofs.Prelude.{arith}
 use Rattle.spans.specs.Spans.{spansFit}
 use Rattle.tables.proofs.Cases.{passed, refused}
 use Rattle.spans.proofs.Lying.{names-lie, values-lie}

@@ -1,9 +1,6 @@
 -- `spans::spans_right` meets its contract. Assumes nothing.
-use Prim.Native.Nat.{_-_}
-use mathlib.Core.Path.{_≡_, sym, _∙_}
+use Rattle.lists.proofs.Prelude.{_-_, _≡_, sym, _∙_, needs, not-true, not-false}
 use denote.Ref.{now}
-use borrow.Author.Needs.{needs}
-use borrow.Author.Tests.{not-true, not-false}
 use Rattle.spans.specs.Spans.{spans, ascending}
 use Rattle.spans.proofs.Ascents.{spanning, spanning-first, spanning-end, spanning-not, spanning-more}
 use Rattle.spans.proofs.spans_right.Statement.{statement}

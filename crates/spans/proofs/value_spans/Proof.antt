@@ -1,9 +1,5 @@
 -- `spans::value_spans` meets its contract. Assumes nothing.
-use Prim.Native.Nat.{_+_, _-_}
-use mathlib.Core.Path.{_≡_, refl}
-use native.Mathlib.Omega.{arith}
-use borrow.Author.Needs.{needs}
-use borrow.Author.Tests.{not-true, not-false}
+use Rattle.lists.proofs.Prelude.{_+_, _-_, _≡_, refl, arith, needs, not-true, not-false}
 use Rattle.spans.proofs.Ascents.{Values, values-first, values-not, values-more, values-end}
 use Rattle.spans.proofs.value_spans.Statement.{statement}
 use Rattle.spans.proofs.value_spans.Tie as tie

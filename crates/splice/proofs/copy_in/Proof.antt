@@ -1,8 +1,5 @@
 -- `copy_in` meets its contract. Assumes nothing.
-use borrow.Author.Needs.{needs}
-use mathlib.Core.Path.{refl}
-use Prim.Native.Nat.{_-_}
-use lib.ListN.{length}
+use Rattle.lists.proofs.Prelude.{needs, refl, _-_, length}
 use Rattle.lists.proofs.Paste.{Pasting, paste-none, paste-more, paste-done}
 use Rattle.splice.proofs.copy_in.Statement.{statement}
 use Rattle.splice.proofs.copy_in.Tie as tie

@@ -1,6 +1,6 @@
 -- `may_replace` meets its contract. Assumes nothing.
 use Rattle.splice.proofs.May.{may-turned, may-beyond, may-unlent, may-room}
-use borrow.Author.Needs.{needs}
+use Rattle.lists.proofs.Prelude.{needs}
 use Rattle.splice.proofs.may_replace.Statement.{statement}
 use Rattle.splice.proofs.may_replace.Tie as tie
 

@@ -1,8 +1,5 @@
 -- `move_left` meets its contract. Assumes nothing.
-use borrow.Author.Needs.{needs}
-use Prim.Native.Nat.{_-_}
-use native.Mathlib.Omega.{arith}
-use lib.ListN.{drop, length-drop}
+use Rattle.lists.proofs.Prelude.{needs, _-_, arith, drop, length-drop}
 use Rattle.lists.proofs.Paste.{Pasting, paste-none, paste-more, paste-done, left-value}
 use Rattle.splice.proofs.move_left.Statement.{statement}
 use Rattle.splice.proofs.move_left.Tie as tie

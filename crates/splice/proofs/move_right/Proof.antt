@@ -1,5 +1,5 @@
 -- `move_right` meets its contract. Assumes nothing.
-use borrow.Author.Needs.{needs}
+use Rattle.lists.proofs.Prelude.{needs}
 use Rattle.lists.proofs.Paste.{Backing, back-none, back-more, back-done}
 use Rattle.splice.proofs.move_right.Statement.{statement}
 use Rattle.splice.proofs.move_right.Tie as tie

@@ -1,7 +1,6 @@
 -- `replace` meets its contract. Assumes nothing.
 use Rattle.splice.proofs.May.{may-replace, replaced-may, replaced-not}
-use mathlib.Core.Path.{sym, _∙_}
-use borrow.Author.Needs.{needs}
+use Rattle.lists.proofs.Prelude.{sym, _∙_, needs}
 use Rattle.splice.proofs.replace.Statement.{statement}
 use Rattle.splice.proofs.replace.Tie as tie
 

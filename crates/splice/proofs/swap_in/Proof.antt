@@ -1,7 +1,7 @@
 -- `swap_in` meets its contract. Assumes nothing.
 use Rattle.splice.proofs.Replaced.{replaced-left, replaced-right}
 use denote.Ref.{now}
-use borrow.Author.Needs.{needs}
+use Rattle.lists.proofs.Prelude.{needs}
 use Rattle.splice.proofs.swap_in.Statement.{statement}
 use Rattle.splice.proofs.swap_in.Tie as tie
 

@@ -1,9 +1,5 @@
 -- `zero_out` meets its contract. Assumes nothing.
-use borrow.Author.Needs.{needs}
-use mathlib.Core.Path.{sym}
-use Prim.Native.Nat.{_-_}
-use native.Mathlib.Omega.{arith}
-use lib.ListN.{replicate, length-replicate, getD-replicate}
+use Rattle.lists.proofs.Prelude.{needs, sym, _-_, arith, replicate, length-replicate, getD-replicate}
 use Rattle.lists.proofs.Paste.{Pasting, paste-none, paste-more, paste-done}
 use Rattle.splice.proofs.zero_out.Statement.{statement}
 use Rattle.splice.proofs.zero_out.Tie as tie

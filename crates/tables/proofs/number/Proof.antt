@@ -1,7 +1,6 @@
 -- `tables::number` meets its contract. Assumes nothing.
 use Rattle.tables.specs.Numbers.{numberOf}
-use mathlib.Core.Path.{ap, sym}
-use borrow.Author.Needs.{needs}
+use Rattle.lists.proofs.Prelude.{ap, sym, needs}
 use Rattle.tables.proofs.number.Statement.{statement}
 use Rattle.tables.proofs.number.Tie as tie
 

@@ -1,9 +1,5 @@
 -- `token_cases::decode` meets its contract. Assumes nothing.
-use mathlib.Core.Path.{_≡_}
-use Prim.Native.Nat.{_-_, _≤_}
-use native.Mathlib.Omega.{arith}
-use borrow.Author.Needs.{needs}
-use lib.ListN.{length, length-set}
+use Rattle.lists.proofs.Prelude.{_≡_, _-_, _≤_, arith, needs, length, length-set}
 use Rattle.token_cases.proofs.decode.Statement.{statement}
 use Rattle.token_cases.proofs.decode.Tie as tie
 

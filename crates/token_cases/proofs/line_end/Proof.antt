@@ -1,7 +1,5 @@
 -- `token_cases::line_end` meets its contract. Assumes nothing.
-use Prim.Native.Nat.{_-_, _≤_}
-use borrow.Author.Needs.{needs}
-use lib.ListN.{length}
+use Rattle.lists.proofs.Prelude.{_-_, _≤_, needs, length}
 use Rattle.token_cases.proofs.line_end.Statement.{statement}
 use Rattle.token_cases.proofs.line_end.Tie as tie
 

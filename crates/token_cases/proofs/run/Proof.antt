@@ -1,7 +1,5 @@
 -- `token_cases::run` meets its contract. Assumes nothing.
-use Prim.Native.Nat.{_-_}
-use borrow.Author.Needs.{needs}
-use lib.ListN.{length}
+use Rattle.lists.proofs.Prelude.{_-_, needs, length}
 use Rattle.token_cases.proofs.run.Statement.{statement}
 use Rattle.token_cases.proofs.run.Tie as tie
 

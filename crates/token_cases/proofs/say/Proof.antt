@@ -1,7 +1,5 @@
 -- `token_cases::say` meets its contract. Assumes nothing.
-use mathlib.Core.Path.{sym}
-use lib.Seq.{length-take-le}
-use borrow.Author.Needs.{needs}
+use Rattle.lists.proofs.Prelude.{sym, length-take-le, needs}
 use Rattle.token_cases.proofs.say.Statement.{statement}
 use Rattle.token_cases.proofs.say.Tie as tie
 

@@ -1,8 +1,7 @@
 -- `token_cases::say_next` meets its contract. Assumes nothing.
 use denote.Ref.{now}
-use native.Mathlib.Omega.{arith}
+use Rattle.lists.proofs.Prelude.{arith, needs}
 use Rattle.lexer.proofs.Within.{found-within}
-use borrow.Author.Needs.{needs}
 use Rattle.token_cases.proofs.say_next.Statement.{statement}
 use Rattle.token_cases.proofs.say_next.Tie as tie
 

@@ -1,7 +1,5 @@
 -- `token_cases::say_read` meets its contract. Assumes nothing.
-use Prim.Native.Nat.{_-_, _≤_}
-use borrow.Author.Needs.{needs}
-use lib.ListN.{length}
+use Rattle.lists.proofs.Prelude.{_-_, _≤_, needs, length}
 use Rattle.token_cases.proofs.say_read.Statement.{statement}
 use Rattle.token_cases.proofs.say_read.Tie as tie
 

@@ -1,8 +1,6 @@
 -- `token_cases::say_trimmed` meets its contract. Assumes nothing.
-use mathlib.Core.Path.{sym, _∙_}
-use lib.Seq.{length-take-le}
+use Rattle.lists.proofs.Prelude.{sym, _∙_, length-take-le, needs}
 use Rattle.utf8.proofs.Extent.{trim-bounds}
-use borrow.Author.Needs.{needs}
 use Rattle.token_cases.proofs.say_trimmed.Statement.{statement}
 use Rattle.token_cases.proofs.say_trimmed.Tie as tie
 

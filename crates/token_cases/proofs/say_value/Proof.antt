@@ -1,9 +1,7 @@
 -- `token_cases::say_value` meets its contract. Assumes nothing.
-use mathlib.Core.Path.{sym, _∙_}
+use Rattle.lists.proofs.Prelude.{sym, _∙_, arith, needs}
 use denote.Ref.{now}
-use native.Mathlib.Omega.{arith}
 use Rattle.scan.proofs.Bounds.{ValueIs, value-is}
-use borrow.Author.Needs.{needs}
 use Rattle.token_cases.proofs.say_value.Statement.{statement}
 use Rattle.token_cases.proofs.say_value.Tie as tie
 

@@ -1,15 +1,10 @@
 -- `trees::add` meets its contract. Assumes nothing.
-use Prim.Native.Nat.{ℕ, suc, _*_}
+use Rattle.lists.proofs.Prelude.{ℕ, suc, _*_, [], _∷_, subst, length, arith, needs}
 use Rattle.trees.proofs.Takings.{taken-count}
 use Rattle.lists.specs.Put.{PutIs}
-use mathlib.Core.List.{[], _∷_}
-use mathlib.Core.Path.{subst}
-use lib.ListN.{length}
 use Rattle.scan.proofs.Values.{values-bounds}
 use Rattle.lexer.proofs.Listed.{vals-count}
 use denote.Ref.{now}
-use native.Mathlib.Omega.{arith}
-use borrow.Author.Needs.{needs}
 use Rattle.trees.proofs.add.Statement.{statement}
 use Rattle.trees.proofs.add.Tie as tie
 

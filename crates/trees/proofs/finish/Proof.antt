@@ -1,7 +1,5 @@
 -- `trees::finish` meets its contract. Assumes nothing.
-use borrow.Author.Tests.{eq-eqb, ne-eqb, not-true, not-false}
-use mathlib.Core.Path.{refl}
-use borrow.Author.Needs.{needs}
+use Rattle.lists.proofs.Prelude.{eq-eqb, ne-eqb, not-true, not-false, refl, needs}
 use Rattle.trees.proofs.finish.Statement.{statement}
 use Rattle.trees.proofs.finish.Tie as tie
 

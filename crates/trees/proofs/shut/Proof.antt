@@ -1,5 +1,5 @@
 -- `trees::shut` meets its contract. Assumes nothing.
-use mathlib.Core.Path.{refl}
+use Rattle.lists.proofs.Prelude.{refl}
 use Rattle.trees.proofs.shut.Statement.{statement}
 use Rattle.trees.proofs.shut.Tie as tie
 

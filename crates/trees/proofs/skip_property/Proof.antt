@@ -1,6 +1,5 @@
 -- `trees::skip_property` meets its contract. Assumes nothing.
-use mathlib.Core.Path.{sym, _∙_, refl}
-use borrow.Author.Needs.{needs}
+use Rattle.lists.proofs.Prelude.{sym, _∙_, refl, needs}
 use Rattle.trees.proofs.skip_property.Statement.{statement}
 use Rattle.trees.proofs.skip_property.Tie as tie
 

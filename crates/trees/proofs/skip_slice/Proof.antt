@@ -1,13 +1,9 @@
 -- `trees::skip_slice` meets its contract. Assumes nothing.
 use denote.Ref.{now}
-use Prim.Native.Nat.{_-_}
-use lib.ListN.{length}
-use mathlib.Core.Path.{sym, ap, _∙_}
-use native.Mathlib.Omega.{arith}
+use Rattle.lists.proofs.Prelude.{_-_, length, sym, ap, _∙_, arith, needs}
 use Rattle.lexer.specs.Token.{Lexed}
 use Rattle.trees.proofs.Meets.{step-meets, step-lies}
 use Rattle.trees.proofs.Behind.{Skipping, skipping-first, skipping-start, skipping-end, skipping-last, skipping-node, skipping-prop, skipping-over}
-use borrow.Author.Needs.{needs}
 use Rattle.trees.proofs.skip_slice.Statement.{statement}
 use Rattle.trees.proofs.skip_slice.Tie as tie
 

@@ -1,7 +1,5 @@
 -- `trees::stop` meets its contract. Assumes nothing.
-use borrow.Author.Tests.{not-true, not-false}
-use mathlib.Core.Path.{refl}
-use borrow.Author.Needs.{needs}
+use Rattle.lists.proofs.Prelude.{not-true, not-false, refl, needs}
 use Rattle.trees.proofs.stop.Statement.{statement}
 use Rattle.trees.proofs.stop.Tie as tie
 

@@ -1,14 +1,10 @@
 -- `trees::take_values` meets its contract. Assumes nothing.
 use denote.Ref.{now}
-use Prim.Native.Nat.{_-_}
-use lib.ListN.{length}
-use mathlib.Core.Path.{_≡_, sym, _∙_}
-use native.Mathlib.Omega.{arith}
+use Rattle.lists.proofs.Prelude.{_-_, length, _≡_, sym, _∙_, arith, needs}
 use Rattle.scan.proofs.Bounds.{value-is}
 use Rattle.scan.specs.declared.ValueStep.the-variants.{Value}
 use Rattle.scan.specs.Scan.{valueAt}
 use Rattle.trees.proofs.Takings.{Taking, taking-first, taking-more, taking-end, taking-unclosed}
-use borrow.Author.Needs.{needs}
 use Rattle.trees.proofs.take_values.Statement.{statement}
 use Rattle.trees.proofs.take_values.Tie as tie
 

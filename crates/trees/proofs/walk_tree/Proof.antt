@@ -1,9 +1,6 @@
 -- `trees::walk_tree` meets its contract. Assumes nothing.
 use denote.Ref.{now}
-use Prim.Native.Nat.{_-_}
-use lib.ListN.{length}
-use mathlib.Core.Path.{refl, sym, ap, _∙_}
-use native.Mathlib.Omega.{arith}
+use Rattle.lists.proofs.Prelude.{_-_, length, refl, sym, ap, _∙_, arith, needs}
 use Rattle.look.specs.declared.State.{State}
 use Rattle.look.specs.declared.Act.the-variants.{Start, End, Node, Add, Skip, Stop, Over}
 use Rattle.trees.specs.Walks.{opts}
@@ -14,7 +11,6 @@ use Rattle.trees.proofs.Giving.{gives-stopped, gives-ended}
 use Rattle.trees.proofs.Adding.{adds-follows, walking-added, walking-skipped, property-moves}
 use Rattle.trees.proofs.Arms.{start-fits, walking-start, walking-end, walking-node}
 use Rattle.trees.proofs.Walking.{Walking, walking-first, small-state, counted}
-use borrow.Author.Needs.{needs}
 use Rattle.trees.proofs.walk_tree.Statement.{statement}
 use Rattle.trees.proofs.walk_tree.Tie as tie
 

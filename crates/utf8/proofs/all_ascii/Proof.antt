@@ -1,14 +1,7 @@
 -- `utf8::all_ascii` meets its contract. The loop's invariant: as long as the flag holds, all bytes so far are ASCII. Assumes nothing.
-use mathlib.Core.Path.{_≡_}
-use mathlib.Core.Bool.{true}
-use Prim.Native.Nat.{ℕ, _+_, _-_, _≤_, _<_}
-use native.Mathlib.Omega.{arith}
-use lib.Dec.{ltb}
-use lib.ListN.{getD}
+use Rattle.lists.proofs.Prelude.{_≡_, true, ℕ, _+_, _-_, _≤_, _<_, arith, ltb, getD, needs, ltb-true}
 use denote.Ref.{now}
 use borrow.Author.Count.{below-more}
-use borrow.Author.Needs.{needs}
-use borrow.Author.Tests.{ltb-true}
 use Rattle.lists.proofs.Tests.{and-both}
 use Rattle.utf8.proofs.all_ascii.Statement.{statement}
 use Rattle.utf8.proofs.all_ascii.Tie as tie

@@ -1,11 +1,6 @@
 -- `utf8::plain_run` meets its contract. Assumes nothing.
 use denote.Ref.{now}
-use lib.ListN.{getD}
-use mathlib.Core.Path.{_≡_, subst}
-use Prim.Native.Nat.{ℕ, _+_, _-_, _<_}
-use borrow.Author.Tests.{not-false}
-use native.Mathlib.Omega.{arith}
-use borrow.Author.Needs.{needs}
+use Rattle.lists.proofs.Prelude.{getD, _≡_, subst, ℕ, _+_, _-_, _<_, not-false, arith, needs}
 use Rattle.utf8.proofs.plain_run.Statement.{statement}
 use Rattle.utf8.proofs.plain_run.Tie as tie
 

@@ -1,12 +1,6 @@
 -- `utf8::trim` meets its contract. The loop's invariant: what the machine gives from here, with what has been seen, is what it gives from the start. Assumes nothing.
-use mathlib.Core.Path.{sym, _∙_}
-use Prim.Native.Nat.{_+_, _-_, _≤_, _<_}
-use native.Mathlib.Omega.{arith}
-use lib.Dec.{leb, ltb}
-use lib.ListN.{length}
+use Rattle.lists.proofs.Prelude.{sym, _∙_, _+_, _-_, _≤_, _<_, arith, leb, ltb, length, needs, ltb-true}
 use denote.Ref.{now}
-use borrow.Author.Needs.{needs}
-use borrow.Author.Tests.{ltb-true}
 use Rattle.utf8.proofs.Decoding.{decoded-within}
 use Rattle.lists.proofs.Tests.{and-both}
 use Rattle.utf8.proofs.Turns.{Onward, onward-start, turn, turn-ascii, turn-plain, stop-bad, end-blank, end-kept}

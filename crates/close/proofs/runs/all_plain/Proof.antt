@@ -1,12 +1,7 @@
 -- `close::runs::all_plain` meets its contract. The loop's invariant: as long as the flag holds, all bytes so far are plain. Assumes nothing.
-use mathlib.Core.Path.{_≡_, sym, _∙_}
-use mathlib.Core.Bool.{true}
-use Prim.Native.Nat.{ℕ, _+_, _-_, _≤_, _<_}
-use native.Mathlib.Omega.{arith}
-use lib.ListN.{getD}
+use Rattle.lists.proofs.Prelude.{_≡_, sym, _∙_, true, ℕ, _+_, _-_, _≤_, _<_, arith, getD, needs}
 use denote.Ref.{now}
 use borrow.Author.Count.{below-more}
-use borrow.Author.Needs.{needs}
 use Rattle.lists.proofs.Tests.{and-both}
 use Rattle.close.specs.Run.{plain}
 use Rattle.close.proofs.runs.all_plain.Statement.{statement}

@@ -1,8 +1,6 @@
 -- `close::runs::closes` meets its contract. Assumes nothing.
-use mathlib.Core.Bool.{false≢true}
+use Rattle.lists.proofs.Prelude.{false≢true, needs, eqb-true}
 use denote.Ref.{now}
-use borrow.Author.Needs.{needs}
-use borrow.Author.Tests.{eqb-true}
 use Rattle.close.proofs.Steps.{close-here}
 use Rattle.close.proofs.runs.closes.Statement.{statement}
 use Rattle.close.proofs.runs.closes.Tie as tie

@@ -1,10 +1,6 @@
 -- `close::runs::past_plain` meets its contract. The loop's invariant: the scan may go on from here. Assumes nothing.
-use Prim.Native.Nat.{_-_}
-use native.Mathlib.Omega.{arith}
-use lib.ListN.{length}
+use Rattle.lists.proofs.Prelude.{_-_, arith, length, needs, not-false}
 use denote.Ref.{now}
-use borrow.Author.Needs.{needs}
-use borrow.Author.Tests.{not-false}
 use Rattle.close.specs.Run.{LeadsTo}
 use Rattle.close.proofs.Leads.{leads-none, leads-on, leads-plain}
 use Rattle.close.proofs.runs.past_plain.Statement.{statement}

@@ -1,12 +1,6 @@
 -- `close::runs::past_short` meets its contract. The loop's invariant: the scan may go on from here. Assumes nothing.
-use Prim.Native.Nat.{_-_, _≤_}
-use mathlib.Core.Path.{sym, _∙_}
-use mathlib.Core.Logic.{⊎-elim}
-use native.Mathlib.Omega.{arith}
-use lib.ListN.{length}
+use Rattle.lists.proofs.Prelude.{_-_, _≤_, sym, _∙_, ⊎-elim, arith, length, needs, not-false}
 use denote.Ref.{now}
-use borrow.Author.Needs.{needs}
-use borrow.Author.Tests.{not-false}
 use Rattle.close.specs.Run.{LeadsTo}
 use Rattle.close.proofs.Leads.{leads-none, leads-on, leads-one}
 use Rattle.close.proofs.runs.past_short.Statement.{statement}

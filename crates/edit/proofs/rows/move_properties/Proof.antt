@@ -1,10 +1,7 @@
 -- `rows::move_properties` meets its contract. Assumes nothing.
 use Rattle.edit.proofs.Moving.{PropsMoving, props-none, prop-from, prop-cell, props-more, props-done}
 use Rattle.lexer.specs.Move.{startsAt, endsAt}
-use native.Mathlib.Omega.{arith}
-use mathlib.Core.Path.{refl}
-use Prim.Native.Nat.{_-_}
-use borrow.Author.Needs.{needs}
+use Rattle.lists.proofs.Prelude.{arith, refl, _-_, needs}
 use Rattle.edit.proofs.rows.move_properties.Statement.{statement}
 use Rattle.edit.proofs.rows.move_properties.Tie as tie
 

@@ -1,9 +1,7 @@
 -- `rows::move_values` meets its contract. Assumes nothing.
 use Rattle.edit.proofs.Moving.{ValsMoving, vals-none, val-from, val-cell, vals-more, vals-done}
 use Rattle.lexer.specs.Move.{startsAt, endsAt}
-use native.Mathlib.Omega.{arith}
-use Prim.Native.Nat.{_-_}
-use borrow.Author.Needs.{needs}
+use Rattle.lists.proofs.Prelude.{arith, _-_, needs}
 use Rattle.edit.proofs.rows.move_values.Statement.{statement}
 use Rattle.edit.proofs.rows.move_values.Tie as tie
 

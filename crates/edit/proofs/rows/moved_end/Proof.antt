@@ -1,6 +1,5 @@
 -- `rows::moved_end` meets its contract. Assumes nothing.
-use borrow.Author.Tests.{lt-ltb, le-ltb}
-use borrow.Author.Needs.{needs}
+use Rattle.lists.proofs.Prelude.{lt-ltb, le-ltb, needs}
 use Rattle.edit.proofs.rows.moved_end.Statement.{statement}
 use Rattle.edit.proofs.rows.moved_end.Tie as tie
 

@@ -1,7 +1,5 @@
 -- `rows::moved_start` meets its contract. Assumes nothing.
-use native.Mathlib.Omega.{arith}
-use borrow.Author.Tests.{le-leb, lt-leb}
-use borrow.Author.Needs.{needs}
+use Rattle.lists.proofs.Prelude.{arith, le-leb, lt-leb, needs}
 use Rattle.edit.proofs.rows.moved_start.Statement.{statement}
 use Rattle.edit.proofs.rows.moved_start.Tie as tie
 

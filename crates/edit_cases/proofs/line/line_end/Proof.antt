@@ -1,7 +1,5 @@
 -- `line::line_end` meets its contract. Assumes nothing.
-use borrow.Author.Needs.{needs}
-use lib.ListN.{length}
-use Prim.Native.Nat.{_-_, _≤_}
+use Rattle.lists.proofs.Prelude.{needs, length, _-_, _≤_}
 use Rattle.edit_cases.proofs.line.line_end.Statement.{statement}
 use Rattle.edit_cases.proofs.line.line_end.Tie as tie
 

@@ -1,9 +1,5 @@
 -- `line::load` meets its contract. Assumes nothing.
-use borrow.Author.Needs.{needs}
-use native.Mathlib.Omega.{arith}
-use lib.ListN.{length, length-set}
-use mathlib.Core.Path.{_≡_}
-use Prim.Native.Nat.{_-_, _≤_}
+use Rattle.lists.proofs.Prelude.{needs, arith, length, length-set, _≡_, _-_, _≤_}
 use Rattle.edit_cases.proofs.line.load.Statement.{statement}
 use Rattle.edit_cases.proofs.line.load.Tie as tie
 

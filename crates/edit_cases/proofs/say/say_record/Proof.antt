@@ -1,8 +1,5 @@
 -- `say::say_record` meets its contract. Assumes nothing.
-use lib.Seq.{length-take-le}
-use native.Mathlib.Omega.{arith}
-use mathlib.Core.Path.{sym}
-use borrow.Author.Needs.{needs}
+use Rattle.lists.proofs.Prelude.{length-take-le, arith, sym, needs}
 use Rattle.edit_cases.proofs.say.say_record.Statement.{statement}
 use Rattle.edit_cases.proofs.say.say_record.Tie as tie
 

@@ -1,7 +1,5 @@
 -- `say::say_rows` meets its contract. Assumes nothing.
-use borrow.Author.Needs.{needs}
-use lib.ListN.{length}
-use Prim.Native.Nat.{_-_}
+use Rattle.lists.proofs.Prelude.{needs, length, _-_}
 use Rattle.edit_cases.proofs.say.say_rows.Statement.{statement}
 use Rattle.edit_cases.proofs.say.say_rows.Tie as tie
 

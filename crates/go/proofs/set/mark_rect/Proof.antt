@@ -1,7 +1,5 @@
 -- `set::mark_rect` meets its contract. Assumes nothing.
-use Prim.Native.Nat.{_+_, _-_, _≤_}
-use mathlib.Core.Path.{_≡_, subst}
-use native.Mathlib.Omega.{arith}
+use Rattle.lists.proofs.Prelude.{_+_, _-_, _≤_, _≡_, subst, arith}
 use Rattle.go.specs.Marks.{Adds, inRect}
 use Rattle.go.proofs.Adding.{adds-none, adds-more, rect-none, rect-more}
 use Rattle.go.proofs.set.mark_rect.Statement.{statement}

@@ -1,8 +1,5 @@
 -- `set::mark_row` meets its contract. Assumes nothing.
-use Prim.Native.Nat.{_+_, _*_, _-_, _≤_, _<_}
-use mathlib.Core.Path.{_≡_, subst}
-use native.Mathlib.Omega.{arith}
-use lib.ListN.{length}
+use Rattle.lists.proofs.Prelude.{_+_, _*_, _-_, _≤_, _<_, _≡_, subst, arith, length}
 use Rattle.go.specs.Marks.{Adds, inRect}
 use Rattle.go.proofs.Adding.{adds-none, adds-one, adds-more, row-none, row-more}
 use Rattle.go.proofs.set.mark_row.Statement.{statement}

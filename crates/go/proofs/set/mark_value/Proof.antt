@@ -1,6 +1,5 @@
 -- `set::mark_value` meets its contract. Assumes nothing.
-use native.Mathlib.Omega.{arith}
-use borrow.Author.Needs.{needs}
+use Rattle.lists.proofs.Prelude.{arith, needs}
 use Rattle.values.specs.Read.{readValue}
 use Rattle.go.proofs.Sets.{area-corners, adds-bad, adds-rect}
 use Rattle.go.proofs.set.mark_value.Statement.{statement}

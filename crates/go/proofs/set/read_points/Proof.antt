@@ -1,8 +1,5 @@
 -- `set::read_points` meets its contract. Assumes nothing.
-use Prim.Native.Nat.{_+_, _-_}
-use mathlib.Core.Path.{sym, _∙_}
-use borrow.Author.Needs.{needs}
-use borrow.Author.Tests.{not-true, not-false}
+use Rattle.lists.proofs.Prelude.{_+_, _-_, sym, _∙_, needs, not-true, not-false}
 use Rattle.rows.specs.Rows.{valuesAt}
 use Rattle.go.proofs.Marked.{Gathering, gather-first, gather-end, gather-bad, gather-next}
 use Rattle.rows.proofs.Valued.{values-all, values-next, values-end}

@@ -1,6 +1,5 @@
 -- `value::go_value` meets its contract. Assumes nothing.
-use mathlib.Core.Path.{refl, _∙_}
-use borrow.Author.Needs.{needs}
+use Rattle.lists.proofs.Prelude.{refl, _∙_, needs}
 use Rattle.go.specs.Value.{valueBy}
 use Rattle.go.proofs.Choosing.{value-unknown, value-shaped, not-set, by-alone}
 use Rattle.go.proofs.value.go_value.Statement.{statement}

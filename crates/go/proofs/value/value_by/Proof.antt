@@ -1,5 +1,5 @@
 -- `value::value_by` meets its contract. Assumes nothing.
-use borrow.Author.Needs.{needs}
+use Rattle.lists.proofs.Prelude.{needs}
 use Rattle.go.proofs.Choosing.{not-set, by-unread, by-set, by-many, by-move, by-number}
 use Rattle.go.proofs.value.value_by.Statement.{statement}
 use Rattle.go.proofs.value.value_by.Tie as tie

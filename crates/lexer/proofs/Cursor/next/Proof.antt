@@ -1,8 +1,6 @@
 -- `lexer::Cursor::next` meets its contract. Assumes nothing.
-use mathlib.Core.Path.{refl}
-use native.Mathlib.Omega.{arith}
+use Rattle.lists.proofs.Prelude.{refl, arith, needs}
 use denote.Ref.{now}
-use borrow.Author.Needs.{needs}
 use Rattle.lexer.proofs.Within.{found-within, behind-fits, stepped}
 use Rattle.lexer.proofs.Cursor.next.Statement.{statement}
 use Rattle.lexer.proofs.Cursor.next.Tie as tie

@@ -1,5 +1,5 @@
 -- `slices::count_rows` meets its contract. Assumes nothing.
-use borrow.Author.Needs.{needs}
+use Rattle.lists.proofs.Prelude.{needs}
 use Rattle.reader.proofs.slices.count_rows.Statement.{statement}
 use Rattle.reader.proofs.slices.count_rows.Tie as tie
 

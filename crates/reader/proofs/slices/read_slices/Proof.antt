@@ -1,9 +1,7 @@
 -- `slices::read_slices` meets its contract. Assumes nothing.
-use borrow.Author.Tests.{not-true, not-false}
-use mathlib.Core.Path.{refl}
+use Rattle.lists.proofs.Prelude.{not-true, not-false, refl, needs}
 use Rattle.reader.specs.Lent.{lent}
 use Rattle.reader.proofs.Whole.{read-refused, read-no-room, read-accepted, total-rows, total-refused}
-use borrow.Author.Needs.{needs}
 use Rattle.reader.proofs.slices.read_slices.Statement.{statement}
 use Rattle.reader.proofs.slices.read_slices.Tie as tie
 

@@ -1,11 +1,9 @@
 -- `slices::read_trees` meets its contract. Assumes nothing.
 use Rattle.trees.specs.Walks.{opts}
 use Rattle.reader.proofs.Plants.{Planting, plant-first, plant-keeps, plant-end, plant-ready, plant-no, plant-stop, plant-more, walk-tree-as, walk-refused-as}
-use Prim.Native.Nat.{_-_}
-use native.Mathlib.Omega.{arith}
+use Rattle.lists.proofs.Prelude.{_-_, arith, needs}
 use Rattle.lexer.specs.Token.{lexAt}
 use Rattle.reader.specs.Lent.{lent}
-use borrow.Author.Needs.{needs}
 use Rattle.reader.proofs.slices.read_trees.Statement.{statement}
 use Rattle.reader.proofs.slices.read_trees.Tie as tie
 

@@ -4,7 +4,7 @@ use Rattle.lexer.specs.Token.{lexAt}
 use Rattle.parser.specs.Slice.{sliceFrom}
 use Rattle.parser.specs.Kind.{kind}
 use Rattle.reader.proofs.Kinded.{type-is, type-go, type-refused}
-use borrow.Author.Needs.{needs}
+use Rattle.lists.proofs.Prelude.{needs}
 use Rattle.reader.proofs.slices.type_or_go.Statement.{statement}
 use Rattle.reader.proofs.slices.type_or_go.Tie as tie
 

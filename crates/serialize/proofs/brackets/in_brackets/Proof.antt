@@ -1,6 +1,5 @@
 -- `brackets::in_brackets` meets its contract. Assumes nothing.
-use mathlib.Core.Path.{sym, ap, _∙_}
-use borrow.Author.Needs.{needs}
+use Rattle.lists.proofs.Prelude.{sym, ap, _∙_, needs}
 use Rattle.tables.specs.Columns.{childAt}
 use Rattle.serialize.proofs.Climbs.{brackets-root, brackets-later, brackets-first}
 use Rattle.serialize.proofs.brackets.in_brackets.Statement.{statement}

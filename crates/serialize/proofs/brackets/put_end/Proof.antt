@@ -1,6 +1,5 @@
 -- `brackets::put_end` meets its contract. Assumes nothing.
-use native.Mathlib.Omega.{arith}
-use borrow.Author.Needs.{needs}
+use Rattle.lists.proofs.Prelude.{arith, needs}
 use Rattle.put.proofs.Written.{wrote-none, wrote-is}
 use Rattle.serialize.proofs.Climbs.{shut-by}
 use Rattle.serialize.proofs.brackets.put_end.Statement.{statement}

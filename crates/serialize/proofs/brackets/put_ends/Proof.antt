@@ -1,7 +1,5 @@
 -- `brackets::put_ends` meets its contract. Assumes nothing.
-use mathlib.Core.Path.{_≡_, sym, _∙_}
-use native.Mathlib.Omega.{arith}
-use borrow.Author.Needs.{needs}
+use Rattle.lists.proofs.Prelude.{_≡_, sym, _∙_, arith, needs}
 use Rattle.put.proofs.Written.{wrote-none, wrote-is, wrote-length}
 use Rattle.serialize.specs.Locals.{Above}
 use Rattle.serialize.proofs.Climbs.{Ends, ends-none, ends-self, ends-first, ends-placed, ends-before, ends-done, ends-more}

@@ -1,6 +1,5 @@
 -- `brackets::put_start` meets its contract. Assumes nothing.
-use native.Mathlib.Omega.{arith}
-use borrow.Author.Needs.{needs}
+use Rattle.lists.proofs.Prelude.{arith, needs}
 use Rattle.put.proofs.Written.{wrote-none, wrote-is}
 use Rattle.serialize.proofs.Climbs.{begun-by}
 use Rattle.serialize.proofs.brackets.put_start.Statement.{statement}

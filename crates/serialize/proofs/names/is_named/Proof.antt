@@ -1,8 +1,5 @@
 -- `names::is_named` meets its contract. Assumes nothing.
-use Prim.Native.Nat.{_-_}
-use mathlib.Core.Path.{_≡_, refl, sym, _∙_}
-use lib.ListN.{length, drop}
-use borrow.Author.Needs.{needs}
+use Rattle.lists.proofs.Prelude.{_-_, _≡_, refl, sym, _∙_, length, drop, needs}
 use Rattle.values.specs.Read.{readIdentifier}
 use Rattle.shape.proofs.Identifiers.{letter-on}
 use Rattle.serialize.proofs.Walked.{named-end, named-here}

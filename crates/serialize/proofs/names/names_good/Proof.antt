@@ -1,9 +1,5 @@
 -- `names::names_good` meets its contract. Assumes nothing.
-use Prim.Native.Nat.{_-_, _≤_}
-use mathlib.Core.Bool.{true}
-use mathlib.Core.Path.{_≡_}
-use native.Mathlib.Omega.{arith}
-use borrow.Author.Needs.{needs}
+use Rattle.lists.proofs.Prelude.{_-_, _≤_, true, _≡_, arith, needs}
 use Rattle.tables.proofs.Cases.{passed, refused}
 use Rattle.tables.proofs.Each.{each-none, each-more, each-end, each-fails}
 use Rattle.tables.specs.Each.{each}

@@ -1,8 +1,5 @@
 -- `names::put_letters` meets its contract. Assumes nothing.
-use Prim.Native.Nat.{_-_}
-use native.Mathlib.Omega.{arith}
-use lib.ListN.{length, drop}
-use borrow.Author.Needs.{needs}
+use Rattle.lists.proofs.Prelude.{_-_, arith, length, drop, needs}
 use Rattle.put.proofs.Written.{wrote-length}
 use Rattle.values.specs.Read.{readIdentifier}
 use Rattle.shape.proofs.Identifiers.{letter-past, letter-here, letter-on}

@@ -1,7 +1,5 @@
 -- `property::put_properties` meets its contract. Assumes nothing.
-use Prim.Native.Nat.{_+_, _-_, _≤_}
-use native.Mathlib.Omega.{arith}
-use borrow.Author.Needs.{needs}
+use Rattle.lists.proofs.Prelude.{_+_, _-_, _≤_, arith, needs}
 use Rattle.put.proofs.Written.{wrote-is, wrote-length}
 use Rattle.put.specs.Wrote.{Wrote}
 use Rattle.serialize.specs.Walk.{texts, propText}

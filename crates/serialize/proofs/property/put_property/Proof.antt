@@ -1,6 +1,5 @@
 -- `property::put_property` meets its contract. Assumes nothing.
-use native.Mathlib.Omega.{arith}
-use borrow.Author.Needs.{needs}
+use Rattle.lists.proofs.Prelude.{arith, needs}
 use Rattle.serialize.proofs.Walked.{property-wrote}
 use Rattle.serialize.proofs.property.put_property.Statement.{statement}
 use Rattle.serialize.proofs.property.put_property.Tie as tie

@@ -1,5 +1,5 @@
 -- `walk::kind_of` meets its contract. Assumes nothing.
-use borrow.Author.Needs.{needs}
+use Rattle.lists.proofs.Prelude.{needs}
 use Rattle.serialize.proofs.Walked.{type-none}
 use Rattle.serialize.proofs.walk.kind_of.Statement.{statement}
 use Rattle.serialize.proofs.walk.kind_of.Tie as tie

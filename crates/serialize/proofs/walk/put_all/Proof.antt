@@ -1,8 +1,5 @@
 -- `walk::put_all` meets its contract. Assumes nothing.
-use Prim.Native.Nat.{_-_, _≤_}
-use mathlib.Core.Path.{_≡_, refl}
-use native.Mathlib.Omega.{arith}
-use borrow.Author.Needs.{needs}
+use Rattle.lists.proofs.Prelude.{_-_, _≤_, _≡_, refl, arith, needs}
 use Rattle.put.proofs.Written.{wrote-is, wrote-length}
 use Rattle.put.specs.Wrote.{Wrote}
 use Rattle.serialize.specs.Walk.{texts, rootsBelow, nodeText}

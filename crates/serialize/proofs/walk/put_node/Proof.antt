@@ -1,6 +1,5 @@
 -- `walk::put_node` meets its contract. Assumes nothing.
-use native.Mathlib.Omega.{arith}
-use borrow.Author.Needs.{needs}
+use Rattle.lists.proofs.Prelude.{arith, needs}
 use Rattle.serialize.proofs.Walked.{node-above, node-placed, node-wrote}
 use Rattle.serialize.proofs.walk.put_node.Statement.{statement}
 use Rattle.serialize.proofs.walk.put_node.Tie as tie

@@ -1,6 +1,5 @@
 -- `walk::roots_with` meets its contract. Assumes nothing.
-use native.Mathlib.Omega.{arith}
-use borrow.Author.Needs.{needs}
+use Rattle.lists.proofs.Prelude.{arith, needs}
 use Rattle.serialize.proofs.Walked.{roots-more, roots-same}
 use Rattle.serialize.proofs.walk.roots_with.Statement.{statement}
 use Rattle.serialize.proofs.walk.roots_with.Tie as tie

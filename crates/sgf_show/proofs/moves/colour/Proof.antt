@@ -1,7 +1,5 @@
 -- `sgf_show::moves::colour` meets its contract. Assumes nothing.
-use Prim.Native.Nat.{_-_}
-use lib.ListN.{length}
-use borrow.Author.Needs.{needs}
+use Rattle.lists.proofs.Prelude.{_-_, length, needs}
 use Rattle.sgf_show.proofs.moves.colour.Statement.{statement}
 use Rattle.sgf_show.proofs.moves.colour.Tie as tie
 

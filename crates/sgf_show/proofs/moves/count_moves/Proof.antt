@@ -1,6 +1,5 @@
 -- `sgf_show::moves::count_moves` meets its contract. Assumes nothing.
-use Prim.Native.Nat.{_-_, _≤_}
-use borrow.Author.Needs.{needs}
+use Rattle.lists.proofs.Prelude.{_-_, _≤_, needs}
 use Rattle.sgf_show.proofs.moves.count_moves.Statement.{statement}
 use Rattle.sgf_show.proofs.moves.count_moves.Tie as tie
 

@@ -1,6 +1,5 @@
 -- `sgf_show::moves::say_main_line` meets its contract. Assumes nothing.
-use Prim.Native.Nat.{_-_}
-use borrow.Author.Needs.{needs}
+use Rattle.lists.proofs.Prelude.{_-_, needs}
 use Rattle.sgf_show.proofs.moves.say_main_line.Statement.{statement}
 use Rattle.sgf_show.proofs.moves.say_main_line.Tie as tie
 

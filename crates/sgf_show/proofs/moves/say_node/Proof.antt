@@ -1,6 +1,5 @@
 -- `sgf_show::moves::say_node` meets its contract. Assumes nothing.
-use Prim.Native.Nat.{_-_}
-use borrow.Author.Needs.{needs}
+use Rattle.lists.proofs.Prelude.{_-_, needs}
 use Rattle.sgf_show.proofs.moves.say_node.Statement.{statement}
 use Rattle.sgf_show.proofs.moves.say_node.Tie as tie
 

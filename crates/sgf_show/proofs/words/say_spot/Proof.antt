@@ -1,6 +1,5 @@
 -- `sgf_show::words::say_spot` meets its contract. Assumes nothing.
-use Prim.Native.Nat.{_+_, _-_, _≤_}
-use borrow.Author.Needs.{needs}
+use Rattle.lists.proofs.Prelude.{_+_, _-_, _≤_, needs}
 use Rattle.sgf_show.proofs.words.say_spot.Statement.{statement}
 use Rattle.sgf_show.proofs.words.say_spot.Tie as tie
 

@@ -1,6 +1,5 @@
 -- `decimal::decimal_within` meets its contract. Assumes nothing.
-use mathlib.Core.Path.{ap, _∙_}
-use borrow.Author.Needs.{needs}
+use Rattle.lists.proofs.Prelude.{ap, _∙_, needs}
 use Rattle.values.specs.Decimal.{decimalOf}
 use Rattle.values.specs.Read.{readValue}
 use Rattle.values.proofs.Digits.{decimal-empty, decimal-plus, decimal-minus, decimal-plain}

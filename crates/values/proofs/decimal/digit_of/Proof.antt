@@ -1,6 +1,5 @@
 -- `decimal::digit_of` meets its contract. Assumes nothing.
-use borrow.Author.Needs.{needs}
-use borrow.Author.Tests.{le-leb, lt-leb}
+use Rattle.lists.proofs.Prelude.{needs, le-leb, lt-leb}
 use Rattle.values.specs.Decimal.{digitOf}
 use Rattle.values.proofs.decimal.digit_of.Statement.{statement}
 use Rattle.values.proofs.decimal.digit_of.Tie as tie

@@ -1,11 +1,5 @@
 -- `decimal::digits_at` meets its contract. Assumes nothing.
-use Prim.Native.Nat.{_-_, _≤_}
-use mathlib.Core.Path.{_≡_, refl, sym, ap, _∙_}
-use mathlib.Core.Bool.{false}
-use native.Mathlib.Omega.{arith}
-use borrow.Author.Needs.{needs}
-use borrow.Author.Tests.{not-true, not-false}
-use lib.ListN.{length, drop}
+use Rattle.lists.proofs.Prelude.{_-_, _≤_, _≡_, refl, sym, ap, _∙_, false, arith, needs, not-true, not-false, length, drop}
 use Rattle.values.specs.Read.{readValue}
 use Rattle.values.specs.Decimal.{signed, digitsFrom}
 use Rattle.values.specs.declared.read.Step.the-variants.{Byte, End}

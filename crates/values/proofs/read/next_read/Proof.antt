@@ -1,6 +1,5 @@
 -- `read::next_read` meets its contract. Assumes nothing.
-use borrow.Author.Needs.{needs}
-use borrow.Author.Tests.{le-ltb, lt-ltb, ne-eqb, eq-eqb}
+use Rattle.lists.proofs.Prelude.{needs, le-ltb, lt-ltb, ne-eqb, eq-eqb}
 use Rattle.values.specs.Read.{nextRead}
 use Rattle.values.proofs.read.next_read.Statement.{statement}
 use Rattle.values.proofs.read.next_read.Tie as tie

@@ -1,9 +1,5 @@
 -- `spell::digits_of` meets its contract. Assumes nothing.
-use Prim.Native.Nat.{_≤_}
-use mathlib.Core.Path.{_≡_, refl}
-use native.Mathlib.Omega.{arith}
-use borrow.Author.Tests.{lt-ltb, le-ltb}
-use lib.ListN.{length, drop, length-set}
+use Rattle.lists.proofs.Prelude.{_≤_, _≡_, refl, arith, lt-ltb, le-ltb, length, drop, length-set}
 use Rattle.values.specs.Decimal.{spell, decimal}
 use Rattle.values.proofs.Spelling.{spell-turn, spell-none}
 use Rattle.values.proofs.spell.digits_of.Statement.{statement}

@@ -1,5 +1,5 @@
 -- `spell::put_decimal` meets its contract. Assumes nothing.
-use borrow.Author.Needs.{needs}
+use Rattle.lists.proofs.Prelude.{needs}
 use Rattle.values.proofs.Spelling.{digits-part}
 use Rattle.put.proofs.Written.{wrote-is}
 use Rattle.values.proofs.spell.put_decimal.Statement.{statement}
