@@ -51,7 +51,7 @@ fn run() -> bool {
         Some("short") => subjects::compare(&subjects::SHORT, subject),
         Some("long") => subjects::compare(&subjects::LONG, subject),
         Some("store-tokens") => {
-            stored::write(&folder.unwrap_or_else(|| Path::new(env!("CARGO_MANIFEST_DIR")).join("../crates/token_cases")))
+            stored::write(&folder.unwrap_or_else(|| Path::new(env!("CARGO_MANIFEST_DIR")).join("../crates/cases_tokens")))
         }
         Some("bench") => {
             bench::run();

@@ -1,4 +1,4 @@
-//! Answers of the crate's lexer for the program `token_cases`: texts in hex, and what it must print for each.
+//! Answers of the crate's lexer for the program `cases_tokens`: texts in hex, and what it must print for each.
 use crate::oracle::{self, tokenize, Token};
 use crate::plain;
 use crate::rng::Rng;
@@ -119,7 +119,7 @@ fn hex(bytes: &[u8]) -> String {
     bytes.iter().map(|b| format!("{b:02x}")).collect()
 }
 
-/// The line that `token_cases` must print.
+/// The line that `cases_tokens` must print.
 fn answer(text: &[u8]) -> String {
     let read = match std::str::from_utf8(text) {
         Ok(read) => read,

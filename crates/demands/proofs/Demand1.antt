@@ -1,21 +1,21 @@
 -- Demand 1, total: any bytes, options and lent tables get an answer, and a refusal changes no lent byte or row. Assumes nothing.
 -- That every input has an answer, and which, is each contract itself, which has no premise: reader's ReadIs, serialize's WriteIs, edit's EditIs,
--- record's DisplayIs and goAnswer, fit's Fit and accessed. Where the order of numbers is said: parser/specs/Read, serialize/specs/Form.answer, decide/specs/Edit.outcome.
+-- record's DisplayIs and goAnswer, fit's Fit and accessed. Where the order of numbers is said: parser/specs/Read, serialize/specs/Form.answer, edit_answer/specs/Edit.outcome.
 use Rattle.lists.proofs.Prelude.{ℕ, List, _≡_}
-use Rattle.display.specs.declared.Kind.{Kind}
+use Rattle.value_display.specs.declared.Kind.{Kind}
 use Rattle.tables.specs.declared.Counts.{Counts}
 use Rattle.tables.specs.declared.Reading.the-variants.{Refused}
 use Rattle.tables.specs.declared.Reason.{Reason}
-use Rattle.access.specs.Access.{accessed}
+use Rattle.ask_value.specs.Access.{accessed}
 use Rattle.parser.specs.Read.{read}
 use Rattle.parser.specs.Walk.{Opts}
 use Rattle.reader.specs.Lent.{Lent, ReadIs}
-use Rattle.record.specs.Ask.{DisplayIs}
-use Rattle.record.specs.declared.Shown.the-variants.{NotShown}
+use Rattle.ask.specs.Ask.{DisplayIs}
+use Rattle.ask.specs.declared.Shown.the-variants.{NotShown}
 use Rattle.serialize.specs.Form.{WriteIs}
 use Rattle.serialize.specs.declared.Written.the-variants as written
-use Rattle.decide.specs.Edit.{Outcome}
-use Rattle.decide.specs.declared.Edited.the-variants as edited
+use Rattle.edit_answer.specs.Edit.{Outcome}
+use Rattle.edit_answer.specs.declared.Edited.the-variants as edited
 use Rattle.edit.specs.Lent as edit
 use Rattle.demands.proofs.Refusals.{reading-leaves, edit-leaves, display-leaves}
 

@@ -13,14 +13,14 @@ use Rattle.parser.specs.Read.{refused, accepted, read}
 use Rattle.parser.specs.Walk.{Opts}
 use Rattle.reader.specs.Lent.{Lent, ReadIs}
 use Rattle.reader.proofs.Theorems.{counts-are-lengths}
-use Rattle.meet.proofs.Lent.{read-fits, read-rows}
+use Rattle.reader_laws.proofs.Lent.{read-fits, read-rows}
 use Rattle.serialize.specs.Form.{writing, WriteIs}
 use Rattle.serialize.specs.declared.Written.the-variants.{Wrote}
-use Rattle.fresh.specs.Run.{strictly}
-use Rattle.readback.specs.Back.{Named, BeginsAll, zTree}
-use Rattle.readback.specs.Same.{ReadsBack}
-use Rattle.readback.proofs.Aside as aside
-use Rattle.readback.proofs.Theorem as theorem
+use Rattle.edit_laws.specs.Run.{strictly}
+use Rattle.serialize_laws.specs.Back.{Named, BeginsAll, zTree}
+use Rattle.serialize_laws.specs.Same.{ReadsBack}
+use Rattle.serialize_laws.proofs.Aside as aside
+use Rattle.serialize_laws.proofs.Theorem as theorem
 use Rattle.demands.proofs.Writings.{bytes-written}
 
 module _ (op : Opts) (t : List ℕ) (before after : Lent) (c : Counts) (x : ReadIs (read op t) before after (Accepted c)) where

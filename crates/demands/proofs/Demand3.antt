@@ -6,10 +6,10 @@ use Rattle.tables.specs.declared.Reading.the-variants.{Accepted}
 use Rattle.fit.specs.Record.{rowsOf}
 use Rattle.parser.specs.Read.{read}
 use Rattle.reader.specs.Lent.{Lent, lent, ReadIs}
-use Rattle.fresh.specs.Calls.{Memory, heldIn, Calls}
-use Rattle.fresh.specs.Run.{strictly, Order, Fresh, run}
-use Rattle.fresh.proofs.OnCode as code
-use Rattle.fresh.proofs.CallsRun as fitting
+use Rattle.edit_laws.specs.Calls.{Memory, heldIn, Calls}
+use Rattle.edit_laws.specs.Run.{strictly, Order, Fresh, run}
+use Rattle.edit_laws.proofs.OnCode as code
+use Rattle.edit_laws.proofs.CallsRun as fitting
 use Rattle.demands.proofs.Rereadings.{read-fresh, reread}
 
 module _ (c : Bool) (s : Memory) where

@@ -1,23 +1,23 @@
 -- What a refusal leaves, from each contract. Assumes nothing.
 use Rattle.lists.proofs.Prelude.{ℕ, Bool, true, false, List, _++_, _≡_, leb, length, drop, pick, slice}
 use Rattle.lists.proofs.Tests.{never}
-use Rattle.display.specs.Display.{shown, displayed, displayedIn}
+use Rattle.value_display.specs.Display.{shown, displayed, displayedIn}
 use Rattle.values.specs.Read.{readValue}
-use Rattle.display.specs.declared.Kind.{Kind}
-use Rattle.display.specs.declared.Displayed.the-variants.{Length, NoRoom}
+use Rattle.value_display.specs.declared.Kind.{Kind}
+use Rattle.value_display.specs.declared.Displayed.the-variants.{Length, NoRoom}
 use Rattle.tables.specs.Rows.{tables, countsOf}
 use Rattle.tables.specs.declared.Reading.the-variants.{Accepted, Refused}
 use Rattle.tables.specs.declared.Reason.{Reason}
 use Rattle.tables.specs.declared.Reason.the-variants as reason
-use Rattle.access.specs.declared.Accessed.{Accessed}
-use Rattle.access.specs.declared.Accessed.the-variants as access
+use Rattle.ask_value.specs.declared.Accessed.{Accessed}
+use Rattle.ask_value.specs.declared.Accessed.the-variants as access
 use Rattle.parser.specs.Read.{Answer, refused, accepted}
 use Rattle.reader.specs.Lent.{Lent, roomy, stored, answers, leaves}
-use Rattle.record.specs.Ask.{shownFor, display, displayIn}
-use Rattle.record.specs.declared.Shown.the-variants.{NotShown}
-use Rattle.decide.specs.Answer as decide
-use Rattle.decide.specs.Edit.{Outcome, refuses, gives}
-use Rattle.decide.specs.declared.Edited.the-variants as edited
+use Rattle.ask.specs.Ask.{shownFor, display, displayIn}
+use Rattle.ask.specs.declared.Shown.the-variants.{NotShown}
+use Rattle.edit_answer.specs.Answer as decide
+use Rattle.edit_answer.specs.Edit.{Outcome, refuses, gives}
+use Rattle.edit_answer.specs.declared.Edited.the-variants as edited
 use Rattle.edit.specs.Lent as lent
 
 pub reading-leaves : (a : Answer) (before after : Lent) (r : Reason) (p : ℕ) → Refused r p ≡ answers a before → after ≡ leaves a before → after ≡ before

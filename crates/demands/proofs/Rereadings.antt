@@ -7,9 +7,9 @@ use Rattle.tables.specs.declared.Reading.the-variants.{Accepted}
 use Rattle.fit.specs.Record.{rowsOf}
 use Rattle.parser.specs.Read.{accepted, read}
 use Rattle.reader.specs.Lent.{Lent, lent, ReadIs}
-use Rattle.meet.proofs.Lent.{read-rows}
-use Rattle.fresh.specs.Calls.{Memory, heldIn}
-use Rattle.fresh.specs.Run.{strictly, Fresh}
+use Rattle.reader_laws.proofs.Lent.{read-rows}
+use Rattle.edit_laws.specs.Calls.{Memory, heldIn}
+use Rattle.edit_laws.specs.Run.{strictly, Fresh}
 
 pub read-fresh : (c : Bool) (s : Memory) (before : Lent)
     → ReadIs (read (strictly c) (heldIn s .text)) before (lent (s .trees) (s .nodes) (s .rest .properties) (s .rest .values)) (Accepted (s .counts)) → Fresh (strictly c) (heldIn s)

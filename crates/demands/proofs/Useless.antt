@@ -1,9 +1,9 @@
 -- Document 01's useless builds, each held against its contract on one small input: none meets it. Assumes nothing.
 use Rattle.lists.proofs.Prelude.{ℕ, List, [], _∷_, _++_, _≡_, refl, ap, _∙_, arith, getD}
 use Rattle.lists.proofs.Tests.{never}
-use Rattle.chars.specs.White.{white}
-use Rattle.utf8.specs.Trim.{trimmed}
-use Rattle.scan.specs.Scan.{space}
+use Rattle.text_chars.specs.White.{white}
+use Rattle.text_utf8.specs.Trim.{trimmed}
+use Rattle.lexer_scan.specs.Scan.{space}
 use Rattle.tables.specs.Numbers.{none}
 use Rattle.tables.specs.declared.Counts.{Counts}
 use Rattle.tables.specs.declared.Reading.the-variants.{Accepted, Refused}
@@ -11,15 +11,15 @@ use Rattle.tables.specs.declared.Reason.{Reason}
 use Rattle.tables.specs.declared.Reason.the-variants.{UnexpectedGameTreeStart, NoRoom}
 use Rattle.tables.specs.Each.{each, sum, tabulate}
 use Rattle.fit.specs.Fit.{fitText, Fit}
-use Rattle.links.specs.Nodes.{orphans, upward, onPath, firstUnder, nodesFit}
-use Rattle.spans.specs.Ranges.{rangesFit}
-use Rattle.spans.specs.Spans.{spans, ascending, plainName, spansFit}
+use Rattle.fit_nodes.specs.Nodes.{orphans, upward, onPath, firstUnder, nodesFit}
+use Rattle.fit_spans.specs.Ranges.{rangesFit}
+use Rattle.fit_spans.specs.Spans.{spans, ascending, plainName, spansFit}
 use Rattle.parser.specs.Examples.{bytes, strict}
 use Rattle.parser.specs.Read.{read}
 use Rattle.reader.specs.Lent.{Lent, lent, answers, ReadIs}
-use Rattle.decide.specs.Answer as decide
-use Rattle.decide.specs.Edit.{Outcome}
-use Rattle.decide.specs.declared.Edited.the-variants as edited
+use Rattle.edit_answer.specs.Answer as decide
+use Rattle.edit_answer.specs.Edit.{Outcome}
+use Rattle.edit_answer.specs.declared.Edited.the-variants as edited
 use Rattle.edit.specs.Lent as edit
 
 -- so many rows

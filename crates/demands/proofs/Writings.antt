@@ -8,7 +8,7 @@ use Rattle.fit.specs.Record.{rowsOf, recordOf}
 use Rattle.parser.specs.Read.{accepted, read}
 use Rattle.parser.specs.Walk.{Opts}
 use Rattle.reader.specs.Lent.{Lent, ReadIs}
-use Rattle.meet.proofs.Lent.{read-rows}
+use Rattle.reader_laws.proofs.Lent.{read-rows}
 use Rattle.serialize.specs.Form.{writing, WriteIs}
 use Rattle.serialize.specs.Write.{nameless}
 use Rattle.serialize.proofs.Room.{answer-length}

@@ -2,7 +2,7 @@
 use Rattle.lists.proofs.Prelude.{ℕ, _+_, _-_, _≤_, _<_, Bool, true, false, List, _++_, _≡_, refl, sym, ap, ap₂, _∙_, subst⁻¹, arith, ltb, length, take, drop, ltb-true, ltb-false}
 use Rattle.lists.specs.Same.{same}
 use Rattle.lists.proofs.Tests.{never}
-use Rattle.utf8.specs.Text.{blank, Ink, Utf, whole, part, bad, utfs}
+use Rattle.text_utf8.specs.Text.{blank, Ink, Utf, whole, part, bad, utfs}
 use Rattle.lexer.specs.Closed.{closed}
 use Rattle.tables.specs.Flat.{over}
 use Rattle.tables.specs.Numbers.{textLimit}
@@ -16,15 +16,15 @@ use Rattle.fit.specs.Fit.{Fit}
 use Rattle.fit.specs.Record.{propRow}
 use Rattle.tables.proofs.Cases.{either-bool}
 use Rattle.fit.proofs.Clauses.{fit-short, fit-names, fit-vals}
-use Rattle.splice.specs.Locals.{Replaceable}
-use Rattle.splice.specs.Splice.{cleared, replaced}
-use Rattle.splice.proofs.May.{replaced-is}
-use Rattle.decide.specs.Answer.{outcomeOf, answers}
-use Rattle.decide.specs.Edit.{ownerName, Outcome, refuses, gives, outcome}
-use Rattle.decide.specs.Locals.{NamesLie}
-use Rattle.decide.specs.declared.Edited.the-variants.{Changed, Refused}
-use Rattle.decide.proofs.Fitting.{fit-within}
-use Rattle.decide.proofs.Judged.{newText, newRows, decided-misfit, decided-beyond, tests-are, length-new}
+use Rattle.edit_splice.specs.Locals.{Replaceable}
+use Rattle.edit_splice.specs.Splice.{cleared, replaced}
+use Rattle.edit_splice.proofs.May.{replaced-is}
+use Rattle.edit_answer.specs.Answer.{outcomeOf, answers}
+use Rattle.edit_answer.specs.Edit.{ownerName, Outcome, refuses, gives, outcome}
+use Rattle.edit_answer.specs.Locals.{NamesLie}
+use Rattle.edit_answer.specs.declared.Edited.the-variants.{Changed, Refused}
+use Rattle.edit_answer.proofs.Fitting.{fit-within}
+use Rattle.edit_answer.proofs.Judged.{newText, newRows, decided-misfit, decided-beyond, tests-are, length-new}
 use Rattle.edit.specs.Lent.{Lent, lent, EditIs}
 use Rattle.edit.specs.Locals.{ValuesLie, propertiesMoved, valuesMoved}
 

@@ -1,7 +1,7 @@
 -- No second answer: of each public function, two answers that meet its contract are equal. Assumes nothing.
 use Rattle.lists.proofs.Prelude.{ℕ, _≡_, sym, _∙_}
-use Rattle.decide.specs.Edit.{Outcome}
-use Rattle.decide.specs.declared.Edited.{Edited}
+use Rattle.edit_answer.specs.Edit.{Outcome}
+use Rattle.edit_answer.specs.declared.Edited.{Edited}
 use Rattle.edit.specs.Lent.{Lent, EditIs}
 
 -- the answer, every byte of the buffer, every number of the two tables

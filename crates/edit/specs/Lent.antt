@@ -1,10 +1,10 @@
 -- The value edit in lent memory: what the text's buffer and the tables hold after it.
 use Rattle.lists.specs.Prelude.{ℕ, _≡_, List}
 use Rattle.tables.specs.Flat.{flatProps, flatVals, over}
-use Rattle.splice.specs.Splice.{cleared}
-use Rattle.decide.specs.Answer.{answers}
-use Rattle.decide.specs.Edit.{Outcome, refuses, gives}
-use Rattle.decide.specs.declared.Edited.{Edited}
+use Rattle.edit_splice.specs.Splice.{cleared}
+use Rattle.edit_answer.specs.Answer.{answers}
+use Rattle.edit_answer.specs.Edit.{Outcome, refuses, gives}
+use Rattle.edit_answer.specs.declared.Edited.{Edited}
 
 -- what an edit can change: the text's buffer, the property table, the value table
 pub record Lent : Type 0 where

@@ -1,9 +1,9 @@
 // The value edit, in place: one value's bytes in the lent text, and the places of the rows behind it.
 mod rows; // rows.rt: the places in the rows moved
 
-ghost use Rattle.decide.specs.Answer.{outcomeOf};
+ghost use Rattle.edit_answer.specs.Answer.{outcomeOf};
 ghost use Rattle.edit.specs.Lent.{lent, EditIs};
-use decide::Edited;
+use edit_answer::Edited;
 use tables::Counts;
 
 // The bytes of value k, of tables that fit the first `used` bytes of the text, replaced by the new ones.
@@ -20,13 +20,13 @@ pub fn edit(
 ) -> Edited
     ensures { λ r. ⌜ EditIs (outcomeOf (now (text .entry)) used counts (now (trees .entry)) (now (nodes .entry)) (now (properties .entry)) (now (values .entry)) k (now (new .entry))) used (lent (now (text .entry)) (now (properties .entry)) (now (values .entry))) (lent (now (text .exit)) (now (properties .exit)) (now (values .exit))) r ⌝ }
 {
-    match decide::decided(text, used, counts, trees, nodes, properties, values, k, new) {
+    match edit_answer::decided(text, used, counts, trees, nodes, properties, values, k, new) {
         Edited::Refused(reason, place) => Edited::Refused(reason, place),
         Edited::Changed(length) => {
             let span = rows::span_of(values, k);
             let start = span.start;
             let end = span.end;
-            splice::replace(text, used, start, end, new);
+            edit_splice::replace(text, used, start, end, new);
             rows::move_properties(properties, counts.properties, start, end, new.len());
             rows::move_values(values, counts.values, start, end, new.len());
             Edited::Changed(length)

@@ -6,7 +6,7 @@ ghost use Rattle.lexer.specs.Move.{startsAt, endsAt};
 ghost use Rattle.tables.specs.Numbers.{textLimit};
 ghost use Rattle.tables.specs.Columns.{valFromAt, valToAt};
 ghost use Rattle.tables.specs.Flat.{over};
-ghost use Rattle.decide.specs.Locals.{NamesLie};
+ghost use Rattle.edit_answer.specs.Locals.{NamesLie};
 ghost use Rattle.edit.specs.Locals.{ValuesLie, propertiesMoved, valuesMoved};
 
 // Where a value stands.
@@ -73,7 +73,7 @@ pub fn move_properties(properties: &mut [u32], n: usize, start: usize, end: usiz
         let to = moved_end(start, end, m, properties[at + 1]);
         let first = properties[at + 2];
         let count = properties[at + 3];
-        cells::put4(properties, at, from, to, first, count);
+        store_numbers::put4(properties, at, from, to, first, count);
         k += 1;
     }
 }
@@ -88,7 +88,7 @@ pub fn move_values(values: &mut [u32], n: usize, start: usize, end: usize, m: us
         let at = k * tables::VALUE_STRIDE;
         let from = moved_start(start, end, m, values[at]);
         let to = moved_end(start, end, m, values[at + 1]);
-        cells::put2(values, at, from, to);
+        store_numbers::put2(values, at, from, to);
         k += 1;
     }
 }

@@ -6,11 +6,11 @@ use Rattle.tables.specs.Columns.{firstPropAt, propCountAt, nameFromAt, nameToAt
 use Rattle.tables.specs.Each.{each}
 use Rattle.fit.specs.Fit.{lentFor, validUtf8, fitText, Fit}
 use Rattle.fit.specs.Locals.{Held}
-use Rattle.links.specs.Nodes.{rootsRight, parentRight, childRight, siblingRight, kindRight, nodesFit}
-use Rattle.spans.specs.Ranges.{gapless, hasValue, rangesFit}
-use Rattle.spans.specs.Spans.{spans, ascending, nameRight, valueRight, spansFit}
+use Rattle.fit_nodes.specs.Nodes.{rootsRight, parentRight, childRight, siblingRight, kindRight, nodesFit}
+use Rattle.fit_spans.specs.Ranges.{gapless, hasValue, rangesFit}
+use Rattle.fit_spans.specs.Spans.{spans, ascending, nameRight, valueRight, spansFit}
 use Rattle.tables.proofs.Cases.{and-left, and-right}
-use Rattle.spans.proofs.Lying.{names-lie, values-lie}
+use Rattle.fit_spans.proofs.Lying.{names-lie, values-lie}
 use Rattle.fit.proofs.Whole.{fit-lent}
 
 -- of the used text t

@@ -1,14 +1,14 @@
 -- Tables of `(;C[ab];B[cd])` fit it, and with one cell or count changed they do not. By computation. Assumes nothing.
 use Rattle.lists.proofs.Prelude.{ℕ, Bool, true, false, _||_, List, [], _∷_, _≡_, refl, set}
-use Rattle.chars.specs.White.{white}
-use Rattle.utf8.specs.Trim.{trimmed}
+use Rattle.text_chars.specs.White.{white}
+use Rattle.text_utf8.specs.Trim.{trimmed}
 use Rattle.tables.specs.Numbers.{none}
 use Rattle.tables.specs.declared.Counts.{Counts}
 use Rattle.tables.specs.Each.{each, sum, tabulate}
 use Rattle.fit.specs.Fit.{fitText, Fit}
-use Rattle.links.specs.Nodes.{orphans, upward, onPath, firstUnder, nodesFit}
-use Rattle.spans.specs.Ranges.{rangesFit}
-use Rattle.spans.specs.Spans.{spans, ascending, plainName, spansFit}
+use Rattle.fit_nodes.specs.Nodes.{orphans, upward, onPath, firstUnder, nodesFit}
+use Rattle.fit_spans.specs.Ranges.{rangesFit}
+use Rattle.fit_spans.specs.Spans.{spans, ascending, plainName, spansFit}
 
 abbrev pub text : List ℕ
 text = 0x28 ∷ 0x3b ∷ 0x43 ∷ 0x5b ∷ 0x61 ∷ 0x62 ∷ 0x5d ∷ 0x3b ∷ 0x42 ∷ 0x5b ∷ 0x63 ∷ 0x64 ∷ 0x5d ∷ 0x29 ∷ []

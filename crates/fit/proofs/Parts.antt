@@ -1,8 +1,8 @@
 -- Parts of lists: of a run of numbered elements, and of a list that ranges without gap cut. Assumes nothing.
 use Rattle.lists.proofs.Prelude.{ℕ, zero, suc, _+_, _-_, _≤_, _<_, true, List, [], _∷_, _++_, map, _≡_, refl, sym, ap, ap₂, _∙_, arith, length, take, drop, getD, length-drop, drop-drop, take-add, take-length, length-take-le}
 use Rattle.tables.specs.Each.{sum, tabulate}
-use Rattle.spans.specs.Ranges.{gapless}
-use Rattle.spans.proofs.Ranges.{sum-suc, sum-up, gapless-first, gapless-sum, gapless-in}
+use Rattle.fit_spans.specs.Ranges.{gapless}
+use Rattle.fit_spans.proofs.Ranges.{sum-suc, sum-up, gapless-first, gapless-sum, gapless-in}
 
 module _ {A : Type 0} (f : ℕ → A) where
   pub tabulate-length : (k n : ℕ) → length (tabulate f k n) ≡ n

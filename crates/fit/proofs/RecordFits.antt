@@ -7,8 +7,8 @@ use Rattle.tables.specs.declared.Counts.{Counts}
 use Rattle.tables.proofs.Lengths.{prop-rows-length, val-rows-length, node-rows-length}
 use Rattle.tables.specs.Columns.{firstPropAt, propCountAt, firstValAt, valCountAt}
 use Rattle.tables.specs.Each.{each, tabulate}
-use Rattle.links.specs.Nodes.{childRight, siblingRight}
-use Rattle.spans.specs.Ranges.{gapless}
+use Rattle.fit_nodes.specs.Nodes.{childRight, siblingRight}
+use Rattle.fit_spans.specs.Ranges.{gapless}
 use Rattle.fit.specs.Record.{nodeRow, propRow, rowsOf}
 use Rattle.fit.proofs.Parts.{tabulate-length}
 use Rattle.fit.proofs.RecordLinks.{children-fit, siblings-fit}

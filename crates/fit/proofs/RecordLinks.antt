@@ -5,7 +5,7 @@ use Rattle.tables.specs.Record.{Node}
 use Rattle.tables.specs.Rows.{NodeRow, next, parents, nodeRows}
 use Rattle.tables.specs.Columns.{parentAt, childAt, siblingAt}
 use Rattle.tables.specs.Each.{each, tabulate}
-use Rattle.links.specs.Nodes.{firstUnder, nextOf, childRight, siblingRight}
+use Rattle.fit_nodes.specs.Nodes.{firstUnder, nextOf, childRight, siblingRight}
 use Rattle.fit.specs.Record.{nodeRow}
 use Rattle.lists.proofs.Tests.{same-or, eqb-sym}
 use Rattle.tables.proofs.Each.{each-all}

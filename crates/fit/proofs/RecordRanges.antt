@@ -5,11 +5,11 @@ use Rattle.tables.specs.Record.{Node, allProps, allVals}
 use Rattle.tables.specs.Rows.{NodeRow, PropRow, nodeRows, propRows}
 use Rattle.tables.specs.Columns.{firstPropAt, propCountAt, firstValAt, valCountAt}
 use Rattle.tables.specs.Each.{sum, tabulate}
-use Rattle.spans.specs.Ranges.{gapless}
+use Rattle.fit_spans.specs.Ranges.{gapless}
 use Rattle.fit.specs.Record.{nodeRow, propRow}
 use Rattle.lists.proofs.Tests.{same-or}
 use Rattle.tables.proofs.Each.{each-all}
-use Rattle.spans.proofs.Ranges.{sum-next}
+use Rattle.fit_spans.proofs.Ranges.{sum-next}
 
 -- ---- rows of any kind, by their counts
 

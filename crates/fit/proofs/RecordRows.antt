@@ -6,16 +6,16 @@ use Rattle.tables.specs.Record.{Node, allNodes, allProps, allVals}
 use Rattle.tables.specs.declared.Counts.{Counts}
 use Rattle.tables.specs.Columns.{rootAt, parentAt, firstPropAt, propCountAt, firstValAt, valCountAt, valFromAt, valToAt}
 use Rattle.tables.specs.Each.{sum, tabulate}
-use Rattle.links.specs.Locals.{Ruled}
-use Rattle.spans.specs.Ranges.{gapless}
+use Rattle.fit_nodes.specs.Locals.{Ruled}
+use Rattle.fit_spans.specs.Ranges.{gapless}
 use Rattle.fit.specs.Record.{treeRow, nodeRow, propRow, valRow, valOf, rawOf, propOf, nodeOf, treesOf, rowsOf, recordOf}
 use Rattle.tables.proofs.Cases.{below-or}
 use Rattle.lists.proofs.Tests.{same-or}
 use Rattle.fit.proofs.Clauses.{Clauses}
-use Rattle.spans.proofs.Lists.{part-slice}
+use Rattle.fit_spans.proofs.Lists.{part-slice}
 use Rattle.fit.proofs.Parts.{tabulate-length, map-tabulate, tabulate-part, joined, joined-part, joined-all}
 use Rattle.fit.proofs.RootRows.{root-in, root-rises, orphan-root, root-zero}
-use Rattle.links.proofs.Rule.{rule-at}
+use Rattle.fit_nodes.proofs.Rule.{rule-at}
 
 -- the values of a text by their rows
 abbrev pub valsIn : (t vl : List ℕ) → (nv : ℕ) → List Val

@@ -2,7 +2,7 @@
 use Rattle.lists.proofs.Prelude.{ℕ, suc, _+_, _-_, List, [], _∷_, _++_, map, append-assoc, append-nil, _≡_, refl, sym, ap, ap₂, _∙_, arith, length, take, drop, length-append, take-at, drop-at}
 use Rattle.lists.proofs.All.{all-append}
 use Rattle.lists.specs.All.{All}
-use Rattle.tokens.proofs.Contents.{Stands, Denotes}
+use Rattle.lexer_laws.proofs.Contents.{Stands, Denotes}
 use Rattle.lexer.specs.Token.{Val, Prop}
 use Rattle.tables.specs.Record.{Node, Tree, allNodes, allProps, allVals}
 use Rattle.tables.specs.Rows.{tables, parents, treeRows, nodeRows, propRows, valRows}

@@ -5,7 +5,7 @@ use Rattle.lists.proofs.Tests.{and-both, never, same-or}
 use Rattle.tables.specs.Numbers.{none}
 use Rattle.tables.specs.Columns.{rootAt, parentAt}
 use Rattle.tables.specs.Each.{tabulate}
-use Rattle.links.specs.Nodes.{orphans, rootsRight}
+use Rattle.fit_nodes.specs.Nodes.{orphans, rootsRight}
 
 -- lists that are the same are equal
 pub same-equal : (xs ys : List ℕ) → same xs ys ≡ true → xs ≡ ys

@@ -3,14 +3,14 @@ use Rattle.lists.proofs.Prelude.{ℕ, _-_, _/_, _≤_, Bool, true, _&&_, List, 
 use Rattle.tables.specs.Numbers.{none, textLimit}
 use Rattle.tables.specs.declared.Counts.{Counts}
 use Rattle.tables.proofs.Cases.{and-left, and-right}
-use Rattle.links.specs.Nodes.{nodesFit, linksFit}
-use Rattle.spans.specs.Parts.{partsFit}
-use Rattle.spans.specs.Ranges.{rangesFit}
-use Rattle.spans.specs.Spans.{spansFit}
+use Rattle.fit_nodes.specs.Nodes.{nodesFit, linksFit}
+use Rattle.fit_spans.specs.Parts.{partsFit}
+use Rattle.fit_spans.specs.Ranges.{rangesFit}
+use Rattle.fit_spans.specs.Spans.{spansFit}
 use Rattle.fit.specs.Fit.{lentFor, sound, fitText, Fit}
 use Rattle.fit.specs.Locals.{Held}
-use Rattle.utf8.specs.Text.{Ink, blank, inked, whole}
-use Rattle.utf8.specs.Trim.{shown}
+use Rattle.text_utf8.specs.Text.{Ink, blank, inked, whole}
+use Rattle.text_utf8.specs.Trim.{shown}
 
 module _ (c : Counts) (tr nd pr vl : List ℕ) (held : Held c tr nd pr vl) where
   pub links-held : linksFit c tr nd ≡ nodesFit c tr nd

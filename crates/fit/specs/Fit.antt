@@ -1,13 +1,13 @@
 -- Document 01's rule: when tables fit a text.
 use Rattle.lists.specs.Prelude.{ℕ, _/_, Bool, true, false, _&&_, List, leb, length, take}
-use Rattle.utf8.specs.Trim.{trimmed}
-use Rattle.utf8.specs.declared.Trimmed.{Trimmed}
-use Rattle.utf8.specs.declared.Trimmed.the-variants.{NotUtf8, Blank, Kept}
+use Rattle.text_utf8.specs.Trim.{trimmed}
+use Rattle.text_utf8.specs.declared.Trimmed.{Trimmed}
+use Rattle.text_utf8.specs.declared.Trimmed.the-variants.{NotUtf8, Blank, Kept}
 use Rattle.tables.specs.Numbers.{none, textLimit}
 use Rattle.tables.specs.declared.Counts.{Counts}
-use Rattle.links.specs.Nodes.{nodesFit}
-use Rattle.spans.specs.Ranges.{rangesFit}
-use Rattle.spans.specs.Spans.{spansFit}
+use Rattle.fit_nodes.specs.Nodes.{nodesFit}
+use Rattle.fit_spans.specs.Ranges.{rangesFit}
+use Rattle.fit_spans.specs.Spans.{spansFit}
 
 -- counts and used length are within what is lent; no node has the number that means none
 abbrev pub lentFor : List ℕ → ℕ → Counts → (tr nd pr vl : List ℕ) → Bool

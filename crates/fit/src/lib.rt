@@ -7,10 +7,10 @@ ghost use Rattle.fit.specs.Locals.{Held};
 fn is_utf8(text: &[u8]) -> bool
     ensures { λ r. ⌜ r ≡ validUtf8 (now (text .entry)) ⌝ }
 {
-    match utf8::trim(text) {
-        utf8::Trimmed::NotUtf8(_) => false,
-        utf8::Trimmed::Blank => true,
-        utf8::Trimmed::Kept(_, _) => true,
+    match text_utf8::trim(text) {
+        text_utf8::Trimmed::NotUtf8(_) => false,
+        text_utf8::Trimmed::Blank => true,
+        text_utf8::Trimmed::Kept(_, _) => true,
     }
 }
 
@@ -32,10 +32,10 @@ fn fits_text(
     if !is_utf8(text) {
         return false;
     }
-    if !links::links_fit(trees, nodes, counts) {
+    if !fit_nodes::links_fit(trees, nodes, counts) {
         return false;
     }
-    spans::parts_fit(text, nodes, properties, values, counts)
+    fit_spans::parts_fit(text, nodes, properties, values, counts)
 }
 
 // Whether used length and counts are within what is lent.

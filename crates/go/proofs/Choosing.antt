@@ -4,17 +4,17 @@ use types.Run.{OneOf, miss}
 use denote.Enum.Declared.{tagOf}
 use Rattle.values.specs.Read.{readValue}
 use Rattle.values.specs.Decimal.{decimalOf}
-use Rattle.points.specs.Area.{moveOf}
-use Rattle.rows.specs.Rows.{valueAt, valuesAt}
-use Rattle.shape.specs.Shape.{shapeOf}
+use Rattle.go_points.specs.Area.{moveOf}
+use Rattle.parts.specs.Rows.{valueAt, valuesAt}
+use Rattle.go_shape.specs.Shape.{shapeOf}
 use Rattle.go.specs.Value.{oneBy, unmarked, pointsOf, valueBy, goValue}
-use Rattle.points.specs.Handicap.{handicapOf}
+use Rattle.go_points.specs.Handicap.{handicapOf}
 use Rattle.go.specs.declared.value.GoValue.{GoValue}
-use Rattle.shape.specs.declared.Shape.{Shape}
-use Rattle.shape.specs.declared.Shape.the-variants.{OneMove, OneNumber, ManyPoints, Unread}
-use Rattle.shape.proofs.Shape as shape
-use Rattle.points.specs.declared.Value.{Value}
-use Rattle.points.specs.declared.Value.the-variants.{Other, Invalid}
+use Rattle.go_shape.specs.declared.Shape.{Shape}
+use Rattle.go_shape.specs.declared.Shape.the-variants.{OneMove, OneNumber, ManyPoints, Unread}
+use Rattle.go_shape.proofs.Shape as shape
+use Rattle.go_points.specs.declared.Value.{Value}
+use Rattle.go_points.specs.declared.Value.the-variants.{Other, Invalid}
 
 module _ (kind : ℕ) (identifier : List ℕ) (vs : List (List ℕ)) {r : GoValue} where
   pub value-unknown : (kind ≡ 0 → ⊥) → r ≡ unmarked Other → r ≡ goValue kind identifier vs

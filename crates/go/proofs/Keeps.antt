@@ -6,19 +6,19 @@ use Rattle.lists.proofs.Pick.{pick-elim}
 use Rattle.values.specs.Read.{readValue}
 use Rattle.values.specs.Decimal.{decimal}
 use Rattle.values.proofs.Safe.{Safe, decimal-safe}
-use Rattle.points.specs.Area.{areaOf}
+use Rattle.go_points.specs.Area.{areaOf}
 use Rattle.go.specs.Marks.{inRect, good, inArea, allGood, inSome, marksOf}
 use Rattle.go.specs.Normal.{pointsFrom, written, normal}
-use Rattle.shape.specs.Shape.{shapeOf}
+use Rattle.go_shape.specs.Shape.{shapeOf}
 use Rattle.go.specs.Value.{noMarks, areasOf, pointsOf, valueBy, goValue}
-use Rattle.points.specs.declared.Area.{Area}
-use Rattle.points.specs.declared.Area.the-variants.{Bad, Rect}
+use Rattle.go_points.specs.declared.Area.{Area}
+use Rattle.go_points.specs.declared.Area.the-variants.{Bad, Rect}
 use Rattle.go.specs.declared.value.GoValue.{GoValue}
-use Rattle.shape.specs.declared.Shape.{Shape}
-use Rattle.shape.specs.declared.Shape.the-variants.{OneMove, OneNumber, ManyPoints, Unread}
-use Rattle.points.specs.declared.Value.{Value}
-use Rattle.points.specs.declared.Value.the-variants.{Other, Invalid, Pass, Move, Handicap, Points}
-use Rattle.points.proofs.Letters.{point-safe}
+use Rattle.go_shape.specs.declared.Shape.{Shape}
+use Rattle.go_shape.specs.declared.Shape.the-variants.{OneMove, OneNumber, ManyPoints, Unread}
+use Rattle.go_points.specs.declared.Value.{Value}
+use Rattle.go_points.specs.declared.Value.the-variants.{Other, Invalid, Pass, Move, Handicap, Points}
+use Rattle.go_points.proofs.Letters.{point-safe}
 use Rattle.go.proofs.Listed.{points-safe, points-some}
 use Rattle.go.proofs.Marked.{marks-all, marks-place}
 use Rattle.go.proofs.Sets.{Cornered, area-cornered}

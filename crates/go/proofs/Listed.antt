@@ -3,12 +3,12 @@ use Rattle.lists.proofs.Prelude.{ℕ, zero, suc, _+_, _*_, _/_, _%_, _≤_, _<_
 use Rattle.lists.specs.All.{All}
 use Rattle.values.specs.Read.{readValue}
 use Rattle.values.proofs.Safe.{Safe}
-use Rattle.points.specs.Area.{areaOf}
+use Rattle.go_points.specs.Area.{areaOf}
 use Rattle.go.specs.Marks.{good, inArea, allGood, inSome}
 use Rattle.go.specs.Normal.{pointText, pointsFrom}
 use Rattle.go.specs.Value.{marked, areasOf, pointsOf}
 use Rattle.go.proofs.Adding.{cell-is}
-use Rattle.points.proofs.Letters.{point-safe, area-back}
+use Rattle.go_points.proofs.Letters.{point-safe, area-back}
 use Rattle.go.proofs.Marked.{marks-are}
 
 module _ (i : ℕ) (h : i < 2704) where

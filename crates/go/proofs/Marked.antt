@@ -1,10 +1,10 @@
 -- Marks by their places, and the union gathered value by value. Assumes nothing.
 use Rattle.lists.proofs.Prelude.{ℕ, zero, suc, _+_, _-_, _≤_, _<_, _≡_, refl, sym, ap, _∙_, subst, Bool, true, false, _&&_, _||_, or-false, or-assoc, or-comm, List, [], _∷_, arith, leb, length, getD, getD-replicate, length-replicate, List·getD-eq-default, ext-getD, leb-true, leb-false}
 use Rattle.values.specs.Read.{readValue}
-use Rattle.points.specs.Area.{areaOf}
+use Rattle.go_points.specs.Area.{areaOf}
 use Rattle.go.specs.Marks.{Adds, good, inArea, allGood, inSome, marksFrom, marksOf}
 use Rattle.go.specs.Value.{noMarks, unmarked, marked, areasOf, pointsOf}
-use Rattle.points.specs.declared.Value.the-variants.{Invalid}
+use Rattle.go_points.specs.declared.Value.the-variants.{Invalid}
 
 pub marks-length : (f : ℕ → Bool) (i n : ℕ) → length (marksFrom f i n) ≡ n
 unfolding marksFrom

@@ -2,18 +2,18 @@
 use Rattle.lists.proofs.Prelude.{ℕ, _-_, _^_, _≡_, refl, sym, ap, _∙_, subst, Bool, true, false, List, [], _∷_, arith, eqb, le-leb, ne-eqb, pick}
 use Rattle.values.specs.Read.{readFrom}
 use Rattle.values.proofs.RoundTrip.{decimal-back}
-use Rattle.points.specs.Area.{moveOf}
+use Rattle.go_points.specs.Area.{moveOf}
 use Rattle.go.specs.Marks.{allGood, inSome, marksOf}
 use Rattle.go.specs.Normal.{written, normal}
-use Rattle.shape.specs.Shape.{shapeOf}
+use Rattle.go_shape.specs.Shape.{shapeOf}
 use Rattle.go.specs.Value.{noMarks, unmarked, areasOf, pointsOf, valueBy, goValue}
-use Rattle.points.specs.Handicap.{handicapOf}
+use Rattle.go_points.specs.Handicap.{handicapOf}
 use Rattle.go.specs.declared.value.GoValue.{GoValue}
-use Rattle.shape.specs.declared.Shape.{Shape}
-use Rattle.shape.specs.declared.Shape.the-variants.{OneMove, OneNumber, ManyPoints, Unread}
-use Rattle.points.specs.declared.Value.{Value}
-use Rattle.points.specs.declared.Value.the-variants.{Other, Invalid, Pass, Move, Handicap, Points}
-use Rattle.points.proofs.Letters.{move-back}
+use Rattle.go_shape.specs.declared.Shape.{Shape}
+use Rattle.go_shape.specs.declared.Shape.the-variants.{OneMove, OneNumber, ManyPoints, Unread}
+use Rattle.go_points.specs.declared.Value.{Value}
+use Rattle.go_points.specs.declared.Value.the-variants.{Other, Invalid, Pass, Move, Handicap, Points}
+use Rattle.go_points.proofs.Letters.{move-back}
 use Rattle.go.proofs.Listed.{points-back}
 use Rattle.go.proofs.Marked.{marks-all}
 use Rattle.go.proofs.Shapes.{Moved, Numbered, moves, numbers, moves-moved, numbers-numbered, points-valid, points-invalid}

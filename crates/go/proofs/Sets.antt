@@ -1,10 +1,10 @@
 -- What one value adds to a set. Assumes nothing.
 use Rattle.lists.proofs.Prelude.{ℕ, _+_, _≤_, _≡_, refl, sym, _∙_, subst, Bool, true, false, _&&_, List, [], _∷_, leb, eqb, leb-true, pick}
 use Rattle.lists.proofs.Pick.{pick-elim}
-use Rattle.points.specs.Area.{letterOf, cornered, areaOf}
+use Rattle.go_points.specs.Area.{letterOf, cornered, areaOf}
 use Rattle.go.specs.Marks.{Adds, inRect, good, inArea}
-use Rattle.points.specs.declared.Area.{Area}
-use Rattle.points.specs.declared.Area.the-variants.{Bad, Rect}
+use Rattle.go_points.specs.declared.Area.{Area}
+use Rattle.go_points.specs.declared.Area.the-variants.{Bad, Rect}
 use Rattle.go.proofs.Adding.{adds-none}
 
 -- the corners of an area lie on the board, the first nowhere greater

@@ -6,12 +6,12 @@ use Rattle.values.specs.Decimal.{decimalOf}
 use Rattle.values.specs.declared.decimal.Number.{Number}
 use Rattle.values.specs.declared.decimal.Number.the-variants.{Bad, Plus, Minus}
 use Rattle.values.proofs.Bounds.{Within, decimal-within}
-use Rattle.points.specs.Area.{letterOf, moveTo, moveOf}
+use Rattle.go_points.specs.Area.{letterOf, moveTo, moveOf}
 use Rattle.go.specs.Marks.{allGood, inSome, marksOf}
 use Rattle.go.specs.Value.{oneBy, unmarked, marked, areasOf, pointsOf}
-use Rattle.points.specs.Handicap.{handicapOf}
-use Rattle.points.specs.declared.Value.{Value}
-use Rattle.points.specs.declared.Value.the-variants.{Other, Invalid, Pass, Move, Handicap, Points}
+use Rattle.go_points.specs.Handicap.{handicapOf}
+use Rattle.go_points.specs.declared.Value.{Value}
+use Rattle.go_points.specs.declared.Value.the-variants.{Other, Invalid, Pass, Move, Handicap, Points}
 
 abbrev pub Moved : Value → Type 0
 Moved Other = ⊥

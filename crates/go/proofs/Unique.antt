@@ -3,10 +3,10 @@ use Rattle.lists.proofs.Prelude.{_≡_, List, ℕ}
 use Rattle.lists.specs.Once.{Once}
 use Rattle.lists.proofs.Once.{once-is}
 use Rattle.values.specs.Read.{readIdentifier}
-use Rattle.points.specs.declared.Value.{Value}
-use Rattle.rows.specs.Rows.{valuesAt}
+use Rattle.go_points.specs.declared.Value.{Value}
+use Rattle.parts.specs.Rows.{valuesAt}
 use Rattle.go.specs.Value.{pointsOf, valueBy, goValue}
-use Rattle.shape.specs.declared.Shape.{Shape}
+use Rattle.go_shape.specs.declared.Shape.{Shape}
 use Rattle.go.specs.declared.value.GoValue.{GoValue}
 
 module _ (text vals : List ℕ) (first n : ℕ) where

@@ -1,7 +1,7 @@
 -- Sets of points as marks in 2,704 places: point (x, y) has place 52 * x + y.
 use Rattle.lists.specs.Prelude.{ℕ, zero, suc, _+_, _/_, _%_, _≡_, Bool, true, false, _&&_, _||_, List, [], _∷_, leb, ltb, length, getD}
-use Rattle.points.specs.declared.Area.{Area}
-use Rattle.points.specs.declared.Area.the-variants.{Bad, Rect}
+use Rattle.go_points.specs.declared.Area.{Area}
+use Rattle.go_points.specs.declared.Area.the-variants.{Bad, Rect}
 
 -- the first coordinate from x on and before x2, the second from y on and before y2
 unfoldable pub inRect : (x x2 y y2 : ℕ) → ℕ → Bool

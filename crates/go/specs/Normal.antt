@@ -1,10 +1,10 @@
 -- The normal form of a property's values: as they are written.
 use Rattle.lists.specs.Prelude.{ℕ, suc, _/_, _%_, Bool, List, [], _∷_, pick}
 use Rattle.values.specs.Decimal.{decimal}
-use Rattle.points.specs.Area.{letter}
+use Rattle.go_points.specs.Area.{letter}
 use Rattle.go.specs.Value.{goValue}
-use Rattle.points.specs.declared.Value.{Value}
-use Rattle.points.specs.declared.Value.the-variants.{Other, Invalid, Pass, Move, Handicap, Points}
+use Rattle.go_points.specs.declared.Value.{Value}
+use Rattle.go_points.specs.declared.Value.the-variants.{Other, Invalid, Pass, Move, Handicap, Points}
 
 -- the two letters of a place
 abbrev pub pointText : ℕ → List ℕ

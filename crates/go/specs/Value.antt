@@ -2,15 +2,15 @@
 use Rattle.lists.specs.Prelude.{ℕ, _-_, _^_, Bool, false, List, [], _∷_, map, eqb, replicate, pick}
 use Rattle.values.specs.Read.{readValue}
 use Rattle.values.specs.Decimal.{decimalOf}
-use Rattle.points.specs.Area.{moveOf, areaOf}
-use Rattle.points.specs.Handicap.{handicapOf}
-use Rattle.shape.specs.Shape.{shapeOf}
+use Rattle.go_points.specs.Area.{moveOf, areaOf}
+use Rattle.go_points.specs.Handicap.{handicapOf}
+use Rattle.go_shape.specs.Shape.{shapeOf}
 use Rattle.go.specs.Marks.{allGood, inSome, marksOf}
-use Rattle.points.specs.declared.Area.{Area}
-use Rattle.shape.specs.declared.Shape.{Shape}
-use Rattle.shape.specs.declared.Shape.the-variants.{OneMove, OneNumber, ManyPoints, Unread}
-use Rattle.points.specs.declared.Value.{Value}
-use Rattle.points.specs.declared.Value.the-variants.{Other, Invalid, Points}
+use Rattle.go_points.specs.declared.Area.{Area}
+use Rattle.go_shape.specs.declared.Shape.{Shape}
+use Rattle.go_shape.specs.declared.Shape.the-variants.{OneMove, OneNumber, ManyPoints, Unread}
+use Rattle.go_points.specs.declared.Value.{Value}
+use Rattle.go_points.specs.declared.Value.the-variants.{Other, Invalid, Points}
 use Rattle.go.specs.declared.value.GoValue.{GoValue}
 
 -- one value by f

@@ -4,13 +4,13 @@ ghost use mathlib.Core.Bool.{false};
 ghost use Prim.Native.Nat.{_+_, _*_, _≤_, _<_};
 ghost use lib.ListN.{length};
 ghost use Rattle.values.specs.Read.{readValue};
-ghost use Rattle.points.specs.Area.{areaOf};
-ghost use Rattle.rows.specs.Rows.{valuesAt};
+ghost use Rattle.go_points.specs.Area.{areaOf};
+ghost use Rattle.parts.specs.Rows.{valuesAt};
 ghost use Rattle.go.specs.Marks.{Adds, inRect, good, inArea};
 ghost use Rattle.go.specs.Value.{pointsOf};
 use crate::value::GoValue;
-use points::Area;
-use points::Value;
+use go_points::Area;
+use go_points::Value;
 
 // Marks the points (x, from) to (x, to).
 fn mark_row(marks: &mut [bool; 2704], x: usize, from: usize, to: usize)
@@ -44,7 +44,7 @@ fn mark_value(marks: &mut [bool; 2704], value: &[u8]) -> bool
     requires { ⌜ length (now marks) ≡ 2704 ⌝ }
     ensures { λ r. ⌜ (r ≡ good (areaOf (readValue (now (value .entry))))) × Adds (inArea (areaOf (readValue (now (value .entry))))) (now (marks .entry)) (now (marks .exit)) ⌝ }
 {
-    match points::read_area(value) {
+    match go_points::read_area(value) {
         Area::Bad => false,
         Area::Rect { x, y, x2, y2 } => {
             mark_rect(marks, x, y, x2, y2);
@@ -60,7 +60,7 @@ pub fn read_points(text: &[u8], vals: &[u32], first: usize, count: usize) -> GoV
     let mut marks = [false; 2704];
     let mut n: usize = 0;
     while n < count {
-        let value = rows::value_at(text, vals, first, n);
+        let value = parts::value_at(text, vals, first, n);
         if !mark_value(&mut marks, value) {
             let none = [false; 2704];
             return GoValue {

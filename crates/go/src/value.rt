@@ -1,10 +1,10 @@
 // The Go value of a property.
 ghost use mathlib.Core.Path.{_≡_};
 ghost use Rattle.values.specs.Read.{readIdentifier};
-ghost use Rattle.rows.specs.Rows.{valuesAt};
+ghost use Rattle.parts.specs.Rows.{valuesAt};
 ghost use Rattle.go.specs.Value.{unmarked, valueBy, goValue};
-use points::Value;
-use shape::Shape;
+use go_points::Value;
+use go_shape::Shape;
 
 // A value, and the points of a set: point (x, y) is marked at 52 * x + y.
 pub struct GoValue {
@@ -36,11 +36,11 @@ pub fn value_by(shape: Shape, text: &[u8], vals: &[u32], first: usize, count: us
     if count != 1 {
         return Value::Invalid;
     }
-    let value = rows::value_at(text, vals, first, 0);
+    let value = parts::value_at(text, vals, first, 0);
     if let Shape::OneMove = shape {
-        return points::read_move(value);
+        return go_points::read_move(value);
     }
-    points::read_handicap(value)
+    go_points::read_handicap(value)
 }
 
 // The Go value of a property: its game type, its raw identifier, and the rows of its values.
@@ -57,7 +57,7 @@ pub fn go_value(
     if kind != 0 {
         return unmarked_value(Value::Other);
     }
-    let shape = shape::shape_of(identifier);
+    let shape = go_shape::shape_of(identifier);
     if let Shape::ManyPoints = shape {
         return crate::set::read_points(text, vals, first, count);
     }

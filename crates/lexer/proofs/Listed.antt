@@ -1,14 +1,14 @@
 -- The values of a property, one at a time: which they are. Assumes nothing.
 use Rattle.lists.proofs.Prelude.{ℕ, zero, suc, _+_, _≤_, _<_, _-_, _≡_, refl, sym, ap, _∙_, List, [], _∷_, arith, length, slice}
 use Rattle.lexer.specs.Token.{Val}
-use Rattle.scan.specs.Scan.{valueAt, valuesAt}
+use Rattle.lexer_scan.specs.Scan.{valueAt, valuesAt}
 use Rattle.lexer.specs.Step.{valsOn, valsBy, valsAt}
-use Rattle.scan.proofs.Bounds.{value-is}
+use Rattle.lexer_scan.proofs.Bounds.{value-is}
 use Rattle.lists.proofs.Tests.{never}
-use Rattle.scan.proofs.Values.{values-more, values-unclosed, values-none}
-use Rattle.close.specs.declared.Close.the-variants.{At, Open}
-use Rattle.scan.specs.declared.ValueStep.{ValueStep}
-use Rattle.scan.specs.declared.ValueStep.the-variants.{Value, NoMore, Unclosed}
+use Rattle.lexer_scan.proofs.Values.{values-more, values-unclosed, values-none}
+use Rattle.lexer_close.specs.declared.Close.the-variants.{At, Open}
+use Rattle.lexer_scan.specs.declared.ValueStep.{ValueStep}
+use Rattle.lexer_scan.specs.declared.ValueStep.the-variants.{Value, NoMore, Unclosed}
 
 module _ (s : List ℕ) where
   vals-fuel : (f g k : ℕ) → length s - k < f → length s - k < g → valsBy f s k ≡ valsBy g s k

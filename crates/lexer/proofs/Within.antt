@@ -1,15 +1,15 @@
 -- Where the next token lies: in the text, from the place where it was looked for on. Assumes nothing.
 use Rattle.lists.proofs.Prelude.{ℕ, suc, _+_, _^_, _≤_, _<_, _≡_, refl, sym, ap, _∙_, subst, List, arith, length, getD, eqb, ltb, ltb-true}
 use Rattle.lists.proofs.Pick.{pick-elim}
-use Rattle.scan.specs.Scan.{skipAt, identAt, valuesAt}
+use Rattle.lexer_scan.specs.Scan.{skipAt, identAt, valuesAt}
 use Rattle.lexer.specs.Step.{onIdent, headFrom, headAt, onValues, onHead, nextAt, behind, SteppedIs, valsAt}
-use Rattle.scan.proofs.Bounds.{skip-bounds, ident-bounds, opens-not-none}
-use Rattle.scan.proofs.Values.{values-bounds, values-forward}
+use Rattle.lexer_scan.proofs.Bounds.{skip-bounds, ident-bounds, opens-not-none}
+use Rattle.lexer_scan.proofs.Values.{values-bounds, values-forward}
 use Rattle.lexer.proofs.Listed.{vals-count}
-use Rattle.close.specs.declared.Close.{Close}
-use Rattle.close.specs.declared.Close.the-variants.{At, Open}
-use Rattle.scan.specs.declared.Ident.{Ident}
-use Rattle.scan.specs.declared.Ident.the-variants.{Opens, Missing, Foreign}
+use Rattle.lexer_close.specs.declared.Close.{Close}
+use Rattle.lexer_close.specs.declared.Close.the-variants.{At, Open}
+use Rattle.lexer_scan.specs.declared.Ident.{Ident}
+use Rattle.lexer_scan.specs.declared.Ident.the-variants.{Opens, Missing, Foreign}
 use Rattle.lexer.specs.declared.Head.{Head}
 use Rattle.lexer.specs.declared.Head.the-variants.{Start as headStart, End as headEnd, Node as headNode, Name, Refused as headRefused, Done as headDone}
 use Rattle.lexer.specs.declared.Step.{Step}

@@ -1,6 +1,6 @@
 -- The tokens of a text: one machine, one step for each byte. Places count from the start of the untrimmed text; a token has its contents beside its places.
 use Rattle.lists.specs.Prelude.{ℕ, suc, Bool, true, false, List, [], _∷_, _++_, leb, eqb, length, drop}
-use Rattle.scan.specs.Scan.{space}
+use Rattle.lexer_scan.specs.Scan.{space}
 use Rattle.lexer.specs.declared.Fault.{Fault}
 use Rattle.lexer.specs.declared.Fault.the-variants.{MissingPropertyIdentifier, UnexpectedEndOfPropertyIdentifier, UnexpectedEndOfPropertyValue}
 

@@ -1,7 +1,7 @@
 // The token rules of SGF: bytes to tokens with spans. The text is the part that trimming keeps, from the start of the buffer to its last place; places count from the start of the buffer.
 ghost use mathlib.Core.Path.{_≡_};
 ghost use Prim.Native.Nat.{_<_, _^_};
-ghost use Rattle.scan.specs.Scan.{valuesAt};
+ghost use Rattle.lexer_scan.specs.Scan.{valuesAt};
 ghost use Rattle.lexer.specs.Token.{numberOf};
 ghost use Rattle.lexer.specs.Step.{headFrom, headAt, onValues, nextAt, behind, SteppedIs};
 
@@ -49,10 +49,10 @@ fn head_from(s: &[u8], at: usize) -> Head
     if b == b';' {
         return Head::Node(at);
     }
-    match scan::ident_end(s, at) {
-        scan::Ident::Opens(k) => Head::Name(at, k),
-        scan::Ident::Missing => Head::Refused(Fault::MissingPropertyIdentifier, at),
-        scan::Ident::Foreign => Head::Refused(Fault::UnexpectedEndOfPropertyIdentifier, at),
+    match lexer_scan::ident_end(s, at) {
+        lexer_scan::Ident::Opens(k) => Head::Name(at, k),
+        lexer_scan::Ident::Missing => Head::Refused(Fault::MissingPropertyIdentifier, at),
+        lexer_scan::Ident::Foreign => Head::Refused(Fault::UnexpectedEndOfPropertyIdentifier, at),
     }
 }
 
@@ -60,7 +60,7 @@ fn head_from(s: &[u8], at: usize) -> Head
 pub fn next_head(s: &[u8], from: usize) -> Head
     ensures { λ r. ⌜ r ≡ headAt (now (s .entry)) from ⌝ }
 {
-    let at = scan::skip_space(s, from);
+    let at = lexer_scan::skip_space(s, from);
     head_from(s, at)
 }
 
@@ -77,9 +77,9 @@ pub enum Step {
 fn property(s: &[u8], from: usize, opens: usize) -> Step
     ensures { λ r. ⌜ r ≡ onValues from opens (valuesAt (now (s .entry)) opens) ⌝ }
 {
-    match scan::values_end(s, opens) {
-        close::Close::At(e) => Step::Property(from, opens, e),
-        close::Close::Open => Step::Refused(Fault::UnexpectedEndOfPropertyValue, from),
+    match lexer_scan::values_end(s, opens) {
+        lexer_close::Close::At(e) => Step::Property(from, opens, e),
+        lexer_close::Close::Open => Step::Refused(Fault::UnexpectedEndOfPropertyValue, from),
     }
 }
 

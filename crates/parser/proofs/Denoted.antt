@@ -1,10 +1,10 @@
 -- What an accepted reading says stands in the text, strict and lenient: each identifier and each value is the bytes between its places. Assumes nothing.
 use Rattle.lists.proofs.Prelude.{_≡_, subst, ℕ, Bool, true, false, List, ltb, length, pick}
 use Rattle.lists.specs.All.{All}
-use Rattle.utf8.specs.Text.{Ink, blank, inked, Utf, whole, part, bad, utfs}
+use Rattle.text_utf8.specs.Text.{Ink, blank, inked, Utf, whole, part, bad, utfs}
 use Rattle.lexer.specs.Token.{End, done, broken}
-use Rattle.tokens.proofs.Invariant.{OfTok}
-use Rattle.tokens.proofs.Contents.{Denotes, tokens-denote}
+use Rattle.lexer_laws.proofs.Invariant.{OfTok}
+use Rattle.lexer_laws.proofs.Contents.{Denotes, tokens-denote}
 use Rattle.tables.specs.Numbers.{textLimit}
 use Rattle.tables.specs.Record.{Tree, allNodes, allProps}
 use Rattle.tables.specs.declared.Reason.the-variants.{TextTooLong}

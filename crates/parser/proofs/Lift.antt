@@ -1,6 +1,6 @@
 -- What holds of every token holds of every token of every slice; what holds of every property token holds of every property of every tree. Assumes nothing.
 use Rattle.lists.proofs.Prelude.{ℕ, zero, suc, Bool, true, false, _||_, List, [], _∷_, reverse, ltb, pick}
-use Rattle.tokens.proofs.Invariant.{OfTok}
+use Rattle.lexer_laws.proofs.Invariant.{OfTok}
 use Rattle.lexer.specs.Token.{Prop, Tok, end, node, prop, start}
 use Rattle.lists.proofs.All.{all-append, all-reverse}
 use Rattle.lists.specs.All.{All}

@@ -6,7 +6,7 @@ use Rattle.lexer.specs.declared.Step.{Step}
 use Rattle.lexer.specs.declared.Step.the-variants.{Start, End, Node, Property, Refused, Done}
 use Rattle.lexer.specs.Token.{Lexed, lexAt}
 use Rattle.lexer.specs.Step.{nextAt, stepOn, behind, SteppedIs}
-use Rattle.tokens.proofs.Join.{lex-next}
+use Rattle.lexer_laws.proofs.Join.{lex-next}
 use Rattle.lexer.proofs.Within.{Within, found-within}
 use Rattle.lexer.proofs.Step as step
 

@@ -1,6 +1,6 @@
 -- Tokens with their places moved: the same answer, with its places moved. What a token says besides its places decides the answer. Assumes nothing.
 use Rattle.lists.proofs.Prelude.{_≡_, refl, ap, _∙_, ℕ, Bool, true, false, _||_, List, [], _∷_, map, map-append, eqb, length-map, pick}
-use Rattle.tokens.proofs.Invariant.{OfTok}
+use Rattle.lexer_laws.proofs.Invariant.{OfTok}
 use Rattle.lexer.specs.Move.{moveProp, moveTok}
 use Rattle.lexer.specs.Token.{Prop, Tok, end, node, prop, start}
 use Rattle.lists.specs.All.{All}

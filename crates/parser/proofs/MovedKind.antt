@@ -1,6 +1,6 @@
 -- Tokens with their places moved: the same game type, where the values of a GM property stay. Assumes nothing.
 use Rattle.lists.proofs.Prelude.{_≡_, refl, ap, _∙_, ℕ, zero, suc, Bool, true, false, List, [], _∷_, map, drop, pick}
-use Rattle.tokens.proofs.Invariant.{OfTok}
+use Rattle.lexer_laws.proofs.Invariant.{OfTok}
 use Rattle.lexer.specs.Move.{moveProp, moveTok, moveVal}
 use Rattle.lexer.specs.Token.{Prop, Tok, Val, end, node, prop, start}
 use Rattle.lists.specs.All.{All}

@@ -4,7 +4,7 @@ use Rattle.lexer.specs.Token.{Lexed, lexAt}
 use Rattle.lexer.specs.Step.{nextAt, stepOn}
 use Rattle.lexer.specs.declared.Step.{Step}
 use Rattle.lexer.specs.declared.Step.the-variants.{Start, End, Node, Property, Refused, Done}
-use Rattle.tokens.proofs.Join.{lex-next}
+use Rattle.lexer_laws.proofs.Join.{lex-next}
 use Rattle.lexer.proofs.Within.{Within, next-within}
 
 module _ (u : List ℕ) where

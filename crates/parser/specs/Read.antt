@@ -1,6 +1,6 @@
 -- Reading: a text to a record, or a number and a place.
 use Rattle.lists.specs.Prelude.{ℕ, suc, _+_, Bool, true, false, List, [], _∷_, reverse, length, take, drop, ltb, pick}
-use Rattle.utf8.specs.Text.{Ink, blank, inked, Utf, whole, part, bad, utfs}
+use Rattle.text_utf8.specs.Text.{Ink, blank, inked, Utf, whole, part, bad, utfs}
 use Rattle.lexer.specs.Token.{Tok, End, done, broken, Lexed, lexFrom}
 use Rattle.tables.specs.Numbers.{textLimit, none, reasonOf}
 use Rattle.tables.specs.Record.{Node, Tree}

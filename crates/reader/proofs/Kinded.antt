@@ -8,11 +8,11 @@ use Rattle.tables.specs.declared.Reason.{Reason}
 use Rattle.parser.specs.Walk.{Opts, walk, shut, walked}
 use Rattle.parser.specs.Kind.{Kind, is, unkind}
 use Rattle.parser.specs.Read.{failing, grown, kinded, growAll}
-use Rattle.trees.specs.Walks.{opts}
+use Rattle.parser_tree.specs.Walks.{opts}
 use Rattle.reader.specs.Slices.{leniently}
-use Rattle.game.specs.Game.{typeOf}
-use Rattle.game.specs.declared.GameType.{GameType}
-use Rattle.game.specs.declared.GameType.the-variants.{Is, Refused}
+use Rattle.parser_game.specs.Game.{typeOf}
+use Rattle.parser_game.specs.declared.GameType.{GameType}
+use Rattle.parser_game.specs.declared.GameType.the-variants.{Is, Refused}
 
 -- ---- what lenient reading makes of a refusal
 

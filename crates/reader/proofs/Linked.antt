@@ -7,7 +7,7 @@ use Rattle.tables.specs.Rows.{next, parents, nodeRows}
 use Rattle.tables.specs.Flat.{flatNodes}
 use Rattle.tables.specs.Columns.{parentAt, childAt}
 use Rattle.tables.specs.Links.{least, LinkedFrom}
-use Rattle.trees.specs.Flat.{bareRows}
+use Rattle.parser_tree.specs.Flat.{bareRows}
 use Rattle.reader.proofs.Parents.{Below}
 use Rattle.reader.proofs.Nexts.{next-least, next-skip, cell, five, bare-next, bare-parent}
 use Rattle.tables.proofs.Lengths.{parents-length}

@@ -8,7 +8,7 @@ use Rattle.tables.specs.Rows.{next, parents}
 use Rattle.tables.specs.Flat.{flatNodes}
 use Rattle.tables.specs.Columns.{parentAt, childAt}
 use Rattle.tables.specs.Links.{least}
-use Rattle.trees.specs.Flat.{bareRows}
+use Rattle.parser_tree.specs.Flat.{bareRows}
 
 -- ---- the first of the nodes with a parent
 

@@ -12,17 +12,17 @@ use Rattle.parser.specs.Walk.{Opts}
 use Rattle.parser.specs.Kind.{kind}
 use Rattle.parser.specs.Slice.{sliceFrom, restFrom, cut, Shallow}
 use Rattle.parser.specs.Read.{Growing, growing, failing, grown, kinded, growAll}
-use Rattle.trees.specs.Walks.{opts, walkOf, Ready, Stored, TreeIs, WalkIs}
-use Rattle.trees.specs.declared.Walked.{Walked}
-use Rattle.trees.specs.declared.Walked.the-variants.{Tree as tree, Refused as refusedWalk}
-use Rattle.trees.proofs.Between.{Between, between-ready, between-next}
-use Rattle.trees.proofs.Stored.{stored-none, stored-both}
+use Rattle.parser_tree.specs.Walks.{opts, walkOf, Ready, Stored, TreeIs, WalkIs}
+use Rattle.parser_tree.specs.declared.Walked.{Walked}
+use Rattle.parser_tree.specs.declared.Walked.the-variants.{Tree as tree, Refused as refusedWalk}
+use Rattle.parser_tree.proofs.Between.{Between, between-ready, between-next}
+use Rattle.parser_tree.proofs.Stored.{stored-none, stored-both}
 use Rattle.reader.specs.Lent.{Lent, lent}
 use Rattle.reader.specs.Slices.{leniently, readOf, SlicesReady, GrownIs}
-use Rattle.game.specs.Game.{typeOf}
+use Rattle.parser_game.specs.Game.{typeOf}
 use Rattle.reader.proofs.Kinded.{fails, kinded-is, kinded-refused}
-use Rattle.game.specs.declared.GameType.{GameType}
-use Rattle.game.specs.declared.GameType.the-variants.{Is, Refused}
+use Rattle.parser_game.specs.declared.GameType.{GameType}
+use Rattle.parser_game.specs.declared.GameType.the-variants.{Is, Refused}
 
 tree-append : (xs ys : List Tree) → flatTrees (treeRows (xs ++ ys)) ≡ flatTrees (treeRows xs) ++ flatTrees (treeRows ys)
 tree-append [] ys = refl

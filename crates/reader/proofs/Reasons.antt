@@ -1,7 +1,7 @@
 -- Which reasons a reading can give, by its options: a fact of the definition. Assumes nothing.
 use Rattle.lists.proofs.Prelude.{ℕ, zero, suc, _-_, _^_, _≡_, refl, subst, Bool, true, false, _||_, List, [], _∷_, length, drop, ltb, pick}
 use Rattle.lists.proofs.Pick.{pick-elim}
-use Rattle.utf8.specs.Text.{Utf, whole, part, bad, blank, utfs}
+use Rattle.text_utf8.specs.Text.{Utf, whole, part, bad, blank, utfs}
 use Rattle.values.specs.Read.{readValue}
 use Rattle.values.specs.Decimal.{decimalOf}
 use Rattle.lists.specs.Same.{same}

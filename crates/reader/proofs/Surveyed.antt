@@ -14,12 +14,12 @@ use Rattle.parser.specs.declared.Survey.the-variants.{Refused, Slices as found,
 use Rattle.parser.specs.Read.{Answer, refused, answer, planted, parsed, lexing}
 use Rattle.parser.proofs.Slices.{slices-cut}
 use Rattle.parser.proofs.Tokens.{tokens-few}
-use Rattle.trees.specs.Walks.{opts}
+use Rattle.parser_tree.specs.Walks.{opts}
 use Rattle.reader.specs.Lent.{Lent, ReadIs}
 use Rattle.reader.specs.Slices.{readOf, SlicesReady}
-use Rattle.plan.specs.Plans.{planFound, planTokens}
-use Rattle.plan.specs.declared.Plan.{Plan}
-use Rattle.plan.specs.declared.Plan.the-variants.{Slices, Refused as refusedPlan}
+use Rattle.parser_split.specs.Plans.{planFound, planTokens}
+use Rattle.parser_split.specs.declared.Plan.{Plan}
+use Rattle.parser_split.specs.declared.Plan.the-variants.{Slices, Refused as refusedPlan}
 
 -- the answer a is that of these slices of u, or is refused
 abbrev pub PlanIs : Opts → (u : List ℕ) → (a : Answer) → Plan → Type 0

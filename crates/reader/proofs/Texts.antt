@@ -1,21 +1,21 @@
 -- From the whole text to its tokens: the limit, UTF-8, trimming. Assumes nothing.
 use Rattle.lists.proofs.Prelude.{ℕ, _≤_, _<_, _≡_, refl, sym, ap, _∙_, subst, Bool, true, false, List, [], arith, ltb, length, take, drop, length-take-le, take-take, lt-ltb, le-ltb, ltb-true, ltb-false, pick}
 use Rattle.lists.proofs.Tests.{never}
-use Rattle.utf8.specs.Text.{Utf, whole, part, bad, blank, inked, utfs}
-use Rattle.utf8.specs.Trim.{shown, trimmed}
-use Rattle.utf8.specs.declared.Trimmed.{Trimmed}
-use Rattle.utf8.specs.declared.Trimmed.the-variants.{NotUtf8, Blank, Kept}
-use Rattle.utf8.proofs.Extent.{trim-bounds}
+use Rattle.text_utf8.specs.Text.{Utf, whole, part, bad, blank, inked, utfs}
+use Rattle.text_utf8.specs.Trim.{shown, trimmed}
+use Rattle.text_utf8.specs.declared.Trimmed.{Trimmed}
+use Rattle.text_utf8.specs.declared.Trimmed.the-variants.{NotUtf8, Blank, Kept}
+use Rattle.text_utf8.proofs.Extent.{trim-bounds}
 use Rattle.lexer.specs.Token.{between, emits, ends, finish, lexed, lexFrom, lexAt}
 use Rattle.tables.specs.Numbers.{textLimit}
 use Rattle.tables.specs.declared.Reason.the-variants.{TextTooLong, NotUtf8 as notUtf8}
 use Rattle.parser.specs.Walk.{Opts}
 use Rattle.parser.specs.Read.{Answer, refused, answer, decoded, read}
-use Rattle.trees.specs.Walks.{opts}
+use Rattle.parser_tree.specs.Walks.{opts}
 use Rattle.reader.specs.Slices.{readOf, SlicesReady}
-use Rattle.plan.specs.Plans.{planTokens, planKept, planText}
-use Rattle.plan.specs.declared.Plan.{Plan}
-use Rattle.plan.specs.declared.Plan.the-variants.{Slices, Refused}
+use Rattle.parser_split.specs.Plans.{planTokens, planKept, planText}
+use Rattle.parser_split.specs.declared.Plan.{Plan}
+use Rattle.parser_split.specs.declared.Plan.the-variants.{Slices, Refused}
 use Rattle.reader.proofs.Surveyed.{PlanIs, tokensAnswer, tokens-plan}
 
 -- the tokens of what trimming keeps are those from a place of the text's front part on

@@ -16,8 +16,8 @@ use Rattle.tables.specs.declared.Reason.the-variants.{NoRoom}
 use Rattle.parser.specs.Walk.{Opts}
 use Rattle.parser.specs.Slice.{cut}
 use Rattle.parser.specs.Read.{Answer, accepted, Growing, growing, failing, answer}
-use Rattle.trees.specs.Flat.{bareRows}
-use Rattle.trees.proofs.Flats.{val-length, prop-length, node-length}
+use Rattle.parser_tree.specs.Flat.{bareRows}
+use Rattle.parser_tree.proofs.Flats.{val-length, prop-length, node-length}
 use Rattle.reader.specs.Lent.{Lent, lent, roomFor, roomy, stored, ReadIs}
 use Rattle.reader.specs.Slices.{readOf, GrownIs, TreesIs, CountIs}
 use Rattle.reader.specs.declared.slices.Total.{Total}

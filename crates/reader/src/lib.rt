@@ -2,9 +2,9 @@
 mod slices; // slices.rt: the trees of all slices
 
 ghost use Rattle.parser.specs.Read as definition;
-ghost use Rattle.trees.specs.Walks.{opts};
+ghost use Rattle.parser_tree.specs.Walks.{opts};
 ghost use Rattle.reader.specs.Lent.{lent, ReadIs};
-use plan::Plan;
+use parser_split::Plan;
 use tables::Reading;
 
 // Reads a text into the lent tables, strictly or leniently: the counts, or why it is refused and the place.
@@ -19,7 +19,7 @@ pub fn read(
 ) -> Reading
     ensures { λ r. ⌜ ReadIs (definition.read (opts lenient convert) (now (text .entry))) (lent (now (trees .entry)) (now (nodes .entry)) (now (properties .entry)) (now (values .entry))) (lent (now (trees .exit)) (now (nodes .exit)) (now (properties .exit)) (now (values .exit))) r ⌝ }
 {
-    match plan::plan_text(text, lenient) {
+    match parser_split::plan_text(text, lenient) {
         Plan::Refused(reason, place) => Reading::Refused(reason, place),
         Plan::Slices(first, last, count) => slices::read_slices(
             &text[..last],

@@ -4,15 +4,15 @@ ghost use Rattle.lexer.specs.Token.{lexAt};
 ghost use Rattle.parser.specs.Kind.{kind};
 ghost use Rattle.parser.specs.Read.{answer};
 ghost use Rattle.parser.specs.Slice.{sliceFrom};
-ghost use Rattle.trees.specs.Walks.{opts};
-ghost use Rattle.game.specs.Game.{typeOf};
+ghost use Rattle.parser_tree.specs.Walks.{opts};
+ghost use Rattle.parser_game.specs.Game.{typeOf};
 ghost use Rattle.reader.specs.Lent.{lent, roomFor, ReadIs};
 ghost use Rattle.reader.specs.Slices.{leniently, readOf, SlicesReady, TreesIs, CountIs};
-use game::GameType;
+use parser_game::GameType;
+use parser_tree::Walked;
 use tables::Counts;
 use tables::Reading;
 use tables::Reason;
-use trees::Walked;
 
 // The numbers of rows (nodes, properties, values); or why there are no trees.
 pub enum Total {
@@ -24,7 +24,7 @@ pub enum Total {
 fn type_or_go(s: &[u8], at: usize, lenient: bool) -> GameType
     ensures { λ r. ⌜ r ≡ typeOf (leniently lenient (kind (sliceFrom 0 (lexAt (now (s .entry)) at .toks)))) ⌝ }
 {
-    match game::game_type(s, at) {
+    match parser_game::game_type(s, at) {
         GameType::Is(kind) => GameType::Is(kind),
         GameType::Refused(reason) => {
             if lenient {
@@ -59,7 +59,7 @@ fn read_trees(
         match type_or_go(s, at, lenient) {
             GameType::Refused(reason) => return Total::Refused(reason),
             GameType::Is(kind) => {
-                match trees::walk_tree(
+                match parser_tree::walk_tree(
                     s,
                     at,
                     lenient,
@@ -73,7 +73,7 @@ fn read_trees(
                 ) {
                     Walked::Refused(reason) => return Total::Refused(reason),
                     Walked::Tree(next, node, property, value) => {
-                        cells::put2(trees, k * tables::TREE_STRIDE, n as u32, kind);
+                        store_numbers::put2(trees, k * tables::TREE_STRIDE, n as u32, kind);
                         at = next;
                         n = node;
                         p = property;

@@ -7,7 +7,7 @@ use Rattle.tables.specs.declared.Counts.{Counts}
 use Rattle.fit.proofs.Clauses.{Clauses, fit-clauses}
 use Rattle.fit.proofs.Parts.{map-tabulate, tabulate-drop, tabulate-part}
 use Rattle.fit.proofs.RecordRows.{propsIn, first-root, no-trees}
-use Rattle.spans.proofs.Ranges.{gapless-in}
+use Rattle.fit_spans.proofs.Ranges.{gapless-in}
 use Rattle.fit.proofs.RootRows.{root-in}
 use Rattle.tables.specs.Columns.{rootAt, kindAt, parentAt, firstPropAt, propCountAt, firstValAt, valCountAt}
 use Rattle.tables.specs.Each.{tabulate}

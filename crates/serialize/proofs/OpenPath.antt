@@ -3,9 +3,9 @@ use Rattle.lists.proofs.Prelude.{ℕ, zero, suc, _≤_, _<_, Bool, true, false,
 use Rattle.tables.specs.Numbers.{none}
 use Rattle.tables.proofs.Cases.{true-false}
 use Rattle.lists.proofs.Tests.{same-or}
-use Rattle.links.proofs.Path.{has-before, has-none, path-out, path-down}
+use Rattle.fit_nodes.proofs.Path.{has-before, has-none, path-out, path-down}
 use Rattle.tables.specs.Columns.{parentAt}
-use Rattle.links.specs.Nodes.{hasParent, onPath}
+use Rattle.fit_nodes.specs.Nodes.{hasParent, onPath}
 use Rattle.serialize.specs.Walk.{inBrackets, shut, climbs, endsBefore}
 use Rattle.serialize.specs.Write.{Open, ends, left, shuts}
 

@@ -3,8 +3,8 @@ use Rattle.lists.proofs.Prelude.{ℕ, zero, suc, _+_, _/_, _≤_, _<_, List, []
 use Rattle.lexer.specs.Token.{Val, Prop}
 use Rattle.values.specs.Read.{readIdentifier}
 use Rattle.go.specs.Normal.{normal}
-use Rattle.rows.specs.Rows.{valuesAt}
-use Rattle.rows.proofs.Valued.{values-none, values-more}
+use Rattle.parts.specs.Rows.{valuesAt}
+use Rattle.parts.proofs.Valued.{values-none, values-more}
 use Rattle.fit.proofs.Parts.{map-tabulate, tabulate-part}
 use Rattle.fit.proofs.RecordRows.{valsIn, propsIn, raws-at}
 use Rattle.tables.specs.Columns.{firstPropAt, propCountAt, firstValAt, valCountAt}
@@ -12,7 +12,7 @@ use Rattle.tables.specs.Each.{tabulate}
 use Rattle.fit.specs.Record.{nodeRow, propRow, propOf, nodeOf, rawOf}
 use Rattle.serialize.specs.Form.{placeless, formProp, formNode}
 use Rattle.serialize.specs.Walk.{nameAt, valuesText, propText, propsText}
-use Rattle.form.specs.Boxes.{boxes}
+use Rattle.serialize_values.specs.Boxes.{boxes}
 use Rattle.serialize.specs.Write.{boxed, writeProps}
 use Rattle.serialize.proofs.Joined.{joined, texts-from}
 

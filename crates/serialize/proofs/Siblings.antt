@@ -3,13 +3,13 @@ use Rattle.lists.proofs.Prelude.{ℕ, zero, suc, _+_, _≤_, _<_, _-_, Bool, tr
 use Rattle.tables.specs.Numbers.{none}
 use Rattle.tables.proofs.Cases.{true-false}
 use Rattle.lists.proofs.Tests.{same-or}
-use Rattle.links.proofs.Children.{first-none, first-at}
-use Rattle.links.proofs.Path.{has-none, path-out}
-use Rattle.links.proofs.Rule.{rule-before, off-on, parent-on}
+use Rattle.fit_nodes.proofs.Children.{first-none, first-at}
+use Rattle.fit_nodes.proofs.Path.{has-none, path-out}
+use Rattle.fit_nodes.proofs.Rule.{rule-before, off-on, parent-on}
 use Rattle.tables.specs.Columns.{parentAt, childAt, siblingAt}
 use Rattle.tables.specs.Each.{tabulate}
-use Rattle.links.specs.Locals.{Ruled}
-use Rattle.links.specs.Nodes.{firstUnder, nextOf, onPath}
+use Rattle.fit_nodes.specs.Locals.{Ruled}
+use Rattle.fit_nodes.specs.Nodes.{firstUnder, nextOf, onPath}
 use Rattle.serialize.specs.Walk.{inBrackets}
 use Rattle.serialize.specs.Write.{times}
 

@@ -8,7 +8,7 @@ use Rattle.tables.proofs.Each.{each-at}
 use Rattle.fit.proofs.RecordRows.{ruled, first-root}
 use Rattle.fit.proofs.RootRows.{root-in, root-rises, orphan-root}
 use Rattle.tables.specs.Columns.{rootAt, kindAt, parentAt, childAt, siblingAt}
-use Rattle.links.specs.Nodes.{firstUnder, nextOf, childRight, siblingRight}
+use Rattle.fit_nodes.specs.Nodes.{firstUnder, nextOf, childRight, siblingRight}
 use Rattle.serialize.specs.Walk.{rootsBelow, kindOver}
 use Rattle.serialize.proofs.TreeWalk.{Linking, Stretch}
 

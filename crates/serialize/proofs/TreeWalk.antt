@@ -5,12 +5,12 @@ use Rattle.tables.specs.Numbers.{none}
 use Rattle.tables.specs.Record.{Node}
 use Rattle.tables.specs.Rows.{parents}
 use Rattle.tables.proofs.Cases.{below-or, true-false}
-use Rattle.links.proofs.Path.{has-none, path-out, path-le}
-use Rattle.links.proofs.Rule.{rule-at, rule-has, off-on}
+use Rattle.fit_nodes.proofs.Path.{has-none, path-out, path-le}
+use Rattle.fit_nodes.proofs.Rule.{rule-at, rule-has, off-on}
 use Rattle.tables.specs.Columns.{parentAt, childAt, siblingAt}
 use Rattle.tables.specs.Each.{tabulate}
-use Rattle.links.specs.Locals.{Ruled}
-use Rattle.links.specs.Nodes.{firstUnder, nextOf, onPath}
+use Rattle.fit_nodes.specs.Locals.{Ruled}
+use Rattle.fit_nodes.specs.Nodes.{firstUnder, nextOf, onPath}
 use Rattle.serialize.specs.Walk.{inBrackets, begun, endsBefore}
 use Rattle.serialize.specs.Write.{Open, bracketed, left, opened, ends, writeNodes, writeProps, writeTree}
 use Rattle.serialize.proofs.Joined.{joined}

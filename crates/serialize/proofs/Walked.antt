@@ -2,23 +2,23 @@
 use Rattle.lists.proofs.Prelude.{ℕ, zero, suc, _+_, _/_, _^_, _≤_, _<_, _-_, Bool, true, false, _&&_, List, [], _∷_, _++_, _≡_, refl, sym, ap, ap₂, _∙_, subst, add-one, arith, leb, ltb, eqb, length, getD, take, drop, List·getD-eq-default, eq-eqb, ne-eqb, lt-ltb}
 use Rattle.lists.proofs.Pick.{pick-elim}
 use Rattle.values.specs.Read.{readIdentifier}
-use Rattle.put.specs.Wrote.{Wrote}
-use Rattle.put.proofs.Written.{wrote-more}
+use Rattle.store_bytes.specs.Wrote.{Wrote}
+use Rattle.store_bytes.proofs.Written.{wrote-more}
 use Rattle.tables.specs.Numbers.{none}
 use Rattle.go.specs.Normal.{normal}
-use Rattle.rows.specs.Rows.{valuesAt}
-use Rattle.shape.proofs.Identifiers.{letter-past, letter-here}
+use Rattle.parts.specs.Rows.{valuesAt}
+use Rattle.go_shape.proofs.Identifiers.{letter-past, letter-here}
 use Rattle.tables.specs.Columns.{kindAt, parentAt, firstPropAt, propCountAt, nameFromAt, nameToAt, firstValAt, valCountAt}
 use Rattle.lists.proofs.Tests.{same-or}
 use Rattle.tables.proofs.Each.{each-at, each-all}
-use Rattle.spans.proofs.Lists.{part-slice}
-use Rattle.links.proofs.Rule.{rule-at, rule-before}
-use Rattle.links.specs.Nodes.{parentRight}
-use Rattle.links.specs.Locals.{Ruled}
+use Rattle.fit_spans.proofs.Lists.{part-slice}
+use Rattle.fit_nodes.proofs.Rule.{rule-at, rule-before}
+use Rattle.fit_nodes.specs.Nodes.{parentRight}
+use Rattle.fit_nodes.specs.Locals.{Ruled}
 use Rattle.serialize.specs.Locals.{PropHeld, Placed, Above, NodesHeld}
 use Rattle.serialize.specs.Walk.{texts, rootsBelow, nameAt, valuesText, propText, propsText, begun, endsBefore, nodeBy, nodeText, linked, named}
-use Rattle.form.specs.Boxes.{boxes}
-use Rattle.form.proofs.Writing.{writing-first, writing-is, writing-next, writing-last}
+use Rattle.serialize_values.specs.Boxes.{boxes}
+use Rattle.serialize_values.proofs.Writing.{writing-first, writing-is, writing-next, writing-last}
 
 -- the rule of the parents holds of fewer nodes too
 ruled-up : {nd : List ℕ} {n : ℕ} → Ruled nd n → (k : ℕ) → k ≤ n → Ruled nd k

@@ -1,8 +1,8 @@
 -- The writer's answer: 19, 15, 14, then the writing. Assumes nothing.
 use Rattle.lists.proofs.Prelude.{ℕ, _+_, _^_, _≤_, _<_, Bool, true, false, not, List, [], _++_, _≡_, refl, sym, ap, ap₂, _∙_, subst, arith, ltb, length, take, drop, length-take-le, lt-ltb, le-ltb, not-true, not-false}
-use Rattle.put.specs.Wrote.{Wrote}
-use Rattle.put.proofs.Lists.{sets-out}
-use Rattle.put.proofs.Written.{wrote-all}
+use Rattle.store_bytes.specs.Wrote.{Wrote}
+use Rattle.store_bytes.proofs.Lists.{sets-out}
+use Rattle.store_bytes.proofs.Written.{wrote-all}
 use Rattle.tables.specs.Record.{Tree, allNodes, allProps}
 use Rattle.tables.specs.declared.Counts.{Counts}
 use Rattle.tables.specs.declared.Reason.the-variants.{NoRoom, EmptyIdentifier, NotFitting}
@@ -10,7 +10,7 @@ use Rattle.tables.specs.Columns.{firstPropAt, propCountAt}
 use Rattle.fit.specs.Fit.{Fit}
 use Rattle.fit.specs.Record.{rowsOf, recordOf}
 use Rattle.fit.proofs.Clauses.{Clauses, fit-clauses, name-in}
-use Rattle.spans.proofs.Ranges.{gapless-in}
+use Rattle.fit_spans.proofs.Ranges.{gapless-in}
 use Rattle.fit.proofs.Whole.{fit-lent}
 use Rattle.serialize.specs.Form.{writing, answer, written, WriteIs}
 use Rattle.serialize.specs.Locals.{PropHeld, NodesHeld}

@@ -2,8 +2,8 @@
 use Rattle.lists.specs.Prelude.{ℕ, suc, _+_, _/_, _<_, _≤_, _-_, true, List, _≡_, length}
 use Rattle.tables.specs.Numbers.{none}
 use Rattle.tables.specs.Columns.{parentAt, firstPropAt, propCountAt, nameFromAt, nameToAt}
-use Rattle.links.specs.Locals.{Ruled}
-use Rattle.links.specs.Nodes.{onPath}
+use Rattle.fit_nodes.specs.Locals.{Ruled}
+use Rattle.fit_nodes.specs.Nodes.{onPath}
 
 -- row p of the properties is there, and its identifier lies in the text
 pub record PropHeld (t pr : List ℕ) (p : ℕ) : Type 0 where

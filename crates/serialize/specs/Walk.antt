@@ -2,10 +2,10 @@
 use Rattle.lists.specs.Prelude.{ℕ, zero, suc, _+_, _-_, Bool, _||_, not, List, [], _∷_, _++_, ltb, eqb, length, slice, pick}
 use Rattle.values.specs.Read.{readIdentifier}
 use Rattle.go.specs.Normal.{normal}
-use Rattle.rows.specs.Rows.{valuesAt}
+use Rattle.parts.specs.Rows.{valuesAt}
 use Rattle.tables.specs.Numbers.{none}
 use Rattle.tables.specs.Each.{each}
-use Rattle.form.specs.Boxes.{boxes}
+use Rattle.serialize_values.specs.Boxes.{boxes}
 use Rattle.tables.specs.Columns.{kindAt, parentAt, childAt, siblingAt, firstPropAt, propCountAt, nameFromAt, nameToAt, firstValAt, valCountAt}
 
 -- the texts of 0, 1, .. below m, one after another

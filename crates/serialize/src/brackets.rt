@@ -1,9 +1,9 @@
 // The brackets of nodes.
 ghost use mathlib.Core.Path.{_≡_};
-ghost use Rattle.put.specs.Wrote.{Wrote};
+ghost use Rattle.store_bytes.specs.Wrote.{Wrote};
 ghost use Rattle.serialize.specs.Locals.{Placed, Above};
 ghost use Rattle.serialize.specs.Walk.{inBrackets, shut, begun, endsBefore};
-use put::put_byte;
+use store_bytes::put_byte;
 
 // Whether node k stands in brackets.
 fn in_brackets(nodes: &[u32], k: usize) -> bool

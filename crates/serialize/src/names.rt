@@ -4,10 +4,10 @@ ghost use Prim.Native.Nat.{ℕ, _<_};
 ghost use lib.Dec.{ltb};
 ghost use lib.ListN.{length};
 ghost use Rattle.values.specs.Read.{readIdentifier};
-ghost use Rattle.put.specs.Wrote.{Wrote};
+ghost use Rattle.store_bytes.specs.Wrote.{Wrote};
 ghost use Rattle.serialize.specs.Locals.{PropHeld};
 ghost use Rattle.serialize.specs.Walk.{namesGood};
-use put::put_byte;
+use store_bytes::put_byte;
 
 // The uppercase letters of an identifier.
 pub fn put_letters(out: &mut [u8], at: usize, name: &[u8]) -> usize

@@ -1,5 +1,5 @@
 // The properties of a node.
-ghost use Rattle.put.specs.Wrote.{Wrote};
+ghost use Rattle.store_bytes.specs.Wrote.{Wrote};
 ghost use Rattle.serialize.specs.Locals.{PropHeld, NodeHeld};
 ghost use Rattle.serialize.specs.Walk.{propText, propsText};
 
@@ -22,7 +22,7 @@ fn put_property(
     let count = lists::wide(properties[p * tables::PROPERTY_STRIDE + 3]);
     let name = &text[start..end];
     let to = crate::names::put_letters(out, at, name);
-    form::put_values(out, to, kind, name, text, values, first, count)
+    serialize_values::put_values(out, to, kind, name, text, values, first, count)
 }
 
 // The properties of node k.

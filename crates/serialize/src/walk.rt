@@ -2,7 +2,7 @@
 ghost use mathlib.Core.Path.{_≡_};
 ghost use Prim.Native.Nat.{suc, _-_, _/_, _<_, _≤_};
 ghost use lib.ListN.{length};
-ghost use Rattle.put.specs.Wrote.{Wrote};
+ghost use Rattle.store_bytes.specs.Wrote.{Wrote};
 ghost use Rattle.tables.specs.Columns.{kindAt};
 ghost use Rattle.serialize.specs.Locals.{NodeHeld, NodesHeld};
 ghost use Rattle.serialize.specs.Walk.{rootsBelow, nodeBy, linked};
@@ -45,7 +45,7 @@ fn put_node(
 {
     let ended = crate::brackets::put_ends(out, at, nodes, k, nodes[k * tables::NODE_STRIDE]);
     let started = crate::brackets::put_start(out, ended, nodes, k);
-    let to = put::put_byte(out, started, b';');
+    let to = store_bytes::put_byte(out, started, b';');
     crate::property::put_properties(out, to, text, nodes, properties, values, kind, k)
 }
 

@@ -1,23 +1,23 @@
 -- Answers about a record in memory as they are shown. Assumes nothing.
 use Rattle.lists.proofs.Prelude.{ℕ, List, _≡_, ap, _∙_, take, eq-eqb, ne-eqb}
-use Rattle.display.specs.declared.Kind.{Kind}
-use Rattle.display.specs.declared.Kind.the-variants.{Text, SimpleText}
-use Rattle.access.specs.declared.Accessed.{Accessed}
-use Rattle.record.specs.Ask.{display, displayIn}
-use Rattle.record.specs.declared.Shown.{Shown}
+use Rattle.value_display.specs.declared.Kind.{Kind}
+use Rattle.value_display.specs.declared.Kind.the-variants.{Text, SimpleText}
+use Rattle.ask_value.specs.declared.Accessed.{Accessed}
+use Rattle.ask.specs.Ask.{display, displayIn}
+use Rattle.ask.specs.declared.Shown.{Shown}
 use Rattle.tables.specs.declared.Counts.{Counts}
 use Rattle.fit.specs.Record.{rowsOf, recordOf}
 use Rattle.serialize.specs.Form.{writing, output, WriteIs}
 use Rattle.serialize.specs.declared.Written.{Written}
-use Rattle.decide.specs.Edit.{Outcome}
+use Rattle.edit_answer.specs.Edit.{Outcome}
 use Rattle.edit.specs.Lent.{Lent, EditIs}
-use Rattle.decide.specs.declared.Edited.{Edited}
-use Rattle.answers.specs.Shown.{displayShown, writingShown, editShown}
+use Rattle.edit_answer.specs.declared.Edited.{Edited}
+use Rattle.c_answers.specs.Shown.{displayShown, writingShown, editShown}
 use Rattle.sgf.specs.Changed.{WriteShown, EditShown}
-use Rattle.answers.specs.declared.SgfEdit.{SgfEdit}
-use Rattle.answers.specs.declared.SgfWriting.{SgfWriting}
+use Rattle.c_answers.specs.declared.SgfEdit.{SgfEdit}
+use Rattle.c_answers.specs.declared.SgfWriting.{SgfWriting}
 use Rattle.sgf.specs.Asked.{kindOf, DisplayShown}
-use Rattle.answers.specs.declared.SgfDisplay.{SgfDisplay}
+use Rattle.c_answers.specs.declared.SgfDisplay.{SgfDisplay}
 
 pub kind-text : {k : ℕ} → k ≡ 0 → Text ≡ kindOf k
 kind-text {k} e = rw (eq-eqb k 0 e)

@@ -3,9 +3,9 @@ use Rattle.lists.proofs.Prelude.{_≡_, ap, _∙_}
 use Rattle.tables.specs.declared.Reading.{Reading}
 use Rattle.parser.specs.Read.{Answer}
 use Rattle.reader.specs.Lent.{Lent, ReadIs}
-use Rattle.answers.specs.Shown.{readingShown}
+use Rattle.c_answers.specs.Shown.{readingShown}
 use Rattle.sgf.specs.Shown.{ReadShown}
-use Rattle.answers.specs.declared.SgfReading.{SgfReading}
+use Rattle.c_answers.specs.declared.SgfReading.{SgfReading}
 
 pub read-shown : {a : Answer} {before after : Lent} {r : Reading} {s : SgfReading} → ReadIs a before after r → s ≡ readingShown r → ReadShown a before after s
 read-shown i s = record { shown = s ∙ ap readingShown (i .answer); tables = i .tables }

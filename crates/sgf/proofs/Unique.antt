@@ -5,17 +5,17 @@ use Rattle.reader.specs.Lent.{Lent}
 use Rattle.lists.proofs.Once.{once-is}
 use Rattle.lists.specs.Once.{Once}
 use Rattle.tables.specs.declared.Counts.{Counts}
-use Rattle.display.specs.declared.Kind.{Kind}
-use Rattle.access.specs.declared.Accessed.{Accessed}
-use Rattle.decide.specs.Edit.{Outcome}
+use Rattle.value_display.specs.declared.Kind.{Kind}
+use Rattle.ask_value.specs.declared.Accessed.{Accessed}
+use Rattle.edit_answer.specs.Edit.{Outcome}
 use Rattle.edit.specs.Lent as edit
 use Rattle.sgf.specs.Asked.{fitsShown, DisplayShown}
 use Rattle.sgf.specs.Changed.{WriteShown, EditShown}
-use Rattle.answers.specs.declared.SgfDisplay.{SgfDisplay}
-use Rattle.answers.specs.declared.SgfEdit.{SgfEdit}
-use Rattle.answers.specs.declared.SgfWriting.{SgfWriting}
+use Rattle.c_answers.specs.declared.SgfDisplay.{SgfDisplay}
+use Rattle.c_answers.specs.declared.SgfEdit.{SgfEdit}
+use Rattle.c_answers.specs.declared.SgfWriting.{SgfWriting}
 use Rattle.sgf.specs.Shown.{ReadShown}
-use Rattle.answers.specs.declared.SgfReading.{SgfReading}
+use Rattle.c_answers.specs.declared.SgfReading.{SgfReading}
 
 -- all of the answer, and all lent tables
 pub read-once : (a : Answer) (before x y : Lent) (r s : SgfReading) → ReadShown a before x r → ReadShown a before y s → (r ≡ s) × (x ≡ y)

@@ -1,13 +1,13 @@
 -- Answers about a record in memory, shown as numbers, as the C header says them.
 use Rattle.lists.specs.Prelude.{ℕ, Bool, true, false, List, _≡_, eqb, pick}
-use Rattle.access.specs.declared.Accessed.{Accessed}
-use Rattle.display.specs.declared.Kind.{Kind}
-use Rattle.display.specs.declared.Kind.the-variants.{Text, SimpleText}
-use Rattle.record.specs.Ask.{display, displayIn, refusalNumber}
-use Rattle.record.specs.declared.GoAnswer.{GoAnswer}
-use Rattle.answers.specs.Shown.{displayShown, goShown}
-use Rattle.answers.specs.declared.SgfDisplay.{SgfDisplay}
-use Rattle.answers.specs.declared.SgfGoValue.{SgfGoValue}
+use Rattle.ask_value.specs.declared.Accessed.{Accessed}
+use Rattle.value_display.specs.declared.Kind.{Kind}
+use Rattle.value_display.specs.declared.Kind.the-variants.{Text, SimpleText}
+use Rattle.ask.specs.Ask.{display, displayIn, refusalNumber}
+use Rattle.ask.specs.declared.GoAnswer.{GoAnswer}
+use Rattle.c_answers.specs.Shown.{displayShown, goShown}
+use Rattle.c_answers.specs.declared.SgfDisplay.{SgfDisplay}
+use Rattle.c_answers.specs.declared.SgfGoValue.{SgfGoValue}
 
 -- 0 where tables fit, else 19
 abbrev pub fitsShown : Bool → ℕ

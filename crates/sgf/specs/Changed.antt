@@ -3,12 +3,12 @@ use Rattle.lists.specs.Prelude.{ℕ, List, _≡_, length, take}
 use Rattle.tables.specs.declared.Counts.{Counts}
 use Rattle.fit.specs.Record.{rowsOf, recordOf}
 use Rattle.serialize.specs.Form.{writing, written, output}
-use Rattle.decide.specs.Edit.{Outcome}
-use Rattle.decide.specs.Answer.{answers}
+use Rattle.edit_answer.specs.Edit.{Outcome}
+use Rattle.edit_answer.specs.Answer.{answers}
 use Rattle.edit.specs.Lent.{Lent, leaves}
-use Rattle.answers.specs.Shown.{writingShown, editShown}
-use Rattle.answers.specs.declared.SgfEdit.{SgfEdit}
-use Rattle.answers.specs.declared.SgfWriting.{SgfWriting}
+use Rattle.c_answers.specs.Shown.{writingShown, editShown}
+use Rattle.c_answers.specs.declared.SgfEdit.{SgfEdit}
+use Rattle.c_answers.specs.declared.SgfWriting.{SgfWriting}
 
 -- a writing and the lent bytes after it
 pub record WriteShown (t : List ℕ) (used : ℕ) (c : Counts) (tr nd pr vl out out′ : List ℕ) (r : SgfWriting) : Type 0 where

@@ -3,8 +3,8 @@ use Rattle.lists.specs.Prelude.{ℕ, _/_, _%_, eqb, _≡_}
 use Rattle.parser.specs.Walk.{Opts}
 use Rattle.parser.specs.Read.{Answer}
 use Rattle.reader.specs.Lent.{Lent, answers, leaves}
-use Rattle.answers.specs.Shown.{readingShown}
-use Rattle.answers.specs.declared.SgfReading.{SgfReading}
+use Rattle.c_answers.specs.Shown.{readingShown}
+use Rattle.c_answers.specs.declared.SgfReading.{SgfReading}
 
 -- the lowest bit: lenient; the next: identifiers are kept as they are
 abbrev pub optionsOf : ℕ → Opts

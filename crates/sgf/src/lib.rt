@@ -1,42 +1,42 @@
 // The exported library: one C function an operation. Each only calls a proved operation and shows its answer as numbers; include/sgf.h says what a caller sees.
-use answers::SgfDisplay;
-use answers::SgfEdit;
-use answers::SgfGoValue;
-use answers::SgfReading;
-use answers::SgfSpan;
-use answers::SgfWriting;
-use display::Kind;
-use record::Refusal;
-use shown::SgfToken;
-use shown::SgfTrim;
-use shown::SgfValue;
+use ask::Refusal;
+use c_answers::SgfDisplay;
+use c_answers::SgfEdit;
+use c_answers::SgfGoValue;
+use c_answers::SgfReading;
+use c_answers::SgfSpan;
+use c_answers::SgfWriting;
+use c_tokens::SgfToken;
+use c_tokens::SgfTrim;
+use c_tokens::SgfValue;
 use tables::Counts;
+use value_display::Kind;
 ghost use mathlib.Core.Path.{_≡_};
-ghost use Rattle.scan.specs.Scan.{valueAt};
+ghost use Rattle.lexer_scan.specs.Scan.{valueAt};
 ghost use Rattle.lexer.specs.Step.{nextAt};
-ghost use Rattle.utf8.specs.Trim.{trimmed};
+ghost use Rattle.text_utf8.specs.Trim.{trimmed};
 ghost use Rattle.parser.specs.Read.{read};
 ghost use Rattle.reader.specs.Lent.{lent};
-ghost use Rattle.decide.specs.Answer.{outcomeOf};
+ghost use Rattle.edit_answer.specs.Answer.{outcomeOf};
 ghost use Rattle.edit.specs.Lent.{lent as held};
 ghost use Rattle.fit.specs.Fit.{Fit};
-ghost use Rattle.access.specs.Access.{accessed};
-ghost use Rattle.rows.specs.Rows.{valuesAt};
+ghost use Rattle.ask_value.specs.Access.{accessed};
+ghost use Rattle.parts.specs.Rows.{valuesAt};
 ghost use Rattle.go.specs.Value.{goValue};
-ghost use Rattle.record.specs.Ask.{refusalNumber, goAnswer};
+ghost use Rattle.ask.specs.Ask.{refusalNumber, goAnswer};
 ghost use Rattle.values.specs.Read.{readIdentifier};
-ghost use Rattle.answers.specs.Shown.{spanShown, goShown};
+ghost use Rattle.c_answers.specs.Shown.{spanShown, goShown};
 ghost use Rattle.sgf.specs.Changed.{WriteShown, EditShown};
 ghost use Rattle.sgf.specs.Asked.{kindOf, fitsShown, answerShown, DisplayShown};
 ghost use Rattle.sgf.specs.Shown.{optionsOf, ReadShown};
-ghost use Rattle.shown.specs.Tokens.{TrimIs, TokenIs, ValueIs};
+ghost use Rattle.c_tokens.specs.Tokens.{TrimIs, TokenIs, ValueIs};
 
 // Is the text UTF-8, and what does trimming keep of it.
 #[no_mangle]
 pub extern "C" fn sgf_trim(text: &[u8]) -> SgfTrim
     ensures { λ r. ⌜ TrimIs (trimmed (now (text .entry))) (r .number) (r .place) (r .first) (r .last) ⌝ }
 {
-    shown::trim(text)
+    c_tokens::trim(text)
 }
 
 // The next token from a place on.
@@ -44,7 +44,7 @@ pub extern "C" fn sgf_trim(text: &[u8]) -> SgfTrim
 pub extern "C" fn sgf_token(text: &[u8], at: usize) -> SgfToken
     ensures { λ r. ⌜ TokenIs at (nextAt (now (text .entry)) at) (r .kind) (r .number) (r .from) (r .opens) (r .to) ⌝ }
 {
-    shown::token(text, at)
+    c_tokens::token(text, at)
 }
 
 // The value of a property whose `[` stands at a place.
@@ -52,7 +52,7 @@ pub extern "C" fn sgf_token(text: &[u8], at: usize) -> SgfToken
 pub extern "C" fn sgf_next_value(text: &[u8], at: usize) -> SgfValue
     ensures { λ r. ⌜ ValueIs at (valueAt (now (text .entry)) at) (r .kind) (r .from) (r .to) (r .next) ⌝ }
 {
-    shown::next_value(text, at)
+    c_tokens::next_value(text, at)
 }
 
 // Reads a text into the lent tables. Options: 1 lenient, 2 identifiers kept as they are (no conversion), 3 both; further bits mean nothing.
@@ -69,7 +69,7 @@ pub extern "C" fn sgf_read(
 {
     let lenient = options % 2 == 1;
     let convert = options / 2 % 2 == 0;
-    answers::reading_shown(reader::read(text, lenient, convert, trees, nodes, properties, values))
+    c_answers::reading_shown(reader::read(text, lenient, convert, trees, nodes, properties, values))
 }
 
 // Number 0 where the tables fit the first `used` bytes of the text, else 19.
@@ -105,7 +105,16 @@ pub extern "C" fn sgf_value(
 ) -> SgfSpan
     ensures { λ r. ⌜ r ≡ spanShown (accessed (now (text .entry)) used counts (now (trees .entry)) (now (nodes .entry)) (now (properties .entry)) (now (values .entry)) k) ⌝ }
 {
-    answers::span_shown(access::access(text, used, counts, trees, nodes, properties, values, k))
+    c_answers::span_shown(ask_value::access(
+        text,
+        used,
+        counts,
+        trees,
+        nodes,
+        properties,
+        values,
+        k,
+    ))
 }
 
 fn kind_of(kind: u32) -> Kind
@@ -133,7 +142,7 @@ pub extern "C" fn sgf_display(
 ) -> SgfDisplay
     ensures { λ r. ⌜ DisplayShown (now (text .entry)) (accessed (now (text .entry)) used counts (now (trees .entry)) (now (nodes .entry)) (now (properties .entry)) (now (values .entry)) k) (kindOf kind) (now (out .entry)) (now (out .exit)) r ⌝ }
 {
-    answers::display_shown(record::display(
+    c_answers::display_shown(ask::display(
         text,
         used,
         counts,
@@ -170,10 +179,10 @@ pub extern "C" fn sgf_go_value(
 ) -> SgfGoValue
     ensures { λ r. ⌜ r ≡ answerShown (goAnswer (now (text .entry)) used counts (now (trees .entry)) (now (nodes .entry)) (now (properties .entry)) (now (values .entry)) p) ⌝ }
 {
-    let answer = record::go_value(text, used, counts, trees, nodes, properties, values, p);
+    let answer = ask::go_value(text, used, counts, trees, nodes, properties, values, p);
     let refusal = answer.refusal;
     let go = answer.go;
-    answers::go_shown(refusal_number(refusal), go)
+    c_answers::go_shown(refusal_number(refusal), go)
 }
 
 // The Go value of a property by its parts, for tables that are known to fit: its tree's game type, its identifier, and the rows of its values.
@@ -188,7 +197,7 @@ pub extern "C" fn sgf_go_property(
 ) -> SgfGoValue
     ensures { λ r. ⌜ r ≡ goShown 0 (goValue «game_type» (readIdentifier (now (identifier .entry))) (valuesAt (now (text .entry)) (now (values .entry)) first count)) ⌝ }
 {
-    answers::go_shown(
+    c_answers::go_shown(
         0,
         go::value::go_value(game_type, identifier, text, values, first, count),
     )
@@ -208,7 +217,7 @@ pub extern "C" fn sgf_write(
 ) -> SgfWriting
     ensures { λ r. ⌜ WriteShown (now (text .entry)) used counts (now (trees .entry)) (now (nodes .entry)) (now (properties .entry)) (now (values .entry)) (now (out .entry)) (now (out .exit)) r ⌝ }
 {
-    answers::writing_shown(serialize::write(
+    c_answers::writing_shown(serialize::write(
         text,
         used,
         counts,
@@ -246,5 +255,5 @@ pub extern "C" fn sgf_edit(
         k,
         replacement,
     );
-    answers::edit_shown(counts, edited)
+    c_answers::edit_shown(counts, edited)
 }

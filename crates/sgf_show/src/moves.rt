@@ -2,7 +2,7 @@
 ghost use Prim.Native.Nat.{_≤_};
 use crate::rows::node_cell;
 use crate::rows::property_cell;
-use points::Value;
+use go_points::Value;
 
 // What a property plays: its colour's letter, and a point.
 enum Play {

@@ -1,6 +1,6 @@
 // The tokens of the text on standard input, one a line with its span, a property with its identifier; then how they end. The tokens are the token walker's. At most 65,536 bytes.
 use lexer::Step;
-use utf8::Trimmed;
+use text_utf8::Trimmed;
 ghost use Prim.Native.Nat.{_≤_};
 ghost use lib.ListN.{length};
 
@@ -32,7 +32,7 @@ fn say_refused(number: u32, place: usize) {
 
 // Says the next token and gives the place behind it; a fault and the end of the text leave the place as it is.
 fn say_next(text: &[u8], at: usize) -> usize {
-    let stepped = walker::token_at(text, at);
+    let stepped = lexer_walker::token_at(text, at);
     let to = stepped.next.at;
     let token = stepped.token;
     match token {
@@ -71,7 +71,7 @@ fn say_tokens(text: &[u8], first: usize) {
 }
 
 fn say_text(text: &[u8]) {
-    match utf8::trim(text) {
+    match text_utf8::trim(text) {
         Trimmed::NotUtf8(p) => {
             say_refused(2, p);
             io::write_all(1, b"\n");

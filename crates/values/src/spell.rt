@@ -3,7 +3,7 @@ ghost use mathlib.Core.Path.{_≡_};
 ghost use Prim.Native.Nat.{_≤_};
 ghost use lib.ListN.{length, drop};
 ghost use Rattle.values.specs.Decimal.{decimal};
-ghost use Rattle.put.specs.Wrote.{Wrote};
+ghost use Rattle.store_bytes.specs.Wrote.{Wrote};
 
 // Digits at the end of an array, from `from` on.
 struct Digits {
@@ -38,5 +38,5 @@ pub fn put_decimal(out: &mut [u8], at: usize, n: u64) -> usize
     let d = digits_of(n);
     let from = d.from;
     let b = d.bytes;
-    put::put_bytes(out, at, &b[from..])
+    store_bytes::put_bytes(out, at, &b[from..])
 }

@@ -1,5 +1,5 @@
 -- `sgf::refusal_number` meets its contract. Assumes nothing.
-use Rattle.record.specs.Ask.{refusalNumber}
+use Rattle.ask.specs.Ask.{refusalNumber}
 use Rattle.lists.proofs.Prelude.{sym, ap, _∙_, needs}
 use Rattle.sgf.proofs.refusal_number.Statement.{statement}
 use Rattle.sgf.proofs.refusal_number.Tie as tie

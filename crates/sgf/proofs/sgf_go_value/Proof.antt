@@ -1,5 +1,5 @@
 -- `sgf::sgf_go_value` meets its contract. Assumes nothing.
-use Rattle.answers.specs.Shown.{goShown}
+use Rattle.c_answers.specs.Shown.{goShown}
 use Rattle.sgf.specs.Asked.{answerShown}
 use Rattle.lists.proofs.Prelude.{ap, _∙_, needs}
 use Rattle.sgf.proofs.sgf_go_value.Statement.{statement}

@@ -1,5 +1,5 @@
 -- `sgf::sgf_value` meets its contract. Assumes nothing.
-use Rattle.answers.specs.Shown.{spanShown}
+use Rattle.c_answers.specs.Shown.{spanShown}
 use Rattle.lists.proofs.Prelude.{ap, _∙_, needs}
 use Rattle.sgf.proofs.sgf_value.Statement.{statement}
 use Rattle.sgf.proofs.sgf_value.Tie as tie

@@ -1,6 +1,6 @@
 -- `sgf_tokens::say_text` meets its contract. Assumes nothing.
 use Rattle.lists.proofs.Prelude.{sym, _∙_, length-take-le, needs}
-use Rattle.utf8.proofs.Extent.{trim-bounds}
+use Rattle.text_utf8.proofs.Extent.{trim-bounds}
 use Rattle.sgf_tokens.proofs.say_text.Statement.{statement}
 use Rattle.sgf_tokens.proofs.say_text.Tie as tie
 

@@ -1,4 +1,4 @@
--- `rows::move_properties` meets its contract. Assumes nothing.
+-- `parts::move_properties` meets its contract. Assumes nothing.
 use Rattle.edit.proofs.Moving.{PropsMoving, props-none, prop-from, prop-cell, props-more, props-done}
 use Rattle.lexer.specs.Move.{startsAt, endsAt}
 use Rattle.lists.proofs.Prelude.{arith, refl, _-_, needs}

@@ -1,4 +1,4 @@
--- `rows::move_values` meets its contract. Assumes nothing.
+-- `parts::move_values` meets its contract. Assumes nothing.
 use Rattle.edit.proofs.Moving.{ValsMoving, vals-none, val-from, val-cell, vals-more, vals-done}
 use Rattle.lexer.specs.Move.{startsAt, endsAt}
 use Rattle.lists.proofs.Prelude.{arith, _-_, needs}

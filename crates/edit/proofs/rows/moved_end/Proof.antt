@@ -1,4 +1,4 @@
--- `rows::moved_end` meets its contract. Assumes nothing.
+-- `parts::moved_end` meets its contract. Assumes nothing.
 use Rattle.lists.proofs.Prelude.{lt-ltb, le-ltb, needs}
 use Rattle.edit.proofs.rows.moved_end.Statement.{statement}
 use Rattle.edit.proofs.rows.moved_end.Tie as tie

@@ -1,4 +1,4 @@
--- `rows::moved_start` meets its contract. Assumes nothing.
+-- `parts::moved_start` meets its contract. Assumes nothing.
 use Rattle.lists.proofs.Prelude.{arith, le-leb, lt-leb, needs}
 use Rattle.edit.proofs.rows.moved_start.Statement.{statement}
 use Rattle.edit.proofs.rows.moved_start.Tie as tie

@@ -1,8 +1,8 @@
 -- `set::read_points` meets its contract. Assumes nothing.
 use Rattle.lists.proofs.Prelude.{_+_, _-_, sym, _∙_, needs, not-true, not-false}
-use Rattle.rows.specs.Rows.{valuesAt}
+use Rattle.parts.specs.Rows.{valuesAt}
 use Rattle.go.proofs.Marked.{Gathering, gather-first, gather-end, gather-bad, gather-next}
-use Rattle.rows.proofs.Valued.{values-all, values-next, values-end}
+use Rattle.parts.proofs.Valued.{values-all, values-next, values-end}
 use Rattle.go.proofs.set.read_points.Statement.{statement}
 use Rattle.go.proofs.set.read_points.Tie as tie
 

@@ -1,6 +1,6 @@
 -- `brackets::put_end` meets its contract. Assumes nothing.
 use Rattle.lists.proofs.Prelude.{arith, needs}
-use Rattle.put.proofs.Written.{wrote-none, wrote-is}
+use Rattle.store_bytes.proofs.Written.{wrote-none, wrote-is}
 use Rattle.serialize.proofs.Climbs.{shut-by}
 use Rattle.serialize.proofs.brackets.put_end.Statement.{statement}
 use Rattle.serialize.proofs.brackets.put_end.Tie as tie

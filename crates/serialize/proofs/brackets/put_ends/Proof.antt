@@ -1,6 +1,6 @@
 -- `brackets::put_ends` meets its contract. Assumes nothing.
 use Rattle.lists.proofs.Prelude.{_≡_, sym, _∙_, arith, needs}
-use Rattle.put.proofs.Written.{wrote-none, wrote-is, wrote-length}
+use Rattle.store_bytes.proofs.Written.{wrote-none, wrote-is, wrote-length}
 use Rattle.serialize.specs.Locals.{Above}
 use Rattle.serialize.proofs.Climbs.{Ends, ends-none, ends-self, ends-first, ends-placed, ends-before, ends-done, ends-more}
 use Rattle.serialize.proofs.brackets.put_ends.Statement.{statement}

@@ -1,6 +1,6 @@
 -- `brackets::put_start` meets its contract. Assumes nothing.
 use Rattle.lists.proofs.Prelude.{arith, needs}
-use Rattle.put.proofs.Written.{wrote-none, wrote-is}
+use Rattle.store_bytes.proofs.Written.{wrote-none, wrote-is}
 use Rattle.serialize.proofs.Climbs.{begun-by}
 use Rattle.serialize.proofs.brackets.put_start.Statement.{statement}
 use Rattle.serialize.proofs.brackets.put_start.Tie as tie

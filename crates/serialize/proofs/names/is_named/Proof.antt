@@ -1,7 +1,7 @@
 -- `names::is_named` meets its contract. Assumes nothing.
 use Rattle.lists.proofs.Prelude.{_-_, _≡_, refl, sym, _∙_, length, drop, needs}
 use Rattle.values.specs.Read.{readIdentifier}
-use Rattle.shape.proofs.Identifiers.{letter-on}
+use Rattle.go_shape.proofs.Identifiers.{letter-on}
 use Rattle.serialize.proofs.Walked.{named-end, named-here}
 use Rattle.serialize.proofs.names.is_named.Statement.{statement}
 use Rattle.serialize.proofs.names.is_named.Tie as tie

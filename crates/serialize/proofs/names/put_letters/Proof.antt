@@ -1,9 +1,9 @@
 -- `names::put_letters` meets its contract. Assumes nothing.
 use Rattle.lists.proofs.Prelude.{_-_, arith, length, drop, needs}
-use Rattle.put.proofs.Written.{wrote-length}
+use Rattle.store_bytes.proofs.Written.{wrote-length}
 use Rattle.values.specs.Read.{readIdentifier}
-use Rattle.shape.proofs.Identifiers.{letter-past, letter-here, letter-on}
-use Rattle.form.proofs.Writing.{Writing, writing-first, writing-is, writing-next, writing-end}
+use Rattle.go_shape.proofs.Identifiers.{letter-past, letter-here, letter-on}
+use Rattle.serialize_values.proofs.Writing.{Writing, writing-first, writing-is, writing-next, writing-end}
 use Rattle.serialize.proofs.names.put_letters.Statement.{statement}
 use Rattle.serialize.proofs.names.put_letters.Tie as tie
 

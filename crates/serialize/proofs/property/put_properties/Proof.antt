@@ -1,7 +1,7 @@
 -- `property::put_properties` meets its contract. Assumes nothing.
 use Rattle.lists.proofs.Prelude.{_+_, _-_, _≤_, arith, needs}
-use Rattle.put.proofs.Written.{wrote-is, wrote-length}
-use Rattle.put.specs.Wrote.{Wrote}
+use Rattle.store_bytes.proofs.Written.{wrote-is, wrote-length}
+use Rattle.store_bytes.specs.Wrote.{Wrote}
 use Rattle.serialize.specs.Walk.{texts, propText}
 use Rattle.serialize.proofs.Walked.{node-property, properties-are}
 use Rattle.serialize.proofs.Texts.{texts-none, texts-more, texts-end}

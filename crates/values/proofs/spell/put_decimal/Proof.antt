@@ -1,7 +1,7 @@
 -- `spell::put_decimal` meets its contract. Assumes nothing.
 use Rattle.lists.proofs.Prelude.{needs}
 use Rattle.values.proofs.Spelling.{digits-part}
-use Rattle.put.proofs.Written.{wrote-is}
+use Rattle.store_bytes.proofs.Written.{wrote-is}
 use Rattle.values.proofs.spell.put_decimal.Statement.{statement}
 use Rattle.values.proofs.spell.put_decimal.Tie as tie
 

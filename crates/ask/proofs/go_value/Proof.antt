@@ -1,0 +1,40 @@
+-- `ask::go_value` meets its contract. Assumes nothing.
+use Rattle.ask.proofs.Answers.{go-unfit, go-no, go-rooted, go-named, go-yes}
+use Rattle.fit.proofs.Whole.{fit-lent}
+use Rattle.tables.proofs.Cases.{refused, passed}
+use Rattle.lists.proofs.Prelude.{length-take-le, sym, _∙_, needs}
+use denote.Ref.{now}
+use Rattle.ask.proofs.go_value.Statement.{statement}
+use Rattle.ask.proofs.go_value.Tie as tie
+
+returns : tie.Need-returns
+returns c = let a = c .before .before .before .before .before .before .before .before .args in c .refused .ensures ∙ go-unfit (now (a .text)) (a .used) (a .counts) (now (a .trees)) (now (a .nodes)) (now (a .properties)) (now (a .values)) (a .p) (refused (c .before .before .fits2 .ensures) (c .before .if1 .taken))
+
+returns-2 : tie.Need-returns-2
+returns-2 c = let a = c .before .before .before .before .before .before .before .before .before .before .args in c .refused2 .ensures ∙ go-no (now (a .text)) (a .used) (a .counts) (now (a .trees)) (now (a .nodes)) (now (a .properties)) (now (a .values)) (a .p) (passed (c .before .before .before .before .fits2 .ensures) (c .before .before .before .if1 .left)) (c .before .if2 .taken)
+
+kind-over-requires : tie.Need-kind-over-requires
+kind-over-requires c κs = let a = c .before .before .before .before .before .before .before .before .before .args in go-rooted (now (a .text)) (a .used) (a .counts) (now (a .trees)) (now (a .nodes)) (now (a .properties)) (now (a .values)) (a .p) (passed (c .before .before .before .fits2 .ensures) (c .before .before .if1 .left)) (search needs)
+
+slice-aggregate-value-of : tie.Need-slice-aggregate-value-of
+slice-aggregate-value-of c = let a = c .before .before .before .before .before .before .before .before .before .before .before .args in sym (length-take-le _ _ (fit-lent (now (a .text)) (a .used) (a .counts) (now (a .trees)) (now (a .nodes)) (now (a .properties)) (now (a .values)) (passed (c .before .before .before .before .before .fits2 .ensures) (c .before .before .before .before .if1 .left)) .0))
+
+value-of-requires : tie.Need-value-of-requires
+value-of-requires c κs = let a = c .before .before .before .before .before .before .before .before .before .before .before .args in go-named (now (a .text)) (a .used) (a .counts) (now (a .trees)) (now (a .nodes)) (now (a .properties)) (now (a .values)) (a .p) (passed (c .before .before .before .before .before .fits2 .ensures) (c .before .before .before .before .if1 .left)) (search needs)
+
+returns-3 : tie.Need-returns-3
+returns-3 c = let a = c .before .before .before .before .before .before .before .before .before .before .before .before .args in go-yes (now (a .text)) (a .used) (a .counts) (now (a .trees)) (now (a .nodes)) (now (a .properties)) (now (a .values)) (a .p) (passed (c .before .before .before .before .before .before .fits2 .ensures) (c .before .before .before .before .before .if1 .left)) (search needs) (c .before .before .kind-over .ensures) (c .value-of .ensures)
+
+pub go-value-spec : {M : Type 1} → statement M
+go-value-spec =
+    tie.close
+    (tie.spec
+    (λ c κs. search needs)
+    (λ c κs. search needs)
+    returns
+    (λ c κs. search needs)
+    returns-2
+    kind-over-requires
+    slice-aggregate-value-of
+    value-of-requires
+    returns-3)

@@ -1,0 +1,87 @@
+-- What a record in memory answers by number: how a value is displayed, and the Go value of a property.
+use Rattle.lists.specs.Prelude.{ℕ, _-_, _≡_, List, [], _∷_, ltb, length, getD, take, slice, pick}
+use Rattle.lexer.specs.Token.{Prop}
+use Rattle.values.specs.Read.{readValue, readIdentifier}
+use Rattle.value_display.specs.Display.{shown, displayed, displayedIn}
+use Rattle.value_display.specs.declared.Kind.{Kind}
+use Rattle.value_display.specs.declared.Displayed.{Displayed}
+use Rattle.value_display.specs.declared.Displayed.the-variants.{Length, NoRoom}
+use Rattle.go.specs.Value.{unmarked, goValue}
+use Rattle.go.specs.declared.value.GoValue.{GoValue}
+use Rattle.go_points.specs.declared.Value.the-variants.{Other}
+use Rattle.tables.specs.Numbers.{numberOf}
+use Rattle.tables.specs.Record.{Tree, allProps}
+use Rattle.tables.specs.declared.Counts.{Counts}
+use Rattle.tables.specs.declared.Reason.{Reason}
+use Rattle.tables.specs.declared.Reason.the-variants as reason
+use Rattle.ask_value.specs.Access.{accessed}
+use Rattle.fit.specs.Fit.{Fit}
+use Rattle.fit.specs.Record.{rowsOf, rawsOf, recordOf}
+use Rattle.ask_value.specs.declared.Accessed.{Accessed}
+use Rattle.ask_value.specs.declared.Accessed.the-variants.{Part, Refused}
+use Rattle.ask.specs.declared.Shown.{Shown}
+use Rattle.ask.specs.declared.Shown.the-variants.{Shows, NotShown}
+use Rattle.ask.specs.declared.Refusal.{Refusal}
+use Rattle.ask.specs.declared.Refusal.the-variants.{Not, Because}
+use Rattle.ask.specs.declared.GoAnswer.{GoAnswer}
+
+-- the length of what is displayed, or 14
+abbrev pub shownFor : Displayed → Shown
+shownFor (Length n) = Shows n
+shownFor NoRoom = NotShown reason.NoRoom
+
+-- a raw value displayed in the bytes lent
+abbrev pub shownAs : Kind → (raw out : List ℕ) → Shown
+shownAs kind raw out = shownFor (displayed (shown kind (readValue raw)) out)
+
+-- these bytes then
+abbrev pub shownIn : Kind → (raw out : List ℕ) → List ℕ
+shownIn kind raw out = displayedIn (shown kind (readValue raw)) out
+
+-- the display of a value that is accessed: 19, 16, then 14
+abbrev pub display : List ℕ → Accessed → Kind → (out : List ℕ) → Shown
+display t (Part a e) kind out = shownAs kind (slice a e t) out
+display t (Refused r) kind out = NotShown r
+
+-- the lent bytes then; a refusal changes none
+abbrev pub displayIn : List ℕ → Accessed → Kind → (out : List ℕ) → List ℕ
+displayIn t (Part a e) kind out = shownIn kind (slice a e t) out
+displayIn t (Refused r) kind out = out
+
+-- the display of value k: the answer and the lent bytes
+pub record DisplayIs (t : List ℕ) (used : ℕ) (c : Counts) (tr nd pr vl : List ℕ) (k : ℕ) (kind : Kind) (out out′ : List ℕ) (r : Shown) : Type 0 where
+  pub is : r ≡ display t (accessed t used c tr nd pr vl k) kind out
+  pub bytes : out′ ≡ displayIn t (accessed t used c tr nd pr vl k) kind out
+
+-- no property
+abbrev pub noProp : Prop
+noProp = record { from = 0; to = 0; name = []; vals = [] }
+
+-- the Go value of a property of a tree with game type k
+abbrev pub goOf : (k : ℕ) → Prop → GoValue
+goOf k p = goValue k (readIdentifier (p .name)) (rawsOf p)
+
+-- property p of these trees, numbered from 0
+abbrev pub goAt : List Tree → ℕ → GoValue
+goAt [] p = unmarked Other
+goAt (t ∷ ts) p = let n = length (allProps (t .nodes)) in pick (ltb p n) (goOf (t .kind) (getD (allProps (t .nodes)) p noProp)) (goAt ts (p - n))
+
+-- a Go value that is given
+abbrev pub given : GoValue → GoAnswer
+given g = record { refusal = Not; go = g }
+
+-- "other" and no points
+abbrev pub refuses : Reason → GoAnswer
+refuses r = record { refusal = Because r; go = unmarked Other }
+
+-- 19 where the tables don't fit the text; then 16 where p is not below the count; else the Go value of property p
+unfoldable pub goAnswer : List ℕ → ℕ → Counts → (tr nd pr vl : List ℕ) → ℕ → GoAnswer
+goAnswer t used c tr nd pr vl p =
+    pick (Fit t used c tr nd pr vl)
+    (pick (ltb p (c .properties)) (given (goAt (recordOf (take used t) (rowsOf c tr nd pr vl)) p)) (refuses reason.NoSuchNumber))
+    (refuses reason.NotFitting)
+
+-- its number
+abbrev pub refusalNumber : Refusal → ℕ
+refusalNumber Not = 0
+refusalNumber (Because r) = numberOf r

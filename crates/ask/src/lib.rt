@@ -1,0 +1,134 @@
+// What is asked of a record in memory by number: how a value is displayed, and the Go value of a property.
+use ask_value::Accessed;
+use go::value::GoValue;
+use go_points::Value;
+use tables::Counts;
+use tables::Reason;
+use value_display::Displayed;
+use value_display::Kind;
+ghost use mathlib.Core.Path.{_≡_};
+ghost use Prim.Native.Nat.{_-_, _<_};
+ghost use Rattle.parts.specs.Rows.{valuesAt};
+ghost use Rattle.go.specs.Value.{goValue};
+ghost use Rattle.values.specs.Read.{readIdentifier};
+ghost use Rattle.ask.specs.Ask.{shownAs, shownIn, DisplayIs, refuses, goAnswer};
+ghost use Rattle.ask.specs.Locals.{Rooted, Named, kindFrom, nameAt};
+ghost use Rattle.tables.specs.Columns.{firstValAt, valCountAt};
+
+// A display: its number of bytes, or why it is refused.
+pub enum Shown {
+    Shows(usize),
+    NotShown(Reason),
+}
+
+// What a raw value shows, put into the output.
+fn show(kind: Kind, raw: &[u8], out: &mut [u8]) -> Shown
+    ensures { λ r. ⌜ r ≡ shownAs kind (now (raw .entry)) (now (out .entry)) ⌝ }
+    ensures { λ _. ⌜ now (out .exit) ≡ shownIn kind (now (raw .entry)) (now (out .entry)) ⌝ }
+{
+    match value_display::display(kind, raw, out) {
+        Displayed::Length(n) => Shown::Shows(n),
+        Displayed::NoRoom => Shown::NotShown(Reason::NoRoom),
+    }
+}
+
+// Displays value k in the output, or says why not and changes nothing: 19, 16, 14.
+pub fn display(
+    text: &[u8],
+    used: usize,
+    counts: Counts,
+    trees: &[u32],
+    nodes: &[u32],
+    properties: &[u32],
+    values: &[u32],
+    k: usize,
+    kind: Kind,
+    out: &mut [u8],
+) -> Shown
+    ensures { λ r. ⌜ DisplayIs (now (text .entry)) used counts (now (trees .entry)) (now (nodes .entry)) (now (properties .entry)) (now (values .entry)) k kind (now (out .entry)) (now (out .exit)) r ⌝ }
+{
+    match ask_value::access(text, used, counts, trees, nodes, properties, values, k) {
+        Accessed::Part(start, end) => show(kind, &text[start..end], out),
+        Accessed::Refused(reason) => Shown::NotShown(reason),
+    }
+}
+
+// Why a Go value is not given, if it is not.
+pub enum Refusal {
+    Not,
+    Because(Reason),
+}
+
+// A Go value; "other" and no points where it is refused.
+pub struct GoAnswer {
+    pub refusal: Refusal,
+    pub go: GoValue,
+}
+
+fn refused(reason: Reason) -> GoAnswer
+    ensures { λ r. ⌜ r ≡ refuses reason ⌝ }
+{
+    let none = [false; 2704];
+    GoAnswer {
+        refusal: Refusal::Because(reason),
+        go: GoValue {
+            value: Value::Other,
+            marks: none,
+        },
+    }
+}
+
+// The game type of the tree that has property p: of the last whose root's first property is not behind it.
+fn kind_over(trees: &[u32], m: usize, nodes: &[u32], p: usize) -> u32
+    requires { ⌜ Rooted m (now trees) (now nodes) ⌝ }
+    ensures { λ r. ⌜ r ≡ kindFrom (now (trees .entry)) (now (nodes .entry)) p 0 (m - 1) ⌝ }
+{
+    let mut r: usize = 0;
+    while r + 1 < m {
+        let root = lists::wide(trees[(r + 1) * tables::TREE_STRIDE]);
+        if p < lists::wide(nodes[root * tables::NODE_STRIDE + 3]) {
+            return trees[r * tables::TREE_STRIDE + 1];
+        }
+        r += 1;
+    }
+    trees[r * tables::TREE_STRIDE + 1]
+}
+
+// The Go value of property p in a tree with this game type.
+fn value_of(kind: u32, text: &[u8], properties: &[u32], values: &[u32], p: usize) -> GoValue
+    requires { ⌜ Named p (now text) (now properties) ⌝ }
+    ensures { λ r. ⌜ r ≡ goValue kind (readIdentifier (nameAt (now (text .entry)) (now (properties .entry)) p)) (valuesAt (now (text .entry)) (now (values .entry)) (firstValAt (now (properties .entry)) p) (valCountAt (now (properties .entry)) p)) ⌝ }
+{
+    let start = lists::wide(properties[p * tables::PROPERTY_STRIDE]);
+    let end = lists::wide(properties[p * tables::PROPERTY_STRIDE + 1]);
+    let first = lists::wide(properties[p * tables::PROPERTY_STRIDE + 2]);
+    let count = lists::wide(properties[p * tables::PROPERTY_STRIDE + 3]);
+    go::value::go_value(kind, &text[start..end], text, values, first, count)
+}
+
+// The Go value of property p, or why it is not given: 19, 16.
+pub fn go_value(
+    text: &[u8],
+    used: usize,
+    counts: Counts,
+    trees: &[u32],
+    nodes: &[u32],
+    properties: &[u32],
+    values: &[u32],
+    p: usize,
+) -> GoAnswer
+    ensures { λ r. ⌜ r ≡ goAnswer (now (text .entry)) used counts (now (trees .entry)) (now (nodes .entry)) (now (properties .entry)) (now (values .entry)) p ⌝ }
+{
+    if !fit::fits(text, used, counts, trees, nodes, properties, values) {
+        return refused(Reason::NotFitting);
+    }
+    if counts.properties <= p {
+        return refused(Reason::NoSuchNumber);
+    }
+    let kind = kind_over(trees, counts.trees, nodes, p);
+    let go = value_of(kind, &text[..used], properties, values, p);
+    GoAnswer {
+        refusal: Refusal::Not,
+        go: go,
+    }
+}

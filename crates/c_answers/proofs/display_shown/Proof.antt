@@ -1,0 +1,14 @@
+-- `c_answers::display_shown` meets its contract. Assumes nothing.
+use Rattle.lists.proofs.Prelude.{ℕ, sym, ap, _∙_, needs}
+use Rattle.c_answers.specs.Shown.{displayShown}
+use Rattle.c_answers.proofs.display_shown.Statement.{statement}
+use Rattle.c_answers.proofs.display_shown.Tie as tie
+
+returns : tie.Need-returns
+returns c = ap displayShown (sym (c .before .shown .given .1))
+
+returns-2 : tie.Need-returns-2
+returns-2 c = ap (λ (n : ℕ). record { number = n; reserved = 0; length = 0 }) (c .number .ensures) ∙ ap displayShown (sym (c .before .before .shown2 .given .1))
+
+pub display-shown-spec : {M : Type 1} → statement M
+display-shown-spec = tie.close (tie.spec (λ c. search needs) (λ c. search needs) (λ c κs. search needs) returns returns-2)

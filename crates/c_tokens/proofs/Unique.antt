@@ -1,0 +1,34 @@
+-- No second answer: what is shown of an answer leaves no other numbers. Assumes nothing.
+use Rattle.lists.proofs.Prelude.{_≡_, sym, _∙_, ℕ}
+use Rattle.text_utf8.specs.declared.Trimmed.{Trimmed}
+use Rattle.text_utf8.specs.declared.Trimmed.the-variants.{NotUtf8, Blank, Kept}
+use Rattle.lexer.specs.declared.Step.{Step}
+use Rattle.lexer.specs.declared.Step.the-variants.{Start, End, Node, Property, Refused, Done}
+use Rattle.lexer_scan.specs.declared.ValueStep.{ValueStep}
+use Rattle.lexer_scan.specs.declared.ValueStep.the-variants.{Value, NoMore, Unclosed}
+use Rattle.c_tokens.specs.Tokens.{TrimIs, TokenIs, ValueIs}
+
+four : {a b c d n p f l n′ p′ f′ l′ : ℕ} → (n ≡ a) × (p ≡ b) × (f ≡ c) × (l ≡ d) → (n′ ≡ a) × (p′ ≡ b) × (f′ ≡ c) × (l′ ≡ d) → (n ≡ n′) × (p ≡ p′) × (f ≡ f′) × (l ≡ l′)
+four x y = (x .0 ∙ sym (y .0), x .1 ∙ sym (y .1), x .2 ∙ sym (y .2), x .3 ∙ sym (y .3))
+
+five : {a b c d e k n f o t k′ n′ f′ o′ t′ : ℕ} → (k ≡ a) × (n ≡ b) × (f ≡ c) × (o ≡ d) × (t ≡ e) → (k′ ≡ a) × (n′ ≡ b) × (f′ ≡ c) × (o′ ≡ d) × (t′ ≡ e)
+    → (k ≡ k′) × (n ≡ n′) × (f ≡ f′) × (o ≡ o′) × (t ≡ t′)
+five x y = (x .0 ∙ sym (y .0), x .1 ∙ sym (y .1), x .2 ∙ sym (y .2), x .3 ∙ sym (y .3), x .4 ∙ sym (y .4))
+
+pub trim-once : (x : Trimmed) {n p f l n′ p′ f′ l′ : ℕ} → TrimIs x n p f l → TrimIs x n′ p′ f′ l′ → (n ≡ n′) × (p ≡ p′) × (f ≡ f′) × (l ≡ l′)
+trim-once (NotUtf8 q) x y = four x y
+trim-once Blank x y = four x y
+trim-once (Kept a e) x y = four x y
+
+pub token-once : (at : ℕ) (s : Step) {k n f o t k′ n′ f′ o′ t′ : ℕ} → TokenIs at s k n f o t → TokenIs at s k′ n′ f′ o′ t′ → (k ≡ k′) × (n ≡ n′) × (f ≡ f′) × (o ≡ o′) × (t ≡ t′)
+token-once at (Start i) x y = five x y
+token-once at (End i) x y = five x y
+token-once at (Node i) x y = five x y
+token-once at (Property i j e) x y = five x y
+token-once at (Refused g i) x y = five x y
+token-once at Done x y = five x y
+
+pub value-once : (at : ℕ) (v : ValueStep) {k f t n k′ f′ t′ n′ : ℕ} → ValueIs at v k f t n → ValueIs at v k′ f′ t′ n′ → (k ≡ k′) × (f ≡ f′) × (t ≡ t′) × (n ≡ n′)
+value-once at (Value a e x) p q = four p q
+value-once at NoMore p q = four p q
+value-once at Unclosed p q = four p q

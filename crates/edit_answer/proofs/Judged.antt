@@ -1,0 +1,122 @@
+-- What an edit answers, test by test; and what an acceptance says. Assumes nothing.
+use Rattle.lists.proofs.Prelude.{ℕ, _+_, _-_, _≤_, _<_, Bool, true, false, List, [], _∷_, _≡_, refl, sym, ap, _∙_, subst, arith, ltb, length, take, lt-ltb, le-ltb, pick}
+use types.Run.{OneOf, miss}
+use denote.Enum.Declared.{tagOf}
+use Rattle.lists.specs.Same.{same}
+use Rattle.lists.proofs.Tests.{never}
+use Rattle.text_utf8.specs.Text.{Ink, blank, inked, Utf, whole, part, bad, utfs}
+use Rattle.text_utf8.specs.Trim.{shown, trimmed}
+use Rattle.text_utf8.specs.declared.Trimmed.{Trimmed}
+use Rattle.text_utf8.specs.declared.Trimmed.the-variants.{NotUtf8 as Bad}
+use Rattle.text_utf8.proofs.Trimmed as trimmed-type
+use Rattle.lexer.specs.Closed.{closed}
+use Rattle.tables.specs.Numbers.{textLimit}
+use Rattle.tables.specs.Rows.{ValRow, Tables}
+use Rattle.tables.specs.declared.Counts.{Counts}
+use Rattle.tables.specs.declared.Reason.the-variants.{TextTooLong, NotUtf8, NoRoom, NoSuchNumber, GameTypeFixed, NotClosed, NotFitting}
+use Rattle.parser.specs.Kind.{GM}
+use Rattle.tables.specs.Columns.{valFromAt, valToAt}
+use Rattle.tables.specs.Each.{tabulate}
+use Rattle.fit.specs.Fit.{Fit}
+use Rattle.fit.specs.Record.{propRow, valRow, rowsOf}
+use Rattle.edit_answer.specs.Edit.{ownerName, spanAt, shifted, Outcome, refuses, outcome, edit}
+use Rattle.edit_answer.specs.Answer.{outcomeOf, answers}
+use Rattle.edit_answer.specs.Locals.{Weighed}
+use Rattle.edit_answer.specs.declared.Edited.{Edited}
+use Rattle.edit_answer.specs.declared.Edited.the-variants.{Changed, Refused}
+use Rattle.edit_answer.proofs.Fitting.{fit-within}
+use Rattle.edit_splice.specs.Splice.{pasted}
+use Rattle.edit_splice.proofs.Replaced.{length-pasted}
+use Rattle.fit.proofs.Parts.{tabulate-length, tabulate-at}
+
+-- ---- the new bytes
+
+whole-of : (u : Utf) → OneOf (1 ∷ 2 ∷ []) (tagOf trimmed-type.the-type (shown u)) → (i : Ink) × (u ≡ whole i)
+whole-of (whole blank) z = (blank, refl)
+whole-of (whole (inked f l)) z = (inked f l, refl)
+whole-of (part k s n r x) z = absurd (miss (1 ∷ 2 ∷ []) 0 tt z)
+whole-of (bad p) z = absurd (miss (1 ∷ 2 ∷ []) 0 tt z)
+
+bad-at : (u : Utf) (c l m : Bool) (t : List ℕ) (T : Tables) {p : ℕ} → Bad p ≡ shown u → Refused NotUtf8 p ≡ answers (outcome true false u c l m t T)
+bad-at (whole blank) c l m t T h = never cc
+bad-at (whole (inked f e)) c l m t T h = never cc
+bad-at (part k s n r x) c l m t T {p} h = let z : p ≡ s = cc in ap (Refused NotUtf8) z
+bad-at (bad q) c l m t T {p} h = let z : p ≡ q = cc in ap (Refused NotUtf8) z
+
+module _ (new : List ℕ) (kept room : ℕ) where
+  pub weighed-bad : {p : ℕ} → Bad p ≡ trimmed new → Weighed new kept room (Refused NotUtf8 p)
+  unfolding trimmed
+  weighed-bad h t T e = bad-at (utfs (whole blank) 0 new) (closed new) (ltb textLimit (length t)) (ltb room (length t)) t T h
+
+  module _ {x : Trimmed} (is : x ≡ trimmed new) (tag : OneOf (1 ∷ 2 ∷ []) (tagOf trimmed-type.the-type x)) where
+    ink : (i : Ink) × (utfs (whole blank) 0 new ≡ whole i)
+    unfolding trimmed
+    ink = whole-of (utfs (whole blank) 0 new) (subst (λ (z : Trimmed). OneOf (1 ∷ 2 ∷ []) (tagOf trimmed-type.the-type z)) is tag)
+
+    pub weighed-open : closed new ≡ false → Weighed new kept room (Refused NotClosed 0)
+    weighed-open h t T e = rw (ink .1, h)
+
+    pub weighed-long : closed new ≡ true → textLimit < kept + length new → Weighed new kept room (Refused TextTooLong 0)
+    weighed-long h l t T e = rw (ink .1, h, lt-ltb textLimit (length t) (omega arith))
+
+    pub weighed-full : closed new ≡ true → kept + length new ≤ textLimit → room < kept + length new → Weighed new kept room (Refused NoRoom 0)
+    weighed-full h l f t T e = rw (ink .1, h, le-ltb textLimit (length t) (omega arith), lt-ltb room (length t) (omega arith))
+
+    pub weighed-good : closed new ≡ true → kept + length new ≤ textLimit → kept + length new ≤ room → Weighed new kept room (Changed (kept + length new))
+    weighed-good h l f t T e = rw (ink .1, h, le-ltb textLimit (length t) (omega arith), le-ltb room (length t) (omega arith), e)
+
+-- ---- the whole edit
+
+module _ (b : List ℕ) (used : ℕ) (c : Counts) (tr nd pr vl : List ℕ) (k : ℕ) (new : List ℕ) where
+  abbrev Now : Outcome
+  Now = outcomeOf b used c tr nd pr vl k new
+
+  abbrev pub newText : List ℕ
+  newText = pasted (take used b) (valFromAt vl k) (valToAt vl k) new
+
+  abbrev pub newRows : Tables
+  newRows = shifted (rowsOf c tr nd pr vl) (valRow vl k) (length new)
+
+  abbrev fixed : Bool
+  fixed = same (ownerName (take used b) (tabulate (propRow pr) 0 (c .properties)) k) GM
+
+  pub decided-misfit : Fit b used c tr nd pr vl ≡ false → Refused NotFitting 0 ≡ answers Now
+  unfolding outcomeOf
+  decided-misfit h = rw h
+
+  count-is : length (tabulate (valRow vl) 0 (c .values)) ≡ c .values
+  count-is = tabulate-length (valRow vl) 0 (c .values)
+
+  module _ (fit : Fit b used c tr nd pr vl ≡ true) where
+    pub decided-beyond : c .values ≤ k → Refused NoSuchNumber 0 ≡ answers Now
+    unfolding outcomeOf
+    decided-beyond h = rw (fit, count-is, le-ltb k (c .values) h)
+
+    module _ (below : k < c .values) where
+      span-is : spanAt (tabulate (valRow vl) 0 (c .values)) k ≡ valRow vl k
+      span-is = let e : 0 + k ≡ k = omega arith in tabulate-at (valRow vl) 0 (c .values) k (record { from = 0; to = 0 }) below ∙ ap (valRow vl) e
+
+      -- the tests that are left, once the value is found
+      pub tests-are : Now ≡ outcome true fixed (utfs (whole blank) 0 new) (closed new) (ltb textLimit (length newText)) (ltb (length b) (length newText)) newText newRows
+      unfolding outcomeOf
+      tests-are =
+          ap (λ (z : Bool). pick z (edit (length b) (take used b) (rowsOf c tr nd pr vl) k new) (refuses NotFitting 0)) fit
+          ∙ ap (λ (z : ValRow). outcome (ltb k (length (tabulate (valRow vl) 0 (c .values)))) fixed (utfs (whole blank) 0 new) (closed new)
+          (ltb textLimit (length (pasted (take used b) (z .from) (z .to) new))) (ltb (length b) (length (pasted (take used b) (z .from) (z .to) new))) (pasted (take used b) (z .from) (z .to) new) (shifted (rowsOf c tr nd pr vl) z (length new))) span-is
+          ∙ ap (λ (z : Bool). outcome z fixed (utfs (whole blank) 0 new) (closed new) (ltb textLimit (length newText)) (ltb (length b) (length newText)) newText newRows)
+          (ap (ltb k) count-is ∙ lt-ltb k (c .values) below)
+
+      pub decided-fixed : true ≡ fixed → Refused GameTypeFixed 0 ≡ answers Now
+      decided-fixed h = sym (ap answers tests-are ∙ ap (λ (z : Bool). answers (outcome true z (utfs (whole blank) 0 new) (closed new) (ltb textLimit (length newText)) (ltb (length b) (length newText)) newText newRows)) (sym h))
+
+      pub length-new : length newText ≡ valFromAt vl k + length new + (used - valToAt vl k)
+      length-new = length-pasted b new used (valFromAt vl k) (valToAt vl k) (fit-within b used c tr nd pr vl fit k below)
+
+      pub decided-weighed : false ≡ fixed → {s : ℕ} → s ≡ valToAt vl k - valFromAt vl k → {r : Edited} → Weighed new (used - s) (length b) r → r ≡ answers Now
+      decided-weighed h {s} es w =
+          let x = fit-within b used c tr nd pr vl fit k below in
+          let o = x .order in
+          let i = x .inside in
+          w newText newRows (omega (arith, length-new))
+          ∙ ap (λ (z : Bool). answers (outcome true z (utfs (whole blank) 0 new) (closed new) (ltb textLimit (length newText)) (ltb (length b) (length newText)) newText newRows)) h
+          ∙ sym (ap answers tests-are)

@@ -1,0 +1,19 @@
+-- What is answered to a value edit, over lent memory.
+use Rattle.lists.specs.Prelude.{ℕ, List, length, take, pick}
+use Rattle.tables.specs.declared.Counts.{Counts}
+use Rattle.tables.specs.declared.Reason.the-variants.{NotFitting}
+use Rattle.fit.specs.Fit.{Fit}
+use Rattle.fit.specs.Record.{rowsOf}
+use Rattle.edit_answer.specs.Edit.{Outcome, refuses, gives, edit}
+use Rattle.edit_answer.specs.declared.Edited.{Edited}
+use Rattle.edit_answer.specs.declared.Edited.the-variants.{Changed, Refused}
+
+-- 19 where the tables don't fit the first `used` bytes; else the edit of these and their rows
+unfoldable pub outcomeOf : (buffer : List ℕ) → (used : ℕ) → Counts → (tr nd pr vl : List ℕ) → (k : ℕ) → (new : List ℕ) → Outcome
+outcomeOf b used c tr nd pr vl k new =
+    pick (Fit b used c tr nd pr vl) (edit (length b) (take used b) (rowsOf c tr nd pr vl) k new) (refuses NotFitting 0)
+
+-- what is answered: the new used length, or the reason and the place
+abbrev pub answers : Outcome → Edited
+answers (refuses r p) = Refused r p
+answers (gives t T) = Changed (length t)

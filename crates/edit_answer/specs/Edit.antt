@@ -1,0 +1,53 @@
+-- The value edit over the used text and its rows.
+use Rattle.lists.specs.Prelude.{ℕ, _+_, Bool, true, false, List, [], _∷_, ltb, length, getD, slice, pick}
+use Rattle.lists.specs.Same.{same}
+use Rattle.text_utf8.specs.Text.{Utf, whole, part, bad, blank, utfs}
+use Rattle.lexer.specs.Closed.{closed}
+use Rattle.lexer.specs.Move.{startsAt, endsAt}
+use Rattle.tables.specs.Numbers.{textLimit}
+use Rattle.tables.specs.Rows.{PropRow, ValRow, Tables}
+use Rattle.tables.specs.Move.{moveTables}
+use Rattle.parser.specs.Kind.{GM}
+use Rattle.edit_splice.specs.Splice.{pasted}
+use Rattle.tables.specs.declared.Reason.{Reason}
+use Rattle.tables.specs.declared.Reason.the-variants.{TextTooLong, NotUtf8, NoRoom, NoSuchNumber, GameTypeFixed, NotClosed}
+
+-- the row of the property that has value k
+abbrev pub ownerRow : List PropRow → ℕ → PropRow
+ownerRow [] k = record { from = 0; to = 0; first = 0; count = 0 }
+ownerRow (r ∷ rs) k = let z = ownerRow rs k in pick (ltb k (r .first + r .count)) r z
+
+-- its raw identifier
+abbrev pub ownerName : List ℕ → List PropRow → ℕ → List ℕ
+ownerName t rs k = slice (ownerRow rs k .from) (ownerRow rs k .to) t
+
+-- the span of value k
+abbrev pub spanAt : List ValRow → ℕ → ValRow
+spanAt vs k = getD vs k (record { from = 0; to = 0 })
+
+-- row places after the value move by the change in length
+abbrev pub shifted : Tables → ValRow → ℕ → Tables
+shifted T v n = moveTables (startsAt (v .from) (v .to) n) (endsAt (v .from) (v .to) n) T
+
+-- why an edit is refused and the place; or the new used text and rows
+pub data Outcome : Type 0 where
+  refuses : Reason → (place : ℕ) → Outcome
+  gives : List ℕ → Tables → Outcome
+
+-- is k below the count; is its identifier GM; the new bytes' UTF-8; are they closed; is the new text too long, or longer than the bytes lent
+abbrev pub outcome : Bool → Bool → Utf → Bool → Bool → Bool → List ℕ → Tables → Outcome
+outcome false g u c l m t T = refuses NoSuchNumber 0
+outcome true true u c l m t T = refuses GameTypeFixed 0
+outcome true false (part k s n r x) c l m t T = refuses NotUtf8 s
+outcome true false (bad p) c l m t T = refuses NotUtf8 p
+outcome true false (whole k) false l m t T = refuses NotClosed 0
+outcome true false (whole k) true true m t T = refuses TextTooLong 0
+outcome true false (whole k) true false true t T = refuses NoRoom 0
+outcome true false (whole k) true false false t T = gives t T
+
+-- the edit of value k, where `room` bytes are lent
+abbrev pub edit : (room : ℕ) → List ℕ → Tables → (k : ℕ) → (new : List ℕ) → Outcome
+edit room t T k new =
+    let u = pasted t (spanAt (T .vals) k .from) (spanAt (T .vals) k .to) new in
+    outcome (ltb k (length (T .vals))) (same (ownerName t (T .props) k) GM) (utfs (whole blank) 0 new) (closed new) (ltb textLimit (length u)) (ltb room (length u)) u
+    (shifted T (spanAt (T .vals) k) (length new))

@@ -1,0 +1,37 @@
+-- Runs of edits, and records that a reading gives.
+use Rattle.lists.specs.Prelude.{_≡_, Bool, false, ℕ, List, [], _∷_}
+use Rattle.tables.specs.Record.{Tree}
+use Rattle.tables.specs.Rows.{Tables, tables}
+use Rattle.parser.specs.Walk.{Opts}
+use Rattle.parser.specs.Read.{accepted, read}
+use Rattle.edit_answer.specs.Edit.{Outcome, refuses, gives, edit}
+
+-- strict reading, conversion on or off
+abbrev pub strictly : Bool → Opts
+strictly c = record { lenient = false; convert = c }
+
+-- a used text and its rows
+pub record Held : Type 0 where
+  pub text : List ℕ
+  pub rows : Tables
+
+-- an edit that is asked for
+pub record Order : Type 0 where
+  pub value : ℕ
+  pub bytes : List ℕ
+
+-- a refused edit changes nothing
+abbrev pub after : Held → Outcome → Held
+after s (refuses r p) = s
+after s (gives t T) = record { text = t; rows = T }
+
+-- any run of edits, refused ones between them
+abbrev pub run : (room : ℕ) → Held → List Order → Held
+run room s [] = s
+run room s (x ∷ xs) = run room (after s (edit room (s .text) (s .rows) (x .value) (x .bytes))) xs
+
+-- text and rows are what a fresh reading gives
+pub record Fresh (op : Opts) (s : Held) : Type 0 where
+  pub trees : List Tree
+  pub reads : read op (s .text) ≡ accepted trees
+  pub same-rows : s .rows ≡ tables trees

@@ -1,0 +1,270 @@
+// Whether the ranges of properties and values fit, and the parts of the text that their rows name. Linear in text and tables.
+ghost use mathlib.Core.Path.{_≡_};
+ghost use mathlib.Core.Bool.{true};
+ghost use mathlib.Core.List.{[], _∷_};
+ghost use Prim.Native.Nat.{ℕ, _+_, _*_, _/_, _<_, _≤_};
+ghost use lib.ListN.{length, getD};
+ghost use Rattle.tables.specs.Numbers.{textLimit};
+ghost use Rattle.tables.specs.Columns.{nameFromAt, nameToAt, firstValAt, valCountAt, valFromAt, valToAt};
+ghost use Rattle.tables.specs.Each.{each, tabulate};
+ghost use Rattle.fit_spans.specs.Locals.{Spanned};
+ghost use Rattle.fit_spans.specs.Parts.{lentParts, partsFit};
+ghost use Rattle.fit_spans.specs.Ranges.{gapless, hasValue, rangesFit};
+ghost use Rattle.fit_spans.specs.Spans.{span, valSpan, propSpans, spans, ascending, plainName, nameRight, boxed, valueRight, spansFit};
+
+// Whether the ranges of `n` rows follow one another from 0 to the total; a row of `stride` cells has its first at the one column, its count at the other.
+fn ranges_follow(
+    table: &[u32],
+    stride: usize,
+    first: usize,
+    count: usize,
+    n: usize,
+    total: usize,
+) -> bool
+    requires { ⌜ (n * stride ≤ length (now table)) × (first < stride) × (count < stride) ⌝ }
+    ensures { λ r. ⌜ r ≡ gapless (λ k. getD (now (table .entry)) (k * stride + first) 0) (λ k. getD (now (table .entry)) (k * stride + count) 0) n total ⌝ }
+{
+    let mut sum: usize = 0;
+    let mut k: usize = 0;
+    while k < n {
+        let begins = lists::wide(table[k * stride + first]);
+        let has = lists::wide(table[k * stride + count]);
+        if begins != sum {
+            return false;
+        }
+        if total - sum < has {
+            return false;
+        }
+        sum += has;
+        k += 1;
+    }
+    sum == total
+}
+
+// Whether each of `n` properties has a value.
+fn have_values(properties: &[u32], n: usize) -> bool
+    requires { ⌜ n ≤ length (now properties) / 4 ⌝ }
+    ensures { λ r. ⌜ r ≡ each n (hasValue (now (properties .entry))) ⌝ }
+{
+    let mut k = 0;
+    while k < n {
+        if properties[k * tables::PROPERTY_STRIDE + 3] < 1 {
+            return false;
+        }
+        k += 1;
+    }
+    true
+}
+
+// Whether the ranges of properties and values fit.
+fn ranges_fit(nodes: &[u32], properties: &[u32], counts: tables::Counts) -> bool
+    requires { ⌜ (counts .nodes ≤ length (now nodes) / 5) × (counts .properties ≤ length (now properties) / 4) ⌝ }
+    ensures { λ r. ⌜ r ≡ rangesFit counts (now (nodes .entry)) (now (properties .entry)) ⌝ }
+{
+    ranges_follow(
+        nodes,
+        tables::NODE_STRIDE,
+        3,
+        4,
+        counts.nodes,
+        counts.properties,
+    )
+        & ranges_follow(
+            properties,
+            tables::PROPERTY_STRIDE,
+            2,
+            3,
+            counts.properties,
+            counts.values,
+        )
+        & have_values(properties, counts.properties)
+}
+
+// Whether spans lie one after another, and where the next may start.
+struct Ascent {
+    ok: bool,
+    next: usize,
+}
+
+// One span, which may start at `from`, in a text of `used` bytes.
+fn span_after(used: usize, from: usize, start: usize, end: usize) -> Ascent
+    requires { ⌜ used ≤ textLimit ⌝ }
+    ensures { λ r. ⌜ Spanned used from (span start end ∷ []) (r .ok) (r .next) ⌝ }
+{
+    if used < end {
+        return Ascent { ok: false, next: 0 };
+    }
+    Ascent {
+        ok: (from <= start) & (start <= end),
+        next: end + 1,
+    }
+}
+
+// The spans of the `m` values from `v` on, of which the first may start at `from`.
+fn value_spans(values: &[u32], used: usize, from: usize, v: usize, m: usize) -> Ascent
+    requires { ⌜ (v + m ≤ length (now values) / 2) × (used ≤ textLimit) ⌝ }
+    ensures { λ r. ⌜ Spanned used from (tabulate (valSpan (now (values .entry))) v m) (r .ok) (r .next) ⌝ }
+{
+    let last = v + m;
+    let mut k = v;
+    let mut next = from;
+    while k < last {
+        let start = lists::wide(values[k * tables::VALUE_STRIDE]);
+        let end = lists::wide(values[k * tables::VALUE_STRIDE + 1]);
+        let step = span_after(used, next, start, end);
+        if !step.ok {
+            return step;
+        }
+        next = step.next;
+        k += 1;
+    }
+    Ascent {
+        ok: true,
+        next: next,
+    }
+}
+
+// The spans of property k, of which the first may start at `from`: its identifier, then its values.
+fn property_spans(properties: &[u32], k: usize, values: &[u32], used: usize, from: usize) -> Ascent
+    requires { ⌜ (k < length (now properties) / 4) × (firstValAt (now properties) k + valCountAt (now properties) k ≤ length (now values) / 2) × (used ≤ textLimit) ⌝ }
+    ensures { λ r. ⌜ Spanned used from (propSpans (now (properties .entry)) (now (values .entry)) k) (r .ok) (r .next) ⌝ }
+{
+    let start = lists::wide(properties[k * tables::PROPERTY_STRIDE]);
+    let end = lists::wide(properties[k * tables::PROPERTY_STRIDE + 1]);
+    let name = span_after(used, from, start, end);
+    if !name.ok {
+        return name;
+    }
+    let first = lists::wide(properties[k * tables::PROPERTY_STRIDE + 2]);
+    let count = lists::wide(properties[k * tables::PROPERTY_STRIDE + 3]);
+    value_spans(values, used, name.next, first, count)
+}
+
+// Whether the spans of `n` properties and their values lie one after another in a text of `used` bytes.
+fn spans_right(properties: &[u32], n: usize, values: &[u32], used: usize) -> bool
+    requires { ⌜ (n ≤ length (now properties) / 4) × ((p : ℕ) → p < n → firstValAt (now properties) p + valCountAt (now properties) p ≤ length (now values) / 2) × (used ≤ textLimit) ⌝ }
+    ensures { λ r. ⌜ r ≡ ascending used 0 (spans (now (properties .entry)) (now (values .entry)) 0 n) ⌝ }
+{
+    let mut next: usize = 0;
+    let mut k: usize = 0;
+    while k < n {
+        let ascent = property_spans(properties, k, values, used, next);
+        if !ascent.ok {
+            return false;
+        }
+        next = ascent.next;
+        k += 1;
+    }
+    true
+}
+
+// Whether an identifier is ASCII without `[`.
+fn is_plain(name: &[u8]) -> bool
+    ensures { λ r. ⌜ r ≡ plainName (now (name .entry)) ⌝ }
+{
+    match lexer_scan::ident_end(name, 0) {
+        lexer_scan::Ident::Opens(_) => false,
+        lexer_scan::Ident::Missing => true,
+        lexer_scan::Ident::Foreign => false,
+    }
+}
+
+// Whether the identifiers of `n` properties, which lie in the text, are plain.
+fn names_right(text: &[u8], properties: &[u32], n: usize) -> bool
+    requires { ⌜ (n ≤ length (now properties) / 4) × ((p : ℕ) → p < n → (nameFromAt (now properties) p ≤ nameToAt (now properties) p) × (nameToAt (now properties) p ≤ length (now text))) ⌝ }
+    ensures { λ r. ⌜ r ≡ each n (nameRight (now (text .entry)) (now (properties .entry))) ⌝ }
+{
+    let mut k = 0;
+    while k < n {
+        let start = lists::wide(properties[k * tables::PROPERTY_STRIDE]);
+        let end = lists::wide(properties[k * tables::PROPERTY_STRIDE + 1]);
+        if !is_plain(&text[start..end]) {
+            return false;
+        }
+        k += 1;
+    }
+    true
+}
+
+// Whether a value, which lies in the text, stands after `[` and before `]` and is closed: the scan from its start ends at its end.
+fn is_boxed(text: &[u8], start: usize, end: usize) -> bool
+    requires { ⌜ (start ≤ end) × (end ≤ length (now text)) ⌝ }
+    ensures { λ r. ⌜ r ≡ boxed (now (text .entry)) start end ⌝ }
+{
+    if start == 0 {
+        return false;
+    }
+    if text[start - 1] != b'[' {
+        return false;
+    }
+    match lexer_close::value_end(text, start) {
+        lexer_close::Close::At(place) => place == end,
+        lexer_close::Close::Open => false,
+    }
+}
+
+// Whether `n` values, which lie in the text, are right.
+fn values_right(text: &[u8], values: &[u32], n: usize) -> bool
+    requires { ⌜ (n ≤ length (now values) / 2) × ((v : ℕ) → v < n → (valFromAt (now values) v ≤ valToAt (now values) v) × (valToAt (now values) v ≤ length (now text))) ⌝ }
+    ensures { λ r. ⌜ r ≡ each n (valueRight (now (text .entry)) (now (values .entry))) ⌝ }
+{
+    let mut k = 0;
+    while k < n {
+        let start = lists::wide(values[k * tables::VALUE_STRIDE]);
+        let end = lists::wide(values[k * tables::VALUE_STRIDE + 1]);
+        if !is_boxed(text, start, end) {
+            return false;
+        }
+        k += 1;
+    }
+    true
+}
+
+// Whether the spans, and what stands in them, fit.
+fn spans_fit(text: &[u8], properties: &[u32], values: &[u32], counts: tables::Counts) -> bool
+    requires { ⌜ (counts .properties ≤ length (now properties) / 4) × (counts .values ≤ length (now values) / 2) × (length (now text) ≤ textLimit) × (gapless (firstValAt (now properties)) (valCountAt (now properties)) (counts .properties) (counts .values) ≡ true) ⌝ }
+    ensures { λ r. ⌜ r ≡ spansFit (now (text .entry)) counts (now (properties .entry)) (now (values .entry)) ⌝ }
+{
+    if !spans_right(properties, counts.properties, values, text.len()) {
+        return false;
+    }
+    if !names_right(text, properties, counts.properties) {
+        return false;
+    }
+    values_right(text, values, counts.values)
+}
+
+// Whether so many nodes, properties and values are lent, and the text is within the limit.
+fn is_lent(
+    text: &[u8],
+    nodes: &[u32],
+    properties: &[u32],
+    values: &[u32],
+    counts: tables::Counts,
+) -> bool
+    ensures { λ r. ⌜ r ≡ lentParts (now (text .entry)) counts (now (nodes .entry)) (now (properties .entry)) (now (values .entry)) ⌝ }
+{
+    (text.len() <= tables::TEXT_LIMIT)
+        & (counts.nodes <= nodes.len() / tables::NODE_STRIDE)
+        & (counts.properties <= properties.len() / tables::PROPERTY_STRIDE)
+        & (counts.values <= values.len() / tables::VALUE_STRIDE)
+}
+
+// Whether so much is lent, and ranges and spans fit.
+pub fn parts_fit(
+    text: &[u8],
+    nodes: &[u32],
+    properties: &[u32],
+    values: &[u32],
+    counts: tables::Counts,
+) -> bool
+    ensures { λ r. ⌜ r ≡ partsFit (now (text .entry)) counts (now (nodes .entry)) (now (properties .entry)) (now (values .entry)) ⌝ }
+{
+    if !is_lent(text, nodes, properties, values, counts) {
+        return false;
+    }
+    if !ranges_fit(nodes, properties, counts) {
+        return false;
+    }
+    spans_fit(text, properties, values, counts)
+}

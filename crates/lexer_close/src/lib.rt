@@ -1,0 +1,55 @@
+// Where a value closes: at the first `]` that no backslash escapes.
+mod runs; // runs.rt: runs of bytes that the scan steps over
+
+ghost use mathlib.Core.Path.{_≡_};
+ghost use Rattle.lexer_close.specs.Close.{closeAt};
+
+// Where a scan for a closing bracket ends.
+pub enum Close {
+    At(usize),
+    Open,
+}
+
+// As `value_end`. Runs of plain bytes are tried at the start, behind an escape and each 16 bytes.
+fn far_end(s: &[u8], from: usize) -> Close
+    ensures { λ r. ⌜ r ≡ closeAt (now (s .entry)) from ⌝ }
+{
+    let mut i = from;
+    let mut escaped = false;
+    let mut again = from;
+    loop {
+        if s.len() <= i {
+            break Close::Open;
+        }
+        if escaped {
+            escaped = false;
+            i = runs::past_plain(s, i + 1);
+            again = i + 16;
+            continue;
+        }
+        let b = s[i];
+        if b == b']' {
+            break Close::At(i);
+        }
+        escaped = b == b'\\';
+        i += 1;
+        if (again <= i) & !escaped {
+            i = runs::past_plain(s, i);
+            again = i + 16;
+        }
+    }
+}
+
+// The first unescaped `]` at or after `from`. Most values are short.
+pub fn value_end(s: &[u8], from: usize) -> Close
+    ensures { λ r. ⌜ r ≡ closeAt (now (s .entry)) from ⌝ }
+{
+    if s.len() <= from {
+        return Close::Open;
+    }
+    let to = runs::past_short(s, from);
+    if runs::closes(s, to) {
+        return Close::At(to);
+    }
+    far_end(s, to)
+}

@@ -1,0 +1,61 @@
+-- The tree of one slice, read from the tokens from a place on.
+use Rattle.lists.specs.Prelude.{ℕ, _+_, _*_, _≤_, _<_, _≡_, Bool, false, List, [], _∷_, length}
+use Rattle.lists.specs.Put.{PutIs}
+use Rattle.lexer.specs.Token.{Tok, done, lexAt}
+use Rattle.tables.specs.Numbers.{textLimit, none}
+use Rattle.tables.specs.Record.{Node, Tree, allProps, allVals}
+use Rattle.tables.specs.Rows.{propRows, valRows}
+use Rattle.tables.specs.Flat.{flatNodes, flatProps, flatVals}
+use Rattle.parser.specs.Walk.{Opts, Walk, walk, shut, walked}
+use Rattle.parser.specs.Read.{growing, failing, grown}
+use Rattle.parser.specs.Slice.{sliceFrom, restFrom, Shallow}
+use Rattle.parser_tree.specs.Flat.{bareRows}
+use Rattle.parser_tree.specs.declared.Walked.{Walked}
+use Rattle.parser_tree.specs.declared.Walked.the-variants.{Tree as tree, Refused as refused}
+
+-- the options as the code has them
+abbrev pub opts : Bool → Bool → Opts
+opts len con = record { lenient = len; convert = con }
+
+-- the walk of the first slice of the tokens
+unfoldable pub walkOf : Opts → (base : ℕ) → List Tok → Walk
+walkOf op base ts = walked op base (walk none [] shut []) (sliceFrom 0 ts)
+
+-- what a walk asks for: a text within the limit, few rows so far, no slice too deep, and where reading is strict no fault ahead
+pub record Ready (op : Opts) (u : List ℕ) (from base p v : ℕ) : Type 0 where
+  pub short : length u ≤ textLimit
+  pub inside : from ≤ length u
+  pub nodes : base ≤ textLimit + textLimit
+  pub props : p ≤ textLimit
+  pub vals : v ≤ textLimit
+  pub shallow : Shallow 0 (sliceFrom 0 (lexAt u from .toks))
+  pub calm : op .lenient ≡ false → lexAt u from .end ≡ done
+
+-- es stand in the tables from the rows base, p0 and v0 on; n, p and v are the next rows
+pub record Stored (base p0 v0 : ℕ) (es : List Node) (t₀ q₀ w₀ t q w : List ℕ) (n p v : ℕ) : Type 0 where
+  pub nodes : n ≡ base + length es
+  pub props : p ≡ p0 + length (allProps es)
+  pub vals : v ≡ v0 + length (allVals (allProps es))
+  pub tnodes : PutIs t₀ (base * 5) (flatNodes (bareRows p0 es)) t
+  pub tprops : PutIs q₀ (p0 * 4) (flatProps (propRows v0 (allProps es))) q
+  pub tvals : PutIs w₀ (v0 * 2) (flatVals (valRows (allVals (allProps es)))) w
+
+-- a tree: its nodes es, in the tables; the place behind its slice, from which the other slices are read; as many rows as bytes, but that an empty root has none
+pub record TreeIs (op : Opts) (u : List ℕ) (from base p0 v0 : ℕ) (t₀ q₀ w₀ t q w : List ℕ) (at n p v : ℕ) : Type 0 where
+  pub es : List Node
+  pub tree : (k : ℕ) (ts : List Tree) → grown (op .lenient) base k (walkOf op base (lexAt u from .toks)) ts ≡ growing (base + length es) (record { root = base; kind = k; nodes = es } ∷ ts)
+  pub stored : Stored base p0 v0 es t₀ q₀ w₀ t q w n p v
+  pub more : base < n
+  pub rest : restFrom 0 (lexAt u from .toks) ≡ lexAt u at .toks
+  pub ends : lexAt u at .end ≡ lexAt u from .end
+  pub on : from ≤ at
+  pub inside : at ≤ length u
+  pub few : n + from ≤ base + at + 1
+  pub little : p + from ≤ p0 + at
+  pub small : v + from ≤ v0 + at
+
+-- what a walk gives
+abbrev pub WalkIs : Opts → (u : List ℕ) (from base p0 v0 : ℕ) (t₀ q₀ w₀ t q w : List ℕ) → Walked → Type 0
+WalkIs op u from base p0 v0 t₀ q₀ w₀ t q w (tree at n p v) = TreeIs op u from base p0 v0 t₀ q₀ w₀ t q w at n p v
+WalkIs op u from base p0 v0 t₀ q₀ w₀ t q w (refused r) =
+    (op .lenient ≡ false) × ((k : ℕ) (ts : List Tree) → grown (op .lenient) base k (walkOf op base (lexAt u from .toks)) ts ≡ failing r)

@@ -1,0 +1,244 @@
+// The tree of one slice, read from the tokens from a place on into the lent tables, strict or lenient. One token a turn, each byte scanned once where reading is strict.
+use lexer::Step;
+use lexer_close::Close;
+use lexer_scan::ValueStep;
+use parser_step::Act;
+use parser_step::State;
+use tables::NONE;
+use tables::Reason;
+ghost use mathlib.Core.Path.{_≡_};
+ghost use mathlib.Core.List.{[], _∷_};
+ghost use Prim.Native.Nat.{_+_, _*_, _≤_, _<_};
+ghost use lib.ListN.{length, set};
+ghost use Rattle.lists.specs.Put.{PutIs};
+ghost use Rattle.tables.specs.Numbers.{textLimit, depthLimit, none};
+ghost use Rattle.parser_tree.specs.Walks.{opts, Ready, WalkIs};
+ghost use Rattle.parser_tree.specs.Turns.{rowLimit, Small, begun, shutAt, ended, noded, Closes, TakenIs, AddIs, SkippedIs, BehindIs, RootIs, StopIs};
+
+// What a walk gives: the place behind the slice and the next row of each table (nodes, properties, values); or why there is no tree.
+pub enum Walked {
+    Tree(usize, usize, usize, usize),
+    Refused(Reason),
+}
+
+// The next row of the values, and where the values end.
+struct Taken {
+    next: usize,
+    end: usize,
+}
+
+// Behind a start or an end: no property may follow.
+fn shut(mut w: State, at: usize, depth: usize) -> State
+    ensures { λ r. ⌜ r ≡ shutAt w at depth ⌝ }
+{
+    w.at = at;
+    w.depth = depth;
+    w.follows = false;
+    w
+}
+
+// A start: the current list goes on the stack.
+fn start(w: State, i: usize, stack: &mut [u32; 1024]) -> State
+    requires { ⌜ (w .depth < 1024) × (i < textLimit) ⌝ }
+    ensures { λ r. ⌜ (r ≡ shutAt w (i + 1) (w .depth + 1)) × (now (stack .exit) ≡ set (now (stack .entry)) (w .depth) (w .cur)) ⌝ }
+{
+    let depth = w.depth;
+    stack[depth] = w.cur;
+    shut(w, i + 1, depth + 1)
+}
+
+// An end that leaves a tree open: the list on top of the stack is current again.
+fn end(mut w: State, i: usize, stack: &[u32; 1024]) -> State
+    requires { ⌜ (0 < w .depth) × (w .depth ≤ 1024) × (i < textLimit) ⌝ }
+    ensures { λ r. ⌜ r ≡ ended w i (now (stack .entry)) ⌝ }
+{
+    let depth = w.depth - 1;
+    w.cur = stack[depth];
+    shut(w, i + 1, depth)
+}
+
+// A node: its row, without links and properties. Its own list becomes current.
+fn node(mut w: State, i: usize, nodes: &mut [u32]) -> State
+    requires { ⌜ Small w × (i < textLimit) ⌝ }
+    ensures { λ r. ⌜ (r ≡ noded w i) × PutIs (now (nodes .entry)) (w .nodes * 5) (w .cur ∷ none ∷ none ∷ w .props ∷ 0 ∷ []) (now (nodes .exit)) ⌝ }
+{
+    store_numbers::put5(nodes, w.nodes * 5, w.cur, NONE, NONE, w.props as u32, 0);
+    w.at = i + 1;
+    w.cur = w.nodes as u32;
+    w.nodes += 1;
+    w.first = w.props;
+    w.follows = true;
+    w.drops = false;
+    w
+}
+
+// The values that stand from a place on, as rows from `v0` on. All of them close.
+fn take_values(s: &[u8], from: usize, v0: usize, vals: &mut [u32]) -> Taken
+    requires { ⌜ (length (now s) ≤ textLimit) × (from ≤ length (now s)) × (v0 ≤ rowLimit) × Closes (now s) from ⌝ }
+    ensures { λ r. ⌜ TakenIs (now (s .entry)) from v0 (now (vals .entry)) (now (vals .exit)) r ⌝ }
+{
+    let mut i = from;
+    let mut v = v0;
+    loop {
+        match lexer_scan::next_value(s, i) {
+            ValueStep::Value(a, e, next) => {
+                store_numbers::put2(vals, v * 2, a as u32, e as u32);
+                v += 1;
+                i = next;
+            }
+            ValueStep::NoMore => return Taken { next: v, end: i },
+            ValueStep::Unclosed => return Taken { next: v, end: i },
+        }
+    }
+}
+
+// The property at `i`, whose first `[` is at `k`: its values' rows, its own, and the count of its node.
+fn add(
+    s: &[u8],
+    mut w: State,
+    i: usize,
+    k: usize,
+    nodes: &mut [u32],
+    props: &mut [u32],
+    vals: &mut [u32],
+) -> State
+    requires { ⌜ Small w × (length (now s) ≤ textLimit) × (i ≤ k) × (k ≤ length (now s)) × (0 < w .nodes) × (w .first ≤ w .props) × Closes (now s) k ⌝ }
+    ensures { λ r. ⌜ AddIs (now (s .entry)) w i k (now (nodes .entry)) (now (props .entry)) (now (vals .entry)) r (now (nodes .exit)) (now (props .exit)) (now (vals .exit)) ⌝ }
+{
+    let taken = take_values(s, k, w.vals, vals);
+    let count = taken.next - w.vals;
+    store_numbers::put4(
+        props,
+        w.props * 4,
+        i as u32,
+        k as u32,
+        w.vals as u32,
+        count as u32,
+    );
+    w.props += 1;
+    let cell = w.nodes * 5 - 1;
+    store_numbers::put1(nodes, cell, (w.props - w.first) as u32);
+    w.at = taken.end;
+    w.vals = taken.next;
+    w
+}
+
+// The property whose first `[` is at `k` is dropped, and those after it.
+fn skip_property(s: &[u8], mut w: State, k: usize) -> State
+    requires { ⌜ Closes (now s) k ⌝ }
+    ensures { λ r. ⌜ SkippedIs (now (s .entry)) w k r ⌝ }
+{
+    w.drops = true;
+    let Close::At(e) = lexer_scan::values_end(s, k) else {
+        return w;
+    };
+    w.at = e;
+    w
+}
+
+// The place behind the slice in which so many trees are open.
+fn skip_slice(s: &[u8], from: usize, opened: usize) -> usize
+    requires { ⌜ (length (now s) ≤ textLimit) × (from ≤ length (now s)) × (opened ≤ depthLimit) ⌝ }
+    ensures { λ r. ⌜ BehindIs (now (s .entry)) from opened r ⌝ }
+{
+    let mut at = from;
+    let mut depth = opened;
+    loop {
+        match lexer::next_token(s, at) {
+            Step::Start(i) => {
+                depth += 1;
+                at = i + 1;
+            }
+            Step::End(i) => {
+                if depth <= 1 {
+                    return i + 1;
+                }
+                depth -= 1;
+                at = i + 1;
+            }
+            Step::Node(i) => {
+                at = i + 1;
+            }
+            Step::Property(_, _, e) => {
+                at = e;
+            }
+            Step::Refused(_, _) => return at,
+            Step::Done => return at,
+        }
+    }
+}
+
+// The tree whose slice ends before `at`. Without any node strict reading refuses it, lenient reading makes an empty root.
+fn finish(lenient: bool, base: usize, w: State, at: usize, nodes: &mut [u32]) -> Walked
+    requires { ⌜ Small w ⌝ }
+    ensures { λ r. ⌜ RootIs lenient base w at (now (nodes .entry)) r (now (nodes .exit)) ⌝ }
+{
+    if w.nodes != base {
+        return Walked::Tree(at, w.nodes, w.props, w.vals);
+    }
+    if !lenient {
+        return Walked::Refused(Reason::UnexpectedEndOfData);
+    }
+    store_numbers::put5(nodes, w.nodes * 5, NONE, NONE, NONE, w.props as u32, 0);
+    Walked::Tree(at, w.nodes + 1, w.props, w.vals)
+}
+
+// The tree stops before a token: strict reading refuses it, lenient reading keeps its nodes and skips the rest of the slice.
+fn stop(s: &[u8], lenient: bool, base: usize, w: State, reason: Reason, nodes: &mut [u32]) -> Walked
+    requires { ⌜ Small w × (length (now s) ≤ textLimit) × (w .at ≤ length (now s)) ⌝ }
+    ensures { λ r. ⌜ StopIs lenient (now (s .entry)) base w reason (now (nodes .entry)) r (now (nodes .exit)) ⌝ }
+{
+    if !lenient {
+        return Walked::Refused(reason);
+    }
+    let at = skip_slice(s, w.at, w.depth);
+    finish(true, base, w, at, nodes)
+}
+
+// Before the first token.
+fn begin(at: usize, nodes: usize, props: usize, vals: usize) -> State
+    ensures { λ r. ⌜ r ≡ begun at nodes props vals ⌝ }
+{
+    State {
+        at: at,
+        depth: 0,
+        cur: NONE,
+        nodes: nodes,
+        props: props,
+        vals: vals,
+        first: props,
+        follows: false,
+        drops: false,
+    }
+}
+
+// The tree of the slice that starts at a place, as rows from `base`, `p0` and `v0` on. Links are left none.
+pub fn walk_tree(
+    s: &[u8],
+    from: usize,
+    lenient: bool,
+    convert: bool,
+    base: usize,
+    p0: usize,
+    v0: usize,
+    nodes: &mut [u32],
+    props: &mut [u32],
+    vals: &mut [u32],
+) -> Walked
+    requires { ⌜ Ready (opts lenient convert) (now s) from base p0 v0 ⌝ }
+    ensures { λ r. ⌜ WalkIs (opts lenient convert) (now (s .entry)) from base p0 v0 (now (nodes .entry)) (now (props .entry)) (now (vals .entry)) (now (nodes .exit)) (now (props .exit)) (now (vals .exit)) r ⌝ }
+{
+    let mut stack = [0u32; 1024];
+    let mut w = begin(from, base, p0, v0);
+    loop {
+        match parser_step::look(s, lenient, convert, base, w, &stack) {
+            Act::Start(i) => w = start(w, i, &mut stack),
+            Act::End(i) => w = end(w, i, &stack),
+            Act::Node(i) => w = node(w, i, nodes),
+            Act::Add(i, k) => w = add(s, w, i, k, nodes, props, vals),
+            Act::Skip(k) => w = skip_property(s, w, k),
+            Act::Stop(reason) => return stop(s, lenient, base, w, reason, nodes),
+            Act::Over(at) => return finish(lenient, base, w, at, nodes),
+        }
+    }
+}

@@ -1,0 +1,62 @@
+-- A writing within the text limit is read back, or is refused with 9. Assumes nothing.
+use Rattle.lists.proofs.Prelude.{_≡_, refl, sym, ap, _∙_, _⊎_, inl, inr, ℕ, _≤_, _<_, arith, Bool, true, false, List, [], map, reverse, reverseAux, ltb, length, length-map, length-reverseAux, take-length, le-ltb, ltb-true, ltb-false, pick}
+use Rattle.edit_laws.proofs.Reread.{in-textLimit}
+use Rattle.edit_laws.specs.Run.{strictly}
+use Rattle.lexer.specs.Token.{End, Lexed, Tok, lexFrom}
+use Rattle.lists.proofs.Tests.{never}
+use Rattle.parser.proofs.Moved.{move-tokens, moveAnswer}
+use Rattle.parser.specs.Read.{Answer, accepted, decoded, lexing, planted, read, refused}
+use Rattle.parser.specs.Split.{Splitting, no, sliced, slices, split, splitting}
+use Rattle.serialize_laws.proofs.ReadBack.{Back, Form, gm-same, read-back-again}
+use Rattle.serialize_laws.proofs.Inked.{written-ink}
+use Rattle.serialize_laws.proofs.Resplit.{deepest, filled-any, split-trees}
+use Rattle.serialize_laws.proofs.Written.{lex-written, tokTree, tokTrees}
+use Rattle.serialize.specs.Write.{writeTrees}
+use Rattle.tables.specs.Numbers.{depthLimit, textLimit}
+use Rattle.tables.specs.Record.{Tree}
+use Rattle.tables.specs.declared.Reason.the-variants.{TooDeep}
+use Rattle.text_utf8.specs.Text.{Utf, blank, utfs, whole}
+use Rattle.serialize_laws.specs.Back.{Z, K}
+
+-- the answer for a writing is the answer for its tokens, places aside
+read-tokens : (c : Bool) (ts : List Tree) → Form ts → length (writeTrees ts) ≤ textLimit
+    → moveAnswer Z Z K (read (strictly c) (writeTrees ts)) ≡ planted (strictly c) (sliced false (split false (splitting 0 0 [] []) (tokTrees ts)))
+read-tokens c ts f s =
+    let W : List ℕ = writeTrees ts in
+    let n : ℕ = length W in
+    let l = lex-written n ts (f .plain) in
+    let X : Lexed = lexFrom 0 n W in
+    ap (moveAnswer Z Z K) (in-textLimit (ltb textLimit n) (decoded (strictly c) (utfs (whole blank) 0 W) W) (le-ltb textLimit n s))
+    ∙ ap (λ (u : Utf). moveAnswer Z Z K (decoded (strictly c) u W)) (written-ink ts (f .some) (f .plain) (f .valid))
+    ∙ ap (λ (z : List ℕ). moveAnswer Z Z K (lexing (strictly c) false (lexFrom 0 n z .end) (lexFrom 0 n z .toks))) (take-length W)
+    ∙ ap (λ (z : End). moveAnswer Z Z K (lexing (strictly c) false z (X .toks))) (l .0)
+    ∙ sym (move-tokens Z Z K (strictly c) (X .toks) (gm-same (X .toks)))
+    ∙ ap (λ (z : List Tok). planted (strictly c) (sliced false (split false (splitting 0 0 [] []) z))) (l .1)
+
+too-deep : (c : Bool) (m : ℕ) (ss : List (List Tok)) (x : Splitting) → x ≡ splitting 0 m [] ss → depthLimit < deepest x → 0 < length ss → ltb depthLimit m ≡ true
+    → planted (strictly c) (sliced false x) ≡ refused TooDeep 0
+too-deep c m ss x e d n b =
+    ap (λ (z : Splitting). planted (strictly c) (sliced false z)) e
+    ∙ ap (planted (strictly c)) (filled-any m ss n)
+    ∙ ap (λ (q : Bool). planted (strictly c) (pick q (no TooDeep) (slices (reverse ss)))) b
+
+nine : (c : Bool) (ts : List Tree) → Form ts → length (writeTrees ts) ≤ textLimit → ltb depthLimit (deepest (split false (splitting 0 0 [] []) (tokTrees ts))) ≡ true
+    → read (strictly c) (writeTrees ts) ≡ refused TooDeep 0
+nine c ts f s b =
+    let x = split-trees ts 0 [] (f .few) in
+    let X : List (List Tok) = reverseAux (map tokTree ts) [] in
+    let ne : 0 < length X = omega (arith, f .some, length-reverseAux (map tokTree ts) [], length-map ts tokTree) in
+    let dm : deepest (split false (splitting 0 0 [] []) (tokTrees ts)) ≡ x .0 = ap deepest (x .1) in
+    go (read (strictly c) (writeTrees ts)) refl
+    (read-tokens c ts f s ∙ too-deep c (x .0) X (split false (splitting 0 0 [] []) (tokTrees ts)) (x .1) (ltb-true depthLimit (deepest (split false (splitting 0 0 [] []) (tokTrees ts))) b) ne (ap (ltb depthLimit) (sym dm) ∙ b))
+  where
+    go : (a : Answer) → read (strictly c) (writeTrees ts) ≡ a → moveAnswer Z Z K a ≡ refused TooDeep 0 → read (strictly c) (writeTrees ts) ≡ refused TooDeep 0
+    go (refused n p) e h = e ∙ h
+    go (accepted us) e h = never cc
+
+pub back-or-nine : (c : Bool) (ts : List Tree) → Form ts → length (writeTrees ts) ≤ textLimit → (read (strictly c) (writeTrees ts) ≡ refused TooDeep 0) ⊎ Back c ts
+back-or-nine c ts f s = go (ltb depthLimit (deepest (split false (splitting 0 0 [] []) (tokTrees ts)))) refl
+  where
+    go : (b : Bool) → ltb depthLimit (deepest (split false (splitting 0 0 [] []) (tokTrees ts))) ≡ b → (read (strictly c) (writeTrees ts) ≡ refused TooDeep 0) ⊎ Back c ts
+    go true e = inl (nine c ts f s e)
+    go false e = inr (read-back-again c ts (record { form = f; shallow = ltb-false depthLimit (deepest (split false (splitting 0 0 [] []) (tokTrees ts))) e; short = s }))

@@ -1,0 +1,106 @@
+-- Strict reading of a writing gives the same trees, places aside; the writer sees no places. Assumes nothing.
+use Rattle.lists.proofs.Prelude.{_≡_, refl, sym, ap, ap₂, _∙_, ℕ, suc, _≤_, _<_, Bool, false, List, [], _∷_, _++_, map, ltb, length, take-length, le-ltb}
+use Rattle.edit_laws.proofs.Reread.{in-textLimit}
+use Rattle.edit_laws.specs.Run.{strictly}
+use Rattle.lexer_laws.proofs.Invariant.{OfTok}
+use Rattle.lexer.specs.Move.{moveVal}
+use Rattle.lexer.specs.Token.{End, Lexed, Prop, Tok, Val, done, end, lexFrom, node, prop, start}
+use Rattle.lists.specs.All.{All}
+use Rattle.lists.proofs.Tests.{never}
+use Rattle.parser.proofs.Moved.{move-tokens, moveAnswer}
+use Rattle.parser.proofs.MovedKind.{GmStays}
+use Rattle.parser.specs.Read.{Answer, accepted, decoded, lexing, planted, read, refused}
+use Rattle.parser.specs.Split.{sliced, split, splitting}
+use Rattle.serialize_laws.proofs.Resplit.{Few, deepest, planted-written}
+use Rattle.serialize_laws.proofs.Regrow.{SoundTrees, raws-stay}
+use Rattle.serialize_laws.proofs.Written.{PlainTree, lex-written, tokTrees}
+use Rattle.serialize.specs.Write.{Open, boxed, bracketed, ends, left, opened, writeNodes, writeProps, writeTree, writeTrees}
+use Rattle.tables.proofs.Moved.{parents-move}
+use Rattle.tables.specs.Numbers.{textLimit}
+use Rattle.tables.specs.Record.{Node, Tree}
+use Rattle.tables.specs.Rows.{parents}
+use Rattle.text_utf8.specs.Text.{Utf, blank, utfs, whole}
+use Rattle.values.specs.Read.{readIdentifier}
+use Rattle.serialize_laws.specs.Back.{some, Z, K, zProp, zTok, zNode, zTree}
+use Rattle.serialize_laws.proofs.Inked.{ValidTree, written-ink}
+
+pub gm-same : (ts : List Tok) → All (OfTok (GmStays Z Z K)) ts
+gm-same [] = tt
+gm-same (t ∷ ts) = (one t, gm-same ts)
+  where
+    one : (t : Tok) → OfTok (GmStays Z Z K) t
+    one (start o) = tt
+    one (end o) = tt
+    one (node o) = tt
+    one (prop p e) = λ _. raws-stay (p .vals)
+
+-- trees that can be written and read back, the limits aside
+pub record Form (ts : List Tree) : Type 0 where
+  pub some : 0 < length ts
+  pub plain : All PlainTree ts
+  pub valid : All ValidTree ts
+  pub sound : SoundTrees 0 ts
+  pub few : Few ts
+
+-- and their writing is within the reader's limits
+pub record Writable (ts : List Tree) : Type 0 where
+  pub form : Form ts
+  pub shallow : deepest (split false (splitting 0 0 [] []) (tokTrees ts)) ≤ 1024
+  pub short : length (writeTrees ts) ≤ textLimit
+
+lexed-written : (c : Bool) (X : Lexed) (ts : List Tree) → Writable ts → X .end ≡ done → map zTok (X .toks) ≡ tokTrees ts
+    → moveAnswer Z Z K (lexing (strictly c) false (X .end) (X .toks)) ≡ accepted (map zTree ts)
+lexed-written c X ts w e t =
+    ap (λ (z : End). moveAnswer Z Z K (lexing (strictly c) false z (X .toks))) e
+    ∙ sym (move-tokens Z Z K (strictly c) (X .toks) (gm-same (X .toks)))
+    ∙ ap (λ (z : List Tok). planted (strictly c) (sliced false (split false (splitting 0 0 [] []) z))) t
+    ∙ planted-written c ts (w .form .some) (w .form .sound) (w .form .few) (w .shallow)
+
+-- strict reading of a writing gives the trees, places aside
+pub read-back : (c : Bool) (ts : List Tree) → Writable ts → moveAnswer Z Z K (read (strictly c) (writeTrees ts)) ≡ accepted (map zTree ts)
+read-back c ts w =
+    let W : List ℕ = writeTrees ts in
+    let n : ℕ = length W in
+    let l = lex-written n ts (w .form .plain) in
+    ap (moveAnswer Z Z K) (in-textLimit (ltb textLimit n) (decoded (strictly c) (utfs (whole blank) 0 W) W) (le-ltb textLimit n (w .short)))
+    ∙ ap (λ (u : Utf). moveAnswer Z Z K (decoded (strictly c) u W)) (written-ink ts (w .form .some) (w .form .plain) (w .form .valid))
+    ∙ ap (λ (z : List ℕ). moveAnswer Z Z K (lexing (strictly c) false (lexFrom 0 n z .end) (lexFrom 0 n z .toks))) (take-length W)
+    ∙ lexed-written c (lexFrom 0 n W) ts w (l .0) (l .1)
+
+-- ---- writing again
+
+zero-boxed : (vs : List Val) → boxed (map (moveVal Z Z K) vs) ≡ boxed vs
+zero-boxed [] = refl
+zero-boxed (v ∷ vs) = ap (λ (z : List ℕ). 0x5b ∷ (v .raw ++ (0x5d ∷ z))) (zero-boxed vs)
+
+zero-props : (ps : List Prop) → writeProps (map zProp ps) ≡ writeProps ps
+zero-props [] = refl
+zero-props (p ∷ ps) = ap₂ (λ (y z : List ℕ). readIdentifier (p .name) ++ (y ++ z)) (zero-boxed (p .vals)) (zero-props ps)
+
+zero-nodes : (ps : List ℕ) (k : ℕ) (path : List Open) (ns : List Node) → writeNodes ps k path (map zNode ns) ≡ writeNodes ps k path ns
+zero-nodes ps k path [] = refl
+zero-nodes ps k path (n ∷ ns) =
+    ap₂ (λ (y z : List ℕ). ends (n .parent) path ++ opened (bracketed ps (n .parent)) (0x3b ∷ (y ++ z))) (zero-props (n .props))
+    (zero-nodes ps (suc k) (record { num = k; brk = bracketed ps (n .parent) } ∷ left (n .parent) path) ns)
+
+zero-tree : (t : Tree) → writeTree (zTree t) ≡ writeTree t
+zero-tree t =
+    ap (λ (ps : List ℕ). 0x28 ∷ (writeNodes ps (t .root) [] (map zNode (t .nodes)) ++ (0x29 ∷ []))) (parents-move Z Z K (t .nodes))
+    ∙ ap (λ (z : List ℕ). 0x28 ∷ (z ++ (0x29 ∷ []))) (zero-nodes (parents (t .nodes)) (t .root) [] (t .nodes))
+
+pub zero-trees : (ts : List Tree) → writeTrees (map zTree ts) ≡ writeTrees ts
+zero-trees [] = refl
+zero-trees (t ∷ ts) = ap₂ (λ (y z : List ℕ). y ++ z) (zero-tree t) (zero-trees ts)
+
+-- a strict reading of the writing, values as they are raw, is accepted with trees that are the same but for places
+pub record Back (c : Bool) (ts : List Tree) : Type 0 where
+  pub again : List Tree
+  pub accepts : read (strictly c) (writeTrees ts) ≡ accepted again
+  pub alike : map zTree again ≡ map zTree ts
+
+pub read-back-again : (c : Bool) (ts : List Tree) → Writable ts → Back c ts
+read-back-again c ts w = go (read (strictly c) (writeTrees ts)) refl (read-back c ts w)
+  where
+    go : (a : Answer) → read (strictly c) (writeTrees ts) ≡ a → moveAnswer Z Z K a ≡ accepted (map zTree ts) → Back c ts
+    go (refused n p) e h = never cc
+    go (accepted us) e h = record { again = us; accepts = e; alike = cc }

@@ -1,0 +1,161 @@
+-- Reading back, the trees: the tokens of a tree grow that tree. Assumes nothing.
+use Rattle.lists.proofs.Prelude.{_≡_, refl, sym, ap, ap₂, _∙_, subst, ℕ, suc, _+_, _≤_, _<_, arith, Bool, true, false, List, [], _∷_, _++_, map, reverse, reverseAux, append-assoc, append-nil, eqb, length, length-map, length-reverseAux, pick}
+use Rattle.edit_laws.specs.Run.{strictly}
+use Rattle.lexer.specs.Token.{Prop, Tok, Val, end, node, start}
+use Rattle.lists.specs.All.{All}
+use Rattle.parser.proofs.MovedKind.{move-kindProps, move-named}
+use Rattle.parser.specs.Kind.{GM, Kind, is, kind, kindProps, named, props}
+use Rattle.parser.specs.Read.{Growing, growAll, growing, grown, grows, kinded, rooted}
+use Rattle.parser.specs.Walk.{Gate, Walk, shut, takes, walk, walked}
+use Rattle.serialize_laws.proofs.Grow.{Good, node-run, opening, walk-nodes}
+use Rattle.serialize_laws.proofs.GrowNode.{stk, walked-append}
+use Rattle.serialize_laws.proofs.Written.{PlainNode, tokEnds, tokNodes, tokOpened, tokProps, tokShuts, tokTree}
+use Rattle.serialize.specs.Write.{Open, bracketed, left}
+use Rattle.tables.specs.Numbers.{none}
+use Rattle.tables.specs.Record.{Node, Tree}
+use Rattle.tables.specs.Rows.{parents}
+use Rattle.serialize_laws.specs.Back.{Z, K, zProp, zNode, zTree}
+
+-- values keep their raw bytes
+pub raws-stay : (vs : List Val) → All (λ (v : Val). v .raw ≡ v .raw) vs
+raws-stay [] = tt
+raws-stay (v ∷ vs) = (refl, raws-stay vs)
+
+abbrev rootOf : List Prop → Node
+rootOf qs = record { parent = none; props = qs }
+
+-- ---- the tree
+
+-- a root with these properties, and the nodes after it
+pub record Sound (r k : ℕ) (qs : List Prop) (ns : List Node) : Type 0 where
+  pub plain : All PlainNode (rootOf qs ∷ ns)
+  pub single : bracketed (parents (rootOf qs ∷ ns)) none ≡ false
+  pub good : Good (parents (rootOf qs ∷ ns)) (suc r) (opening (parents (rootOf qs ∷ ns)) r none ∷ []) ns
+  pub few : suc r + length ns ≤ none
+  pub kind-is : kindProps (named GM qs) ≡ is k
+
+module _ (r k : ℕ) (qs : List Prop) (ns : List Node) (s : Sound r k qs ns) where
+  abbrev ps : List ℕ
+  ps = parents (rootOf qs ∷ ns)
+
+  abbrev after-root : List Tok
+  after-root = tokNodes ps (suc r) (opening ps r none ∷ []) ns
+
+  nodes-are : tokNodes ps r [] (rootOf qs ∷ ns) ≡ node 0 ∷ (tokProps qs ++ after-root)
+  nodes-are = ap (λ (b : Bool). tokOpened b (node 0 ∷ (tokProps qs ++ after-root))) (s .single)
+
+  abbrev slice : List Tok
+  slice = start 0 ∷ (tokNodes ps r [] (rootOf qs ∷ ns) ++ (end 0 ∷ []))
+
+  slice-is : slice ≡ start 0 ∷ ((node 0 ∷ (tokProps qs ++ after-root)) ++ (end 0 ∷ []))
+  slice-is = ap (λ (z : List Tok). start 0 ∷ (z ++ (end 0 ∷ []))) nodes-are
+
+  tree-run : (c : Bool) → (g : Gate) × (walked (strictly c) r (walk none [] shut []) slice ≡ walk none [] g (reverseAux (map zNode ns) (zNode (rootOf qs) ∷ [])))
+  tree-run c =
+      let x = walk-nodes c r ps (suc r) (opening ps r none ∷ []) ns (zNode (rootOf qs) ∷ []) takes (s .plain .1)
+      (refl, refl, omega (arith, s .few), tt) refl refl (omega arith) (s .few) (s .good) in (
+        shut,
+        ap (walked (strictly c) r (walk none [] shut [])) slice-is
+            ∙ walked-append (strictly c) r (walk none (none ∷ []) shut []) (node 0 ∷ (tokProps qs ++ after-root)) (end 0 ∷ [])
+            ∙ ap (λ (w : Walk). walked (strictly c) r w (end 0 ∷ []))
+            (node-run c r ps r none (none ∷ []) shut qs [] after-root (s .plain .0) (omega arith)
+            ∙ ap (λ (b : Bool). walked (strictly c) r (walk r (stk (record { num = r; brk = b } ∷ [])) takes (zNode (rootOf qs) ∷ [])) after-root) (sym (s .single))
+            ∙ x .2),
+      )
+
+  -- ---- the game type
+
+  props-shuts : (b : Bool) (ts rest : List Tok) → props (ts ++ rest) ≡ [] → props (tokShuts b ts ++ rest) ≡ []
+  props-shuts true ts rest h = refl
+  props-shuts false ts rest h = h
+
+  props-ends : (p : ℕ) (path : List Open) (rest : List Tok) → props rest ≡ [] → props (tokEnds p path ++ rest) ≡ []
+  props-ends p [] rest h = h
+  props-ends p (x ∷ xs) rest h = go (eqb (x .num) p) (props-shuts (x .brk) (tokEnds p xs) rest (props-ends p xs rest h))
+    where
+      go : (b : Bool) → props (tokShuts (x .brk) (tokEnds p xs) ++ rest) ≡ [] → props (pick b [] (tokShuts (x .brk) (tokEnds p xs)) ++ rest) ≡ []
+      go true e = h
+      go false e = e
+
+  props-opened : (b : Bool) (ts rest : List Tok) → props (tokOpened b (node 0 ∷ ts) ++ rest) ≡ []
+  props-opened true ts rest = refl
+  props-opened false ts rest = refl
+
+  props-nodes : (ps : List ℕ) (j : ℕ) (path : List Open) (ms : List Node) → props (tokNodes ps j path ms ++ (end 0 ∷ [])) ≡ []
+  props-nodes ps j path [] = props-ends none path (end 0 ∷ []) refl
+  props-nodes ps j path (m ∷ ms) =
+      let x : List Tok = tokProps (m .props) ++ tokNodes ps (suc j) (opening ps j (m .parent) ∷ left (m .parent) path) ms in
+      ap props (append-assoc (tokEnds (m .parent) path) (tokOpened (bracketed ps (m .parent)) (node 0 ∷ x)) (end 0 ∷ []))
+      ∙ props-ends (m .parent) path (tokOpened (bracketed ps (m .parent)) (node 0 ∷ x) ++ (end 0 ∷ [])) (props-opened (bracketed ps (m .parent)) x (end 0 ∷ []))
+
+  props-props : (us : List Prop) (rest : List Tok) → props rest ≡ [] → props (tokProps us ++ rest) ≡ map zProp us
+  props-props [] rest h = h
+  props-props (u ∷ us) rest h = ap (λ (z : List Prop). zProp u ∷ z) (props-props us rest h)
+
+  fixed : (us : List Prop) → All (λ (p : Prop). All (λ (v : Val). v .raw ≡ v .raw) (p .vals)) us
+  fixed [] = tt
+  fixed (u ∷ us) = (raws-stay (u .vals), fixed us)
+
+  kind-run : kind slice ≡ is k
+  kind-run =
+      ap kind slice-is
+      ∙ ap (λ (z : List Prop). kindProps (named GM z))
+      (ap props (append-assoc (tokProps qs) after-root (end 0 ∷ [])) ∙ props-props qs (after-root ++ (end 0 ∷ [])) (props-nodes ps (suc r) (opening ps r none ∷ []) ns))
+      ∙ ap kindProps (move-named Z Z K GM qs) ∙ move-kindProps Z Z K (named GM qs) (fixed (named GM qs)) ∙ s .kind-is
+
+-- ---- one tree, all trees
+
+pub reverse-reverseAux : {A : Type 0} (xs ys zs : List A) → reverseAux (reverseAux xs ys) zs ≡ reverseAux ys (xs ++ zs)
+reverse-reverseAux [] ys zs = refl
+reverse-reverseAux (x ∷ xs) ys zs = reverse-reverseAux xs (x ∷ ys) zs
+
+rooted-any : (base k : ℕ) (X : List Node) (us : List Tree) → 0 < length X
+    → rooted false base k X us ≡ growing (base + length X) (record { root = base; kind = k; nodes = reverse X } ∷ us)
+rooted-any base k [] us h = absurd (omega arith)
+rooted-any base k (n ∷ ns) us h = refl
+
+pub reads-root : (c : Bool) (r k : ℕ) (qs : List Prop) (ns : List Node) (us : List Tree) → Sound r k qs ns
+    → grows (strictly c) (growing r us) (tokTree (record { root = r; kind = k; nodes = rootOf qs ∷ ns }))
+    ≡ growing (r + suc (length ns)) (zTree (record { root = r; kind = k; nodes = rootOf qs ∷ ns }) ∷ us)
+reads-root c r k qs ns us s =
+    ap (λ (z : Kind). kinded (strictly c) r z (slice r k qs ns s) us) (kind-run r k qs ns s)
+    ∙ ap (λ (z : Walk). grown false r k z us) (tree-run r k qs ns s c .1)
+    ∙ rooted-any r k X us (omega (arith, len))
+    ∙ ap₂ (λ (n : ℕ) (z : List Node). growing (r + n) (record { root = r; kind = k; nodes = z } ∷ us)) (omega (arith, len))
+    (reverse-reverseAux (map zNode ns) (zNode (rootOf qs) ∷ []) [] ∙ ap (λ (z : List Node). zNode (rootOf qs) ∷ z) (append-nil (map zNode ns)))
+  where
+    X : List Node
+    X = reverseAux (map zNode ns) (zNode (rootOf qs) ∷ [])
+
+    len : length X ≡ length ns + 1
+    len = length-reverseAux (map zNode ns) (zNode (rootOf qs) ∷ []) ∙ ap (λ (n : ℕ). n + 1) (length-map ns zNode)
+
+abbrev pub SoundNodes : ℕ → ℕ → List Node → Type 0
+SoundNodes r k [] = ⊥
+SoundNodes r k (n ∷ ns) = (n .parent ≡ none) × Sound r k (n .props) ns
+
+-- the trees, with roots from base on
+abbrev pub SoundTrees : ℕ → List Tree → Type 0
+SoundTrees base [] = Unit {0}
+SoundTrees base (t ∷ ts) = (t .root ≡ base) × SoundNodes base (t .kind) (t .nodes) × SoundTrees (base + length (t .nodes)) ts
+
+reads-tree1 : (c : Bool) (r k : ℕ) (ns : List Node) (us : List Tree) → SoundNodes r k ns
+    → grows (strictly c) (growing r us) (tokTree (record { root = r; kind = k; nodes = ns })) ≡ growing (r + length ns) (zTree (record { root = r; kind = k; nodes = ns }) ∷ us)
+reads-tree1 c r k [] us s = absurd s
+reads-tree1 c r k (n ∷ ns) us s =
+    subst (λ (p : ℕ). grows (strictly c) (growing r us) (tokTree (record { root = r; kind = k; nodes = record { parent = p; props = n .props } ∷ ns }))
+    ≡ growing (r + suc (length ns)) (zTree (record { root = r; kind = k; nodes = record { parent = p; props = n .props } ∷ ns }) ∷ us)) (sym (s .0))
+    (reads-root c r k (n .props) ns us (s .1))
+
+pub reads-all : (c : Bool) (base : ℕ) (ts us : List Tree) → SoundTrees base ts
+    → (n : ℕ) × (growAll (strictly c) (growing base us) (map tokTree ts) ≡ growing n (reverseAux (map zTree ts) us))
+reads-all c base [] us s = (base, refl)
+reads-all c base (t ∷ ts) us s =
+    let x = reads-all c (base + length (t .nodes)) ts (zTree t ∷ us) (s .2) in (
+      x .0,
+      ap (λ (z : Growing). growAll (strictly c) z (map tokTree ts))
+          (subst (λ (r : ℕ). grows (strictly c) (growing base us) (tokTree (record { root = r; kind = t .kind; nodes = t .nodes }))
+          ≡ growing (base + length (t .nodes)) (zTree (record { root = r; kind = t .kind; nodes = t .nodes }) ∷ us)) (sym (s .0))
+          (reads-tree1 c base (t .kind) (t .nodes) us (s .1)))
+          ∙ x .1,
+    )

@@ -1,0 +1,75 @@
+-- Reading back: what is asked of a text and its trees; and trees places aside.
+use Rattle.lists.specs.Prelude.{ℕ, _≡_, Bool, true, false, List, [], _∷_, getD}
+use Rattle.lists.specs.All.{All}
+use Rattle.text_utf8.specs.Text.{Utf, whole, part, bad, blank, utfs}
+use Rattle.lexer.specs.Token.{Prop, Tok, start, end, node, prop}
+use Rattle.lexer.specs.Move.{moveProp, moveTok}
+use Rattle.tables.specs.Record.{Node, Tree}
+use Rattle.tables.specs.Move.{moveNode, moveTree}
+use Rattle.parser.specs.Split.{Slices, no, slices, slicesOf}
+use Rattle.parser.specs.Walk.{uppers}
+use Rattle.parser.specs.Read.{lex}
+
+-- not empty
+abbrev pub some : List ℕ → Bool
+some [] = false
+some (b ∷ bs) = true
+
+-- an identifier of uppercase letters only, and not empty
+abbrev pub Named : Prop → Type 0
+Named p = (some (p .name) ≡ true) × (uppers (p .name) ≡ true)
+
+-- the tokens of a text that is UTF-8
+abbrev pub toksOf : Utf → List ℕ → List Tok
+toksOf (whole k) t = lex k t .toks
+toksOf (part k s n r c) t = []
+toksOf (bad p) t = []
+
+-- the slices of a text
+abbrev pub slicesIn : List ℕ → Slices
+slicesIn t = slicesOf false (toksOf (utfs (whole blank) 0 t) t)
+
+-- where a token stands
+abbrev pub placeOf : Tok → ℕ
+placeOf (start o) = o
+placeOf (end o) = o
+placeOf (node o) = o
+placeOf (prop p e) = p .from
+
+-- the byte at the first of a tree's tokens is `(`
+abbrev pub Begins : List ℕ → List Tok → Type 0
+Begins t [] = ⊥
+Begins t (x ∷ xs) = getD t (placeOf x) 0 ≡ 0x28
+
+-- of each slice
+abbrev pub Each : (List Tok → Type 0) → Slices → Type 0
+Each P (no r) = Unit {0}
+Each P (slices ss) = All P ss
+
+-- each tree of a text begins with `(`
+abbrev pub BeginsAll : List ℕ → Type 0
+BeginsAll t = Each (Begins t) (slicesIn t)
+
+-- places aside: every place is 0
+abbrev pub Z : ℕ → ℕ
+Z n = 0
+
+-- bytes as they are
+abbrev pub K : ℕ → List ℕ → List ℕ
+K n r = r
+
+-- places aside, of a property
+abbrev pub zProp : Prop → Prop
+zProp = moveProp Z Z K
+
+-- of a token
+abbrev pub zTok : Tok → Tok
+zTok = moveTok Z Z K
+
+-- of a node
+abbrev pub zNode : Node → Node
+zNode = moveNode Z Z K
+
+-- of a tree
+abbrev pub zTree : Tree → Tree
+zTree = moveTree Z Z K

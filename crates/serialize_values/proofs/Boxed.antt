@@ -1,0 +1,80 @@
+-- Values in their brackets, one after another. Assumes nothing.
+use Rattle.lists.proofs.Prelude.{ℕ, suc, _+_, _^_, _≤_, _<_, _-_, _≡_, refl, sym, ap, _∙_, Bool, true, false, List, [], _∷_, _++_, append-assoc, add-one, length, getD, drop, drop-of-length-le, drop-cons, lt-ltb, le-ltb, pick}
+use Rattle.store_bytes.specs.Wrote.{Wrote}
+use Rattle.store_bytes.proofs.Written.{wrote-is}
+use Rattle.go_points.specs.Area.{letter}
+use Rattle.go.specs.Normal.{pointText, pointsFrom}
+use Rattle.parts.specs.Rows.{valueAt, valuesAt}
+use Rattle.parts.proofs.Valued.{values-all, values-next, values-end}
+use Rattle.serialize_values.specs.Boxes.{boxes}
+use Rattle.serialize_values.proofs.Writing.{writing-first, writing-is, writing-next, writing-last}
+
+pub boxes-one : (v : List ℕ) → boxes (v ∷ []) ≡ 0x5b ∷ (v ++ (0x5d ∷ []))
+unfolding boxes
+boxes-one v = refl
+
+pub boxes-none : boxes [] ≡ []
+unfolding boxes
+boxes-none = refl
+
+pub boxes-cons : (v : List ℕ) (vs : List (List ℕ)) → boxes (v ∷ vs) ≡ boxes (v ∷ []) ++ boxes vs
+unfolding boxes
+boxes-cons v vs = ap (λ (z : List ℕ). 0x5b ∷ z) (sym (append-assoc v (0x5d ∷ []) (boxes vs)))
+
+pub box-wrote : (v : List ℕ) {o : List ℕ} {at : ℕ} {o1 : List ℕ} {r1 : ℕ} {o2 : List ℕ} {r2 : ℕ} {o3 : List ℕ} {r3 : ℕ} → length o < 2 ^ 64 → at < 2 ^ 64
+    → Wrote (0x5b ∷ []) o at o1 r1 → Wrote v o1 r1 o2 r2 → Wrote (0x5d ∷ []) o2 r2 o3 r3 → Wrote (boxes (v ∷ [])) o at o3 r3
+box-wrote v s b x y z = writing-last z (writing-next y (writing-next x (writing-is (boxes-one v) (writing-first (boxes (v ∷ [])) _ _ s b))))
+
+-- ---- raw values
+
+module _ (text vals : List ℕ) (first count : ℕ) where
+  pub raw-all : boxes (valuesAt text vals first count) ≡ boxes (valuesAt text vals (first + 0) (count - 0))
+  raw-all = ap boxes (values-all text vals first count)
+
+  pub raw-next : (n : ℕ) → n < count
+      → {v : List ℕ} → v ≡ valueAt text vals (first + n) → boxes (valuesAt text vals (first + n) (count - n)) ≡ boxes (v ∷ []) ++ boxes (valuesAt text vals (first + (n + 1)) (count - (n + 1)))
+  raw-next n h e =
+      let r : List (List ℕ) = valuesAt text vals (first + (n + 1)) (count - (n + 1)) in
+      ap boxes (values-next text vals first count n h ∙ ap (λ (z : List ℕ). z ∷ r) (sym e)) ∙ boxes-cons _ r
+
+  pub raw-end : (n : ℕ) → count ≤ n → boxes (valuesAt text vals (first + n) (count - n)) ≡ []
+  raw-end n h = ap boxes (values-end text vals first count n h) ∙ boxes-none
+
+-- ---- points
+
+pub letter-low : (n : ℕ) → n < 26 → 0x61 + n ≡ letter n
+unfolding letter
+letter-low n h = rw (lt-ltb n 26 h)
+
+pub letter-high : (n : ℕ) → 26 ≤ n → 0x41 + (n - 26) ≡ letter n
+unfolding letter
+letter-high n h = rw (le-ltb n 26 h)
+
+pub point-wrote : (x y : ℕ) {a b : ℕ} {o : List ℕ} {at : ℕ} {o1 : List ℕ} {r1 : ℕ} {o2 : List ℕ} {r2 : ℕ} {o3 : List ℕ} {r3 : ℕ} {o4 : List ℕ} {r4 : ℕ} → length o < 2 ^ 64 → at < 2 ^ 64 → a ≡ letter x → b ≡ letter y
+    → Wrote (0x5b ∷ []) o at o1 r1 → Wrote (a ∷ []) o1 r1 o2 r2 → Wrote (b ∷ []) o2 r2 o3 r3 → Wrote (0x5d ∷ []) o3 r3 o4 r4 → Wrote (boxes ((letter x ∷ letter y ∷ []) ∷ [])) o at o4 r4
+point-wrote x y s l ea eb p q r z =
+    let w : List ℕ = boxes ((letter x ∷ letter y ∷ []) ∷ []) in
+    writing-last z
+    (writing-next (wrote-is (ap (λ (n : ℕ). n ∷ []) eb) r)
+    (writing-next (wrote-is (ap (λ (n : ℕ). n ∷ []) ea) q) (writing-next p (writing-is (boxes-one (letter x ∷ letter y ∷ [])) (writing-first w _ _ s l)))))
+
+module _ (i : ℕ) {mark : Bool} where
+  pub marked-point : mark ≡ true → boxes (pointText i ∷ []) ≡ boxes (pick mark (pointText i ∷ []) [])
+  marked-point h = ap (λ (m : Bool). boxes (pick m (pointText i ∷ []) [])) (sym h)
+
+  pub unmarked-point : mark ≡ false → [] ≡ boxes (pick mark (pointText i ∷ []) [])
+  unmarked-point h = sym boxes-none ∙ ap (λ (m : Bool). boxes (pick m (pointText i ∷ []) [])) (sym h)
+
+module _ (marks : List Bool) where
+  pub points-next : (i : ℕ) → i < length marks
+      → boxes (pointsFrom i (drop i marks)) ≡ boxes (pick (getD marks i false) (pointText i ∷ []) []) ++ boxes (pointsFrom (i + 1) (drop (i + 1) marks))
+  unfolding pointsFrom boxes
+  points-next i h = rw (drop-cons marks i false h, add-one) (go (getD marks i false))
+    where
+      go : (m : Bool) → (let r = pointsFrom (suc i) (drop (suc i) marks) in boxes (pick m (pointText i ∷ r) r) ≡ boxes (pick m (pointText i ∷ []) []) ++ boxes r)
+      go true = boxes-cons (pointText i) (pointsFrom (suc i) (drop (suc i) marks))
+      go false = refl
+
+  pub points-end : (i : ℕ) → length marks ≤ i → boxes (pointsFrom i (drop i marks)) ≡ []
+  unfolding pointsFrom boxes
+  points-end i h = rw (drop-of-length-le marks h)
