@@ -2,5 +2,4 @@ pub mod Answers
 pub mod Goes
 pub mod Kind
 pub mod Shows
-pub mod Unique
 pub mod Values

@@ -3,5 +3,11 @@ pub mod Demand2
 pub mod Demand3
 pub mod Refusals
 pub mod Rereadings
+pub mod UniqueExported
+pub mod UniqueReading
+pub mod UniqueRecord
+pub mod UniqueStructs
+pub mod UniqueText
+pub mod UniqueValues
 pub mod Useless
 pub mod Writings

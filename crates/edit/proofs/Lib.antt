@@ -1,3 +1,2 @@
 pub mod Given
 pub mod Moving
-pub mod Unique

@@ -1,4 +1,3 @@
 pub mod Fitting
 pub mod Judged
 pub mod Tested
-pub mod Unique

@@ -1,3 +1,2 @@
 pub mod May
 pub mod Replaced
-pub mod Unique

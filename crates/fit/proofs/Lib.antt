@@ -8,5 +8,4 @@ pub mod RecordRows
 pub mod Recorded
 pub mod RootRows
 pub mod Rows
-pub mod Unique
 pub mod Whole

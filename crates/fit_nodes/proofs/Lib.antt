@@ -6,4 +6,3 @@ pub mod Path
 pub mod Roots
 pub mod Rule
 pub mod Siblings
-pub mod Unique

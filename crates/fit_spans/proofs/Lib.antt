@@ -4,4 +4,3 @@ pub mod Lists
 pub mod Lying
 pub mod Ranges
 pub mod Scans
-pub mod Unique

@@ -6,4 +6,3 @@ pub mod Marked
 pub mod ReadBack
 pub mod Sets
 pub mod Shapes
-pub mod Unique

@@ -1,3 +1,2 @@
 pub mod Areas
 pub mod Letters
-pub mod Unique

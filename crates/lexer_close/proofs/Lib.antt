@@ -1,4 +1,3 @@
 pub mod Bounds
 pub mod Leads
 pub mod Steps
-pub mod Unique

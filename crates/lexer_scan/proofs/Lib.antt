@@ -1,4 +1,3 @@
 pub mod Bounds
 pub mod Scans
-pub mod Unique
 pub mod Values

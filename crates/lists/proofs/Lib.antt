@@ -7,4 +7,3 @@ pub mod Prelude
 pub mod Put
 pub mod Run
 pub mod Tests
-pub mod Unique

@@ -11,4 +11,3 @@ pub mod Slices
 pub mod Splits
 pub mod Surveys
 pub mod Tokens
-pub mod Unique

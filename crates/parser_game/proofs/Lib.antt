@@ -1,4 +1,3 @@
 pub mod GameValues
 pub mod Gather
-pub mod Unique
 pub mod Variants

@@ -1,4 +1,3 @@
 pub mod Acts
 pub mod Stacks
-pub mod Unique
 pub mod Uppers

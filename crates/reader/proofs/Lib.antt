@@ -8,5 +8,4 @@ pub mod Rooms
 pub mod Surveyed
 pub mod Texts
 pub mod Theorems
-pub mod Unique
 pub mod Whole

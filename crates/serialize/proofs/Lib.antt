@@ -9,6 +9,5 @@ pub mod Siblings
 pub mod Texts
 pub mod TreeSlices
 pub mod TreeWalk
-pub mod Unique
 pub mod Walked
 pub mod Whole

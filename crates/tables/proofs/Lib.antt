@@ -4,4 +4,3 @@ pub mod Each
 pub mod Lengths
 pub mod Links
 pub mod Moved
-pub mod Unique

@@ -11,5 +11,4 @@ pub mod Solid
 pub mod Steps
 pub mod Taken
 pub mod Turns
-pub mod Unique
 pub mod WellFormed

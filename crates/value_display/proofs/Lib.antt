@@ -6,4 +6,3 @@ pub mod OneLine
 pub mod Shown
 pub mod Sizes
 pub mod Texts
-pub mod Unique

@@ -4,4 +4,3 @@ pub mod RoundTrip
 pub mod Safe
 pub mod Spelling
 pub mod Steps
-pub mod Unique

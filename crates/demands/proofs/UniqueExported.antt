@@ -1,4 +1,4 @@
--- No second answer: what is shown of an answer leaves no other numbers. Assumes nothing.
+-- No second answer: of each public function, two answers that meet its contract are equal. Assumes nothing.
 use Rattle.lists.proofs.Prelude.{_≡_, sym, _∙_, ℕ, Bool, List}
 use Rattle.parser.specs.Read.{Answer}
 use Rattle.reader.specs.Lent.{Lent}
@@ -8,14 +8,16 @@ use Rattle.tables.specs.declared.Counts.{Counts}
 use Rattle.value_display.specs.declared.Kind.{Kind}
 use Rattle.ask_value.specs.declared.Accessed.{Accessed}
 use Rattle.edit_answer.specs.Edit.{Outcome}
-use Rattle.edit.specs.Lent as edit
 use Rattle.sgf.specs.Asked.{fitsShown, DisplayShown}
 use Rattle.sgf.specs.Changed.{WriteShown, EditShown}
 use Rattle.c_answers.specs.declared.SgfDisplay.{SgfDisplay}
 use Rattle.c_answers.specs.declared.SgfEdit.{SgfEdit}
 use Rattle.c_answers.specs.declared.SgfWriting.{SgfWriting}
 use Rattle.sgf.specs.Shown.{ReadShown}
 use Rattle.c_answers.specs.declared.SgfReading.{SgfReading}
+use Rattle.edit.specs.Lent as edit
+
+-- sgf
 
 -- all of the answer, and all lent tables
 pub read-once : (a : Answer) (before x y : Lent) (r s : SgfReading) → ReadShown a before x r → ReadShown a before y s → (r ≡ s) × (x ≡ y)

@@ -1,4 +1,4 @@
--- No second answer: what is shown of an answer leaves no other numbers. Assumes nothing.
+-- No second answer: of each public function, two answers that meet its contract are equal. Assumes nothing.
 use Rattle.lists.proofs.Prelude.{_≡_, sym, _∙_, ℕ}
 use Rattle.text_utf8.specs.declared.Trimmed.{Trimmed}
 use Rattle.text_utf8.specs.declared.Trimmed.the-variants.{NotUtf8, Blank, Kept}
@@ -6,7 +6,25 @@ use Rattle.lexer.specs.declared.Step.{Step}
 use Rattle.lexer.specs.declared.Step.the-variants.{Start, End, Node, Property, Refused, Done}
 use Rattle.lexer_scan.specs.declared.ValueStep.{ValueStep}
 use Rattle.lexer_scan.specs.declared.ValueStep.the-variants.{Value, NoMore, Unclosed}
 use Rattle.c_tokens.specs.Tokens.{TrimIs, TokenIs, ValueIs}
+use Rattle.lists.proofs.Once.{once-is}
+use Rattle.lists.specs.Once.{Once}
+use Rattle.tables.specs.declared.Counts.{Counts}
+use Rattle.tables.specs.declared.Reading.{Reading}
+use Rattle.ask_value.specs.declared.Accessed.{Accessed}
+use Rattle.go.specs.declared.value.GoValue.{GoValue}
+use Rattle.ask.specs.declared.Shown.{Shown}
+use Rattle.serialize.specs.declared.Written.{Written}
+use Rattle.edit_answer.specs.declared.Edited.{Edited}
+use Rattle.c_answers.specs.Shown.{readingShown, spanShown, displayShown, goShown, writingShown, editShown}
+use Rattle.c_answers.specs.declared.SgfDisplay.{SgfDisplay}
+use Rattle.c_answers.specs.declared.SgfEdit.{SgfEdit}
+use Rattle.c_answers.specs.declared.SgfGoValue.{SgfGoValue}
+use Rattle.c_answers.specs.declared.SgfReading.{SgfReading}
+use Rattle.c_answers.specs.declared.SgfSpan.{SgfSpan}
+use Rattle.c_answers.specs.declared.SgfWriting.{SgfWriting}
+
+-- c_tokens
 
 four : {a b c d n p f l n′ p′ f′ l′ : ℕ} → (n ≡ a) × (p ≡ b) × (f ≡ c) × (l ≡ d) → (n′ ≡ a) × (p′ ≡ b) × (f′ ≡ c) × (l′ ≡ d) → (n ≡ n′) × (p ≡ p′) × (f ≡ f′) × (l ≡ l′)
 four x y = (x .0 ∙ sym (y .0), x .1 ∙ sym (y .1), x .2 ∙ sym (y .2), x .3 ∙ sym (y .3))
@@ -32,3 +50,23 @@ pub value-once : (at : ℕ) (v : ValueStep) {k f t n k′ f′ t′ n′ : ℕ} 
 value-once at (Value a e x) p q = four p q
 value-once at NoMore p q = four p q
 value-once at Unclosed p q = four p q
+
+-- c_answers
+
+pub reading-once : (a : Reading) → Once (λ (r : SgfReading). r ≡ readingShown a)
+reading-once a = once-is (readingShown a)
+
+pub span-once : (a : Accessed) → Once (λ (r : SgfSpan). r ≡ spanShown a)
+span-once a = once-is (spanShown a)
+
+pub display-once : (a : Shown) → Once (λ (r : SgfDisplay). r ≡ displayShown a)
+display-once a = once-is (displayShown a)
+
+pub go-once : (n : ℕ) (g : GoValue) → Once (λ (r : SgfGoValue). r ≡ goShown n g)
+go-once n g = once-is (goShown n g)
+
+pub writing-once : (a : Written) → Once (λ (r : SgfWriting). r ≡ writingShown a)
+writing-once a = once-is (writingShown a)
+
+pub edit-once : (c : Counts) (a : Edited) → Once (λ (r : SgfEdit). r ≡ editShown c a)
+edit-once c a = once-is (editShown c a)

@@ -1,0 +1,46 @@
+-- No second answer: of each public function, two answers that meet its contract are equal. Assumes nothing.
+use Rattle.lists.proofs.Prelude.{_≡_, Bool, List, ℕ, sym, _∙_}
+use Rattle.lists.specs.Once.{Once}
+use Rattle.lists.proofs.Once.{once-is}
+use Rattle.lexer.specs.Token.{lexAt}
+use Rattle.parser.specs.Survey.{surveyOf}
+use Rattle.parser.specs.declared.Survey.{Survey}
+use Rattle.parser_split.specs.Plans.{planText}
+use Rattle.parser_split.specs.declared.Plan.{Plan}
+use Rattle.parser.specs.Kind.{kind}
+use Rattle.parser.specs.Slice.{sliceFrom}
+use Rattle.parser_game.specs.Game.{typeOf}
+use Rattle.parser_game.specs.declared.GameType.{GameType}
+use Rattle.parser_step.specs.Asks.{asks}
+use Rattle.parser_step.specs.declared.State.{State}
+use Rattle.parser_step.specs.declared.Act.{Act}
+use Rattle.tables.specs.declared.Reading.{Reading}
+use Rattle.parser.specs.Read.{Answer}
+use Rattle.reader.specs.Lent.{Lent, ReadIs}
+
+-- parser
+
+-- of survey_strict (len is false) and survey_lenient (true)
+pub survey-once : (len : Bool) (s : List ℕ) (from : ℕ) → Once (λ (r : Survey). r ≡ surveyOf len (lexAt s from))
+survey-once len s from = once-is (surveyOf len (lexAt s from))
+
+-- parser_split
+
+pub plan-text-once : (len : Bool) (t : List ℕ) → Once (λ (r : Plan). r ≡ planText len t)
+plan-text-once len t = once-is (planText len t)
+
+-- parser_game
+
+pub game-type-once : (s : List ℕ) (from : ℕ) → Once (λ (r : GameType). r ≡ typeOf (kind (sliceFrom 0 (lexAt s from .toks))))
+game-type-once s from = once-is (typeOf (kind (sliceFrom 0 (lexAt s from .toks))))
+
+-- parser_step
+
+pub look-once : (len con : Bool) (u : List ℕ) (base : ℕ) (st : State) (a : List ℕ) → Once (λ (r : Act). r ≡ asks len con u base st a)
+look-once len con u base st a = once-is (asks len con u base st a)
+
+-- reader
+
+-- of read
+pub read-once : (a : Answer) (before x y : Lent) (r s : Reading) → ReadIs a before x r → ReadIs a before y s → (r ≡ s) × (x ≡ y)
+read-once a before x y r s p q = (p .answer ∙ sym (q .answer), p .tables ∙ sym (q .tables))

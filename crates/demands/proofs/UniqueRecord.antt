@@ -1,0 +1,87 @@
+-- No second answer: of each public function, two answers that meet its contract are equal. Assumes nothing.
+use Rattle.lists.proofs.Prelude.{ℕ, Bool, List, _≡_, sym, _∙_, ap, take}
+use Rattle.lists.proofs.Once.{once-is}
+use Rattle.lists.specs.Once.{Once}
+use Rattle.tables.specs.declared.Counts.{Counts}
+use Rattle.fit_nodes.specs.Nodes.{linksFit}
+use Rattle.fit_spans.specs.Parts.{partsFit}
+use Rattle.fit.specs.Fit.{Fit}
+use Rattle.ask_value.specs.Access.{accessed, rawValue}
+use Rattle.ask_value.specs.declared.Accessed.{Accessed}
+use Rattle.value_display.specs.declared.Kind.{Kind}
+use Rattle.ask.specs.Ask.{DisplayIs, goAnswer}
+use Rattle.ask.specs.declared.Shown.{Shown}
+use Rattle.ask.specs.declared.GoAnswer.{GoAnswer}
+use Rattle.fit.specs.Record.{rowsOf, recordOf}
+use Rattle.serialize.specs.Form.{writing, output, WriteIs}
+use Rattle.serialize.specs.declared.Written.{Written}
+use Rattle.edit_splice.specs.Splice.{replaced}
+use Rattle.edit_answer.specs.Answer.{outcomeOf, answers}
+use Rattle.edit_answer.specs.declared.Edited.{Edited}
+use Rattle.edit_answer.specs.Edit.{Outcome}
+use Rattle.edit.specs.Lent.{Lent, EditIs}
+
+-- fit_nodes
+
+module _ (counts : Counts) (trees nodes : List ℕ) where
+  pub links-fit-once : Once (λ (r : Bool). r ≡ linksFit counts trees nodes)
+  links-fit-once = once-is (linksFit counts trees nodes)
+
+-- fit_spans
+
+module _ (text : List ℕ) (counts : Counts) (nodes properties values : List ℕ) where
+  pub parts-fit-once : Once (λ (r : Bool). r ≡ partsFit text counts nodes properties values)
+  parts-fit-once = once-is (partsFit text counts nodes properties values)
+
+-- fit
+
+module _ (text : List ℕ) (used : ℕ) (counts : Counts) (trees nodes properties values : List ℕ) where
+  pub fits-once : Once (λ (r : Bool). r ≡ Fit text used counts trees nodes properties values)
+  fits-once = once-is (Fit text used counts trees nodes properties values)
+
+-- ask_value
+
+module _ (text : List ℕ) (used : ℕ) (counts : Counts) (trees nodes properties values : List ℕ) where
+  pub access-once : (k : ℕ) → Once (λ (r : Accessed). r ≡ accessed text used counts trees nodes properties values k)
+  access-once k = once-is (accessed text used counts trees nodes properties values k)
+
+  -- of the bytes that are handed out
+  pub value-once : (k : ℕ) → Once (λ (r : List ℕ). r ≡ rawValue text used counts trees nodes properties values k)
+  value-once k = once-is (rawValue text used counts trees nodes properties values k)
+
+-- ask
+
+module _ (text : List ℕ) (used : ℕ) (counts : Counts) (trees nodes properties values : List ℕ) where
+  -- of the answer and the bytes lent
+  pub display-once : (k : ℕ) (kind : Kind) (out out1 out2 : List ℕ) (r1 r2 : Shown) → DisplayIs text used counts trees nodes properties values k kind out out1 r1
+      → DisplayIs text used counts trees nodes properties values k kind out out2 r2 → (r1 ≡ r2) × (out1 ≡ out2)
+  display-once k kind out out1 out2 r1 r2 x y = (x .is ∙ sym (y .is), x .bytes ∙ sym (y .bytes))
+
+  pub go-value-once : (p : ℕ) → Once (λ (r : GoAnswer). r ≡ goAnswer text used counts trees nodes properties values p)
+  go-value-once p = once-is (goAnswer text used counts trees nodes properties values p)
+
+-- serialize
+
+pub write-once : (text : List ℕ) (used : ℕ) (counts : Counts) (trees nodes properties values out : List ℕ) (r s : Written) (x y : List ℕ)
+    → WriteIs text used counts trees nodes properties values out x r → WriteIs text used counts trees nodes properties values out y s → (r ≡ s) × (x ≡ y)
+write-once text used counts trees nodes properties values out r s x y p q =
+    let e : r ≡ s = p .is ∙ sym (q .is) in
+    (e, p .bytes ∙ ap (λ (a : Written). output a (writing (recordOf (take used text) (rowsOf counts trees nodes properties values))) out) e ∙ sym (q .bytes))
+
+-- edit_splice
+
+-- of every byte of the buffer
+pub replace-once : (buffer : List ℕ) (used start end : ℕ) (new : List ℕ) → Once (λ (x : List ℕ). x ≡ replaced buffer used start end new)
+replace-once buffer used start end new = once-is (replaced buffer used start end new)
+
+-- edit_answer
+
+pub decided-once : (text : List ℕ) (used : ℕ) (counts : Counts) (trees nodes properties values : List ℕ) (k : ℕ) (new : List ℕ)
+    → Once (λ (r : Edited). r ≡ answers (outcomeOf text used counts trees nodes properties values k new))
+decided-once text used counts trees nodes properties values k new = once-is (answers (outcomeOf text used counts trees nodes properties values k new))
+
+-- edit
+
+-- the answer, every byte of the buffer, every number of the two tables
+pub edit-once : (o : Outcome) (used : ℕ) (before x y : Lent) (r s : Edited) → EditIs o used before x r → EditIs o used before y s → (r ≡ s) × (x ≡ y)
+edit-once o used before x y r s p q = (p .answer ∙ sym (q .answer), p .memory ∙ sym (q .memory))

@@ -1,0 +1,128 @@
+-- No second answer: of each public function, two answers that meet its contract are equal. Assumes nothing.
+use Rattle.lists.proofs.Prelude.{List, ℕ, _≡_, refl, sym, _∙_, _+_, _*_, _/_, _%_, _<_, Bool, true, false, arith, div-add-mod', mod-lt, leb, ltb, eqb, length, getD, ext-getD, leb-true, leb-false, ltb-true, ltb-false, eqb-true, eqb-false, _-_, _^_}
+use Rattle.lists.specs.Once.{Once}
+use Rattle.lists.specs.Put.{PutWhole}
+use Rattle.lists.proofs.Put.{put-whole-once}
+use Rattle.lists.proofs.Once.{once-is}
+use Rattle.lexer.specs.declared.Fault.{Fault}
+use Rattle.tables.specs.Links.{NoLink, LinkedFrom, HasRows, LinksIs}
+use Rattle.tables.specs.Numbers.{none, numberOf, reasonOf}
+use Rattle.tables.specs.declared.Reason.{Reason}
+use Rattle.parts.specs.Rows.{valueAt, valuesAt}
+use Rattle.values.specs.Decimal.{decimalOf}
+use Rattle.values.specs.Read.{readValue, nextRead, readIdentifier}
+use Rattle.values.specs.declared.decimal.Number.{Number}
+use Rattle.values.specs.declared.read.Step.{Step}
+use Rattle.value_display.specs.Display.{displayed, displayedIn}
+use Rattle.value_display.specs.declared.Displayed.{Displayed}
+use Rattle.go_points.specs.Area.{letterOf, moveOf, areaOf}
+use Rattle.go_points.specs.Handicap.{handicapOf}
+use Rattle.go_points.specs.declared.Area.{Area}
+use Rattle.go_points.specs.declared.Value.{Value}
+use Rattle.go_shape.specs.Shape.{shapeOf}
+use Rattle.go_shape.specs.declared.Shape.{Shape}
+use Rattle.go.specs.Value.{pointsOf, valueBy, goValue}
+use Rattle.go.specs.declared.value.GoValue.{GoValue}
+
+-- store_numbers
+
+-- of put1, put2, put4 and put5, whatever is put
+pub put-once : (t : List ℕ) (at : ℕ) (vs : List ℕ) → Once (PutWhole t at vs)
+put-once t at vs x y p q = put-whole-once x y p q
+
+-- tables
+
+pub number-once : (r : Reason) → Once (λ (n : ℕ). n ≡ numberOf r)
+number-once r = once-is (numberOf r)
+
+pub fault-reason-once : (f : Fault) → Once (λ (r : Reason). r ≡ reasonOf f)
+fault-reason-once f = once-is (reasonOf f)
+
+-- the links: a cell is one of a link, or it stays
+module _ (n : ℕ) (t x y : List ℕ) (p : LinkedFrom n t x 0) (q : LinkedFrom n t y 0) where
+  stays-same : (i : ℕ) → NoLink n i → getD x i 0 ≡ getD y i 0
+  stays-same i h = p .kept i h ∙ sym (q .kept i h)
+
+  cell-same : (i r c : ℕ) → i ≡ r * 5 + c → c < 5 → (a : Bool) → ltb r n ≡ a → (b : Bool) → eqb c 1 ≡ b → (d : Bool) → eqb c 2 ≡ d → getD x i 0 ≡ getD y i 0
+  cell-same i r c e l false ha b hb d hd = stays-same i (λ s m. let g = ltb-false r n ha in ((λ z. omega arith), (λ z. omega arith)))
+  cell-same i r c e l true ha true hb d hd =
+      let g = ltb-true r n ha in
+      let o = eqb-true c 1 hb in
+      let w : i ≡ r * 5 + 1 = omega arith in
+      rw w (p .first r g ∙ sym (q .first r g))
+  cell-same i r c e l true ha false hb true hd =
+      let g = ltb-true r n ha in
+      let o = eqb-true c 2 hd in
+      let w : i ≡ r * 5 + 2 = omega arith in
+      rw w (p .next r (omega arith) g ∙ sym (q .next r (omega arith) g))
+  cell-same i r c e l true ha false hb false hd =
+      let u : c ≡ 1 → ⊥ = eqb-false c 1 hb in
+      let v : c ≡ 2 → ⊥ = eqb-false c 2 hd in
+      stays-same i (λ s m. ((λ z. u (omega arith)), (λ z. v (omega arith))))
+
+  linked-once : x ≡ y
+  linked-once =
+      ext-getD 0 x y (p .len ∙ sym (q .len))
+      (λ i _. cell-same i (i / 5) (i % 5) (sym (div-add-mod' i 5)) (mod-lt i (omega arith)) (ltb (i / 5) n) refl (eqb (i % 5) 1) refl (eqb (i % 5) 2) refl)
+
+pub link-nodes-once : (n : ℕ) (t : List ℕ) → Once (LinksIs n t)
+link-nodes-once n t x y p q = go (leb n (length t / 5)) refl (leb n none) refl
+  where
+    go : (a : Bool) → leb n (length t / 5) ≡ a → (b : Bool) → leb n none ≡ b → x ≡ y
+    go true ha true hb = let h : HasRows n t = (leb-true n (length t / 5) ha, leb-true n none hb) in linked-once n t x y (p .made h) (q .made h)
+    go false ha b hb = let h : HasRows n t → ⊥ = λ z. omega (arith, z .0, leb-false n (length t / 5) ha) in p .left h ∙ sym (q .left h)
+    go true ha false hb = let h : HasRows n t → ⊥ = λ z. omega (arith, z .1, leb-false n none hb) in p .left h ∙ sym (q .left h)
+
+-- parts
+
+module _ (text vals : List ℕ) (first n : ℕ) where
+  pub value-at-once : Once (λ (r : List ℕ). r ≡ valueAt text vals (first + n))
+  value-at-once = once-is (valueAt text vals (first + n))
+
+-- values
+
+pub next-read-once : (s : List ℕ) (at : ℕ) → Once (λ (r : Step). r ≡ nextRead s at)
+next-read-once s at = once-is (nextRead s at)
+
+-- of decimal_within, read_i64 and read_i32, whatever the bound
+pub decimal-once : (most : ℕ) (s : List ℕ) → Once (λ (r : Number). r ≡ decimalOf most (readValue s))
+decimal-once most s = once-is (decimalOf most (readValue s))
+
+-- value_display
+
+-- the answer, and all of the memory
+pub display-once : (text out : List ℕ) (r s : Displayed) (x y : List ℕ) → (r ≡ displayed text out) × (x ≡ displayedIn text out) → (s ≡ displayed text out) × (y ≡ displayedIn text out) → (r ≡ s) × (x ≡ y)
+display-once text out r s x y p q = (p .0 ∙ sym (q .0), p .1 ∙ sym (q .1))
+
+-- go_points
+
+pub letter-of-once : (b : ℕ) → Once (λ (r : ℕ). r ≡ letterOf b)
+letter-of-once b = once-is (letterOf b)
+
+module _ (s : List ℕ) where
+  pub read-move-once : Once (λ (r : Value). r ≡ moveOf (readValue s))
+  read-move-once = once-is (moveOf (readValue s))
+
+  pub read-area-once : Once (λ (r : Area). r ≡ areaOf (readValue s))
+  read-area-once = once-is (areaOf (readValue s))
+
+  pub read-handicap-once : Once (λ (r : Value). r ≡ handicapOf (decimalOf (2 ^ 63 - 1) (readValue s)))
+  read-handicap-once = once-is (handicapOf (decimalOf (2 ^ 63 - 1) (readValue s)))
+
+-- go_shape
+
+module _ (s : List ℕ) where
+  pub shape-of-once : Once (λ (r : Shape). r ≡ shapeOf (readIdentifier s))
+  shape-of-once = once-is (shapeOf (readIdentifier s))
+
+-- go
+
+module _ (text vals : List ℕ) (first n : ℕ) where
+  pub read-points-once : Once (λ (r : GoValue). r ≡ pointsOf (valuesAt text vals first n))
+  read-points-once = once-is (pointsOf (valuesAt text vals first n))
+
+  pub value-by-once : (shape : Shape) → Once (λ (r : Value). r ≡ valueBy shape (valuesAt text vals first n) .value)
+  value-by-once shape = once-is (valueBy shape (valuesAt text vals first n) .value)
+
+  pub go-value-once : (kind : ℕ) (identifier : List ℕ) → Once (λ (r : GoValue). r ≡ goValue kind (readIdentifier identifier) (valuesAt text vals first n))
+  go-value-once kind identifier = once-is (goValue kind (readIdentifier identifier) (valuesAt text vals first n))
