@@ -65,6 +65,7 @@ pub struct GoAnswer {
     pub go: GoValue,
 }
 
+// A refused Go value: "other", no point marked.
 fn refused(reason: Reason) -> GoAnswer
     ensures { λ r. ⌜ r ≡ refuses reason ⌝ }
 {

@@ -135,6 +135,7 @@ struct Figures {
     handicap: u64,
 }
 
+// A Go value without its marks, as the header's figures.
 fn figures_of(value: Value) -> Figures
     ensures { λ r. ⌜ r ≡ figuresShown value ⌝ }
 {

@@ -53,6 +53,7 @@ pub struct SgfToken {
     pub to: usize,
 }
 
+// A token without an identifier.
 fn single(kind: u32, from: usize, to: usize) -> SgfToken
     ensures { λ r. ⌜ (r .kind ≡ kind) × (r .number ≡ 0) × (r .from ≡ from) × (r .opens ≡ from) × (r .to ≡ to) ⌝ }
 {
@@ -65,6 +66,7 @@ fn single(kind: u32, from: usize, to: usize) -> SgfToken
     }
 }
 
+// A fault: its number, and the start of the token.
 fn faulty(number: u32, from: usize) -> SgfToken
     ensures { λ r. ⌜ (r .kind ≡ 5) × (r .number ≡ number) × (r .from ≡ from) × (r .opens ≡ from) × (r .to ≡ from) ⌝ }
 {

@@ -12,6 +12,7 @@ pub struct GoValue {
     pub marks: [bool; 2704],
 }
 
+// A value with no point marked.
 fn unmarked_value(v: Value) -> GoValue
     ensures { λ r. ⌜ r ≡ unmarked v ⌝ }
 {

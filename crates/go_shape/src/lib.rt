@@ -29,6 +29,7 @@ fn next_letter(s: &[u8], from: usize) -> Step
     Step::End
 }
 
+// What an identifier of one letter takes.
 fn shape_of_one(a: u8) -> Shape
     ensures { λ r. ⌜ r ≡ shapeOf (a ∷ []) ⌝ }
 {
@@ -38,6 +39,7 @@ fn shape_of_one(a: u8) -> Shape
     Shape::Unread
 }
 
+// What an identifier of two letters takes.
 fn shape_of_two(a: u8, b: u8) -> Shape
     ensures { λ r. ⌜ r ≡ shapeOf (a ∷ b ∷ []) ⌝ }
 {

@@ -33,6 +33,7 @@ pub enum Head {
     Done,
 }
 
+// How the token at a place begins that is no white space.
 fn head_from(s: &[u8], at: usize) -> Head
     ensures { λ r. ⌜ r ≡ headFrom (now (s .entry)) at ⌝ }
 {
@@ -74,6 +75,7 @@ pub enum Step {
     Done,
 }
 
+// A property whose first `[` stands at `opens`, with all its values.
 fn property(s: &[u8], from: usize, opens: usize) -> Step
     ensures { λ r. ⌜ r ≡ onValues from opens (valuesAt (now (s .entry)) opens) ⌝ }
 {

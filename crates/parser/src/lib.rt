@@ -35,6 +35,7 @@ struct Split {
     stop: Stop,
 }
 
+// The larger of two numbers.
 fn larger(a: usize, b: usize) -> usize
     ensures { λ r. ⌜ r ≡ max a b ⌝ }
 {
@@ -112,6 +113,7 @@ fn fault_or_end(s: &[u8], from: usize) -> Survey
     }
 }
 
+// So many slices, unless one is too deep.
 fn unless_deep(deepest: usize, n: usize) -> Survey
     ensures { λ r. ⌜ r ≡ pick (ltb depthLimit deepest) (Refused TooDeep 0) (Slices n) ⌝ }
 {

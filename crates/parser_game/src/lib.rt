@@ -66,6 +66,7 @@ fn kind_values(s: &[u8], k: usize) -> GameType
     GameType::Refused(Reason::InvalidGameType)
 }
 
+// The game type by the one GM that was found, or Go.
 fn conclude(s: &[u8], found: bool, k: usize) -> GameType
     ensures { λ r. ⌜ r ≡ typeOf (concluded found (valsAt (now (s .entry)) k)) ⌝ }
 {

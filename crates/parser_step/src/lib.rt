@@ -35,6 +35,7 @@ pub enum Act {
     Over(usize),
 }
 
+// The node at a depth of the stack.
 fn peek(stack: &[u32; 1024], d: usize) -> u32
     requires { ⌜ d < 1024 ⌝ }
     ensures { λ r. ⌜ r ≡ getD (now (stack .entry)) d 0 ⌝ }

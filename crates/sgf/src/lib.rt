@@ -117,6 +117,7 @@ pub extern "C" fn sgf_value(
     ))
 }
 
+// The kind of display by its number.
 fn kind_of(kind: u32) -> Kind
     ensures { λ r. ⌜ r ≡ kindOf kind ⌝ }
 {
@@ -156,6 +157,7 @@ pub extern "C" fn sgf_display(
     ))
 }
 
+// The number of a refusal, 0 for none.
 fn refusal_number(refusal: Refusal) -> u32
     ensures { λ r. ⌜ r ≡ refusalNumber refusal ⌝ }
 {

@@ -26,6 +26,7 @@ fn fitting(n: usize, room: usize) -> usize
     room
 }
 
+// Bytes copied to a place that has room for them.
 fn copy(out: &mut [u8], at: usize, s: &[u8])
     requires { ⌜ at + length (now s) ≤ length (now out) ⌝ }
     ensures { λ _. ⌜ now (out .exit) ≡ sets (now (out .entry)) at (now (s .entry)) ⌝ }

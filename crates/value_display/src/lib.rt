@@ -26,18 +26,21 @@ struct Ahead {
     next: usize,
 }
 
+// White space of one byte, but for line breaks.
 fn is_blank1(a: u8) -> bool
     ensures { λ r. ⌜ r ≡ blank1 a ⌝ }
 {
     (a == 0x09) | ((a == 0x0B) | ((a == 0x0C) | (a == 0x20)))
 }
 
+// White space of two bytes.
 fn is_blank2(a: u8, b: u8) -> bool
     ensures { λ r. ⌜ r ≡ blank2 a b ⌝ }
 {
     (a == 0xC2) & ((b == 0x85) | (b == 0xA0))
 }
 
+// White space of three bytes.
 fn is_blank3(a: u8, b: u8, c: u8) -> bool
     ensures { λ r. ⌜ r ≡ blank3 a b c ⌝ }
 {
@@ -175,6 +178,7 @@ fn next_simple(s: &[u8], at: usize) -> Step
     Step::Byte(b' ', second.next)
 }
 
+// The next byte of what is shown, by the kind.
 fn next_shown(kind: Kind, s: &[u8], at: usize) -> Step
     ensures { λ r. ⌜ Shows (shown kind) (now (s .entry)) at r ⌝ }
 {

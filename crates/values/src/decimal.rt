@@ -93,12 +93,14 @@ pub fn decimal_within(s: &[u8], most: u64) -> Number
     }
 }
 
+// A number within 64 bits with sign.
 pub fn read_i64(s: &[u8]) -> Number
     ensures { λ r. ⌜ r ≡ decimalOf (2 ^ 63 - 1) (readValue (now (s .entry))) ⌝ }
 {
     decimal_within(s, 0x7fff_ffff_ffff_ffff)
 }
 
+// A number within 32 bits with sign.
 pub fn read_i32(s: &[u8]) -> Number
     ensures { λ r. ⌜ r ≡ decimalOf (2 ^ 31 - 1) (readValue (now (s .entry))) ⌝ }
 {

@@ -8,6 +8,7 @@ pub enum Step {
     End,
 }
 
+// The next byte of the read value.
 pub fn next_read(s: &[u8], at: usize) -> Step
     ensures { λ r. ⌜ r ≡ nextRead (now (s .entry)) at ⌝ }
 {

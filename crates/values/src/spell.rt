@@ -11,6 +11,7 @@ struct Digits {
     from: usize,
 }
 
+// The decimal digits of a number, at the end of 20 bytes.
 fn digits_of(n: u64) -> Digits
     ensures { λ r. ⌜ (drop (r .from) (r .bytes) ≡ decimal n) × (r .from ≤ 20) × (length (r .bytes) ≡ 20) ⌝ }
 {
