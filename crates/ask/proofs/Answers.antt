@@ -7,6 +7,7 @@ use Rattle.go.specs.declared.value.GoValue.{GoValue}
 use Rattle.tables.specs.declared.Counts.{Counts}
 use Rattle.tables.specs.declared.Reason.the-variants.{NoSuchNumber, NotFitting}
 use Rattle.tables.specs.Columns.{firstValAt, valCountAt}
+use Rattle.tables.specs.Memory.{memory}
 use Rattle.fit.specs.Fit.{Fit}
 use Rattle.fit.proofs.Clauses.{Clauses, fit-clauses, name-in}
 use Rattle.fit.proofs.RootRows.{root-in}
@@ -15,15 +16,15 @@ use Rattle.ask.specs.Locals.{Rooted, Named, kindFrom, nameAt}
 use Rattle.ask.proofs.Goes.{trees-some, go-of-rows}
 
 module _ (t : List ℕ) (used : ℕ) (c : Counts) (tr nd pr vl : List ℕ) (p : ℕ) where
-  pub go-unfit : Fit t used c tr nd pr vl ≡ false → refuses NotFitting ≡ goAnswer t used c tr nd pr vl p
+  pub go-unfit : Fit (memory t used c tr nd pr vl) ≡ false → refuses NotFitting ≡ goAnswer (memory t used c tr nd pr vl) p
   unfolding goAnswer
   go-unfit h = rw h
 
-  module _ (h : Fit t used c tr nd pr vl ≡ true) where
+  module _ (h : Fit (memory t used c tr nd pr vl) ≡ true) where
     f : Clauses (take used t) c tr nd pr vl
     f = fit-clauses t used c tr nd pr vl h
 
-    pub go-no : c .properties ≤ p → refuses NoSuchNumber ≡ goAnswer t used c tr nd pr vl p
+    pub go-no : c .properties ≤ p → refuses NoSuchNumber ≡ goAnswer (memory t used c tr nd pr vl) p
     unfolding goAnswer
     go-no l = rw (h, le-ltb p (c .properties) l)
 
@@ -40,6 +41,6 @@ module _ (t : List ℕ) (used : ℕ) (c : Counts) (tr nd pr vl : List ℕ) (p : 
       go-named = record { row = omega (arith, f .held .properties); rises = name-in f p l .0; inside = name-in f p l .1 }
 
       pub go-yes : {k : ℕ} {g : GoValue} → k ≡ kindFrom tr nd p 0 (c .trees - 1) → g ≡ goValue k (readIdentifier (nameAt (take used t) pr p)) (valuesAt (take used t) vl (firstValAt pr p) (valCountAt pr p))
-          → given g ≡ goAnswer t used c tr nd pr vl p
+          → given g ≡ goAnswer (memory t used c tr nd pr vl) p
       unfolding goAnswer
       go-yes x e = rw (h, lt-ltb p (c .properties) l) (ap given (e ∙ ap (λ (z : ℕ). goValue z (readIdentifier (nameAt (take used t) pr p)) (valuesAt (take used t) vl (firstValAt pr p) (valCountAt pr p))) x ∙ sym (go-of-rows f p l)))

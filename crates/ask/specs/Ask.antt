@@ -1,5 +1,5 @@
 -- What a record in memory answers by number: how a value is displayed, and the Go value of a property.
-use Rattle.lists.specs.Prelude.{ℕ, _-_, _≡_, List, [], _∷_, ltb, length, getD, take, slice, pick}
+use Rattle.lists.specs.Prelude.{ℕ, _-_, _≡_, List, [], _∷_, ltb, length, getD, slice, pick}
 use Rattle.lexer.specs.Token.{Prop}
 use Rattle.values.specs.Read.{readValue, readIdentifier}
 use Rattle.value_display.specs.Display.{shown, displayed, displayedIn}
@@ -11,12 +11,12 @@ use Rattle.go.specs.declared.value.GoValue.{GoValue}
 use Rattle.go_points.specs.declared.Value.the-variants.{Other}
 use Rattle.tables.specs.Numbers.{numberOf}
 use Rattle.tables.specs.Record.{Tree, allProps}
-use Rattle.tables.specs.declared.Counts.{Counts}
+use Rattle.tables.specs.Memory.{Memory}
 use Rattle.tables.specs.declared.Reason.{Reason}
 use Rattle.tables.specs.declared.Reason.the-variants as reason
 use Rattle.ask_value.specs.Access.{accessed}
 use Rattle.fit.specs.Fit.{Fit}
-use Rattle.fit.specs.Record.{rowsOf, rawsOf, recordOf}
+use Rattle.fit.specs.Record.{rawsOf, recordIn}
 use Rattle.ask_value.specs.declared.Accessed.{Accessed}
 use Rattle.ask_value.specs.declared.Accessed.the-variants.{Part, Refused}
 use Rattle.ask.specs.declared.Shown.{Shown}
@@ -49,9 +49,9 @@ displayIn t (Part a e) kind out = shownIn kind (slice a e t) out
 displayIn t (Refused r) kind out = out
 
 -- the display of value k: the answer and the lent bytes
-pub record DisplayIs (t : List ℕ) (used : ℕ) (c : Counts) (tr nd pr vl : List ℕ) (k : ℕ) (kind : Kind) (out out′ : List ℕ) (r : Shown) : Type 0 where
-  pub is : r ≡ display t (accessed t used c tr nd pr vl k) kind out
-  pub bytes : out′ ≡ displayIn t (accessed t used c tr nd pr vl k) kind out
+pub record DisplayIs (m : Memory) (k : ℕ) (kind : Kind) (out out′ : List ℕ) (r : Shown) : Type 0 where
+  pub is : r ≡ display (m .text) (accessed m k) kind out
+  pub bytes : out′ ≡ displayIn (m .text) (accessed m k) kind out
 
 -- no property
 abbrev pub noProp : Prop
@@ -75,10 +75,10 @@ abbrev pub refuses : Reason → GoAnswer
 refuses r = record { refusal = Because r; go = unmarked Other }
 
 -- 19 where the tables don't fit the text; then 16 where p is not below the count; else the Go value of property p
-unfoldable pub goAnswer : List ℕ → ℕ → Counts → (tr nd pr vl : List ℕ) → ℕ → GoAnswer
-goAnswer t used c tr nd pr vl p =
-    pick (Fit t used c tr nd pr vl)
-    (pick (ltb p (c .properties)) (given (goAt (recordOf (take used t) (rowsOf c tr nd pr vl)) p)) (refuses reason.NoSuchNumber))
+unfoldable pub goAnswer : Memory → ℕ → GoAnswer
+goAnswer m p =
+    pick (Fit m)
+    (pick (ltb p (m .counts .properties)) (given (goAt (recordIn m) p)) (refuses reason.NoSuchNumber))
     (refuses reason.NotFitting)
 
 -- its number

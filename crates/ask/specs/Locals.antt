@@ -1,12 +1,12 @@
 -- What the steps of a question promise each other.
 use Rattle.lists.specs.Prelude.{ℕ, zero, suc, _/_, _<_, _≤_, List, ltb, length, slice, pick}
-use Rattle.tables.specs.Columns.{rootAt, kindAt, firstPropAt, nameFromAt, nameToAt}
+use Rattle.tables.specs.Columns.{treeStride, nodeStride, propertyStride, rootAt, kindAt, firstPropAt, nameFromAt, nameToAt}
 
 -- there are m trees, at least one, and each root is a row
 pub record Rooted (m : ℕ) (tr nd : List ℕ) : Type 0 where
   pub some : 0 < m
-  pub rows : m ≤ length tr / 2
-  pub roots : (r : ℕ) → r < m → rootAt tr r < length nd / 5
+  pub rows : m ≤ length tr / treeStride
+  pub roots : (r : ℕ) → r < m → rootAt tr r < length nd / nodeStride
 
 -- of tree r and the m behind it: the game type of the last whose root's first property is not behind p
 unfoldable pub kindFrom : (tr nd : List ℕ) → (p r m : ℕ) → ℕ
@@ -15,7 +15,7 @@ kindFrom tr nd p r (suc m) = pick (ltb p (firstPropAt nd (rootAt tr (suc r)))) (
 
 -- property p is a row, and its identifier lies in the text
 pub record Named (p : ℕ) (t pr : List ℕ) : Type 0 where
-  pub row : p < length pr / 4
+  pub row : p < length pr / propertyStride
   pub rises : nameFromAt pr p ≤ nameToAt pr p
   pub inside : nameToAt pr p ≤ length t
 

@@ -14,6 +14,7 @@ ghost use Rattle.values.specs.Read.{readIdentifier};
 ghost use Rattle.ask.specs.Ask.{shownAs, shownIn, DisplayIs, refuses, goAnswer};
 ghost use Rattle.ask.specs.Locals.{Rooted, Named, kindFrom, nameAt};
 ghost use Rattle.tables.specs.Columns.{firstValAt, valCountAt};
+ghost use Rattle.tables.specs.Memory.{memory};
 
 // A display: its number of bytes, or why it is refused.
 pub enum Shown {
@@ -45,7 +46,9 @@ pub fn display(
     kind: Kind,
     out: &mut [u8],
 ) -> Shown
-    ensures { λ r. ⌜ DisplayIs (now (text .entry)) used counts (now (trees .entry)) (now (nodes .entry)) (now (properties .entry)) (now (values .entry)) k kind (now (out .entry)) (now (out .exit)) r ⌝ }
+    ensures { λ r. ⌜ DisplayIs
+        (memory (now (text .entry)) used counts (now (trees .entry)) (now (nodes .entry)) (now (properties .entry)) (now (values .entry)))
+        k kind (now (out .entry)) (now (out .exit)) r ⌝ }
 {
     match ask_value::access(text, used, counts, trees, nodes, properties, values, k) {
         Accessed::Part(start, end) => show(kind, &text[start..end], out),
@@ -98,7 +101,8 @@ fn kind_over(trees: &[u32], m: usize, nodes: &[u32], p: usize) -> u32
 // The Go value of property p in a tree with this game type.
 fn value_of(kind: u32, text: &[u8], properties: &[u32], values: &[u32], p: usize) -> GoValue
     requires { ⌜ Named p (now text) (now properties) ⌝ }
-    ensures { λ r. ⌜ r ≡ goValue kind (readIdentifier (nameAt (now (text .entry)) (now (properties .entry)) p)) (valuesAt (now (text .entry)) (now (values .entry)) (firstValAt (now (properties .entry)) p) (valCountAt (now (properties .entry)) p)) ⌝ }
+    ensures { λ r. ⌜ r ≡ goValue kind (readIdentifier (nameAt (now (text .entry)) (now (properties .entry)) p))
+        (valuesAt (now (text .entry)) (now (values .entry)) (firstValAt (now (properties .entry)) p) (valCountAt (now (properties .entry)) p)) ⌝ }
 {
     let start = lists::wide(properties[p * tables::PROPERTY_STRIDE]);
     let end = lists::wide(properties[p * tables::PROPERTY_STRIDE + 1]);
@@ -118,7 +122,8 @@ pub fn go_value(
     values: &[u32],
     p: usize,
 ) -> GoAnswer
-    ensures { λ r. ⌜ r ≡ goAnswer (now (text .entry)) used counts (now (trees .entry)) (now (nodes .entry)) (now (properties .entry)) (now (values .entry)) p ⌝ }
+    ensures { λ r. ⌜ r ≡ goAnswer
+        (memory (now (text .entry)) used counts (now (trees .entry)) (now (nodes .entry)) (now (properties .entry)) (now (values .entry))) p ⌝ }
 {
     if !fit::fits(text, used, counts, trees, nodes, properties, values) {
         return refused(Reason::NotFitting);

@@ -5,6 +5,7 @@ use Rattle.tables.specs.declared.Counts.{Counts}
 use Rattle.tables.specs.declared.Reason.the-variants.{NoSuchNumber, NotFitting}
 use Rattle.ask_value.specs.Access.{accessed, handed}
 use Rattle.tables.specs.Columns.{valFromAt, valToAt}
+use Rattle.tables.specs.Memory.{memory}
 use Rattle.fit.specs.Fit.{Fit}
 use Rattle.ask_value.specs.declared.Accessed.{Accessed}
 use Rattle.ask_value.specs.declared.Accessed.the-variants.{Part, Refused}
@@ -13,11 +14,11 @@ use Rattle.fit.proofs.Clauses.{fit-vals}
 use Rattle.fit.proofs.Whole.{fit-lent}
 
 module _ (t : List ℕ) (used : ℕ) (c : Counts) (tr nd pr vl : List ℕ) where
-  pub access-inside : (k a e : ℕ) → accessed t used c tr nd pr vl k ≡ Part a e → (a ≤ e) × (e ≤ length t)
+  pub access-inside : (k a e : ℕ) → accessed (memory t used c tr nd pr vl) k ≡ Part a e → (a ≤ e) × (e ≤ length t)
   unfolding accessed
-  access-inside k a e h = go (Fit t used c tr nd pr vl) (ltb k (c .values)) refl refl h
+  access-inside k a e h = go (Fit (memory t used c tr nd pr vl)) (ltb k (c .values)) refl refl h
     where
-      go : (f l : Bool) → Fit t used c tr nd pr vl ≡ f → ltb k (c .values) ≡ l
+      go : (f l : Bool) → Fit (memory t used c tr nd pr vl) ≡ f → ltb k (c .values) ≡ l
           → pick f (pick l (Part (valFromAt vl k) (valToAt vl k)) (Refused NoSuchNumber)) (Refused NotFitting) ≡ Part a e → (a ≤ e) × (e ≤ length t)
       go true true ef el q =
           let x : valFromAt vl k ≡ a = cc in

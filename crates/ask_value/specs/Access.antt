@@ -1,18 +1,18 @@
 -- Value access: what is answered, and what is handed out.
 use Rattle.lists.specs.Prelude.{ℕ, List, [], ltb, slice, pick}
 use Rattle.tables.specs.Numbers.{numberOf}
-use Rattle.tables.specs.declared.Counts.{Counts}
 use Rattle.tables.specs.declared.Reason.the-variants.{NoSuchNumber, NotFitting}
 use Rattle.tables.specs.Columns.{valFromAt, valToAt}
+use Rattle.tables.specs.Memory.{Memory}
 use Rattle.fit.specs.Fit.{Fit}
 use Rattle.ask_value.specs.declared.Accessed.{Accessed}
 use Rattle.ask_value.specs.declared.Accessed.the-variants.{Part, Refused}
 
 -- 19 where the tables don't fit the text; then 16 where k is not below the count; else the span of value k
-unfoldable pub accessed : List ℕ → ℕ → Counts → (tr nd pr vl : List ℕ) → ℕ → Accessed
-accessed t used c tr nd pr vl k =
-    pick (Fit t used c tr nd pr vl)
-    (pick (ltb k (c .values)) (Part (valFromAt vl k) (valToAt vl k)) (Refused NoSuchNumber))
+unfoldable pub accessed : Memory → ℕ → Accessed
+accessed m k =
+    pick (Fit m)
+    (pick (ltb k (m .counts .values)) (Part (valFromAt (m .values) k) (valToAt (m .values) k)) (Refused NoSuchNumber))
     (Refused NotFitting)
 
 -- the number given back
@@ -26,5 +26,5 @@ handed t (Part a e) = slice a e t
 handed t (Refused r) = []
 
 -- the raw bytes of value k
-abbrev pub rawValue : List ℕ → ℕ → Counts → (tr nd pr vl : List ℕ) → ℕ → List ℕ
-rawValue t used c tr nd pr vl k = handed t (accessed t used c tr nd pr vl k)
+abbrev pub rawValue : Memory → ℕ → List ℕ
+rawValue m k = handed (m .text) (accessed m k)

@@ -2,7 +2,8 @@
 ghost use mathlib.Core.Path.{_≡_};
 ghost use Prim.Native.Nat.{_/_, _<_};
 ghost use lib.ListN.{length};
-ghost use Rattle.tables.specs.Columns.{valFromAt, valToAt};
+ghost use Rattle.tables.specs.Columns.{valueStride, valFromAt, valToAt};
+ghost use Rattle.tables.specs.Memory.{memory};
 ghost use Rattle.ask_value.specs.declared.Accessed.the-variants.{Part};
 ghost use Rattle.ask_value.specs.Access.{accessed, rawValue};
 
@@ -14,7 +15,7 @@ pub enum Accessed {
 
 // The part of value k.
 fn part_of(values: &[u32], k: usize) -> Accessed
-    requires { ⌜ k < length (now values) / 2 ⌝ }
+    requires { ⌜ k < length (now values) / valueStride ⌝ }
     ensures { λ r. ⌜ r ≡ Part (valFromAt (now (values .entry)) k) (valToAt (now (values .entry)) k) ⌝ }
 {
     let start = lists::wide(values[k * tables::VALUE_STRIDE]);
@@ -33,7 +34,8 @@ pub fn access(
     values: &[u32],
     k: usize,
 ) -> Accessed
-    ensures { λ r. ⌜ r ≡ accessed (now (text .entry)) used counts (now (trees .entry)) (now (nodes .entry)) (now (properties .entry)) (now (values .entry)) k ⌝ }
+    ensures { λ r. ⌜ r ≡ accessed
+        (memory (now (text .entry)) used counts (now (trees .entry)) (now (nodes .entry)) (now (properties .entry)) (now (values .entry))) k ⌝ }
 {
     if !fit::fits(text, used, counts, trees, nodes, properties, values) {
         return Accessed::Refused(tables::Reason::NotFitting);
@@ -55,7 +57,8 @@ pub fn value<'a>(
     values: &[u32],
     k: usize,
 ) -> &'a [u8]
-    ensures { λ r. ⌜ now r ≡ rawValue (now (text .entry)) used counts (now (trees .entry)) (now (nodes .entry)) (now (properties .entry)) (now (values .entry)) k ⌝ }
+    ensures { λ r. ⌜ now r ≡ rawValue
+        (memory (now (text .entry)) used counts (now (trees .entry)) (now (nodes .entry)) (now (properties .entry)) (now (values .entry))) k ⌝ }
 {
     match access(text, used, counts, trees, nodes, properties, values, k) {
         Accessed::Part(start, end) => &text[start..end],

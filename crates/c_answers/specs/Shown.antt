@@ -62,5 +62,6 @@ writingShown (NotWritten r) = record { number = numberOf r; reserved = 0; length
 
 -- the new used length and the counts; a refusal's number and place, and all else 0
 abbrev pub editShown : Counts → Edited → SgfEdit
-editShown c (Changed n) = record { number = 0; reserved = 0; place = 0; used = n; trees = c .trees; nodes = c .nodes; properties = c .properties; values = c .values }
+editShown c (Changed n) =
+    record { number = 0; reserved = 0; place = 0; used = n; trees = c .trees; nodes = c .nodes; properties = c .properties; values = c .values }
 editShown c (NotChanged r p) = record { number = numberOf r; reserved = 0; place = p; used = 0; trees = 0; nodes = 0; properties = 0; values = 0 }

@@ -7,6 +7,7 @@ use Rattle.tables.specs.Rows.{tables, countsOf}
 use Rattle.tables.specs.declared.Counts.{Counts}
 use Rattle.tables.specs.declared.Reading.the-variants.{Accepted}
 use Rattle.tables.specs.declared.Reason.the-variants.{TooDeep}
+use Rattle.tables.specs.Memory.{memory}
 use Rattle.fit.specs.Fit.{Fit}
 use Rattle.fit.specs.Record.{rowsOf, recordOf}
 use Rattle.parser.specs.Read.{refused, accepted, read}
@@ -29,7 +30,7 @@ module _ (op : Opts) (t : List ℕ) (before after : Lent) (c : Counts) (x : Read
   counts-read = counts-are-lengths op t before after c x
 
   -- an accepted reading fits its text
-  pub reading-fits : Fit t (length t) c (after .trees) (after .nodes) (after .props) (after .vals) ≡ true
+  pub reading-fits : Fit (memory t (length t) c (after .trees) (after .nodes) (after .props) (after .vals)) ≡ true
   reading-fits = read-fits op t before after c x
 
   -- its rows are those of the record, and denote it
@@ -38,7 +39,7 @@ module _ (op : Opts) (t : List ℕ) (before after : Lent) (c : Counts) (x : Read
   reading-denotes = read-rows op t before after c x
 
   -- what the writer makes of these tables is the writing of that record
-  pub reading-written : (out out′ : List ℕ) (n : ℕ) → WriteIs t (length t) c (after .trees) (after .nodes) (after .props) (after .vals) out out′ (Wrote n)
+  pub reading-written : (out out′ : List ℕ) (n : ℕ) → WriteIs (memory t (length t) c (after .trees) (after .nodes) (after .props) (after .vals)) out out′ (Wrote n)
       → (ts : List Tree) × (read op t ≡ accepted ts) × (take n out′ ≡ writing ts)
   reading-written out out′ n w = bytes-written op t before after c x out out′ n w
 

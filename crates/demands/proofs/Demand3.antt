@@ -6,7 +6,8 @@ use Rattle.tables.specs.declared.Reading.the-variants.{Accepted}
 use Rattle.fit.specs.Record.{rowsOf}
 use Rattle.parser.specs.Read.{read}
 use Rattle.reader.specs.Lent.{Lent, lent, ReadIs}
-use Rattle.edit_laws.specs.Calls.{Memory, heldIn, Calls}
+use Rattle.tables.specs.Memory.{Memory}
+use Rattle.edit_laws.specs.Calls.{heldIn, Calls}
 use Rattle.edit_laws.specs.Run.{strictly, Order, Fresh, run}
 use Rattle.edit_laws.proofs.OnCode as code
 use Rattle.edit_laws.proofs.CallsRun as fitting
@@ -14,7 +15,7 @@ use Rattle.demands.proofs.Rereadings.{read-fresh, reread}
 
 module _ (c : Bool) (s : Memory) where
   -- memory that holds a strict reading of the used text, as the reader leaves it
-  pub reading-fresh : (before : Lent) → ReadIs (read (strictly c) (heldIn s .text)) before (lent (s .trees) (s .nodes) (s .rest .properties) (s .rest .values)) (Accepted (s .counts))
+  pub reading-fresh : (before : Lent) → ReadIs (read (strictly c) (heldIn s .text)) before (lent (s .trees) (s .nodes) (s .properties) (s .values)) (Accepted (s .counts))
       → Fresh (strictly c) (heldIn s)
   reading-fresh = read-fresh c s
 
@@ -33,5 +34,5 @@ module _ (c : Bool) (s : Memory) where
     fresh-reading xs s′ h before after k x = reread c s′ (code.calls-fresh c s s′ xs f h) before after k x
 
 -- tables that fit, of whatever reading, fit all along, and the calls do what the definition's run of edits does
-pub calls-run : (s s′ : Memory) (xs : List Order) → fitting.Fitting s → Calls s xs s′ → fitting.Fitting s′ × (heldIn s′ ≡ run (length (s .rest .buffer)) (heldIn s) xs)
+pub calls-run : (s s′ : Memory) (xs : List Order) → fitting.Fitting s → Calls s xs s′ → fitting.Fitting s′ × (heldIn s′ ≡ run (length (s .text)) (heldIn s) xs)
 calls-run s s′ xs f k = (fitting.calls-fit s s′ xs f k, fitting.calls-run s s′ xs f k)

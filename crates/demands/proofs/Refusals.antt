@@ -5,6 +5,7 @@ use Rattle.value_display.specs.Display.{shown, displayed, displayedIn}
 use Rattle.values.specs.Read.{readValue}
 use Rattle.value_display.specs.declared.Kind.{Kind}
 use Rattle.value_display.specs.declared.Displayed.the-variants.{Length, NoRoom}
+use Rattle.tables.specs.Memory.{Memory}
 use Rattle.tables.specs.Rows.{tables, countsOf}
 use Rattle.tables.specs.declared.Reading.the-variants.{Accepted, Refused}
 use Rattle.tables.specs.declared.Reason.{Reason}
@@ -18,7 +19,7 @@ use Rattle.ask.specs.declared.Shown.the-variants.{NotShown}
 use Rattle.edit_answer.specs.Answer as decide
 use Rattle.edit_answer.specs.Edit.{Outcome, refuses, gives}
 use Rattle.edit_answer.specs.declared.Edited.the-variants as edited
-use Rattle.edit.specs.Lent as lent
+use Rattle.edit.specs.Lent as edit
 
 pub reading-leaves : (a : Answer) (before after : Lent) (r : Reason) (p : ℕ) → Refused r p ≡ answers a before → after ≡ leaves a before → after ≡ before
 reading-leaves (refused s q) before after r p e l = l
@@ -28,9 +29,9 @@ reading-leaves (accepted ts) before after r p e l = go (roomy (tables ts) before
     go true e l = never cc
     go false e l = l
 
-pub edit-leaves : (o : Outcome) (used : ℕ) (before after : lent.Lent) (r : Reason) (p : ℕ) → edited.Refused r p ≡ decide.answers o → after ≡ lent.leaves o used before → after ≡ before
-edit-leaves (refuses s q) used before after r p e l = l
-edit-leaves (gives t T) used before after r p e l = never cc
+pub edit-leaves : (o : Outcome) (before after : Memory) (r : Reason) (p : ℕ) → edited.Refused r p ≡ decide.answers o → after ≡ edit.leaves o before → after ≡ before
+edit-leaves (refuses s q) before after r p e l = l
+edit-leaves (gives t T) before after r p e l = never cc
 
 pub display-leaves : (t : List ℕ) (a : Accessed) (kind : Kind) (out out′ : List ℕ) (r : Reason) → NotShown r ≡ display t a kind out → out′ ≡ displayIn t a kind out → out′ ≡ out
 unfolding displayed displayedIn

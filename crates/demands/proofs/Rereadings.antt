@@ -8,13 +8,14 @@ use Rattle.fit.specs.Record.{rowsOf}
 use Rattle.parser.specs.Read.{accepted, read}
 use Rattle.reader.specs.Lent.{Lent, lent, ReadIs}
 use Rattle.reader_laws.proofs.Lent.{read-rows}
-use Rattle.edit_laws.specs.Calls.{Memory, heldIn}
+use Rattle.tables.specs.Memory.{Memory}
+use Rattle.edit_laws.specs.Calls.{heldIn}
 use Rattle.edit_laws.specs.Run.{strictly, Fresh}
 
 pub read-fresh : (c : Bool) (s : Memory) (before : Lent)
-    → ReadIs (read (strictly c) (heldIn s .text)) before (lent (s .trees) (s .nodes) (s .rest .properties) (s .rest .values)) (Accepted (s .counts)) → Fresh (strictly c) (heldIn s)
+    → ReadIs (read (strictly c) (heldIn s .text)) before (lent (s .trees) (s .nodes) (s .properties) (s .values)) (Accepted (s .counts)) → Fresh (strictly c) (heldIn s)
 read-fresh c s before x =
-    let r = read-rows (strictly c) (heldIn s .text) before (lent (s .trees) (s .nodes) (s .rest .properties) (s .rest .values)) (s .counts) x in
+    let r = read-rows (strictly c) (heldIn s .text) before (lent (s .trees) (s .nodes) (s .properties) (s .values)) (s .counts) x in
     record { trees = r .0; reads = r .1; same-rows = r .2 }
 
 trees-once : {ts us : List Tree} → accepted ts ≡ accepted us → ts ≡ us

@@ -4,10 +4,8 @@ use Rattle.parser.specs.Read.{Answer}
 use Rattle.reader.specs.Lent.{Lent}
 use Rattle.lists.proofs.Once.{once-is}
 use Rattle.lists.specs.Once.{Once}
-use Rattle.tables.specs.declared.Counts.{Counts}
+use Rattle.tables.specs.Memory.{Memory}
 use Rattle.value_display.specs.declared.Kind.{Kind}
-use Rattle.ask_value.specs.declared.Accessed.{Accessed}
-use Rattle.edit_answer.specs.Edit.{Outcome}
 use Rattle.sgf.specs.Asked.{fitsShown, DisplayShown}
 use Rattle.sgf.specs.Changed.{WriteShown, EditShown}
 use Rattle.c_answers.specs.declared.SgfDisplay.{SgfDisplay}
@@ -15,7 +13,6 @@ use Rattle.c_answers.specs.declared.SgfEdit.{SgfEdit}
 use Rattle.c_answers.specs.declared.SgfWriting.{SgfWriting}
 use Rattle.sgf.specs.Shown.{ReadShown}
 use Rattle.c_answers.specs.declared.SgfReading.{SgfReading}
-use Rattle.edit.specs.Lent as edit
 
 -- sgf
 
@@ -28,12 +25,12 @@ pub fits-once : (x : Bool) → Once (λ (n : ℕ). n ≡ fitsShown x)
 fits-once x = once-is (fitsShown x)
 
 -- the answer and the bytes lent
-pub display-once : (t : List ℕ) (a : Accessed) (kind : Kind) (out x y : List ℕ) (r s : SgfDisplay) → DisplayShown t a kind out x r → DisplayShown t a kind out y s → (r ≡ s) × (x ≡ y)
-display-once t a kind out x y r s p q = (p .is ∙ sym (q .is), p .bytes ∙ sym (q .bytes))
+pub display-once : (m : Memory) (k : ℕ) (kind : Kind) (out x y : List ℕ) (r s : SgfDisplay) → DisplayShown m k kind out x r → DisplayShown m k kind out y s → (r ≡ s) × (x ≡ y)
+display-once m k kind out x y r s p q = (p .is ∙ sym (q .is), p .bytes ∙ sym (q .bytes))
 
-pub write-once : (t : List ℕ) (used : ℕ) (c : Counts) (tr nd pr vl out x y : List ℕ) (r s : SgfWriting) → WriteShown t used c tr nd pr vl out x r → WriteShown t used c tr nd pr vl out y s → (r ≡ s) × (x ≡ y)
-write-once t used c tr nd pr vl out x y r s p q = (p .is ∙ sym (q .is), p .bytes ∙ sym (q .bytes))
+pub write-once : (m : Memory) (out x y : List ℕ) (r s : SgfWriting) → WriteShown m out x r → WriteShown m out y s → (r ≡ s) × (x ≡ y)
+write-once m out x y r s p q = (p .is ∙ sym (q .is), p .bytes ∙ sym (q .bytes))
 
--- the answer, the buffer and both tables
-pub edit-once : (o : Outcome) (used : ℕ) (c : Counts) (before x y : edit.Lent) (r s : SgfEdit) → EditShown o used c before x r → EditShown o used c before y s → (r ≡ s) × (x ≡ y)
-edit-once o used c before x y r s p q = (p .is ∙ sym (q .is), p .memory ∙ sym (q .memory))
+-- the answer, and all lent memory
+pub edit-once : (m x y : Memory) (k : ℕ) (new : List ℕ) (r s : SgfEdit) → EditShown m x k new r → EditShown m y k new s → (r ≡ s) × (x ≡ y)
+edit-once m x y k new r s p q = (p .is ∙ sym (q .is), p .memory ∙ sym (q .memory))

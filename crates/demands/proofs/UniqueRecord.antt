@@ -5,6 +5,7 @@ use Rattle.lists.specs.Once.{Once}
 use Rattle.tables.specs.declared.Counts.{Counts}
 use Rattle.fit_nodes.specs.Nodes.{linksFit}
 use Rattle.fit_spans.specs.Parts.{partsFit}
+use Rattle.tables.specs.Memory.{memory, Memory}
 use Rattle.fit.specs.Fit.{Fit}
 use Rattle.ask_value.specs.Access.{accessed, rawValue}
 use Rattle.ask_value.specs.declared.Accessed.{Accessed}
@@ -18,8 +19,7 @@ use Rattle.serialize.specs.declared.Written.{Written}
 use Rattle.edit_splice.specs.Splice.{replaced}
 use Rattle.edit_answer.specs.Answer.{outcomeOf, answers}
 use Rattle.edit_answer.specs.declared.Edited.{Edited}
-use Rattle.edit_answer.specs.Edit.{Outcome}
-use Rattle.edit.specs.Lent.{Lent, EditIs}
+use Rattle.edit.specs.Lent.{EditIs}
 
 -- fit_nodes
 
@@ -36,34 +36,34 @@ module _ (text : List ℕ) (counts : Counts) (nodes properties values : List ℕ
 -- fit
 
 module _ (text : List ℕ) (used : ℕ) (counts : Counts) (trees nodes properties values : List ℕ) where
-  pub fits-once : Once (λ (r : Bool). r ≡ Fit text used counts trees nodes properties values)
-  fits-once = once-is (Fit text used counts trees nodes properties values)
+  pub fits-once : Once (λ (r : Bool). r ≡ Fit (memory text used counts trees nodes properties values))
+  fits-once = once-is (Fit (memory text used counts trees nodes properties values))
 
 -- ask_value
 
 module _ (text : List ℕ) (used : ℕ) (counts : Counts) (trees nodes properties values : List ℕ) where
-  pub access-once : (k : ℕ) → Once (λ (r : Accessed). r ≡ accessed text used counts trees nodes properties values k)
-  access-once k = once-is (accessed text used counts trees nodes properties values k)
+  pub access-once : (k : ℕ) → Once (λ (r : Accessed). r ≡ accessed (memory text used counts trees nodes properties values) k)
+  access-once k = once-is (accessed (memory text used counts trees nodes properties values) k)
 
   -- of the bytes that are handed out
-  pub value-once : (k : ℕ) → Once (λ (r : List ℕ). r ≡ rawValue text used counts trees nodes properties values k)
-  value-once k = once-is (rawValue text used counts trees nodes properties values k)
+  pub value-once : (k : ℕ) → Once (λ (r : List ℕ). r ≡ rawValue (memory text used counts trees nodes properties values) k)
+  value-once k = once-is (rawValue (memory text used counts trees nodes properties values) k)
 
 -- ask
 
 module _ (text : List ℕ) (used : ℕ) (counts : Counts) (trees nodes properties values : List ℕ) where
   -- of the answer and the bytes lent
-  pub display-once : (k : ℕ) (kind : Kind) (out out1 out2 : List ℕ) (r1 r2 : Shown) → DisplayIs text used counts trees nodes properties values k kind out out1 r1
-      → DisplayIs text used counts trees nodes properties values k kind out out2 r2 → (r1 ≡ r2) × (out1 ≡ out2)
+  pub display-once : (k : ℕ) (kind : Kind) (out out1 out2 : List ℕ) (r1 r2 : Shown) → DisplayIs (memory text used counts trees nodes properties values) k kind out out1 r1
+      → DisplayIs (memory text used counts trees nodes properties values) k kind out out2 r2 → (r1 ≡ r2) × (out1 ≡ out2)
   display-once k kind out out1 out2 r1 r2 x y = (x .is ∙ sym (y .is), x .bytes ∙ sym (y .bytes))
 
-  pub go-value-once : (p : ℕ) → Once (λ (r : GoAnswer). r ≡ goAnswer text used counts trees nodes properties values p)
-  go-value-once p = once-is (goAnswer text used counts trees nodes properties values p)
+  pub go-value-once : (p : ℕ) → Once (λ (r : GoAnswer). r ≡ goAnswer (memory text used counts trees nodes properties values) p)
+  go-value-once p = once-is (goAnswer (memory text used counts trees nodes properties values) p)
 
 -- serialize
 
 pub write-once : (text : List ℕ) (used : ℕ) (counts : Counts) (trees nodes properties values out : List ℕ) (r s : Written) (x y : List ℕ)
-    → WriteIs text used counts trees nodes properties values out x r → WriteIs text used counts trees nodes properties values out y s → (r ≡ s) × (x ≡ y)
+    → WriteIs (memory text used counts trees nodes properties values) out x r → WriteIs (memory text used counts trees nodes properties values) out y s → (r ≡ s) × (x ≡ y)
 write-once text used counts trees nodes properties values out r s x y p q =
     let e : r ≡ s = p .is ∙ sym (q .is) in
     (e, p .bytes ∙ ap (λ (a : Written). output a (writing (recordOf (take used text) (rowsOf counts trees nodes properties values))) out) e ∙ sym (q .bytes))
@@ -77,11 +77,11 @@ replace-once buffer used start end new = once-is (replaced buffer used start end
 -- edit_answer
 
 pub decided-once : (text : List ℕ) (used : ℕ) (counts : Counts) (trees nodes properties values : List ℕ) (k : ℕ) (new : List ℕ)
-    → Once (λ (r : Edited). r ≡ answers (outcomeOf text used counts trees nodes properties values k new))
-decided-once text used counts trees nodes properties values k new = once-is (answers (outcomeOf text used counts trees nodes properties values k new))
+    → Once (λ (r : Edited). r ≡ answers (outcomeOf (memory text used counts trees nodes properties values) k new))
+decided-once text used counts trees nodes properties values k new = once-is (answers (outcomeOf (memory text used counts trees nodes properties values) k new))
 
 -- edit
 
 -- the answer, every byte of the buffer, every number of the two tables
-pub edit-once : (o : Outcome) (used : ℕ) (before x y : Lent) (r s : Edited) → EditIs o used before x r → EditIs o used before y s → (r ≡ s) × (x ≡ y)
-edit-once o used before x y r s p q = (p .answer ∙ sym (q .answer), p .memory ∙ sym (q .memory))
+pub edit-once : (m x y : Memory) (k : ℕ) (new : List ℕ) (r s : Edited) → EditIs m x k new r → EditIs m y k new s → (r ≡ s) × (x ≡ y)
+edit-once m x y k new r s p q = (p .answer ∙ sym (q .answer), p .memory ∙ sym (q .memory))

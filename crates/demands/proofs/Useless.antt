@@ -4,6 +4,7 @@ use Rattle.lists.proofs.Tests.{never}
 use Rattle.text_chars.specs.White.{white}
 use Rattle.text_utf8.specs.Trim.{trimmed}
 use Rattle.lexer_scan.specs.Scan.{space}
+use Rattle.tables.specs.Memory.{Memory, memory}
 use Rattle.tables.specs.Numbers.{none}
 use Rattle.tables.specs.declared.Counts.{Counts}
 use Rattle.tables.specs.declared.Reading.the-variants.{Accepted, Refused}
@@ -18,9 +19,9 @@ use Rattle.parser.specs.Examples.{bytes, strict}
 use Rattle.parser.specs.Read.{read}
 use Rattle.reader.specs.Lent.{Lent, lent, answers, ReadIs}
 use Rattle.edit_answer.specs.Answer as decide
-use Rattle.edit_answer.specs.Edit.{Outcome}
+use Rattle.edit_answer.specs.Answer.{outcomeOf}
 use Rattle.edit_answer.specs.declared.Edited.the-variants as edited
-use Rattle.edit.specs.Lent as edit
+use Rattle.edit.specs.Lent.{leaves, EditIs}
 
 -- so many rows
 abbrev rows : (trees nodes properties values : ℕ) → Counts
@@ -54,36 +55,36 @@ ten-first = refl
 pub hasty-reader : (after : Lent) (p : ℕ) → ReadIs (read strict (bytes "((;))")) nothing after (Refused NoRoom p) → ⊥
 hasty-reader after p x = let e = x .answer ∙ ten-first in never cc
 
--- the text of P10 in memory, its value 0 becoming `x`, and then its value 1 `y`
-abbrev first : edit.Lent
-first = edit.lent (bytes "(;C[ab];B[cd])") (2 ∷ 3 ∷ 0 ∷ 1 ∷ 8 ∷ 9 ∷ 1 ∷ 1 ∷ []) (4 ∷ 6 ∷ 10 ∷ 12 ∷ [])
+-- a text of two nodes in memory, with these properties and values
+abbrev held : (text : List ℕ) (used : ℕ) (properties values : List ℕ) → Memory
+held t used pr vl = memory t used (rows 1 2 2 2) (0 ∷ 0 ∷ []) (none ∷ 1 ∷ none ∷ 0 ∷ 1 ∷ 0 ∷ none ∷ none ∷ 1 ∷ 1 ∷ []) pr vl
 
-abbrev second : edit.Lent
-second = edit.lent (bytes "(;C[x];B[cd])" ++ (0 ∷ [])) (2 ∷ 3 ∷ 0 ∷ 1 ∷ 7 ∷ 8 ∷ 1 ∷ 1 ∷ []) (4 ∷ 5 ∷ 9 ∷ 11 ∷ [])
+-- the text of P10, its value 0 becoming `x`, and then its value 1 `y`; the used length is the caller's
+abbrev first : Memory
+first = held (bytes "(;C[ab];B[cd])") 14 (2 ∷ 3 ∷ 0 ∷ 1 ∷ 8 ∷ 9 ∷ 1 ∷ 1 ∷ []) (4 ∷ 6 ∷ 10 ∷ 12 ∷ [])
 
-abbrev third : edit.Lent
-third = edit.lent (bytes "(;C[x];B[y])" ++ (0 ∷ 0 ∷ [])) (2 ∷ 3 ∷ 0 ∷ 1 ∷ 7 ∷ 8 ∷ 1 ∷ 1 ∷ []) (4 ∷ 5 ∷ 9 ∷ 10 ∷ [])
+abbrev second : (used : ℕ) → Memory
+second used = held (bytes "(;C[x];B[cd])" ++ (0 ∷ [])) used (2 ∷ 3 ∷ 0 ∷ 1 ∷ 7 ∷ 8 ∷ 1 ∷ 1 ∷ []) (4 ∷ 5 ∷ 9 ∷ 11 ∷ [])
 
--- the edit of value k, of the first `used` bytes
-abbrev asked : edit.Lent → (used k : ℕ) → List ℕ → Outcome
-asked l used k new = decide.outcomeOf (l .buffer) used (rows 1 2 2 2) (0 ∷ 0 ∷ []) (none ∷ 1 ∷ none ∷ 0 ∷ 1 ∷ 0 ∷ none ∷ none ∷ 1 ∷ 1 ∷ []) (l .properties) (l .values) k new
+abbrev third : Memory
+third = held (bytes "(;C[x];B[y])" ++ (0 ∷ 0 ∷ [])) 13 (2 ∷ 3 ∷ 0 ∷ 1 ∷ 7 ∷ 8 ∷ 1 ∷ 1 ∷ []) (4 ∷ 5 ∷ 9 ∷ 10 ∷ [])
 
-first-edit : (decide.answers (asked first 14 0 (bytes "x")) ≡ edited.Changed 13) × (edit.leaves (asked first 14 0 (bytes "x")) 14 first ≡ second)
-unfolding decide.outcomeOf Fit fitText nodesFit rangesFit spansFit trimmed white each sum tabulate orphans upward onPath firstUnder spans ascending plainName
+first-edit : (decide.answers (outcomeOf first 0 (bytes "x")) ≡ edited.Changed 13) × (leaves (outcomeOf first 0 (bytes "x")) first ≡ second 14)
+unfolding outcomeOf Fit fitText nodesFit rangesFit spansFit trimmed white each sum tabulate orphans upward onPath firstUnder spans ascending plainName
 first-edit = (refl, refl)
 
-second-edit : edit.leaves (asked second 13 1 (bytes "y")) 13 second ≡ third
-unfolding decide.outcomeOf Fit fitText nodesFit rangesFit spansFit trimmed white each sum tabulate orphans upward onPath firstUnder spans ascending plainName
+second-edit : leaves (outcomeOf (second 13) 1 (bytes "y")) (second 13) ≡ third
+unfolding outcomeOf Fit fitText nodesFit rangesFit spansFit trimmed white each sum tabulate orphans upward onPath firstUnder spans ascending plainName
 second-edit = refl
 
 -- an edit that always refuses
-pub refusing-edit : (after : edit.Lent) (r : Reason) (p : ℕ) → edit.EditIs (asked first 14 0 (bytes "x")) 14 first after (edited.Refused r p) → ⊥
+pub refusing-edit : (after : Memory) (r : Reason) (p : ℕ) → EditIs first after 0 (bytes "x") (edited.Refused r p) → ⊥
 refusing-edit after r p x = let e = x .answer ∙ first-edit .0 in never cc
 
 -- one that does nothing and says yes
-pub idle-edit : (n : ℕ) → edit.EditIs (asked first 14 0 (bytes "x")) 14 first first (edited.Changed n) → ⊥
-idle-edit n x = let e : _≡_ {A = ℕ} 6 5 = ap (λ (l : edit.Lent). getD (l .values) 1 0) (x .memory ∙ first-edit .1) in absurd (omega (arith, e))
+pub idle-edit : (n : ℕ) → EditIs first first 0 (bytes "x") (edited.Changed n) → ⊥
+idle-edit n x = let e : _≡_ {A = ℕ} 6 5 = ap (λ (m : Memory). getD (m .values) 1 0) (x .memory ∙ first-edit .1) in absurd (omega (arith, e))
 
 -- one that mends the first call and merely says yes later
-pub later-idle-edit : (n : ℕ) → edit.EditIs (asked second 13 1 (bytes "y")) 13 second second (edited.Changed n) → ⊥
-later-idle-edit n x = let e : _≡_ {A = ℕ} 11 10 = ap (λ (l : edit.Lent). getD (l .values) 3 0) (x .memory ∙ second-edit) in absurd (omega (arith, e))
+pub later-idle-edit : (n : ℕ) → EditIs (second 13) (second 13) 1 (bytes "y") (edited.Changed n) → ⊥
+later-idle-edit n x = let e : _≡_ {A = ℕ} 11 10 = ap (λ (m : Memory). getD (m .values) 3 0) (x .memory ∙ second-edit) in absurd (omega (arith, e))

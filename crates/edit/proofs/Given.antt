@@ -1,5 +1,5 @@
 -- What an accepted edit says: the tables fit, the value is there, the new text is within the limit and the room. Assumes nothing.
-use Rattle.lists.proofs.Prelude.{ℕ, _+_, _-_, _≤_, _<_, Bool, true, false, List, _++_, _≡_, refl, sym, ap, ap₂, _∙_, subst⁻¹, arith, ltb, length, take, drop, ltb-true, ltb-false}
+use Rattle.lists.proofs.Prelude.{ℕ, _+_, _-_, _≤_, _<_, Bool, true, false, List, _++_, _≡_, refl, sym, ap, ap₂, _∙_, arith, ltb, length, take, drop, ltb-true, ltb-false}
 use Rattle.lists.specs.Same.{same}
 use Rattle.lists.proofs.Tests.{never}
 use Rattle.text_utf8.specs.Text.{blank, Ink, Utf, whole, part, bad, utfs}
@@ -12,6 +12,7 @@ use Rattle.tables.specs.declared.Reason.{Reason}
 use Rattle.parser.specs.Kind.{GM}
 use Rattle.tables.specs.Columns.{valFromAt, valToAt}
 use Rattle.tables.specs.Each.{tabulate}
+use Rattle.tables.specs.Memory.{Memory, memory}
 use Rattle.fit.specs.Fit.{Fit}
 use Rattle.fit.specs.Record.{propRow}
 use Rattle.tables.proofs.Cases.{either-bool}
@@ -25,16 +26,19 @@ use Rattle.edit_answer.specs.Locals.{NamesLie}
 use Rattle.edit_answer.specs.declared.Edited.the-variants.{Changed, Refused}
 use Rattle.edit_answer.proofs.Fitting.{fit-within}
 use Rattle.edit_answer.proofs.Judged.{newText, newRows, decided-misfit, decided-beyond, tests-are, length-new}
-use Rattle.edit.specs.Lent.{Lent, lent, EditIs}
+use Rattle.edit.specs.Lent.{leaves, EditIs}
 use Rattle.edit.specs.Locals.{ValuesLie, propertiesMoved, valuesMoved}
 
 not-both : {A : Type 0} (n : ℕ) (r : Reason) (p : ℕ) → Changed n ≡ Refused r p → A
 not-both n r p e = never cc
 
 -- a refusal leaves all memory
-pub edit-refused : (o : Outcome) (used : ℕ) (l : Lent) {r : Reason} {p : ℕ} → Refused r p ≡ answers o → EditIs o used l l (Refused r p)
-edit-refused (refuses r p) used l h = record { answer = h; memory = refl }
-edit-refused (gives t T) used l {r} {p} h = not-both (length t) r p (sym h)
+pub edit-refused : (m : Memory) (k : ℕ) (new : List ℕ) {r : Reason} {p : ℕ} → Refused r p ≡ answers (outcomeOf m k new) → EditIs m m k new (Refused r p)
+edit-refused m k new {r} {p} h = record { answer = h; memory = go (outcomeOf m k new) h }
+  where
+    go : (o : Outcome) → Refused r p ≡ answers o → m ≡ leaves o m
+    go (refuses _ _) h = refl
+    go (gives t T) h = not-both (length t) r p (sym h)
 
 -- the tests that an acceptance has passed
 pub record Passed (n : ℕ) (g : Bool) (u : Utf) (d l m : Bool) (t : List ℕ) (T : Tables) : Type 0 where
@@ -64,14 +68,14 @@ module _ (b : List ℕ) (used : ℕ) (c : Counts) (tr nd pr vl : List ℕ) (k : 
   Rows = newRows b used c tr nd pr vl k new
 
   pub record Given (n : ℕ) : Type 0 where
-    pub fit : Fit b used c tr nd pr vl ≡ true
+    pub fit : Fit (memory b used c tr nd pr vl) ≡ true
     pub below : k < c .values
-    pub is : outcomeOf b used c tr nd pr vl k new ≡ gives Text Rows
+    pub is : outcomeOf (memory b used c tr nd pr vl) k new ≡ gives Text Rows
     pub tests : Passed n (same (ownerName (take used b) (tabulate (propRow pr) 0 (c .properties)) k) GM) (utfs (whole blank) 0 new) (closed new) (ltb textLimit (length Text)) (ltb (length b) (length Text)) Text Rows
 
-  pub given : (n : ℕ) → Changed n ≡ answers (outcomeOf b used c tr nd pr vl k new) → Given n
+  pub given : (n : ℕ) → Changed n ≡ answers (outcomeOf (memory b used c tr nd pr vl) k new) → Given n
   given n h =
-      either-bool (Fit b used c tr nd pr vl)
+      either-bool (Fit (memory b used c tr nd pr vl))
       (λ f.
       either-bool (ltb k (c .values))
       (λ l.
@@ -121,14 +125,14 @@ module _ (b : List ℕ) (used : ℕ) (c : Counts) (tr nd pr vl : List ℕ) (k : 
         → b′ ≡ replaced b used a e new
         → pr′ ≡ over (propertiesMoved a e (length new) (c .properties) pr) pr
         → vl′ ≡ over (valuesMoved a e (length new) (c .values) vl) vl
-        → EditIs (outcomeOf b used c tr nd pr vl k new) used (lent b pr vl) (lent b′ pr′ vl′) (Changed n)
+        → EditIs (memory b used c tr nd pr vl) (memory b′ used c tr nd pr′ vl′) k new (Changed n)
     edit-given {b′} {pr′} {vl′} {a} {e} ea ee eb ep ev =
-        subst⁻¹ (λ (o : Outcome). EditIs o used (lent b pr vl) (lent b′ pr′ vl′) (Changed n)) (x .is)
-        (record {
-          answer = ap Changed (x .tests .count);
+        record {
+          answer = ap Changed (x .tests .count) ∙ ap answers (sym (x .is));
           memory =
-              ap (λ (z : List ℕ). lent z pr′ vl′) (eb ∙ ap₂ (λ (y z : ℕ). replaced b used y z new) ea ee ∙ text-put)
-              ∙ ap₂ (λ (y z : List ℕ). lent (over (cleared Text used) b) y z)
+              ap (λ (z : List ℕ). memory z used c tr nd pr′ vl′) (eb ∙ ap₂ (λ (y z : ℕ). replaced b used y z new) ea ee ∙ text-put)
+              ∙ ap₂ (λ (y z : List ℕ). memory (over (cleared Text used) b) used c tr nd y z)
               (ep ∙ ap₂ (λ (y z : ℕ). over (propertiesMoved y z (length new) (c .properties) pr) pr) ea ee)
-              (ev ∙ ap₂ (λ (y z : ℕ). over (valuesMoved y z (length new) (c .values) vl) vl) ea ee);
-        })
+              (ev ∙ ap₂ (λ (y z : ℕ). over (valuesMoved y z (length new) (c .values) vl) vl) ea ee)
+              ∙ ap (λ (o : Outcome). leaves o (memory b used c tr nd pr vl)) (sym (x .is));
+        }

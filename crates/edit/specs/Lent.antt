@@ -1,27 +1,20 @@
 -- The value edit in lent memory: what the text's buffer and the tables hold after it.
 use Rattle.lists.specs.Prelude.{ℕ, _≡_, List}
+use Rattle.tables.specs.Memory.{Memory, memory}
 use Rattle.tables.specs.Flat.{flatProps, flatVals, over}
 use Rattle.edit_splice.specs.Splice.{cleared}
-use Rattle.edit_answer.specs.Answer.{answers}
+use Rattle.edit_answer.specs.Answer.{outcomeOf, answers}
 use Rattle.edit_answer.specs.Edit.{Outcome, refuses, gives}
 use Rattle.edit_answer.specs.declared.Edited.{Edited}
 
--- what an edit can change: the text's buffer, the property table, the value table
-pub record Lent : Type 0 where
-  pub buffer : List ℕ
-  pub properties : List ℕ
-  pub values : List ℕ
-
--- the three
-abbrev pub lent : (buffer properties values : List ℕ) → Lent
-lent b pr vl = record { buffer = b; properties = pr; values = vl }
-
--- what they hold after it: a refusal leaves every byte and every number
-abbrev pub leaves : Outcome → (used : ℕ) → Lent → Lent
-leaves (refuses r p) used l = l
-leaves (gives t T) used l = lent (over (cleared t used) (l .buffer)) (over (flatProps (T .props)) (l .properties)) (over (flatVals (T .vals)) (l .values))
+-- what lent memory holds after it: a refusal leaves every byte and every number. The used length that the caller goes on with is in the answer
+abbrev pub leaves : Outcome → Memory → Memory
+leaves (refuses r p) m = m
+leaves (gives t T) m =
+    memory (over (cleared t (m .used)) (m .text)) (m .used) (m .counts) (m .trees) (m .nodes)
+    (over (flatProps (T .props)) (m .properties)) (over (flatVals (T .vals)) (m .values))
 
 -- the answer, and all of that memory
-pub record EditIs (o : Outcome) (used : ℕ) (before after : Lent) (r : Edited) : Type 0 where
-  pub answer : r ≡ answers o
-  pub memory : after ≡ leaves o used before
+pub record EditIs (m m′ : Memory) (k : ℕ) (new : List ℕ) (r : Edited) : Type 0 where
+  pub answer : r ≡ answers (outcomeOf m k new)
+  pub memory : m′ ≡ leaves (outcomeOf m k new) m

@@ -1,8 +1,8 @@
 // The value edit, in place: one value's bytes in the lent text, and the places of the rows behind it.
 mod rows; // rows.rt: the places in the rows moved
 
-ghost use Rattle.edit_answer.specs.Answer.{outcomeOf};
-ghost use Rattle.edit.specs.Lent.{lent, EditIs};
+ghost use Rattle.edit.specs.Lent.{EditIs};
+ghost use Rattle.tables.specs.Memory.{memory};
 use edit_answer::Edited;
 use tables::Counts;
 
@@ -18,7 +18,10 @@ pub fn edit(
     k: usize,
     new: &[u8],
 ) -> Edited
-    ensures { λ r. ⌜ EditIs (outcomeOf (now (text .entry)) used counts (now (trees .entry)) (now (nodes .entry)) (now (properties .entry)) (now (values .entry)) k (now (new .entry))) used (lent (now (text .entry)) (now (properties .entry)) (now (values .entry))) (lent (now (text .exit)) (now (properties .exit)) (now (values .exit))) r ⌝ }
+    ensures { λ r. ⌜ EditIs
+        (memory (now (text .entry)) used counts (now (trees .entry)) (now (nodes .entry)) (now (properties .entry)) (now (values .entry)))
+        (memory (now (text .exit)) used counts (now (trees .entry)) (now (nodes .entry)) (now (properties .exit)) (now (values .exit)))
+        k (now (new .entry)) r ⌝ }
 {
     match edit_answer::decided(text, used, counts, trees, nodes, properties, values, k, new) {
         Edited::Refused(reason, place) => Edited::Refused(reason, place),

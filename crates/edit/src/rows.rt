@@ -4,7 +4,7 @@ ghost use Prim.Native.Nat.{_+_, _-_, _/_, _<_, _≤_};
 ghost use lib.ListN.{length};
 ghost use Rattle.lexer.specs.Move.{startsAt, endsAt};
 ghost use Rattle.tables.specs.Numbers.{textLimit};
-ghost use Rattle.tables.specs.Columns.{valFromAt, valToAt};
+ghost use Rattle.tables.specs.Columns.{propertyStride, valueStride, valFromAt, valToAt};
 ghost use Rattle.tables.specs.Flat.{over};
 ghost use Rattle.edit_answer.specs.Locals.{NamesLie};
 ghost use Rattle.edit.specs.Locals.{ValuesLie, propertiesMoved, valuesMoved};
@@ -17,7 +17,7 @@ pub struct Span {
 
 // The span of value k.
 pub fn span_of(values: &[u32], k: usize) -> Span
-    requires { ⌜ k < length (now values) / 2 ⌝ }
+    requires { ⌜ k < length (now values) / valueStride ⌝ }
     ensures { λ r. ⌜ (r .start ≡ valFromAt (now (values .entry)) k) × (r .end ≡ valToAt (now (values .entry)) k) ⌝ }
 {
     let at = k * tables::VALUE_STRIDE;
@@ -63,7 +63,8 @@ fn moved_end(start: usize, end: usize, m: usize, place: u32) -> u32
 
 // The identifiers of `n` properties.
 pub fn move_properties(properties: &mut [u32], n: usize, start: usize, end: usize, m: usize)
-    requires { ⌜ (n ≤ length (now properties) / 4) × NamesLie (now properties) n textLimit × (start ≤ end) × (end ≤ textLimit) × (m ≤ textLimit) ⌝ }
+    requires { ⌜ (n ≤ length (now properties) / propertyStride) × NamesLie (now properties) n textLimit
+        × (start ≤ end) × (end ≤ textLimit) × (m ≤ textLimit) ⌝ }
     ensures { λ _. ⌜ now (properties .exit) ≡ over (propertiesMoved start end m n (now (properties .entry))) (now (properties .entry)) ⌝ }
 {
     let mut k: usize = 0;
@@ -80,7 +81,7 @@ pub fn move_properties(properties: &mut [u32], n: usize, start: usize, end: usiz
 
 // The spans of `n` values.
 pub fn move_values(values: &mut [u32], n: usize, start: usize, end: usize, m: usize)
-    requires { ⌜ (n ≤ length (now values) / 2) × ValuesLie (now values) n textLimit × (start ≤ end) × (end ≤ textLimit) × (m ≤ textLimit) ⌝ }
+    requires { ⌜ (n ≤ length (now values) / valueStride) × ValuesLie (now values) n textLimit × (start ≤ end) × (end ≤ textLimit) × (m ≤ textLimit) ⌝ }
     ensures { λ _. ⌜ now (values .exit) ≡ over (valuesMoved start end m n (now (values .entry))) (now (values .entry)) ⌝ }
 {
     let mut k: usize = 0;

@@ -17,6 +17,7 @@ use Rattle.tables.specs.declared.Reason.the-variants.{TextTooLong, NotUtf8, NoR
 use Rattle.parser.specs.Kind.{GM}
 use Rattle.tables.specs.Columns.{valFromAt, valToAt}
 use Rattle.tables.specs.Each.{tabulate}
+use Rattle.tables.specs.Memory.{memory}
 use Rattle.fit.specs.Fit.{Fit}
 use Rattle.fit.specs.Record.{propRow, valRow, rowsOf}
 use Rattle.edit_answer.specs.Edit.{ownerName, spanAt, shifted, Outcome, refuses, outcome, edit}
@@ -69,7 +70,7 @@ module _ (new : List ℕ) (kept room : ℕ) where
 
 module _ (b : List ℕ) (used : ℕ) (c : Counts) (tr nd pr vl : List ℕ) (k : ℕ) (new : List ℕ) where
   abbrev Now : Outcome
-  Now = outcomeOf b used c tr nd pr vl k new
+  Now = outcomeOf (memory b used c tr nd pr vl) k new
 
   abbrev pub newText : List ℕ
   newText = pasted (take used b) (valFromAt vl k) (valToAt vl k) new
@@ -80,14 +81,14 @@ module _ (b : List ℕ) (used : ℕ) (c : Counts) (tr nd pr vl : List ℕ) (k : 
   abbrev fixed : Bool
   fixed = same (ownerName (take used b) (tabulate (propRow pr) 0 (c .properties)) k) GM
 
-  pub decided-misfit : Fit b used c tr nd pr vl ≡ false → Refused NotFitting 0 ≡ answers Now
+  pub decided-misfit : Fit (memory b used c tr nd pr vl) ≡ false → Refused NotFitting 0 ≡ answers Now
   unfolding outcomeOf
   decided-misfit h = rw h
 
   count-is : length (tabulate (valRow vl) 0 (c .values)) ≡ c .values
   count-is = tabulate-length (valRow vl) 0 (c .values)
 
-  module _ (fit : Fit b used c tr nd pr vl ≡ true) where
+  module _ (fit : Fit (memory b used c tr nd pr vl) ≡ true) where
     pub decided-beyond : c .values ≤ k → Refused NoSuchNumber 0 ≡ answers Now
     unfolding outcomeOf
     decided-beyond h = rw (fit, count-is, le-ltb k (c .values) h)

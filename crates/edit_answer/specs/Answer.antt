@@ -1,17 +1,16 @@
 -- What is answered to a value edit, over lent memory.
-use Rattle.lists.specs.Prelude.{ℕ, List, length, take, pick}
-use Rattle.tables.specs.declared.Counts.{Counts}
+use Rattle.lists.specs.Prelude.{ℕ, List, length, pick}
+use Rattle.tables.specs.Memory.{Memory}
 use Rattle.tables.specs.declared.Reason.the-variants.{NotFitting}
 use Rattle.fit.specs.Fit.{Fit}
-use Rattle.fit.specs.Record.{rowsOf}
+use Rattle.fit.specs.Record.{rowsIn, textIn}
 use Rattle.edit_answer.specs.Edit.{Outcome, refuses, gives, edit}
 use Rattle.edit_answer.specs.declared.Edited.{Edited}
 use Rattle.edit_answer.specs.declared.Edited.the-variants.{Changed, Refused}
 
 -- 19 where the tables don't fit the first `used` bytes; else the edit of these and their rows
-unfoldable pub outcomeOf : (buffer : List ℕ) → (used : ℕ) → Counts → (tr nd pr vl : List ℕ) → (k : ℕ) → (new : List ℕ) → Outcome
-outcomeOf b used c tr nd pr vl k new =
-    pick (Fit b used c tr nd pr vl) (edit (length b) (take used b) (rowsOf c tr nd pr vl) k new) (refuses NotFitting 0)
+unfoldable pub outcomeOf : Memory → (k : ℕ) → (new : List ℕ) → Outcome
+outcomeOf m k new = pick (Fit m) (edit (length (m .text)) (textIn m) (rowsIn m) k new) (refuses NotFitting 0)
 
 -- what is answered: the new used length, or the reason and the place
 abbrev pub answers : Outcome → Edited

@@ -49,5 +49,6 @@ outcome true false (whole k) true false false t T = gives t T
 abbrev pub edit : (room : ℕ) → List ℕ → Tables → (k : ℕ) → (new : List ℕ) → Outcome
 edit room t T k new =
     let u = pasted t (spanAt (T .vals) k .from) (spanAt (T .vals) k .to) new in
-    outcome (ltb k (length (T .vals))) (same (ownerName t (T .props) k) GM) (utfs (whole blank) 0 new) (closed new) (ltb textLimit (length u)) (ltb room (length u)) u
-    (shifted T (spanAt (T .vals) k) (length new))
+    outcome (ltb k (length (T .vals))) (same (ownerName t (T .props) k) GM) (utfs (whole blank) 0 new) (closed new)
+    (ltb textLimit (length u)) (ltb room (length u))
+    u (shifted T (spanAt (T .vals) k) (length new))

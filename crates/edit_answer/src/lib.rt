@@ -6,8 +6,9 @@ ghost use Rattle.lists.specs.Same.{same};
 ghost use Rattle.lexer.specs.Closed.{closed};
 ghost use Rattle.tables.specs.Numbers.{none, textLimit};
 ghost use Rattle.parser.specs.Kind.{GM};
-ghost use Rattle.tables.specs.Columns.{valFromAt, valToAt};
+ghost use Rattle.tables.specs.Columns.{propertyStride, valueStride, valFromAt, valToAt};
 ghost use Rattle.tables.specs.Each.{tabulate};
+ghost use Rattle.tables.specs.Memory.{memory};
 ghost use Rattle.fit.specs.Record.{propRow};
 ghost use Rattle.edit_answer.specs.Answer.{outcomeOf, answers};
 ghost use Rattle.edit_answer.specs.Edit.{ownerName};
@@ -57,7 +58,7 @@ fn wide(cell: u32) -> usize
 
 // Whether value k belongs to a property, of `n`, whose raw identifier is `GM`.
 fn is_fixed(text: &[u8], properties: &[u32], n: usize, k: usize) -> bool
-    requires { ⌜ (n ≤ length (now properties) / 4) × NamesLie (now properties) n (length (now text)) ⌝ }
+    requires { ⌜ (n ≤ length (now properties) / propertyStride) × NamesLie (now properties) n (length (now text)) ⌝ }
     ensures { λ r. ⌜ r ≡ same (ownerName (now (text .entry)) (tabulate (propRow (now (properties .entry))) 0 n) k) GM ⌝ }
 {
     let mut p: usize = 0;
@@ -77,7 +78,7 @@ fn is_fixed(text: &[u8], properties: &[u32], n: usize, k: usize) -> bool
 
 // How many bytes value k has.
 fn size_of(values: &[u32], k: usize) -> usize
-    requires { ⌜ (k < length (now values) / 2) × (valFromAt (now values) k ≤ valToAt (now values) k) ⌝ }
+    requires { ⌜ (k < length (now values) / valueStride) × (valFromAt (now values) k ≤ valToAt (now values) k) ⌝ }
     ensures { λ r. ⌜ r ≡ valToAt (now (values .entry)) k - valFromAt (now (values .entry)) k ⌝ }
 {
     let at = k * tables::VALUE_STRIDE;
@@ -117,7 +118,9 @@ pub fn decided(
     k: usize,
     new: &[u8],
 ) -> Edited
-    ensures { λ r. ⌜ r ≡ answers (outcomeOf (now (text .entry)) used counts (now (trees .entry)) (now (nodes .entry)) (now (properties .entry)) (now (values .entry)) k (now (new .entry))) ⌝ }
+    ensures { λ r. ⌜ r ≡ answers (outcomeOf
+        (memory (now (text .entry)) used counts (now (trees .entry)) (now (nodes .entry)) (now (properties .entry)) (now (values .entry)))
+        k (now (new .entry))) ⌝ }
 {
     if !fit::fits(text, used, counts, trees, nodes, properties, values) {
         return Edited::Refused(Reason::NotFitting, 0);

@@ -9,6 +9,7 @@ use Rattle.tables.specs.Rows.{PropRow, ValRow}
 use Rattle.tables.specs.declared.Counts.{Counts}
 use Rattle.tables.specs.Columns.{nameFromAt, nameToAt, firstValAt, valCountAt, valFromAt, valToAt}
 use Rattle.tables.specs.Each.{each, sum, tabulate}
+use Rattle.tables.specs.Memory.{Memory, memory}
 use Rattle.fit.specs.Fit.{Fit}
 use Rattle.fit.specs.Locals.{Held}
 use Rattle.fit.specs.Record.{propRow, valRow}
@@ -20,14 +21,15 @@ use Rattle.fit_spans.proofs.Lying.{names-lie}
 use Rattle.fit_spans.proofs.Ranges.{gapless-first, gapless-sum, gapless-in}
 use Rattle.fit.proofs.Whole.{fit-lent}
 use Rattle.edit_splice.specs.Splice.{cleared}
-use Rattle.edit_answer.specs.Answer.{outcomeOf}
+use Rattle.edit_answer.specs.Edit.{Outcome}
 use Rattle.edit_answer.specs.declared.Edited.the-variants.{Changed}
-use Rattle.edit.specs.Lent.{Lent, lent, leaves, EditIs}
+use Rattle.edit.specs.Lent.{leaves, EditIs}
 use Rattle.edit_laws.proofs.Apart.{AllApart, all-apart}
 use Rattle.edit_laws.proofs.Ascended.{Ok, moved-ascend, first-same, count-same, spans-moved, all-spans, ranges-same, have-same}
 use Rattle.edit_laws.proofs.Boxes.{Boxed, boxed-is, value-box, slice-apart, box-apart, box-new}
 use Rattle.edit_answer.proofs.Judged.{newText, newRows, length-new}
 use Rattle.edit.proofs.Given.{Given, given, given-long, given-replaceable}
+use Rattle.edit_laws.specs.Calls.{next}
 use Rattle.edit_laws.proofs.Left.{text-left, prop-row-left, val-row-left, length-buffer-left, length-props-left, length-vals-left}
 use Rattle.edit_laws.proofs.Pasted.{valid-still}
 
@@ -172,18 +174,17 @@ module _ (b : List ℕ) (used : ℕ) (c : Counts) (tr nd pr vl : List ℕ) (k : 
         values = values-stay;
       }
 
-  fit-still : Fit (over (cleared u used) b) (length u) c tr nd pr′ vl′ ≡ true
+  fit-still : Fit (memory (over (cleared u used) b) (length u) c tr nd pr′ vl′) ≡ true
   fit-still =
       let r = given-replaceable b used c tr nd pr vl k new x .room in
       let lb = length-buffer-left u b used (held .0) (omega (arith, new-long)) in
       clauses-fit (over (cleared u used) b) (length u) c tr nd pr′ vl′ (omega (arith, new-long, lb)) (rw (text-left u b used) text-stays)
 
 -- of any tables that fit, and any answer that meets the contract: accepted, they fit the new text with the new used length
-pub edit-stays : (b : List ℕ) (used : ℕ) (c : Counts) (tr nd pr vl : List ℕ) (k : ℕ) (new : List ℕ) (after : Lent) (n : ℕ)
-    → EditIs (outcomeOf b used c tr nd pr vl k new) used (lent b pr vl) after (Changed n) → Fit (after .buffer) n c tr nd (after .properties) (after .values) ≡ true
-edit-stays b used c tr nd pr vl k new after n h =
-    let x = given b used c tr nd pr vl k new n (h .answer) in
-    let l : after ≡ lent (over (cleared (newText b used c tr nd pr vl k new) used) b) (over (flatProps (newRows b used c tr nd pr vl k new .props)) pr) (over (flatVals (newRows b used c tr nd pr vl k new .vals)) vl) =
-    h .memory ∙ ap (λ o. leaves o used (lent b pr vl)) (x .is) in
-    subst⁻¹ (λ (z : ℕ). Fit (after .buffer) z c tr nd (after .properties) (after .values) ≡ true) (x .tests .count)
-    (subst⁻¹ (λ (z : Lent). Fit (z .buffer) (length (newText b used c tr nd pr vl k new)) c tr nd (z .properties) (z .values) ≡ true) l (fit-still b used c tr nd pr vl k new x))
+pub edit-stays : (m m′ : Memory) (k : ℕ) (new : List ℕ) (n : ℕ) → EditIs m m′ k new (Changed n) → Fit (next m′ (Changed n)) ≡ true
+edit-stays m m′ k new n h =
+    let x = given (m .text) (m .used) (m .counts) (m .trees) (m .nodes) (m .properties) (m .values) k new n (h .answer) in
+    let l = h .memory ∙ ap (λ (o : Outcome). leaves o m) (x .is) in
+    subst⁻¹ (λ (z : ℕ). Fit (next m′ (Changed z)) ≡ true) (x .tests .count)
+    (subst⁻¹ (λ (z : Memory). Fit (next z (Changed (length (newText (m .text) (m .used) (m .counts) (m .trees) (m .nodes) (m .properties) (m .values) k new)))) ≡ true) l
+    (fit-still (m .text) (m .used) (m .counts) (m .trees) (m .nodes) (m .properties) (m .values) k new x))

@@ -58,7 +58,8 @@ fn move_right(buffer: &mut [u8], from: usize, to: usize, n: usize)
 // The bytes from `start` to `end` of the first `used` replaced by `new`; bytes that this frees become 0.
 fn swap_in(buffer: &mut [u8], used: usize, start: usize, end: usize, new: &[u8])
     requires { ⌜ Replaceable (now buffer) used start end (length (now new)) ⌝ }
-    ensures { λ _. ⌜ now (buffer .exit) ≡ putAt (now (buffer .entry)) 0 (cleared (pasted (take used (now (buffer .entry))) start end (now (new .entry))) used) ⌝ }
+    ensures { λ _. ⌜ now (buffer .exit) ≡
+        putAt (now (buffer .entry)) 0 (cleared (pasted (take used (now (buffer .entry))) start end (now (new .entry))) used) ⌝ }
 {
     let to = start + new.len();
     let n = used - end;

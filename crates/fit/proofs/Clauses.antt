@@ -4,6 +4,7 @@ use Rattle.tables.specs.Numbers.{none, textLimit}
 use Rattle.tables.specs.declared.Counts.{Counts}
 use Rattle.tables.specs.Columns.{firstPropAt, propCountAt, nameFromAt, nameToAt, firstValAt, valCountAt, valFromAt, valToAt}
 use Rattle.tables.specs.Each.{each}
+use Rattle.tables.specs.Memory.{memory}
 use Rattle.fit.specs.Fit.{lentFor, validUtf8, fitText, Fit}
 use Rattle.fit.specs.Locals.{Held}
 use Rattle.fit_nodes.specs.Nodes.{rootsRight, parentRight, childRight, siblingRight, kindRight, nodesFit}
@@ -40,11 +41,11 @@ five p q r s u h =
 three : (p q r : Bool) → (p && q && r) ≡ true → (p ≡ true) × (q ≡ true) × (r ≡ true)
 three p q r h = let h2 = and-left (p && q) r h in (and-left p q h2, and-right p q h2, and-right (p && q) r h)
 
-pub fit-clauses : (t : List ℕ) (used : ℕ) (c : Counts) (tr nd pr vl : List ℕ) → Fit t used c tr nd pr vl ≡ true → Clauses (take used t) c tr nd pr vl
+pub fit-clauses : (t : List ℕ) (used : ℕ) (c : Counts) (tr nd pr vl : List ℕ) → Fit (memory t used c tr nd pr vl) ≡ true → Clauses (take used t) c tr nd pr vl
 unfolding Fit fitText nodesFit rangesFit spansFit
 fit-clauses t used c tr nd pr vl h =
     let u : List ℕ = take used t in
-    let x = five (leb (length u) textLimit) (validUtf8 u) (nodesFit c tr nd) (rangesFit c nd pr) (spansFit u c pr vl) (and-right (lentFor t used c tr nd pr vl) (fitText u c tr nd pr vl) h) in
+    let x = five (leb (length u) textLimit) (validUtf8 u) (nodesFit c tr nd) (rangesFit c nd pr) (spansFit u c pr vl) (and-right (lentFor (memory t used c tr nd pr vl)) (fitText u c tr nd pr vl) h) in
     let n = five (rootsRight (c .trees) (c .nodes) tr nd) (each (c .nodes) (parentRight nd)) (each (c .nodes) (childRight nd (c .nodes))) (each (c .nodes) (siblingRight nd (c .nodes))) (each (c .trees) (kindRight tr)) (x .2) in
     let r = three (gapless (firstPropAt nd) (propCountAt nd) (c .nodes) (c .properties)) (gapless (firstValAt pr) (valCountAt pr) (c .properties) (c .values)) (each (c .properties) (hasValue pr)) (x .3) in
     let s = three (ascending (length u) 0 (spans pr vl 0 (c .properties))) (each (c .properties) (nameRight u pr)) (each (c .values) (valueRight u vl)) (x .4) in
@@ -65,7 +66,7 @@ fit-clauses t used c tr nd pr vl h =
       values = s .2;
     }
 
-pub clauses-fit : (t : List ℕ) (used : ℕ) (c : Counts) (tr nd pr vl : List ℕ) → used ≤ length t → Clauses (take used t) c tr nd pr vl → Fit t used c tr nd pr vl ≡ true
+pub clauses-fit : (t : List ℕ) (used : ℕ) (c : Counts) (tr nd pr vl : List ℕ) → used ≤ length t → Clauses (take used t) c tr nd pr vl → Fit (memory t used c tr nd pr vl) ≡ true
 unfolding Fit fitText nodesFit rangesFit spansFit
 clauses-fit t used c tr nd pr vl l f =
     rw (
@@ -99,7 +100,7 @@ module _ {t : List ℕ} {c : Counts} {tr nd pr vl : List ℕ} (f : Clauses t c t
 
 -- ---- of the first `used` bytes of a buffer
 
-module _ (t : List ℕ) (used : ℕ) (c : Counts) (tr nd pr vl : List ℕ) (fit : Fit t used c tr nd pr vl ≡ true) where
+module _ (t : List ℕ) (used : ℕ) (c : Counts) (tr nd pr vl : List ℕ) (fit : Fit (memory t used c tr nd pr vl) ≡ true) where
   used-is : length (take used t) ≡ used
   used-is = length-take-le used t (fit-lent t used c tr nd pr vl fit .0)
 

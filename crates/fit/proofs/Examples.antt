@@ -5,6 +5,7 @@ use Rattle.text_utf8.specs.Trim.{trimmed}
 use Rattle.tables.specs.Numbers.{none}
 use Rattle.tables.specs.declared.Counts.{Counts}
 use Rattle.tables.specs.Each.{each, sum, tabulate}
+use Rattle.tables.specs.Memory.{memory}
 use Rattle.fit.specs.Fit.{fitText, Fit}
 use Rattle.fit_nodes.specs.Nodes.{orphans, upward, onPath, firstUnder, nodesFit}
 use Rattle.fit_spans.specs.Ranges.{rangesFit}
@@ -29,10 +30,10 @@ abbrev pub counts : (trees nodes properties values : ℕ) → Counts
 counts a b c d = record { trees = a; nodes = b; properties = c; values = d }
 
 abbrev fitting : (tr nd pr vl : List ℕ) → Bool
-fitting tr nd pr vl = Fit text 14 (counts 1 2 2 2) tr nd pr vl
+fitting tr nd pr vl = Fit (memory text 14 (counts 1 2 2 2) tr nd pr vl)
 
 abbrev counted : ℕ → Counts → Bool
-counted used c = Fit text used c tr nd pr vl
+counted used c = Fit (memory text used c tr nd pr vl)
 
 abbrev any : List Bool → Bool
 any [] = false

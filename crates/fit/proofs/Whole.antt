@@ -2,6 +2,7 @@
 use Rattle.lists.proofs.Prelude.{ℕ, _-_, _/_, _≤_, Bool, true, _&&_, List, _≡_, refl, leb, length, take, leb-true, le-leb}
 use Rattle.tables.specs.Numbers.{none, textLimit}
 use Rattle.tables.specs.declared.Counts.{Counts}
+use Rattle.tables.specs.Memory.{memory}
 use Rattle.tables.proofs.Cases.{and-left, and-right}
 use Rattle.fit_nodes.specs.Nodes.{nodesFit, linksFit}
 use Rattle.fit_spans.specs.Parts.{partsFit}
@@ -32,7 +33,7 @@ module _ (t : List ℕ) (used : ℕ) (c : Counts) (tr nd pr vl : List ℕ) where
       let h2 = and-left (p && q) r h3 in
       (and-left p q h2, and-right p q h2, and-right (p && q) r h3, and-right (p && q && r) s h4, and-right (p && q && r && s) u h5, and-right (p && q && r && s && u) v h)
 
-  pub lent-is : lentFor t used c tr nd pr vl ≡ true → (used ≤ length t) × Held c tr nd pr vl
+  pub lent-is : lentFor (memory t used c tr nd pr vl) ≡ true → (used ≤ length t) × Held c tr nd pr vl
   lent-is h =
       let s = six (leb used (length t)) (leb (c .trees) (length tr / 2)) (leb (c .nodes) (length nd / 5)) (leb (c .nodes) none) (leb (c .properties) (length pr / 4)) (leb (c .values) (length vl / 2)) h in (
         leb-true used (length t) (s .0),
@@ -45,9 +46,9 @@ module _ (t : List ℕ) (used : ℕ) (c : Counts) (tr nd pr vl : List ℕ) where
         },
       )
 
-  pub fit-lent : Fit t used c tr nd pr vl ≡ true → (used ≤ length t) × Held c tr nd pr vl
+  pub fit-lent : Fit (memory t used c tr nd pr vl) ≡ true → (used ≤ length t) × Held c tr nd pr vl
   unfolding Fit
-  fit-lent fit = lent-is (and-left (lentFor t used c tr nd pr vl) (fitText (take used t) c tr nd pr vl) fit)
+  fit-lent fit = lent-is (and-left (lentFor (memory t used c tr nd pr vl)) (fitText (take used t) c tr nd pr vl) fit)
 
 -- ---- of the text
 

@@ -5,19 +5,21 @@ use Rattle.text_utf8.specs.declared.Trimmed.{Trimmed}
 use Rattle.text_utf8.specs.declared.Trimmed.the-variants.{NotUtf8, Blank, Kept}
 use Rattle.tables.specs.Numbers.{none, textLimit}
 use Rattle.tables.specs.declared.Counts.{Counts}
+use Rattle.tables.specs.Columns.{treeStride, nodeStride, propertyStride, valueStride}
+use Rattle.tables.specs.Memory.{Memory}
 use Rattle.fit_nodes.specs.Nodes.{nodesFit}
 use Rattle.fit_spans.specs.Ranges.{rangesFit}
 use Rattle.fit_spans.specs.Spans.{spansFit}
 
 -- counts and used length are within what is lent; no node has the number that means none
-abbrev pub lentFor : List ℕ → ℕ → Counts → (tr nd pr vl : List ℕ) → Bool
-lentFor t used c tr nd pr vl =
-    leb used (length t)
-    && leb (c .trees) (length tr / 2)
-    && leb (c .nodes) (length nd / 5)
-    && leb (c .nodes) none
-    && leb (c .properties) (length pr / 4)
-    && leb (c .values) (length vl / 2)
+abbrev pub lentFor : Memory → Bool
+lentFor m =
+    leb (m .used) (length (m .text))
+    && leb (m .counts .trees) (length (m .trees) / treeStride)
+    && leb (m .counts .nodes) (length (m .nodes) / nodeStride)
+    && leb (m .counts .nodes) none
+    && leb (m .counts .properties) (length (m .properties) / propertyStride)
+    && leb (m .counts .values) (length (m .values) / valueStride)
 
 -- trimming finds no bad sequence
 abbrev pub sound : Trimmed → Bool
@@ -38,6 +40,6 @@ fitText t c tr nd pr vl =
     && rangesFit c nd pr
     && spansFit t c pr vl
 
--- of the first `used` bytes of a buffer, and tables of these counts
-unfoldable pub Fit : List ℕ → ℕ → Counts → (tr nd pr vl : List ℕ) → Bool
-Fit t used c tr nd pr vl = lentFor t used c tr nd pr vl && fitText (take used t) c tr nd pr vl
+-- of lent memory: the first `used` bytes of the text, and tables of these counts
+unfoldable pub Fit : Memory → Bool
+Fit m = lentFor m && fitText (take (m .used) (m .text)) (m .counts) (m .trees) (m .nodes) (m .properties) (m .values)

@@ -6,6 +6,7 @@ use Rattle.tables.specs.Rows.{TreeRow, NodeRow, PropRow, ValRow, Tables}
 use Rattle.tables.specs.declared.Counts.{Counts}
 use Rattle.tables.specs.Columns.{rootAt, kindAt, parentAt, childAt, siblingAt, firstPropAt, propCountAt, nameFromAt, nameToAt, firstValAt, valCountAt, valFromAt, valToAt}
 use Rattle.tables.specs.Each.{tabulate}
+use Rattle.tables.specs.Memory.{Memory}
 
 -- row k of the tree table
 abbrev pub treeRow : List ℕ → ℕ → TreeRow
@@ -32,6 +33,14 @@ rowsOf c tr nd pr vl =
       props = tabulate (propRow pr) 0 (c .properties);
       vals = tabulate (valRow vl) 0 (c .values);
     }
+
+-- the rows of lent memory
+abbrev pub rowsIn : Memory → Tables
+rowsIn m = rowsOf (m .counts) (m .trees) (m .nodes) (m .properties) (m .values)
+
+-- its text as far as it is used
+abbrev pub textIn : Memory → List ℕ
+textIn m = take (m .used) (m .text)
 
 -- a value of the text
 abbrev pub valOf : List ℕ → ValRow → Val
@@ -62,3 +71,7 @@ treesOf ns (r ∷ s ∷ rs) = record { root = r .root; kind = r .kind; nodes = t
 -- the trees that rows denote
 abbrev pub recordOf : List ℕ → Tables → List Tree
 recordOf t T = treesOf (map (nodeOf (map (propOf t (map (valOf t) (T .vals))) (T .props))) (T .nodes)) (T .trees)
+
+-- the trees that lent memory denotes
+abbrev pub recordIn : Memory → List Tree
+recordIn m = recordOf (textIn m) (rowsIn m)

@@ -2,6 +2,7 @@
 ghost use mathlib.Core.Path.{_≡_};
 ghost use Rattle.fit.specs.Fit.{lentFor, validUtf8, fitText, Fit};
 ghost use Rattle.fit.specs.Locals.{Held};
+ghost use Rattle.tables.specs.Memory.{memory};
 
 // Whether a text is valid UTF-8.
 fn is_utf8(text: &[u8]) -> bool
@@ -48,7 +49,8 @@ fn is_lent(
     properties: &[u32],
     values: &[u32],
 ) -> bool
-    ensures { λ r. ⌜ r ≡ lentFor (now (text .entry)) used counts (now (trees .entry)) (now (nodes .entry)) (now (properties .entry)) (now (values .entry)) ⌝ }
+    ensures { λ r. ⌜ r ≡ lentFor
+        (memory (now (text .entry)) used counts (now (trees .entry)) (now (nodes .entry)) (now (properties .entry)) (now (values .entry))) ⌝ }
 {
     (used <= text.len())
         & (counts.trees <= trees.len() / tables::TREE_STRIDE)
@@ -68,7 +70,8 @@ pub fn fits(
     properties: &[u32],
     values: &[u32],
 ) -> bool
-    ensures { λ r. ⌜ r ≡ Fit (now (text .entry)) used counts (now (trees .entry)) (now (nodes .entry)) (now (properties .entry)) (now (values .entry)) ⌝ }
+    ensures { λ r. ⌜ r ≡ Fit
+        (memory (now (text .entry)) used counts (now (trees .entry)) (now (nodes .entry)) (now (properties .entry)) (now (values .entry))) ⌝ }
 {
     if !is_lent(text, used, counts, trees, nodes, properties, values) {
         return false;

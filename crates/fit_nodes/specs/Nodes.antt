@@ -3,7 +3,7 @@ use Rattle.lists.specs.Prelude.{ℕ, zero, suc, _-_, _/_, Bool, _||_, _&&_, not
 use Rattle.lists.specs.Same.{same}
 use Rattle.tables.specs.Numbers.{none}
 use Rattle.tables.specs.declared.Counts.{Counts}
-use Rattle.tables.specs.Columns.{rootAt, kindAt, parentAt, childAt, siblingAt}
+use Rattle.tables.specs.Columns.{treeStride, nodeStride, rootAt, kindAt, parentAt, childAt, siblingAt}
 use Rattle.tables.specs.Each.{each, tabulate}
 
 -- those of the m nodes from k on that have no parent
@@ -64,7 +64,7 @@ nodesFit c tr nd =
 
 -- so many trees and nodes are lent; no node has the number that means none
 abbrev pub lentNodes : Counts → (tr nd : List ℕ) → Bool
-lentNodes c tr nd = leb (c .trees) (length tr / 2) && leb (c .nodes) (length nd / 5) && leb (c .nodes) none
+lentNodes c tr nd = leb (c .trees) (length tr / treeStride) && leb (c .nodes) (length nd / nodeStride) && leb (c .nodes) none
 
 -- they are lent, and fit
 unfoldable pub linksFit : Counts → (tr nd : List ℕ) → Bool

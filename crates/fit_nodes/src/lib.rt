@@ -4,12 +4,13 @@ ghost use Prim.Native.Nat.{_/_, _<_, _≤_};
 ghost use lib.ListN.{length};
 ghost use Rattle.tables.specs.Numbers.{none};
 ghost use Rattle.tables.specs.Each.{each};
+ghost use Rattle.tables.specs.Columns.{treeStride, nodeStride};
 ghost use Rattle.fit_nodes.specs.Locals.{Ruled, Next, Climbed};
 ghost use Rattle.fit_nodes.specs.Nodes.{rootsRight, onPath, parentRight, childRight, siblingRight, kindRight, nodesFit, lentNodes, linksFit};
 
 // Whether the roots of `m` trees are those of `n` nodes that have no parent, ascending.
 fn roots_right(trees: &[u32], m: usize, nodes: &[u32], n: usize) -> bool
-    requires { ⌜ (m ≤ length (now trees) / 2) × (n ≤ length (now nodes) / 5) ⌝ }
+    requires { ⌜ (m ≤ length (now trees) / treeStride) × (n ≤ length (now nodes) / nodeStride) ⌝ }
     ensures { λ r. ⌜ r ≡ rootsRight m n (now (trees .entry)) (now (nodes .entry)) ⌝ }
 {
     let mut r = 0;
@@ -32,7 +33,7 @@ fn roots_right(trees: &[u32], m: usize, nodes: &[u32], n: usize) -> bool
 
 // Whether `p` is node `from` or an ancestor of it.
 fn on_path(nodes: &[u32], from: usize, p: usize) -> bool
-    requires { ⌜ from < length (now nodes) / 5 ⌝ }
+    requires { ⌜ from < length (now nodes) / nodeStride ⌝ }
     ensures { λ r. ⌜ r ≡ onPath (now (nodes .entry)) from p ⌝ }
 {
     let mut j = from;
@@ -52,7 +53,7 @@ fn on_path(nodes: &[u32], from: usize, p: usize) -> bool
 
 // Whether node k's parent is none, k - 1 or an ancestor of k - 1.
 fn parent_right(nodes: &[u32], k: usize) -> bool
-    requires { ⌜ k < length (now nodes) / 5 ⌝ }
+    requires { ⌜ k < length (now nodes) / nodeStride ⌝ }
     ensures { λ r. ⌜ r ≡ parentRight (now (nodes .entry)) k ⌝ }
 {
     let parent = nodes[k * tables::NODE_STRIDE];
@@ -67,7 +68,7 @@ fn parent_right(nodes: &[u32], k: usize) -> bool
 
 // Whether the parents of `n` nodes are right.
 fn parents_right(nodes: &[u32], n: usize) -> bool
-    requires { ⌜ n ≤ length (now nodes) / 5 ⌝ }
+    requires { ⌜ n ≤ length (now nodes) / nodeStride ⌝ }
     ensures { λ r. ⌜ r ≡ each n (parentRight (now (nodes .entry))) ⌝ }
 {
     let mut k = 0;
@@ -82,7 +83,7 @@ fn parents_right(nodes: &[u32], n: usize) -> bool
 
 // Whether node k's first child is right: it can only be the next node, and is, where k is that one's parent.
 fn child_right(nodes: &[u32], n: usize, k: usize) -> bool
-    requires { ⌜ (n ≤ length (now nodes) / 5) × Ruled (now nodes) n × (k < n) ⌝ }
+    requires { ⌜ (n ≤ length (now nodes) / nodeStride) × Ruled (now nodes) n × (k < n) ⌝ }
     ensures { λ r. ⌜ r ≡ childRight (now (nodes .entry)) n k ⌝ }
 {
     let child = nodes[k * tables::NODE_STRIDE + 1];
@@ -98,7 +99,7 @@ fn child_right(nodes: &[u32], n: usize, k: usize) -> bool
 
 // Whether the first children of `n` nodes are right.
 fn children_right(nodes: &[u32], n: usize) -> bool
-    requires { ⌜ (n ≤ length (now nodes) / 5) × Ruled (now nodes) n ⌝ }
+    requires { ⌜ (n ≤ length (now nodes) / nodeStride) × Ruled (now nodes) n ⌝ }
     ensures { λ r. ⌜ r ≡ each n (childRight (now (nodes .entry)) n) ⌝ }
 {
     let mut k = 0;
@@ -113,7 +114,7 @@ fn children_right(nodes: &[u32], n: usize) -> bool
 
 // The climb from node k - 1 to the parent `p` of node k: the child of `p` on the way is followed by k, the others by none.
 fn climb(nodes: &[u32], n: usize, k: usize, p: u32) -> bool
-    requires { ⌜ (n ≤ length (now nodes) / 5) × Next (now nodes) n k p ⌝ }
+    requires { ⌜ (n ≤ length (now nodes) / nodeStride) × Next (now nodes) n k p ⌝ }
     ensures { λ r. ⌜ Climbed (now (nodes .entry)) n k p r ⌝ }
 {
     let mut j = k - 1;
@@ -138,7 +139,7 @@ fn climb(nodes: &[u32], n: usize, k: usize, p: u32) -> bool
 
 // Whether the next siblings of `n` nodes are right: climbs from each node to the next one's parent, and from the last to the top.
 fn siblings_right(nodes: &[u32], n: usize) -> bool
-    requires { ⌜ (n ≤ length (now nodes) / 5) × Ruled (now nodes) n ⌝ }
+    requires { ⌜ (n ≤ length (now nodes) / nodeStride) × Ruled (now nodes) n ⌝ }
     ensures { λ r. ⌜ r ≡ each n (siblingRight (now (nodes .entry)) n) ⌝ }
 {
     if n == 0 {
@@ -156,7 +157,7 @@ fn siblings_right(nodes: &[u32], n: usize) -> bool
 
 // Whether the game types of `n` trees are 0 or 1.
 fn kinds_right(trees: &[u32], n: usize) -> bool
-    requires { ⌜ n ≤ length (now trees) / 2 ⌝ }
+    requires { ⌜ n ≤ length (now trees) / treeStride ⌝ }
     ensures { λ r. ⌜ r ≡ each n (kindRight (now (trees .entry))) ⌝ }
 {
     let mut k = 0;
@@ -171,7 +172,7 @@ fn kinds_right(trees: &[u32], n: usize) -> bool
 
 // Whether roots, parents, links and game types fit.
 fn nodes_fit(trees: &[u32], nodes: &[u32], counts: tables::Counts) -> bool
-    requires { ⌜ (counts .trees ≤ length (now trees) / 2) × (counts .nodes ≤ length (now nodes) / 5) × (counts .nodes ≤ none) ⌝ }
+    requires { ⌜ (counts .trees ≤ length (now trees) / treeStride) × (counts .nodes ≤ length (now nodes) / nodeStride) × (counts .nodes ≤ none) ⌝ }
     ensures { λ r. ⌜ r ≡ nodesFit counts (now (trees .entry)) (now (nodes .entry)) ⌝ }
 {
     if !roots_right(trees, counts.trees, nodes, counts.nodes) {

@@ -2,6 +2,7 @@
 use Rattle.lists.specs.Prelude.{ℕ, _/_, Bool, _&&_, List, leb, length}
 use Rattle.tables.specs.Numbers.{textLimit}
 use Rattle.tables.specs.declared.Counts.{Counts}
+use Rattle.tables.specs.Columns.{nodeStride, propertyStride, valueStride}
 use Rattle.fit_spans.specs.Ranges.{rangesFit}
 use Rattle.fit_spans.specs.Spans.{spansFit}
 
@@ -9,9 +10,9 @@ use Rattle.fit_spans.specs.Spans.{spansFit}
 abbrev pub lentParts : List ℕ → Counts → (nd pr vl : List ℕ) → Bool
 lentParts t c nd pr vl =
     leb (length t) textLimit
-    && leb (c .nodes) (length nd / 5)
-    && leb (c .properties) (length pr / 4)
-    && leb (c .values) (length vl / 2)
+    && leb (c .nodes) (length nd / nodeStride)
+    && leb (c .properties) (length pr / propertyStride)
+    && leb (c .values) (length vl / valueStride)
 
 -- they are, and ranges and spans fit
 unfoldable pub partsFit : List ℕ → Counts → (nd pr vl : List ℕ) → Bool

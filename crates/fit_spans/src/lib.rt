@@ -5,7 +5,7 @@ ghost use mathlib.Core.List.{[], _∷_};
 ghost use Prim.Native.Nat.{ℕ, _+_, _*_, _/_, _<_, _≤_};
 ghost use lib.ListN.{length, getD};
 ghost use Rattle.tables.specs.Numbers.{textLimit};
-ghost use Rattle.tables.specs.Columns.{nameFromAt, nameToAt, firstValAt, valCountAt, valFromAt, valToAt};
+ghost use Rattle.tables.specs.Columns.{nodeStride, propertyStride, valueStride, nameFromAt, nameToAt, firstValAt, valCountAt, valFromAt, valToAt};
 ghost use Rattle.tables.specs.Each.{each, tabulate};
 ghost use Rattle.fit_spans.specs.Locals.{Spanned};
 ghost use Rattle.fit_spans.specs.Parts.{lentParts, partsFit};
@@ -43,7 +43,7 @@ fn ranges_follow(
 
 // Whether each of `n` properties has a value.
 fn have_values(properties: &[u32], n: usize) -> bool
-    requires { ⌜ n ≤ length (now properties) / 4 ⌝ }
+    requires { ⌜ n ≤ length (now properties) / propertyStride ⌝ }
     ensures { λ r. ⌜ r ≡ each n (hasValue (now (properties .entry))) ⌝ }
 {
     let mut k = 0;
@@ -58,7 +58,7 @@ fn have_values(properties: &[u32], n: usize) -> bool
 
 // Whether the ranges of properties and values fit.
 fn ranges_fit(nodes: &[u32], properties: &[u32], counts: tables::Counts) -> bool
-    requires { ⌜ (counts .nodes ≤ length (now nodes) / 5) × (counts .properties ≤ length (now properties) / 4) ⌝ }
+    requires { ⌜ (counts .nodes ≤ length (now nodes) / nodeStride) × (counts .properties ≤ length (now properties) / propertyStride) ⌝ }
     ensures { λ r. ⌜ r ≡ rangesFit counts (now (nodes .entry)) (now (properties .entry)) ⌝ }
 {
     ranges_follow(
@@ -102,7 +102,7 @@ fn span_after(used: usize, from: usize, start: usize, end: usize) -> Ascent
 
 // The spans of the `m` values from `v` on, of which the first may start at `from`.
 fn value_spans(values: &[u32], used: usize, from: usize, v: usize, m: usize) -> Ascent
-    requires { ⌜ (v + m ≤ length (now values) / 2) × (used ≤ textLimit) ⌝ }
+    requires { ⌜ (v + m ≤ length (now values) / valueStride) × (used ≤ textLimit) ⌝ }
     ensures { λ r. ⌜ Spanned used from (tabulate (valSpan (now (values .entry))) v m) (r .ok) (r .next) ⌝ }
 {
     let last = v + m;
@@ -126,7 +126,8 @@ fn value_spans(values: &[u32], used: usize, from: usize, v: usize, m: usize) -> 
 
 // The spans of property k, of which the first may start at `from`: its identifier, then its values.
 fn property_spans(properties: &[u32], k: usize, values: &[u32], used: usize, from: usize) -> Ascent
-    requires { ⌜ (k < length (now properties) / 4) × (firstValAt (now properties) k + valCountAt (now properties) k ≤ length (now values) / 2) × (used ≤ textLimit) ⌝ }
+    requires { ⌜ (k < length (now properties) / propertyStride)
+        × (firstValAt (now properties) k + valCountAt (now properties) k ≤ length (now values) / valueStride) × (used ≤ textLimit) ⌝ }
     ensures { λ r. ⌜ Spanned used from (propSpans (now (properties .entry)) (now (values .entry)) k) (r .ok) (r .next) ⌝ }
 {
     let start = lists::wide(properties[k * tables::PROPERTY_STRIDE]);
@@ -142,7 +143,8 @@ fn property_spans(properties: &[u32], k: usize, values: &[u32], used: usize, fro
 
 // Whether the spans of `n` properties and their values lie one after another in a text of `used` bytes.
 fn spans_right(properties: &[u32], n: usize, values: &[u32], used: usize) -> bool
-    requires { ⌜ (n ≤ length (now properties) / 4) × ((p : ℕ) → p < n → firstValAt (now properties) p + valCountAt (now properties) p ≤ length (now values) / 2) × (used ≤ textLimit) ⌝ }
+    requires { ⌜ (n ≤ length (now properties) / propertyStride)
+        × ((p : ℕ) → p < n → firstValAt (now properties) p + valCountAt (now properties) p ≤ length (now values) / valueStride) × (used ≤ textLimit) ⌝ }
     ensures { λ r. ⌜ r ≡ ascending used 0 (spans (now (properties .entry)) (now (values .entry)) 0 n) ⌝ }
 {
     let mut next: usize = 0;
@@ -171,7 +173,8 @@ fn is_plain(name: &[u8]) -> bool
 
 // Whether the identifiers of `n` properties, which lie in the text, are plain.
 fn names_right(text: &[u8], properties: &[u32], n: usize) -> bool
-    requires { ⌜ (n ≤ length (now properties) / 4) × ((p : ℕ) → p < n → (nameFromAt (now properties) p ≤ nameToAt (now properties) p) × (nameToAt (now properties) p ≤ length (now text))) ⌝ }
+    requires { ⌜ (n ≤ length (now properties) / propertyStride)
+        × ((p : ℕ) → p < n → (nameFromAt (now properties) p ≤ nameToAt (now properties) p) × (nameToAt (now properties) p ≤ length (now text))) ⌝ }
     ensures { λ r. ⌜ r ≡ each n (nameRight (now (text .entry)) (now (properties .entry))) ⌝ }
 {
     let mut k = 0;
@@ -205,7 +208,8 @@ fn is_boxed(text: &[u8], start: usize, end: usize) -> bool
 
 // Whether `n` values, which lie in the text, are right.
 fn values_right(text: &[u8], values: &[u32], n: usize) -> bool
-    requires { ⌜ (n ≤ length (now values) / 2) × ((v : ℕ) → v < n → (valFromAt (now values) v ≤ valToAt (now values) v) × (valToAt (now values) v ≤ length (now text))) ⌝ }
+    requires { ⌜ (n ≤ length (now values) / valueStride)
+        × ((v : ℕ) → v < n → (valFromAt (now values) v ≤ valToAt (now values) v) × (valToAt (now values) v ≤ length (now text))) ⌝ }
     ensures { λ r. ⌜ r ≡ each n (valueRight (now (text .entry)) (now (values .entry))) ⌝ }
 {
     let mut k = 0;
@@ -222,7 +226,9 @@ fn values_right(text: &[u8], values: &[u32], n: usize) -> bool
 
 // Whether the spans, and what stands in them, fit.
 fn spans_fit(text: &[u8], properties: &[u32], values: &[u32], counts: tables::Counts) -> bool
-    requires { ⌜ (counts .properties ≤ length (now properties) / 4) × (counts .values ≤ length (now values) / 2) × (length (now text) ≤ textLimit) × (gapless (firstValAt (now properties)) (valCountAt (now properties)) (counts .properties) (counts .values) ≡ true) ⌝ }
+    requires { ⌜ (counts .properties ≤ length (now properties) / propertyStride)
+        × (counts .values ≤ length (now values) / valueStride) × (length (now text) ≤ textLimit)
+        × (gapless (firstValAt (now properties)) (valCountAt (now properties)) (counts .properties) (counts .values) ≡ true) ⌝ }
     ensures { λ r. ⌜ r ≡ spansFit (now (text .entry)) counts (now (properties .entry)) (now (values .entry)) ⌝ }
 {
     if !spans_right(properties, counts.properties, values, text.len()) {

@@ -8,6 +8,7 @@ use Rattle.lexer.specs.declared.Head.{Head}
 use Rattle.lexer.specs.declared.Head.the-variants.{Start as start, End as end, Node as node, Name as name, Refused as refused, Done as done}
 use Rattle.lexer_close.specs.declared.Close.the-variants.{At, Open}
 use Rattle.tables.specs.Numbers.{depthLimit, none}
+use Rattle.tables.specs.Columns.{nodeStride, propertyStride, valueStride}
 use Rattle.tables.specs.Rows.{valRows}
 use Rattle.tables.specs.Flat.{flatVals}
 use Rattle.tables.specs.declared.Reason.{Reason}
@@ -40,7 +41,18 @@ begun at n p v = record { at = at; depth = 0; cur = none; nodes = n; props = p; 
 
 -- behind a start or an end
 abbrev pub shutAt : State → (at depth : ℕ) → State
-shutAt st at depth = record { at = at; depth = depth; cur = st .cur; nodes = st .nodes; props = st .props; vals = st .vals; first = st .first; follows = false; drops = st .drops }
+shutAt st at depth =
+    record {
+      at = at;
+      depth = depth;
+      cur = st .cur;
+      nodes = st .nodes;
+      props = st .props;
+      vals = st .vals;
+      first = st .first;
+      follows = false;
+      drops = st .drops;
+    }
 
 -- behind an end at i that leaves a tree open
 abbrev pub ended : State → ℕ → List ℕ → State
@@ -59,15 +71,48 @@ ended st i a =
 
 -- a node at i
 abbrev pub noded : State → ℕ → State
-noded st i = record { at = i + 1; depth = st .depth; cur = st .nodes; nodes = st .nodes + 1; props = st .props; vals = st .vals; first = st .props; follows = true; drops = false }
+noded st i =
+    record {
+      at = i + 1;
+      depth = st .depth;
+      cur = st .nodes;
+      nodes = st .nodes + 1;
+      props = st .props;
+      vals = st .vals;
+      first = st .props;
+      follows = true;
+      drops = false;
+    }
 
 -- a property with c values that ends at e
 abbrev pub added : State → (e c : ℕ) → State
-added st e c = record { at = e; depth = st .depth; cur = st .cur; nodes = st .nodes; props = st .props + 1; vals = st .vals + c; first = st .first; follows = st .follows; drops = st .drops }
+added st e c =
+    record {
+      at = e;
+      depth = st .depth;
+      cur = st .cur;
+      nodes = st .nodes;
+      props = st .props + 1;
+      vals = st .vals + c;
+      first = st .first;
+      follows = st .follows;
+      drops = st .drops;
+    }
 
 -- one that ends at e and is dropped
 abbrev pub dropped : State → (e : ℕ) → State
-dropped st e = record { at = e; depth = st .depth; cur = st .cur; nodes = st .nodes; props = st .props; vals = st .vals; first = st .first; follows = st .follows; drops = true }
+dropped st e =
+    record {
+      at = e;
+      depth = st .depth;
+      cur = st .cur;
+      nodes = st .nodes;
+      props = st .props;
+      vals = st .vals;
+      first = st .first;
+      follows = st .follows;
+      drops = true;
+    }
 
 -- ---- properties
 
@@ -79,15 +124,15 @@ Closes u k = valuesAt u k ≡ Open → ⊥
 pub record TakenIs (u : List ℕ) (k v0 : ℕ) (w w′ : List ℕ) (r : Taken) : Type 0 where
   pub ends : valuesAt u k ≡ At (r .end)
   pub next : r .next ≡ v0 + length (valsAt u k)
-  pub rows : PutIs w (v0 * 2) (flatVals (valRows (valsAt u k))) w′
+  pub rows : PutIs w (v0 * valueStride) (flatVals (valRows (valsAt u k))) w′
 
 -- the property from i, whose first `[` is at k, is a row, its values are, and its node counts it
 pub record AddIs (u : List ℕ) (st : State) (i k : ℕ) (t q w : List ℕ) (r : State) (t′ q′ w′ : List ℕ) : Type 0 where
   pub ends : valuesAt u k ≡ At (r .at)
   pub is : r ≡ added st (r .at) (length (valsAt u k))
-  pub vals : PutIs w (st .vals * 2) (flatVals (valRows (valsAt u k))) w′
-  pub props : PutIs q (st .props * 4) (i ∷ k ∷ st .vals ∷ length (valsAt u k) ∷ []) q′
-  pub nodes : PutIs t (st .nodes * 5 - 1) ((st .props + 1 - st .first) ∷ []) t′
+  pub vals : PutIs w (st .vals * valueStride) (flatVals (valRows (valsAt u k))) w′
+  pub props : PutIs q (st .props * propertyStride) (i ∷ k ∷ st .vals ∷ length (valsAt u k) ∷ []) q′
+  pub nodes : PutIs t (st .nodes * nodeStride - 1) ((st .props + 1 - st .first) ∷ []) t′
 
 -- it is dropped
 pub record SkippedIs (u : List ℕ) (st : State) (k : ℕ) (r : State) : Type 0 where
@@ -136,7 +181,8 @@ pub record BehindIs (u : List ℕ) (from d r : ℕ) : Type 0 where
 -- the tree, by whether it has no node and by leniency
 abbrev pub RootBy : (none? len : Bool) → State → (at : ℕ) → List ℕ → Walked → List ℕ → Type 0
 RootBy false len st at t r t′ = (r ≡ Tree at (st .nodes) (st .props) (st .vals)) × (t′ ≡ t)
-RootBy true true st at t r t′ = (r ≡ Tree at (st .nodes + 1) (st .props) (st .vals)) × PutIs t (st .nodes * 5) (none ∷ none ∷ none ∷ st .props ∷ 0 ∷ []) t′
+RootBy true true st at t r t′ =
+    (r ≡ Tree at (st .nodes + 1) (st .props) (st .vals)) × PutIs t (st .nodes * nodeStride) (none ∷ none ∷ none ∷ st .props ∷ 0 ∷ []) t′
 RootBy true false st at t r t′ = r ≡ Refused UnexpectedEndOfData
 
 -- the tree whose slice ends before `at`

@@ -4,6 +4,7 @@ use Rattle.lists.specs.Put.{PutIs}
 use Rattle.lexer.specs.Token.{Tok, done, lexAt}
 use Rattle.tables.specs.Numbers.{textLimit, none}
 use Rattle.tables.specs.Record.{Node, Tree, allProps, allVals}
+use Rattle.tables.specs.Columns.{nodeStride, propertyStride, valueStride}
 use Rattle.tables.specs.Rows.{propRows, valRows}
 use Rattle.tables.specs.Flat.{flatNodes, flatProps, flatVals}
 use Rattle.parser.specs.Walk.{Opts, Walk, walk, shut, walked}
@@ -36,14 +37,17 @@ pub record Stored (base p0 v0 : ℕ) (es : List Node) (t₀ q₀ w₀ t q w : Li
   pub nodes : n ≡ base + length es
   pub props : p ≡ p0 + length (allProps es)
   pub vals : v ≡ v0 + length (allVals (allProps es))
-  pub tnodes : PutIs t₀ (base * 5) (flatNodes (bareRows p0 es)) t
-  pub tprops : PutIs q₀ (p0 * 4) (flatProps (propRows v0 (allProps es))) q
-  pub tvals : PutIs w₀ (v0 * 2) (flatVals (valRows (allVals (allProps es)))) w
+  pub tnodes : PutIs t₀ (base * nodeStride) (flatNodes (bareRows p0 es)) t
+  pub tprops : PutIs q₀ (p0 * propertyStride) (flatProps (propRows v0 (allProps es))) q
+  pub tvals : PutIs w₀ (v0 * valueStride) (flatVals (valRows (allVals (allProps es)))) w
 
 -- a tree: its nodes es, in the tables; the place behind its slice, from which the other slices are read; as many rows as bytes, but that an empty root has none
 pub record TreeIs (op : Opts) (u : List ℕ) (from base p0 v0 : ℕ) (t₀ q₀ w₀ t q w : List ℕ) (at n p v : ℕ) : Type 0 where
   pub es : List Node
-  pub tree : (k : ℕ) (ts : List Tree) → grown (op .lenient) base k (walkOf op base (lexAt u from .toks)) ts ≡ growing (base + length es) (record { root = base; kind = k; nodes = es } ∷ ts)
+  pub tree :
+      (k : ℕ) (ts : List Tree)
+      → grown (op .lenient) base k (walkOf op base (lexAt u from .toks)) ts
+      ≡ growing (base + length es) (record { root = base; kind = k; nodes = es } ∷ ts)
   pub stored : Stored base p0 v0 es t₀ q₀ w₀ t q w n p v
   pub more : base < n
   pub rest : restFrom 0 (lexAt u from .toks) ≡ lexAt u at .toks

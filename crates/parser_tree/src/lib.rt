@@ -4,14 +4,18 @@ use lexer_close::Close;
 use lexer_scan::ValueStep;
 use parser_step::Act;
 use parser_step::State;
+use tables::NODE_STRIDE;
 use tables::NONE;
+use tables::PROPERTY_STRIDE;
 use tables::Reason;
+use tables::VALUE_STRIDE;
 ghost use mathlib.Core.Path.{_≡_};
 ghost use mathlib.Core.List.{[], _∷_};
 ghost use Prim.Native.Nat.{_+_, _*_, _≤_, _<_};
 ghost use lib.ListN.{length, set};
 ghost use Rattle.lists.specs.Put.{PutIs};
 ghost use Rattle.tables.specs.Numbers.{textLimit, depthLimit, none};
+ghost use Rattle.tables.specs.Columns.{nodeStride};
 ghost use Rattle.parser_tree.specs.Walks.{opts, Ready, WalkIs};
 ghost use Rattle.parser_tree.specs.Turns.{rowLimit, Small, begun, shutAt, ended, noded, Closes, TakenIs, AddIs, SkippedIs, BehindIs, RootIs, StopIs};
 
@@ -60,9 +64,17 @@ fn end(mut w: State, i: usize, stack: &[u32; 1024]) -> State
 // A node: its row, without links and properties. Its own list becomes current.
 fn node(mut w: State, i: usize, nodes: &mut [u32]) -> State
     requires { ⌜ Small w × (i < textLimit) ⌝ }
-    ensures { λ r. ⌜ (r ≡ noded w i) × PutIs (now (nodes .entry)) (w .nodes * 5) (w .cur ∷ none ∷ none ∷ w .props ∷ 0 ∷ []) (now (nodes .exit)) ⌝ }
+    ensures { λ r. ⌜ (r ≡ noded w i) × PutIs (now (nodes .entry)) (w .nodes * nodeStride) (w .cur ∷ none ∷ none ∷ w .props ∷ 0 ∷ []) (now (nodes .exit)) ⌝ }
 {
-    store_numbers::put5(nodes, w.nodes * 5, w.cur, NONE, NONE, w.props as u32, 0);
+    store_numbers::put5(
+        nodes,
+        w.nodes * NODE_STRIDE,
+        w.cur,
+        NONE,
+        NONE,
+        w.props as u32,
+        0,
+    );
     w.at = i + 1;
     w.cur = w.nodes as u32;
     w.nodes += 1;
@@ -82,7 +94,7 @@ fn take_values(s: &[u8], from: usize, v0: usize, vals: &mut [u32]) -> Taken
     loop {
         match lexer_scan::next_value(s, i) {
             ValueStep::Value(a, e, next) => {
-                store_numbers::put2(vals, v * 2, a as u32, e as u32);
+                store_numbers::put2(vals, v * VALUE_STRIDE, a as u32, e as u32);
                 v += 1;
                 i = next;
             }
@@ -103,20 +115,21 @@ fn add(
     vals: &mut [u32],
 ) -> State
     requires { ⌜ Small w × (length (now s) ≤ textLimit) × (i ≤ k) × (k ≤ length (now s)) × (0 < w .nodes) × (w .first ≤ w .props) × Closes (now s) k ⌝ }
-    ensures { λ r. ⌜ AddIs (now (s .entry)) w i k (now (nodes .entry)) (now (props .entry)) (now (vals .entry)) r (now (nodes .exit)) (now (props .exit)) (now (vals .exit)) ⌝ }
+    ensures { λ r. ⌜ AddIs (now (s .entry)) w i k (now (nodes .entry)) (now (props .entry)) (now (vals .entry))
+        r (now (nodes .exit)) (now (props .exit)) (now (vals .exit)) ⌝ }
 {
     let taken = take_values(s, k, w.vals, vals);
     let count = taken.next - w.vals;
     store_numbers::put4(
         props,
-        w.props * 4,
+        w.props * PROPERTY_STRIDE,
         i as u32,
         k as u32,
         w.vals as u32,
         count as u32,
     );
     w.props += 1;
-    let cell = w.nodes * 5 - 1;
+    let cell = w.nodes * NODE_STRIDE - 1;
     store_numbers::put1(nodes, cell, (w.props - w.first) as u32);
     w.at = taken.end;
     w.vals = taken.next;
@@ -179,7 +192,15 @@ fn finish(lenient: bool, base: usize, w: State, at: usize, nodes: &mut [u32]) ->
     if !lenient {
         return Walked::Refused(Reason::UnexpectedEndOfData);
     }
-    store_numbers::put5(nodes, w.nodes * 5, NONE, NONE, NONE, w.props as u32, 0);
+    store_numbers::put5(
+        nodes,
+        w.nodes * NODE_STRIDE,
+        NONE,
+        NONE,
+        NONE,
+        w.props as u32,
+        0,
+    );
     Walked::Tree(at, w.nodes + 1, w.props, w.vals)
 }
 
@@ -226,7 +247,8 @@ pub fn walk_tree(
     vals: &mut [u32],
 ) -> Walked
     requires { ⌜ Ready (opts lenient convert) (now s) from base p0 v0 ⌝ }
-    ensures { λ r. ⌜ WalkIs (opts lenient convert) (now (s .entry)) from base p0 v0 (now (nodes .entry)) (now (props .entry)) (now (vals .entry)) (now (nodes .exit)) (now (props .exit)) (now (vals .exit)) r ⌝ }
+    ensures { λ r. ⌜ WalkIs (opts lenient convert) (now (s .entry)) from base p0 v0
+        (now (nodes .entry)) (now (props .entry)) (now (vals .entry)) (now (nodes .exit)) (now (props .exit)) (now (vals .exit)) r ⌝ }
 {
     let mut stack = [0u32; 1024];
     let mut w = begin(from, base, p0, v0);

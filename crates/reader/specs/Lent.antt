@@ -1,5 +1,6 @@
 -- A reading: what is answered, and what the lent tables hold after it.
 use Rattle.lists.specs.Prelude.{ℕ, _/_, _≡_, Bool, _&&_, List, leb, length, pick}
+use Rattle.tables.specs.Columns.{treeStride, nodeStride, propertyStride, valueStride}
 use Rattle.tables.specs.Rows.{Tables, countsOf, tables}
 use Rattle.tables.specs.Flat.{flatTrees, flatNodes, flatProps, flatVals, over}
 use Rattle.tables.specs.declared.Counts.{Counts}
@@ -21,7 +22,11 @@ lent r t q w = record { trees = r; nodes = t; props = q; vals = w }
 
 -- so many rows are lent: numbers divided by the stride
 abbrev pub roomFor : Counts → (trees nodes props vals : ℕ) → Bool
-roomFor c r t q w = leb (c .trees) (r / 2) && leb (c .nodes) (t / 5) && leb (c .properties) (q / 4) && leb (c .values) (w / 2)
+roomFor c r t q w =
+    leb (c .trees) (r / treeStride)
+    && leb (c .nodes) (t / nodeStride)
+    && leb (c .properties) (q / propertyStride)
+    && leb (c .values) (w / valueStride)
 
 -- so many rows are lent as the tables need
 abbrev pub roomy : Tables → Lent → Bool
@@ -29,7 +34,9 @@ roomy t l = roomFor (countsOf t) (length (l .trees)) (length (l .nodes)) (length
 
 -- the rows of the record in front of what was lent
 abbrev pub stored : Tables → Lent → Lent
-stored t l = lent (over (flatTrees (t .trees)) (l .trees)) (over (flatNodes (t .nodes)) (l .nodes)) (over (flatProps (t .props)) (l .props)) (over (flatVals (t .vals)) (l .vals))
+stored t l =
+    lent (over (flatTrees (t .trees)) (l .trees)) (over (flatNodes (t .nodes)) (l .nodes))
+    (over (flatProps (t .props)) (l .props)) (over (flatVals (t .vals)) (l .vals))
 
 -- what is answered: the last reason to refuse is that there is no room
 abbrev pub answers : Answer → Lent → Reading

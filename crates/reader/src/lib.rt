@@ -17,7 +17,10 @@ pub fn read(
     properties: &mut [u32],
     values: &mut [u32],
 ) -> Reading
-    ensures { λ r. ⌜ ReadIs (definition.read (opts lenient convert) (now (text .entry))) (lent (now (trees .entry)) (now (nodes .entry)) (now (properties .entry)) (now (values .entry))) (lent (now (trees .exit)) (now (nodes .exit)) (now (properties .exit)) (now (values .exit))) r ⌝ }
+    ensures { λ r. ⌜ ReadIs (definition.read (opts lenient convert) (now (text .entry)))
+        (lent (now (trees .entry)) (now (nodes .entry)) (now (properties .entry)) (now (values .entry)))
+        (lent (now (trees .exit)) (now (nodes .exit)) (now (properties .exit)) (now (values .exit)))
+        r ⌝ }
 {
     match parser_split::plan_text(text, lenient) {
         Plan::Refused(reason, place) => Reading::Refused(reason, place),

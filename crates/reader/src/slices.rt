@@ -48,7 +48,10 @@ fn read_trees(
     values: &mut [u32],
 ) -> Total
     requires { ⌜ SlicesReady (opts lenient convert) (now s) from count ⌝ }
-    ensures { λ r. ⌜ TreesIs (readOf (opts lenient convert) count (lexAt (now (s .entry)) from .toks)) count (lent (now (trees .entry)) (now (nodes .entry)) (now (properties .entry)) (now (values .entry))) (lent (now (trees .exit)) (now (nodes .exit)) (now (properties .exit)) (now (values .exit))) r ⌝ }
+    ensures { λ r. ⌜ TreesIs (readOf (opts lenient convert) count (lexAt (now (s .entry)) from .toks)) count
+        (lent (now (trees .entry)) (now (nodes .entry)) (now (properties .entry)) (now (values .entry)))
+        (lent (now (trees .exit)) (now (nodes .exit)) (now (properties .exit)) (now (values .exit)))
+        r ⌝ }
 {
     let mut at = from;
     let mut n: usize = 0;
@@ -132,7 +135,10 @@ pub fn read_slices(
     values: &mut [u32],
 ) -> Reading
     requires { ⌜ SlicesReady (opts lenient convert) (now s) from count ⌝ }
-    ensures { λ r. ⌜ ReadIs (answer (readOf (opts lenient convert) count (lexAt (now (s .entry)) from .toks))) (lent (now (trees .entry)) (now (nodes .entry)) (now (properties .entry)) (now (values .entry))) (lent (now (trees .exit)) (now (nodes .exit)) (now (properties .exit)) (now (values .exit))) r ⌝ }
+    ensures { λ r. ⌜ ReadIs (answer (readOf (opts lenient convert) count (lexAt (now (s .entry)) from .toks)))
+        (lent (now (trees .entry)) (now (nodes .entry)) (now (properties .entry)) (now (values .entry)))
+        (lent (now (trees .exit)) (now (nodes .exit)) (now (properties .exit)) (now (values .exit)))
+        r ⌝ }
 {
     match count_rows(s, from, count, lenient, convert) {
         Total::Refused(reason) => Reading::Refused(reason, 0),

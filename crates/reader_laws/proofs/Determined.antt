@@ -7,6 +7,7 @@ use Rattle.tables.specs.Rows.{tables, next, parents, nodeRows, propRows, valRow
 use Rattle.tables.specs.declared.Counts.{Counts}
 use Rattle.tables.specs.Columns.{parentAt, childAt, siblingAt}
 use Rattle.tables.specs.Each.{tabulate}
+use Rattle.tables.specs.Memory.{memory}
 use Rattle.fit.specs.Fit.{Fit}
 use Rattle.fit_nodes.specs.Nodes.{firstUnder, nextOf, childRight, siblingRight}
 use Rattle.fit.specs.Record.{treeRow, nodeRow, propRow, valRow, rowsOf, treesOf, recordOf}
@@ -67,11 +68,11 @@ module _ {s : List ℕ} {c : Counts} {tr nd pr vl : List ℕ} (k : Clauses s c t
         rw (a, b, d, e)
 
 -- tables that fit are the tables of what they denote
-pub fit-tables : (t : List ℕ) (used : ℕ) (c : Counts) (tr nd pr vl : List ℕ) → Fit t used c tr nd pr vl ≡ true → (u : List ℕ) → tables (recordOf u (rowsOf c tr nd pr vl)) ≡ rowsOf c tr nd pr vl
+pub fit-tables : (t : List ℕ) (used : ℕ) (c : Counts) (tr nd pr vl : List ℕ) → Fit (memory t used c tr nd pr vl) ≡ true → (u : List ℕ) → tables (recordOf u (rowsOf c tr nd pr vl)) ≡ rowsOf c tr nd pr vl
 fit-tables t used c tr nd pr vl h u = tables-back (fit-clauses t used c tr nd pr vl h) u
 
 -- two that fit one text and denote the same record, places included, are the same rows
-pub fit-once : (t : List ℕ) (used : ℕ) (c c′ : Counts) (tr nd pr vl tr′ nd′ pr′ vl′ : List ℕ) → Fit t used c tr nd pr vl ≡ true → Fit t used c′ tr′ nd′ pr′ vl′ ≡ true
+pub fit-once : (t : List ℕ) (used : ℕ) (c c′ : Counts) (tr nd pr vl tr′ nd′ pr′ vl′ : List ℕ) → Fit (memory t used c tr nd pr vl) ≡ true → Fit (memory t used c′ tr′ nd′ pr′ vl′) ≡ true
     → recordOf (take used t) (rowsOf c tr nd pr vl) ≡ recordOf (take used t) (rowsOf c′ tr′ nd′ pr′ vl′)
     → (c ≡ c′) × (rowsOf c tr nd pr vl ≡ rowsOf c′ tr′ nd′ pr′ vl′)
 fit-once t used c c′ tr nd pr vl tr′ nd′ pr′ vl′ h h′ e =

@@ -8,6 +8,7 @@ use Rattle.tables.specs.Record.{Node, Tree, allNodes, allProps, allVals}
 use Rattle.tables.specs.Rows.{Tables, tables, parents, treeRows, nodeRows, propRows, valRows, countsOf}
 use Rattle.tables.specs.declared.Counts.{Counts}
 use Rattle.tables.specs.Each.{tabulate}
+use Rattle.tables.specs.Memory.{memory}
 use Rattle.fit.specs.Fit.{sound, validUtf8, Fit}
 use Rattle.fit.specs.Record.{treeRow, nodeRow, propRow, valRow, rowsOf}
 use Rattle.fit.proofs.Clauses.{Clauses, clauses-fit}
@@ -86,7 +87,7 @@ module _ (op : Opts) (t : List ℕ) (ts : List Tree) (h : read op t ≡ accepted
 
 -- of the first `used` bytes of a buffer, where enough is lent
 pub rows-fit : (op : Opts) (buf : List ℕ) (used : ℕ) (ts : List Tree) → used ≤ length buf → read op (take used buf) ≡ accepted ts
-    → (c : Counts) (tr nd pr vl : List ℕ) → Room c (lent tr nd pr vl) → rowsOf c tr nd pr vl ≡ tables ts → Fit buf used c tr nd pr vl ≡ true
+    → (c : Counts) (tr nd pr vl : List ℕ) → Room c (lent tr nd pr vl) → rowsOf c tr nd pr vl ≡ tables ts → Fit (memory buf used c tr nd pr vl) ≡ true
 rows-fit op buf used ts b h c tr nd pr vl room rows = clauses-fit buf used c tr nd pr vl b (clauses op (take used buf) ts h c tr nd pr vl rows room)
 
 -- ---- the flat tables of the reading, whatever stands behind them
@@ -104,12 +105,12 @@ flat-room ts a b c d =
 
 -- over a buffer
 pub buffer-fits : (op : Opts) (buf : List ℕ) (used : ℕ) (ts : List Tree) → used ≤ length buf → read op (take used buf) ≡ accepted ts → (a b c d : List ℕ)
-    → Fit buf used (countsOf (tables ts)) (flatTrees (tables ts .trees) ++ a) (flatNodes (tables ts .nodes) ++ b) (flatProps (tables ts .props) ++ c) (flatVals (tables ts .vals) ++ d) ≡ true
+    → Fit (memory buf used (countsOf (tables ts)) (flatTrees (tables ts .trees) ++ a) (flatNodes (tables ts .nodes) ++ b) (flatProps (tables ts .props) ++ c) (flatVals (tables ts .vals) ++ d)) ≡ true
 buffer-fits op buf used ts l h a b c d =
     rows-fit op buf used ts l h (countsOf (tables ts)) (flatTrees (tables ts .trees) ++ a) (flatNodes (tables ts .nodes) ++ b) (flatProps (tables ts .props) ++ c) (flatVals (tables ts .vals) ++ d)
     (flat-room ts a b c d) (rows-of-flat (tables ts) a b c d)
 
 -- over a text that is used whole
 pub reading-fits : (op : Opts) (t : List ℕ) (ts : List Tree) → read op t ≡ accepted ts → (a b c d : List ℕ)
-    → Fit t (length t) (countsOf (tables ts)) (flatTrees (tables ts .trees) ++ a) (flatNodes (tables ts .nodes) ++ b) (flatProps (tables ts .props) ++ c) (flatVals (tables ts .vals) ++ d) ≡ true
+    → Fit (memory t (length t) (countsOf (tables ts)) (flatTrees (tables ts .trees) ++ a) (flatNodes (tables ts .nodes) ++ b) (flatProps (tables ts .props) ++ c) (flatVals (tables ts .vals) ++ d)) ≡ true
 reading-fits op t ts h a b c d = buffer-fits op t (length t) ts (omega arith) (rw (take-length t) h) a b c d

@@ -6,6 +6,7 @@ use Rattle.tables.specs.Rows.{Tables, tables, countsOf}
 use Rattle.tables.specs.declared.Counts.{Counts}
 use Rattle.tables.specs.declared.Reading.the-variants.{Accepted, Refused}
 use Rattle.tables.specs.declared.Reason.the-variants.{NoRoom}
+use Rattle.tables.specs.Memory.{memory}
 use Rattle.fit.specs.Fit.{Fit}
 use Rattle.fit.specs.Record.{rowsOf, recordOf}
 use Rattle.fit.proofs.Rows.{rows-of-flat}
@@ -49,10 +50,10 @@ module _ (op : Opts) (t : List ℕ) (before after : Lent) (c : Counts) (x : Read
 
 -- of the first `used` bytes of a buffer
 pub read-buffer-fits : (op : Opts) (buf : List ℕ) (used : ℕ) (before after : Lent) (c : Counts) → used ≤ length buf → ReadIs (read op (take used buf)) before after (Accepted c)
-    → Fit buf used c (after .trees) (after .nodes) (after .props) (after .vals) ≡ true
+    → Fit (memory buf used c (after .trees) (after .nodes) (after .props) (after .vals)) ≡ true
 read-buffer-fits op buf used before after c l x = go (left op (take used buf) before after c x)
   where
-    go : (ts : List Tree) × Left op (take used buf) before after c ts → Fit buf used c (after .trees) (after .nodes) (after .props) (after .vals) ≡ true
+    go : (ts : List Tree) × Left op (take used buf) before after c ts → Fit (memory buf used c (after .trees) (after .nodes) (after .props) (after .vals)) ≡ true
     go (ts, (q, e, s)) =
         let T : Tables = tables ts in
         rw (e, s) (buffer-fits op buf used ts l q (drop (length (flatTrees (T .trees))) (before .trees)) (drop (length (flatNodes (T .nodes))) (before .nodes))
@@ -60,5 +61,5 @@ read-buffer-fits op buf used before after c l x = go (left op (take used buf) be
 
 -- of a text that is used whole
 pub read-fits : (op : Opts) (t : List ℕ) (before after : Lent) (c : Counts) → ReadIs (read op t) before after (Accepted c)
-    → Fit t (length t) c (after .trees) (after .nodes) (after .props) (after .vals) ≡ true
+    → Fit (memory t (length t) c (after .trees) (after .nodes) (after .props) (after .vals)) ≡ true
 read-fits op t before after c x = read-buffer-fits op t (length t) before after c (omega arith) (rw (take-length t) x)

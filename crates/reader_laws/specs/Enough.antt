@@ -1,6 +1,7 @@
 -- Numbers of rows that suffice for a text of so many bytes.
 use Rattle.lists.specs.Prelude.{ℕ, _+_, _-_, _/_, _≤_, max, length}
 use Rattle.tables.specs.declared.Counts.{Counts}
+use Rattle.tables.specs.Columns.{treeStride, nodeStride, propertyStride, valueStride}
 use Rattle.reader.specs.Lent.{Lent}
 
 -- rows of each kind
@@ -24,4 +25,8 @@ Suffices r c = (c .trees ≤ r .trees) × (c .nodes ≤ r .nodes) × (c .propert
 
 -- so many rows are lent
 abbrev pub Lends : Rows → Lent → Type 0
-Lends r l = (r .trees ≤ length (l .trees) / 2) × (r .nodes ≤ length (l .nodes) / 5) × (r .properties ≤ length (l .props) / 4) × (r .values ≤ length (l .vals) / 2)
+Lends r l =
+    (r .trees ≤ length (l .trees) / treeStride)
+    × (r .nodes ≤ length (l .nodes) / nodeStride)
+    × (r .properties ≤ length (l .props) / propertyStride)
+    × (r .values ≤ length (l .vals) / valueStride)

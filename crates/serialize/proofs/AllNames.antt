@@ -10,6 +10,7 @@ use Rattle.fit.proofs.Clauses.{fit-clauses}
 use Rattle.fit.proofs.Parts.{tabulate-last, map-tabulate}
 use Rattle.fit.proofs.RecordRows.{valsIn, record-props}
 use Rattle.tables.specs.Each.{each, tabulate}
+use Rattle.tables.specs.Memory.{memory}
 use Rattle.fit.specs.Fit.{Fit}
 use Rattle.fit.specs.Record.{propRow, propOf, rowsOf, recordOf}
 use Rattle.serialize.specs.Walk.{namesGood}
@@ -41,7 +42,7 @@ module _ (p : ℕ → Prop) where
       go true l h = rw h
       go false l h = rw (h, some-not l, or-false (leb l 0))
 
-pub names-are : (t : List ℕ) (used : ℕ) (c : Counts) (tr nd pr vl : List ℕ) → Fit t used c tr nd pr vl ≡ true
+pub names-are : (t : List ℕ) (used : ℕ) (c : Counts) (tr nd pr vl : List ℕ) → Fit (memory t used c tr nd pr vl) ≡ true
     → namesGood (take used t) pr (c .properties) ≡ not (nameless (allProps (allNodes (recordOf (take used t) (rowsOf c tr nd pr vl)))))
 unfolding namesGood
 names-are t used c tr nd pr vl h =

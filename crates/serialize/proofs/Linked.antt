@@ -11,6 +11,7 @@ use Rattle.fit_spans.proofs.Ranges.{gapless-in}
 use Rattle.fit.proofs.RootRows.{root-in}
 use Rattle.tables.specs.Columns.{rootAt, kindAt, parentAt, firstPropAt, propCountAt, firstValAt, valCountAt}
 use Rattle.tables.specs.Each.{tabulate}
+use Rattle.tables.specs.Memory.{memory}
 use Rattle.fit.specs.Fit.{Fit}
 use Rattle.fit.specs.Record.{treeRow, nodeRow, nodeOf, treesOf, rowsOf, recordOf}
 use Rattle.serialize.specs.Form.{formProp, formNode, formTree, writing}
@@ -127,7 +128,7 @@ module _ {t : List ℕ} {c : Counts} {tr nd pr vl : List ℕ} (fit : Clauses t c
       ∙ append-assoc (head 0) (joined T 1 (n - 1)) (endsBefore nd n none)
       ∙ sym (trees-from j 0 (omega arith) ∙ ap r f)
 
-pub linked-is : (t : List ℕ) (used : ℕ) (c : Counts) (tr nd pr vl : List ℕ) → Fit t used c tr nd pr vl ≡ true
+pub linked-is : (t : List ℕ) (used : ℕ) (c : Counts) (tr nd pr vl : List ℕ) → Fit (memory t used c tr nd pr vl) ≡ true
     → linked (take used t) tr nd pr vl (c .nodes) ≡ writing (recordOf (take used t) (rowsOf c tr nd pr vl))
 unfolding linked nodeBy
 linked-is t used c tr nd pr vl h =

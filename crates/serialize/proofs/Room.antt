@@ -3,6 +3,7 @@ use Rattle.lists.proofs.Prelude.{ℕ, _≤_, Bool, true, false, List, _++_, _�
 use Rattle.lists.proofs.Tests.{never}
 use Rattle.tables.specs.Record.{allNodes, allProps}
 use Rattle.tables.specs.declared.Counts.{Counts}
+use Rattle.tables.specs.Memory.{memory}
 use Rattle.fit.specs.Fit.{Fit}
 use Rattle.fit.specs.Record.{rowsOf, recordOf}
 use Rattle.serialize.specs.Form.{writing, answer, output, WriteIs}
@@ -18,9 +19,9 @@ answer-length true false true n w h = never cc
 answer-length true false false n w h = cc
 
 module _ (t : List ℕ) (used : ℕ) (c : Counts) (tr nd pr vl out out′ : List ℕ) (n : ℕ) where
-  pub write-room : {r : Written} → WriteIs t used c tr nd pr vl out out′ r → r ≡ Wrote n → n ≤ length out′
+  pub write-room : {r : Written} → WriteIs (memory t used c tr nd pr vl) out out′ r → r ≡ Wrote n → n ≤ length out′
   write-room x e =
       let ts = recordOf (take used t) (rowsOf c tr nd pr vl) in
-      let l = answer-length (Fit t used c tr nd pr vl) (nameless (allProps (allNodes ts))) (ltb (length out) (length (writing ts))) n (writing ts) (sym e ∙ x .is) in
+      let l = answer-length (Fit (memory t used c tr nd pr vl)) (nameless (allProps (allNodes ts))) (ltb (length out) (length (writing ts))) n (writing ts) (sym e ∙ x .is) in
       let b : length out′ ≡ length (writing ts ++ drop n out) = ap length (x .bytes ∙ ap (λ (r : Written). output r (writing ts) out) e) in
       omega (arith, l, b, length-append (writing ts) (drop n out))

@@ -7,6 +7,7 @@ use Rattle.tables.specs.Record.{Tree, allNodes, allProps}
 use Rattle.tables.specs.declared.Counts.{Counts}
 use Rattle.tables.specs.declared.Reason.the-variants.{NoRoom, EmptyIdentifier, NotFitting}
 use Rattle.tables.specs.Columns.{firstPropAt, propCountAt}
+use Rattle.tables.specs.Memory.{memory}
 use Rattle.fit.specs.Fit.{Fit}
 use Rattle.fit.specs.Record.{rowsOf, recordOf}
 use Rattle.fit.proofs.Clauses.{Clauses, fit-clauses, name-in}
@@ -34,10 +35,10 @@ module _ (t : List ℕ) (used : ℕ) (c : Counts) (tr nd pr vl out : List ℕ) w
   abbrev short : Bool
   short = ltb (length out) (length (writing trees))
 
-  pub write-unfit : {f : Bool} → f ≡ Fit t used c tr nd pr vl → f ≡ false → WriteIs t used c tr nd pr vl out out (Refused NotFitting)
+  pub write-unfit : {f : Bool} → f ≡ Fit (memory t used c tr nd pr vl) → f ≡ false → WriteIs (memory t used c tr nd pr vl) out out (Refused NotFitting)
   write-unfit e h = record { is = ap (λ (z : Bool). answer z blank short (writing trees)) (sym h ∙ e); bytes = refl }
 
-  module _ (fit : Fit t used c tr nd pr vl ≡ true) where
+  module _ (fit : Fit (memory t used c tr nd pr vl) ≡ true) where
     clauses : Clauses (take used t) c tr nd pr vl
     clauses = fit-clauses t used c tr nd pr vl fit
 
@@ -59,14 +60,14 @@ module _ (t : List ℕ) (used : ℕ) (c : Counts) (tr nd pr vl out : List ℕ) w
         }
 
     -- the answer, where the names and the room are known
-    decided : {b s : Bool} → blank ≡ b → short ≡ s → answer true b s (writing trees) ≡ written t used c tr nd pr vl (length out)
+    decided : {b s : Bool} → blank ≡ b → short ≡ s → answer true b s (writing trees) ≡ written (memory t used c tr nd pr vl) (length out)
     decided {b} {s} eb es =
         ap₂ (λ (x y : Bool). answer true x y (writing trees)) (sym eb) (sym es) ∙ ap (λ (z : Bool). answer z blank short (writing trees)) (sym fit)
 
     names : namesGood (take used t) pr (c .properties) ≡ not blank
     names = names-are t used c tr nd pr vl fit
 
-    pub write-nameless : namesGood (take used t) pr (c .properties) ≡ false → WriteIs t used c tr nd pr vl out out (Refused EmptyIdentifier)
+    pub write-nameless : namesGood (take used t) pr (c .properties) ≡ false → WriteIs (memory t used c tr nd pr vl) out out (Refused EmptyIdentifier)
     write-nameless h = record { is = decided (not-false blank (sym names ∙ h)) refl; bytes = refl }
 
     module _ (good : namesGood (take used t) pr (c .properties) ≡ true) (small : length out < 2 ^ 63) where
@@ -80,7 +81,7 @@ module _ (t : List ℕ) (used : ℕ) (c : Counts) (tr nd pr vl out : List ℕ) w
       named = not-true blank (sym names ∙ good)
 
       module _ {e : List ℕ} {need : ℕ} (m : Wrote walked [] 0 e need) where
-        pub write-short : length (e ++ out) < need → WriteIs t used c tr nd pr vl out (e ++ out) (Refused NoRoom)
+        pub write-short : length (e ++ out) < need → WriteIs (memory t used c tr nd pr vl) out (e ++ out) (Refused NoRoom)
         write-short h =
             let k = measure-kept out m in
             record {
@@ -88,7 +89,7 @@ module _ (t : List ℕ) (used : ℕ) (c : Counts) (tr nd pr vl out : List ℕ) w
               bytes = k;
             }
 
-        pub write-done : need ≤ length (e ++ out) → {out2 : List ℕ} {n : ℕ} → Wrote walked (e ++ out) 0 out2 n → WriteIs t used c tr nd pr vl out out2 (Done n)
+        pub write-done : need ≤ length (e ++ out) → {out2 : List ℕ} {n : ℕ} → Wrote walked (e ++ out) 0 out2 n → WriteIs (memory t used c tr nd pr vl) out out2 (Done n)
         write-done h {out2} {n} y =
             let k = measure-kept out m in
             let l : length walked ≤ length out = omega (arith, m .place, ap length k) in

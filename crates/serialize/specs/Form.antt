@@ -1,13 +1,13 @@
 -- What is written: the form of the values, the writing of a record, and the writer's answer.
-use Rattle.lists.specs.Prelude.{ℕ, _≡_, Bool, true, false, List, _++_, map, ltb, length, drop, take}
+use Rattle.lists.specs.Prelude.{ℕ, _≡_, Bool, true, false, List, _++_, map, ltb, length, drop}
 use Rattle.lexer.specs.Token.{Val, Prop}
 use Rattle.values.specs.Read.{readIdentifier}
 use Rattle.go.specs.Normal.{normal}
 use Rattle.tables.specs.Record.{Node, Tree, allNodes, allProps}
-use Rattle.tables.specs.declared.Counts.{Counts}
+use Rattle.tables.specs.Memory.{Memory}
 use Rattle.tables.specs.declared.Reason.the-variants.{NoRoom, EmptyIdentifier, NotFitting}
 use Rattle.fit.specs.Fit.{Fit}
-use Rattle.fit.specs.Record.{rowsOf, rawsOf, recordOf}
+use Rattle.fit.specs.Record.{rawsOf, recordIn}
 use Rattle.serialize.specs.Write.{writeTrees, nameless}
 use Rattle.serialize.specs.declared.Written.{Written}
 use Rattle.serialize.specs.declared.Written.the-variants.{Wrote, Refused}
@@ -43,9 +43,9 @@ answer true false false w = Wrote (length w)
 abbrev pub answerFor : Bool → (room : ℕ) → List Tree → Written
 answerFor fits room ts = answer fits (nameless (allProps (allNodes ts))) (ltb room (length (writing ts))) (writing ts)
 
--- of a text with its tables
-abbrev pub written : List ℕ → ℕ → Counts → (tr nd pr vl : List ℕ) → (room : ℕ) → Written
-written t used c tr nd pr vl room = answerFor (Fit t used c tr nd pr vl) room (recordOf (take used t) (rowsOf c tr nd pr vl))
+-- of lent memory
+abbrev pub written : Memory → (room : ℕ) → Written
+written m room = answerFor (Fit m) room (recordIn m)
 
 -- the lent bytes then: the writing and what was behind it; a refusal changes none
 abbrev pub output : Written → (w out : List ℕ) → List ℕ
@@ -53,6 +53,6 @@ output (Wrote n) w out = w ++ drop n out
 output (Refused r) w out = out
 
 -- the writer's answer and the lent bytes
-pub record WriteIs (t : List ℕ) (used : ℕ) (c : Counts) (tr nd pr vl out out′ : List ℕ) (r : Written) : Type 0 where
-  pub is : r ≡ written t used c tr nd pr vl (length out)
-  pub bytes : out′ ≡ output r (writing (recordOf (take used t) (rowsOf c tr nd pr vl))) out
+pub record WriteIs (m : Memory) (out out′ : List ℕ) (r : Written) : Type 0 where
+  pub is : r ≡ written m (length out)
+  pub bytes : out′ ≡ output r (writing (recordIn m)) out

@@ -5,6 +5,7 @@ mod property; // property.rt: the properties of a node
 mod walk; // walk.rt: node by node along the links
 
 ghost use Rattle.serialize.specs.Form.{WriteIs};
+ghost use Rattle.tables.specs.Memory.{memory};
 use tables::Reason;
 
 // A writing: its number of bytes, or why it is refused.
@@ -24,7 +25,9 @@ pub fn write(
     values: &[u32],
     out: &mut [u8],
 ) -> Written
-    ensures { λ r. ⌜ WriteIs (now (text .entry)) used counts (now (trees .entry)) (now (nodes .entry)) (now (properties .entry)) (now (values .entry)) (now (out .entry)) (now (out .exit)) r ⌝ }
+    ensures { λ r. ⌜ WriteIs
+        (memory (now (text .entry)) used counts (now (trees .entry)) (now (nodes .entry)) (now (properties .entry)) (now (values .entry)))
+        (now (out .entry)) (now (out .exit)) r ⌝ }
 {
     if !fit::fits(text, used, counts, trees, nodes, properties, values) {
         return Written::Refused(Reason::NotFitting);

@@ -37,7 +37,8 @@ pub fn put_properties(
     k: usize,
 ) -> usize
     requires { ⌜ NodeHeld (now text) (now nodes) (now properties) k ⌝ }
-    ensures { λ r. ⌜ Wrote (propsText (now (text .entry)) (now (nodes .entry)) (now (properties .entry)) (now (values .entry)) kind k) (now (out .entry)) at (now (out .exit)) r ⌝ }
+    ensures { λ r. ⌜ Wrote (propsText (now (text .entry)) (now (nodes .entry)) (now (properties .entry)) (now (values .entry)) kind k)
+        (now (out .entry)) at (now (out .exit)) r ⌝ }
 {
     let first = lists::wide(nodes[k * tables::NODE_STRIDE + 3]);
     let count = lists::wide(nodes[k * tables::NODE_STRIDE + 4]);

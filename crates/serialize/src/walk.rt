@@ -3,13 +3,13 @@ ghost use mathlib.Core.Path.{_≡_};
 ghost use Prim.Native.Nat.{suc, _-_, _/_, _<_, _≤_};
 ghost use lib.ListN.{length};
 ghost use Rattle.store_bytes.specs.Wrote.{Wrote};
-ghost use Rattle.tables.specs.Columns.{kindAt};
+ghost use Rattle.tables.specs.Columns.{nodeStride, kindAt};
 ghost use Rattle.serialize.specs.Locals.{NodeHeld, NodesHeld};
 ghost use Rattle.serialize.specs.Walk.{rootsBelow, nodeBy, linked};
 
 // How many of the first k + 1 nodes have no parent, where `roots` of the first k have none.
 fn roots_with(nodes: &[u32], k: usize, roots: usize) -> usize
-    requires { ⌜ (k < length (now nodes) / 5) × (roots ≤ k) × (roots ≡ rootsBelow (now nodes) k) ⌝ }
+    requires { ⌜ (k < length (now nodes) / nodeStride) × (roots ≤ k) × (roots ≡ rootsBelow (now nodes) k) ⌝ }
     ensures { λ r. ⌜ (r ≡ rootsBelow (now (nodes .entry)) (suc k)) × (r ≤ suc k) ⌝ }
 {
     if nodes[k * tables::NODE_STRIDE] == tables::NONE {
@@ -41,7 +41,8 @@ fn put_node(
     k: usize,
 ) -> usize
     requires { ⌜ NodeHeld (now text) (now nodes) (now properties) k ⌝ }
-    ensures { λ r. ⌜ Wrote (nodeBy (now (text .entry)) (now (nodes .entry)) (now (properties .entry)) (now (values .entry)) kind k) (now (out .entry)) at (now (out .exit)) r ⌝ }
+    ensures { λ r. ⌜ Wrote (nodeBy (now (text .entry)) (now (nodes .entry)) (now (properties .entry)) (now (values .entry)) kind k)
+        (now (out .entry)) at (now (out .exit)) r ⌝ }
 {
     let ended = crate::brackets::put_ends(out, at, nodes, k, nodes[k * tables::NODE_STRIDE]);
     let started = crate::brackets::put_start(out, ended, nodes, k);
@@ -60,7 +61,8 @@ pub fn put_all(
     values: &[u32],
 ) -> usize
     requires { ⌜ NodesHeld (now text) (now nodes) (now properties) n ⌝ }
-    ensures { λ r. ⌜ Wrote (linked (now (text .entry)) (now (trees .entry)) (now (nodes .entry)) (now (properties .entry)) (now (values .entry)) n) (now (out .entry)) 0 (now (out .exit)) r ⌝ }
+    ensures { λ r. ⌜ Wrote (linked (now (text .entry)) (now (trees .entry)) (now (nodes .entry)) (now (properties .entry)) (now (values .entry)) n)
+        (now (out .entry)) 0 (now (out .exit)) r ⌝ }
 {
     let mut to: usize = 0;
     let mut roots: usize = 0;

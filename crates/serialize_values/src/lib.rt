@@ -101,7 +101,8 @@ fn put_set(
     first: usize,
     count: usize,
 ) -> usize
-    ensures { λ r. ⌜ Wrote (boxes (formBy ManyPoints (valuesAt (now (text .entry)) (now (values .entry)) first count))) (now (out .entry)) at (now (out .exit)) r ⌝ }
+    ensures { λ r. ⌜ Wrote (boxes (formBy ManyPoints (valuesAt (now (text .entry)) (now (values .entry)) first count)))
+        (now (out .entry)) at (now (out .exit)) r ⌝ }
 {
     let set = go::set::read_points(text, values, first, count);
     let value = set.value;
@@ -148,7 +149,8 @@ pub fn put_values(
     first: usize,
     count: usize,
 ) -> usize
-    ensures { λ r. ⌜ Wrote (boxes (normal kind (readIdentifier (now (identifier .entry))) (valuesAt (now (text .entry)) (now (values .entry)) first count))) (now (out .entry)) at (now (out .exit)) r ⌝ }
+    ensures { λ r. ⌜ Wrote (boxes (normal kind (readIdentifier (now (identifier .entry))) (valuesAt (now (text .entry)) (now (values .entry)) first count)))
+        (now (out .entry)) at (now (out .exit)) r ⌝ }
 {
     if kind != 0 {
         return put_raw(out, at, text, values, first, count);

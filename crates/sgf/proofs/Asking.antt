@@ -1,16 +1,15 @@
 -- Answers about a record in memory as they are shown. Assumes nothing.
-use Rattle.lists.proofs.Prelude.{ℕ, List, _≡_, ap, _∙_, take, eq-eqb, ne-eqb}
+use Rattle.lists.proofs.Prelude.{ℕ, List, _≡_, ap, _∙_, eq-eqb, ne-eqb}
 use Rattle.value_display.specs.declared.Kind.{Kind}
 use Rattle.value_display.specs.declared.Kind.the-variants.{Text, SimpleText}
-use Rattle.ask_value.specs.declared.Accessed.{Accessed}
-use Rattle.ask.specs.Ask.{display, displayIn}
+use Rattle.ask_value.specs.Access.{accessed}
+use Rattle.ask.specs.Ask.{display, displayIn, DisplayIs}
 use Rattle.ask.specs.declared.Shown.{Shown}
-use Rattle.tables.specs.declared.Counts.{Counts}
-use Rattle.fit.specs.Record.{rowsOf, recordOf}
+use Rattle.tables.specs.Memory.{Memory}
+use Rattle.fit.specs.Record.{recordIn}
 use Rattle.serialize.specs.Form.{writing, output, WriteIs}
 use Rattle.serialize.specs.declared.Written.{Written}
-use Rattle.edit_answer.specs.Edit.{Outcome}
-use Rattle.edit.specs.Lent.{Lent, EditIs}
+use Rattle.edit.specs.Lent.{EditIs}
 use Rattle.edit_answer.specs.declared.Edited.{Edited}
 use Rattle.c_answers.specs.Shown.{displayShown, writingShown, editShown}
 use Rattle.sgf.specs.Changed.{WriteShown, EditShown}
@@ -26,20 +25,18 @@ pub kind-simple : {k : ℕ} → (k ≡ 0 → ⊥) → SimpleText ≡ kindOf k
 kind-simple {k} e = rw (ne-eqb k 0 e)
 
 -- what is shown of a display's answer, with the kind that a caller gives
-pub display-shown : {t : List ℕ} {a : Accessed} {kind kind′ : Kind} {out out′ : List ℕ} {r : Shown} {d : SgfDisplay} → kind ≡ kind′ → r ≡ display t a kind out → out′ ≡ displayIn t a kind out
-    → d ≡ displayShown r → DisplayShown t a kind′ out out′ d
-display-shown {t} {a} {kind} {kind′} {out} k x b d =
+pub display-shown : {m : Memory} {k : ℕ} {kind kind′ : Kind} {out out′ : List ℕ} {r : Shown} {d : SgfDisplay} → kind ≡ kind′ → DisplayIs m k kind out out′ r → d ≡ displayShown r
+    → DisplayShown m k kind′ out out′ d
+display-shown {m} {k} {kind} {kind′} {out} e x d =
     record {
-      is = d ∙ ap displayShown (x ∙ ap (λ (y : Kind). display t a y out) k);
-      bytes = b ∙ ap (λ (y : Kind). displayIn t a y out) k;
+      is = d ∙ ap displayShown (x .is ∙ ap (λ (y : Kind). display (m .text) (accessed m k) y out) e);
+      bytes = x .bytes ∙ ap (λ (y : Kind). displayIn (m .text) (accessed m k) y out) e;
     }
 
 -- what is shown of a writing's answer
-pub write-shown : {t : List ℕ} {used : ℕ} {c : Counts} {tr nd pr vl out out′ : List ℕ} {r : Written} {w : SgfWriting} → WriteIs t used c tr nd pr vl out out′ r → w ≡ writingShown r
-    → WriteShown t used c tr nd pr vl out out′ w
-write-shown {t} {used} {c} {tr} {nd} {pr} {vl} {out} x h =
-    record { is = h ∙ ap writingShown (x .is); bytes = x .bytes ∙ ap (λ (z : Written). output z (writing (recordOf (take used t) (rowsOf c tr nd pr vl))) out) (x .is) }
+pub write-shown : {m : Memory} {out out′ : List ℕ} {r : Written} {w : SgfWriting} → WriteIs m out out′ r → w ≡ writingShown r → WriteShown m out out′ w
+write-shown {m} {out} x h = record { is = h ∙ ap writingShown (x .is); bytes = x .bytes ∙ ap (λ (z : Written). output z (writing (recordIn m)) out) (x .is) }
 
 -- of an edit's
-pub edit-shown : {o : Outcome} {used : ℕ} {counts : Counts} {before after : Lent} {r : Edited} {w : SgfEdit} → EditIs o used before after r → w ≡ editShown counts r → EditShown o used counts before after w
-edit-shown {o} {used} {counts} x h = record { is = h ∙ ap (editShown counts) (x .answer); memory = x .memory }
+pub edit-shown : {m m′ : Memory} {k : ℕ} {new : List ℕ} {r : Edited} {w : SgfEdit} → EditIs m m′ k new r → w ≡ editShown (m .counts) r → EditShown m m′ k new w
+edit-shown {m} x h = record { is = h ∙ ap (editShown (m .counts)) (x .answer); memory = x .memory }

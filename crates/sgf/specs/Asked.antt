@@ -1,6 +1,7 @@
 -- Answers about a record in memory, shown as numbers, as the C header says them.
 use Rattle.lists.specs.Prelude.{ℕ, Bool, true, false, List, _≡_, eqb, pick}
-use Rattle.ask_value.specs.declared.Accessed.{Accessed}
+use Rattle.tables.specs.Memory.{Memory}
+use Rattle.ask_value.specs.Access.{accessed}
 use Rattle.value_display.specs.declared.Kind.{Kind}
 use Rattle.value_display.specs.declared.Kind.the-variants.{Text, SimpleText}
 use Rattle.ask.specs.Ask.{display, displayIn, refusalNumber}
@@ -19,9 +20,9 @@ abbrev pub kindOf : ℕ → Kind
 kindOf k = pick (eqb k 0) Text SimpleText
 
 -- a display and the lent bytes after it
-pub record DisplayShown (t : List ℕ) (a : Accessed) (kind : Kind) (out out′ : List ℕ) (r : SgfDisplay) : Type 0 where
-  pub is : r ≡ displayShown (display t a kind out)
-  pub bytes : out′ ≡ displayIn t a kind out
+pub record DisplayShown (m : Memory) (k : ℕ) (kind : Kind) (out out′ : List ℕ) (r : SgfDisplay) : Type 0 where
+  pub is : r ≡ displayShown (display (m .text) (accessed m k) kind out)
+  pub bytes : out′ ≡ displayIn (m .text) (accessed m k) kind out
 
 -- the answer to a Go value
 abbrev pub answerShown : GoAnswer → SgfGoValue

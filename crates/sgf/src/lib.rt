@@ -17,8 +17,6 @@ ghost use Rattle.lexer.specs.Step.{nextAt};
 ghost use Rattle.text_utf8.specs.Trim.{trimmed};
 ghost use Rattle.parser.specs.Read.{read};
 ghost use Rattle.reader.specs.Lent.{lent};
-ghost use Rattle.edit_answer.specs.Answer.{outcomeOf};
-ghost use Rattle.edit.specs.Lent.{lent as held};
 ghost use Rattle.fit.specs.Fit.{Fit};
 ghost use Rattle.ask_value.specs.Access.{accessed};
 ghost use Rattle.parts.specs.Rows.{valuesAt};
@@ -30,6 +28,7 @@ ghost use Rattle.sgf.specs.Changed.{WriteShown, EditShown};
 ghost use Rattle.sgf.specs.Asked.{kindOf, fitsShown, answerShown, DisplayShown};
 ghost use Rattle.sgf.specs.Shown.{optionsOf, ReadShown};
 ghost use Rattle.c_tokens.specs.Tokens.{TrimIs, TokenIs, ValueIs};
+ghost use Rattle.tables.specs.Memory.{memory};
 
 // Is the text UTF-8, and what does trimming keep of it.
 #[no_mangle]
@@ -65,7 +64,10 @@ pub extern "C" fn sgf_read(
     properties: &mut [u32],
     values: &mut [u32],
 ) -> SgfReading
-    ensures { λ r. ⌜ ReadShown (read (optionsOf options) (now (text .entry))) (lent (now (trees .entry)) (now (nodes .entry)) (now (properties .entry)) (now (values .entry))) (lent (now (trees .exit)) (now (nodes .exit)) (now (properties .exit)) (now (values .exit))) r ⌝ }
+    ensures { λ r. ⌜ ReadShown (read (optionsOf options) (now (text .entry)))
+        (lent (now (trees .entry)) (now (nodes .entry)) (now (properties .entry)) (now (values .entry)))
+        (lent (now (trees .exit)) (now (nodes .exit)) (now (properties .exit)) (now (values .exit)))
+        r ⌝ }
 {
     let lenient = options % 2 == 1;
     let convert = options / 2 % 2 == 0;
@@ -83,7 +85,8 @@ pub extern "C" fn sgf_fits(
     properties: &[u32],
     values: &[u32],
 ) -> u32
-    ensures { λ r. ⌜ r ≡ fitsShown (Fit (now (text .entry)) used counts (now (trees .entry)) (now (nodes .entry)) (now (properties .entry)) (now (values .entry))) ⌝ }
+    ensures { λ r. ⌜ r ≡ fitsShown (Fit
+        (memory (now (text .entry)) used counts (now (trees .entry)) (now (nodes .entry)) (now (properties .entry)) (now (values .entry)))) ⌝ }
 {
     if fit::fits(text, used, counts, trees, nodes, properties, values) {
         return 0;
@@ -103,7 +106,8 @@ pub extern "C" fn sgf_value(
     values: &[u32],
     k: usize,
 ) -> SgfSpan
-    ensures { λ r. ⌜ r ≡ spanShown (accessed (now (text .entry)) used counts (now (trees .entry)) (now (nodes .entry)) (now (properties .entry)) (now (values .entry)) k) ⌝ }
+    ensures { λ r. ⌜ r ≡ spanShown (accessed
+        (memory (now (text .entry)) used counts (now (trees .entry)) (now (nodes .entry)) (now (properties .entry)) (now (values .entry))) k) ⌝ }
 {
     c_answers::span_shown(ask_value::access(
         text,
@@ -141,7 +145,9 @@ pub extern "C" fn sgf_display(
     kind: u32,
     out: &mut [u8],
 ) -> SgfDisplay
-    ensures { λ r. ⌜ DisplayShown (now (text .entry)) (accessed (now (text .entry)) used counts (now (trees .entry)) (now (nodes .entry)) (now (properties .entry)) (now (values .entry)) k) (kindOf kind) (now (out .entry)) (now (out .exit)) r ⌝ }
+    ensures { λ r. ⌜ DisplayShown
+        (memory (now (text .entry)) used counts (now (trees .entry)) (now (nodes .entry)) (now (properties .entry)) (now (values .entry)))
+        k (kindOf kind) (now (out .entry)) (now (out .exit)) r ⌝ }
 {
     c_answers::display_shown(ask::display(
         text,
@@ -179,7 +185,8 @@ pub extern "C" fn sgf_go_value(
     values: &[u32],
     p: usize,
 ) -> SgfGoValue
-    ensures { λ r. ⌜ r ≡ answerShown (goAnswer (now (text .entry)) used counts (now (trees .entry)) (now (nodes .entry)) (now (properties .entry)) (now (values .entry)) p) ⌝ }
+    ensures { λ r. ⌜ r ≡ answerShown (goAnswer
+        (memory (now (text .entry)) used counts (now (trees .entry)) (now (nodes .entry)) (now (properties .entry)) (now (values .entry))) p) ⌝ }
 {
     let answer = ask::go_value(text, used, counts, trees, nodes, properties, values, p);
     let refusal = answer.refusal;
@@ -197,7 +204,8 @@ pub extern "C" fn sgf_go_property(
     first: usize,
     count: usize,
 ) -> SgfGoValue
-    ensures { λ r. ⌜ r ≡ goShown 0 (goValue «game_type» (readIdentifier (now (identifier .entry))) (valuesAt (now (text .entry)) (now (values .entry)) first count)) ⌝ }
+    ensures { λ r. ⌜ r ≡ goShown 0 (goValue «game_type» (readIdentifier (now (identifier .entry)))
+        (valuesAt (now (text .entry)) (now (values .entry)) first count)) ⌝ }
 {
     c_answers::go_shown(
         0,
@@ -217,7 +225,9 @@ pub extern "C" fn sgf_write(
     values: &[u32],
     out: &mut [u8],
 ) -> SgfWriting
-    ensures { λ r. ⌜ WriteShown (now (text .entry)) used counts (now (trees .entry)) (now (nodes .entry)) (now (properties .entry)) (now (values .entry)) (now (out .entry)) (now (out .exit)) r ⌝ }
+    ensures { λ r. ⌜ WriteShown
+        (memory (now (text .entry)) used counts (now (trees .entry)) (now (nodes .entry)) (now (properties .entry)) (now (values .entry)))
+        (now (out .entry)) (now (out .exit)) r ⌝ }
 {
     c_answers::writing_shown(serialize::write(
         text,
@@ -244,7 +254,10 @@ pub extern "C" fn sgf_edit(
     k: usize,
     replacement: &[u8],
 ) -> SgfEdit
-    ensures { λ r. ⌜ EditShown (outcomeOf (now (text .entry)) used counts (now (trees .entry)) (now (nodes .entry)) (now (properties .entry)) (now (values .entry)) k (now (replacement .entry))) used counts (held (now (text .entry)) (now (properties .entry)) (now (values .entry))) (held (now (text .exit)) (now (properties .exit)) (now (values .exit))) r ⌝ }
+    ensures { λ r. ⌜ EditShown
+        (memory (now (text .entry)) used counts (now (trees .entry)) (now (nodes .entry)) (now (properties .entry)) (now (values .entry)))
+        (memory (now (text .exit)) used counts (now (trees .entry)) (now (nodes .entry)) (now (properties .exit)) (now (values .exit)))
+        k (now (replacement .entry)) r ⌝ }
 {
     let edited = edit::edit(
         text,

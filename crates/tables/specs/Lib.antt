@@ -2,6 +2,7 @@ pub mod Columns
 pub mod Each
 pub mod Flat
 pub mod Links
+pub mod Memory
 pub mod Move
 pub mod Numbers
 pub mod Record
