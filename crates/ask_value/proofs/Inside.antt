@@ -1,11 +1,10 @@
 -- A value that is accessed lies in the text. Assumes nothing.
 use Rattle.lists.proofs.Prelude.{ℕ, _-_, _≤_, Bool, true, false, List, _≡_, refl, sym, ap, _∙_, arith, ltb, length, take, drop, ltb-true, pick}
 use Rattle.lists.proofs.Tests.{never}
-use Rattle.tables.specs.declared.Counts.{Counts}
 use Rattle.tables.specs.declared.Reason.the-variants.{NoSuchNumber, NotFitting}
 use Rattle.ask_value.specs.Access.{accessed, handed}
 use Rattle.tables.specs.Columns.{valFromAt, valToAt}
-use Rattle.tables.specs.Memory.{memory}
+use Rattle.tables.specs.Memory.{Memory}
 use Rattle.fit.specs.Fit.{Fit}
 use Rattle.ask_value.specs.declared.Accessed.{Accessed}
 use Rattle.ask_value.specs.declared.Accessed.the-variants.{Part, Refused}
@@ -13,18 +12,18 @@ use Rattle.fit_spans.proofs.Lists.{part-slice}
 use Rattle.fit.proofs.Clauses.{fit-vals}
 use Rattle.fit.proofs.Whole.{fit-lent}
 
-module _ (t : List ℕ) (used : ℕ) (c : Counts) (tr nd pr vl : List ℕ) where
-  pub access-inside : (k a e : ℕ) → accessed (memory t used c tr nd pr vl) k ≡ Part a e → (a ≤ e) × (e ≤ length t)
+module _ (m : Memory) where
+  pub access-inside : (k a e : ℕ) → accessed m k ≡ Part a e → (a ≤ e) × (e ≤ length (m .text))
   unfolding accessed
-  access-inside k a e h = go (Fit (memory t used c tr nd pr vl)) (ltb k (c .values)) refl refl h
+  access-inside k a e h = go (Fit m) (ltb k (m .counts .values)) refl refl h
     where
-      go : (f l : Bool) → Fit (memory t used c tr nd pr vl) ≡ f → ltb k (c .values) ≡ l
-          → pick f (pick l (Part (valFromAt vl k) (valToAt vl k)) (Refused NoSuchNumber)) (Refused NotFitting) ≡ Part a e → (a ≤ e) × (e ≤ length t)
+      go : (f l : Bool) → Fit m ≡ f → ltb k (m .counts .values) ≡ l
+          → pick f (pick l (Part (valFromAt (m .values) k) (valToAt (m .values) k)) (Refused NoSuchNumber)) (Refused NotFitting) ≡ Part a e → (a ≤ e) × (e ≤ length (m .text))
       go true true ef el q =
-          let x : valFromAt vl k ≡ a = cc in
-          let y : valToAt vl k ≡ e = cc in
-          let b = fit-vals t used c tr nd pr vl ef k (ltb-true k (c .values) el) in
-          (omega (arith, b .0), omega (arith, b .1, fit-lent t used c tr nd pr vl ef .0))
+          let x : valFromAt (m .values) k ≡ a = cc in
+          let y : valToAt (m .values) k ≡ e = cc in
+          let b = fit-vals m ef k (ltb-true k (m .counts .values) el) in
+          (omega (arith, b .0), omega (arith, b .1, fit-lent m ef .0))
       go true false ef el q = never cc
       go false l ef el q = never cc
 

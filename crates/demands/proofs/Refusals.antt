@@ -16,10 +16,10 @@ use Rattle.parser.specs.Read.{Answer, refused, accepted}
 use Rattle.reader.specs.Lent.{Lent, roomy, stored, answers, leaves}
 use Rattle.ask.specs.Ask.{shownFor, display, displayIn}
 use Rattle.ask.specs.declared.Shown.the-variants.{NotShown}
-use Rattle.edit_answer.specs.Answer as decide
+use Rattle.edit_answer.specs.Answer.{editedFor}
 use Rattle.edit_answer.specs.Edit.{Outcome, refuses, gives}
 use Rattle.edit_answer.specs.declared.Edited.the-variants as edited
-use Rattle.edit.specs.Lent as edit
+use Rattle.edit.specs.Lent.{memoryAfter}
 
 pub reading-leaves : (a : Answer) (before after : Lent) (r : Reason) (p : ℕ) → Refused r p ≡ answers a before → after ≡ leaves a before → after ≡ before
 reading-leaves (refused s q) before after r p e l = l
@@ -29,7 +29,7 @@ reading-leaves (accepted ts) before after r p e l = go (roomy (tables ts) before
     go true e l = never cc
     go false e l = l
 
-pub edit-leaves : (o : Outcome) (before after : Memory) (r : Reason) (p : ℕ) → edited.Refused r p ≡ decide.answers o → after ≡ edit.leaves o before → after ≡ before
+pub edit-leaves : (o : Outcome) (before after : Memory) (r : Reason) (p : ℕ) → edited.Refused r p ≡ editedFor o → after ≡ memoryAfter o before → after ≡ before
 edit-leaves (refuses s q) before after r p e l = l
 edit-leaves (gives t T) before after r p e l = never cc
 

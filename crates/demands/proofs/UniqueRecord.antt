@@ -1,11 +1,11 @@
 -- No second answer: of each public function, two answers that meet its contract are equal. Assumes nothing.
-use Rattle.lists.proofs.Prelude.{ℕ, Bool, List, _≡_, sym, _∙_, ap, take}
+use Rattle.lists.proofs.Prelude.{ℕ, Bool, List, _≡_, sym, _∙_, ap}
 use Rattle.lists.proofs.Once.{once-is}
 use Rattle.lists.specs.Once.{Once}
 use Rattle.tables.specs.declared.Counts.{Counts}
 use Rattle.fit_nodes.specs.Nodes.{linksFit}
 use Rattle.fit_spans.specs.Parts.{partsFit}
-use Rattle.tables.specs.Memory.{memory, Memory}
+use Rattle.tables.specs.Memory.{Memory}
 use Rattle.fit.specs.Fit.{Fit}
 use Rattle.ask_value.specs.Access.{accessed, rawValue}
 use Rattle.ask_value.specs.declared.Accessed.{Accessed}
@@ -13,11 +13,11 @@ use Rattle.value_display.specs.declared.Kind.{Kind}
 use Rattle.ask.specs.Ask.{DisplayIs, goAnswer}
 use Rattle.ask.specs.declared.Shown.{Shown}
 use Rattle.ask.specs.declared.GoAnswer.{GoAnswer}
-use Rattle.fit.specs.Record.{rowsOf, recordOf}
+use Rattle.fit.specs.Record.{recordIn}
 use Rattle.serialize.specs.Form.{writing, output, WriteIs}
 use Rattle.serialize.specs.declared.Written.{Written}
 use Rattle.edit_splice.specs.Splice.{replaced}
-use Rattle.edit_answer.specs.Answer.{outcomeOf, answers}
+use Rattle.edit_answer.specs.Answer.{outcomeOf, editedFor}
 use Rattle.edit_answer.specs.declared.Edited.{Edited}
 use Rattle.edit.specs.Lent.{EditIs}
 
@@ -35,38 +35,38 @@ module _ (text : List ℕ) (counts : Counts) (nodes properties values : List ℕ
 
 -- fit
 
-module _ (text : List ℕ) (used : ℕ) (counts : Counts) (trees nodes properties values : List ℕ) where
-  pub fits-once : Once (λ (r : Bool). r ≡ Fit (memory text used counts trees nodes properties values))
-  fits-once = once-is (Fit (memory text used counts trees nodes properties values))
+module _ (m : Memory) where
+  pub fits-once : Once (λ (r : Bool). r ≡ Fit m)
+  fits-once = once-is (Fit m)
 
 -- ask_value
 
-module _ (text : List ℕ) (used : ℕ) (counts : Counts) (trees nodes properties values : List ℕ) where
-  pub access-once : (k : ℕ) → Once (λ (r : Accessed). r ≡ accessed (memory text used counts trees nodes properties values) k)
-  access-once k = once-is (accessed (memory text used counts trees nodes properties values) k)
+module _ (m : Memory) where
+  pub access-once : (k : ℕ) → Once (λ (r : Accessed). r ≡ accessed m k)
+  access-once k = once-is (accessed m k)
 
   -- of the bytes that are handed out
-  pub value-once : (k : ℕ) → Once (λ (r : List ℕ). r ≡ rawValue (memory text used counts trees nodes properties values) k)
-  value-once k = once-is (rawValue (memory text used counts trees nodes properties values) k)
+  pub value-once : (k : ℕ) → Once (λ (r : List ℕ). r ≡ rawValue m k)
+  value-once k = once-is (rawValue m k)
 
 -- ask
 
-module _ (text : List ℕ) (used : ℕ) (counts : Counts) (trees nodes properties values : List ℕ) where
+module _ (m : Memory) where
   -- of the answer and the bytes lent
-  pub display-once : (k : ℕ) (kind : Kind) (out out1 out2 : List ℕ) (r1 r2 : Shown) → DisplayIs (memory text used counts trees nodes properties values) k kind out out1 r1
-      → DisplayIs (memory text used counts trees nodes properties values) k kind out out2 r2 → (r1 ≡ r2) × (out1 ≡ out2)
+  pub display-once : (k : ℕ) (kind : Kind) (out out1 out2 : List ℕ) (r1 r2 : Shown) → DisplayIs m k kind out out1 r1
+      → DisplayIs m k kind out out2 r2 → (r1 ≡ r2) × (out1 ≡ out2)
   display-once k kind out out1 out2 r1 r2 x y = (x .is ∙ sym (y .is), x .bytes ∙ sym (y .bytes))
 
-  pub go-value-once : (p : ℕ) → Once (λ (r : GoAnswer). r ≡ goAnswer (memory text used counts trees nodes properties values) p)
-  go-value-once p = once-is (goAnswer (memory text used counts trees nodes properties values) p)
+  pub go-value-once : (p : ℕ) → Once (λ (r : GoAnswer). r ≡ goAnswer m p)
+  go-value-once p = once-is (goAnswer m p)
 
 -- serialize
 
-pub write-once : (text : List ℕ) (used : ℕ) (counts : Counts) (trees nodes properties values out : List ℕ) (r s : Written) (x y : List ℕ)
-    → WriteIs (memory text used counts trees nodes properties values) out x r → WriteIs (memory text used counts trees nodes properties values) out y s → (r ≡ s) × (x ≡ y)
-write-once text used counts trees nodes properties values out r s x y p q =
+pub write-once : (m : Memory) (out : List ℕ) (r s : Written) (x y : List ℕ)
+    → WriteIs m out x r → WriteIs m out y s → (r ≡ s) × (x ≡ y)
+write-once m out r s x y p q =
     let e : r ≡ s = p .is ∙ sym (q .is) in
-    (e, p .bytes ∙ ap (λ (a : Written). output a (writing (recordOf (take used text) (rowsOf counts trees nodes properties values))) out) e ∙ sym (q .bytes))
+    (e, p .bytes ∙ ap (λ (a : Written). output a (writing (recordIn m)) out) e ∙ sym (q .bytes))
 
 -- edit_splice
 
@@ -76,9 +76,9 @@ replace-once buffer used start end new = once-is (replaced buffer used start end
 
 -- edit_answer
 
-pub decided-once : (text : List ℕ) (used : ℕ) (counts : Counts) (trees nodes properties values : List ℕ) (k : ℕ) (new : List ℕ)
-    → Once (λ (r : Edited). r ≡ answers (outcomeOf (memory text used counts trees nodes properties values) k new))
-decided-once text used counts trees nodes properties values k new = once-is (answers (outcomeOf (memory text used counts trees nodes properties values) k new))
+pub decided-once : (m : Memory) (k : ℕ) (new : List ℕ)
+    → Once (λ (r : Edited). r ≡ editedFor (outcomeOf m k new))
+decided-once m k new = once-is (editedFor (outcomeOf m k new))
 
 -- edit
 

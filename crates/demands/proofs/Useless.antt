@@ -18,10 +18,9 @@ use Rattle.fit_spans.specs.Spans.{spans, ascending, plainName, spansFit}
 use Rattle.parser.specs.Examples.{bytes, strict}
 use Rattle.parser.specs.Read.{read}
 use Rattle.reader.specs.Lent.{Lent, lent, answers, ReadIs}
-use Rattle.edit_answer.specs.Answer as decide
-use Rattle.edit_answer.specs.Answer.{outcomeOf}
+use Rattle.edit_answer.specs.Answer.{outcomeOf, editedFor}
 use Rattle.edit_answer.specs.declared.Edited.the-variants as edited
-use Rattle.edit.specs.Lent.{leaves, EditIs}
+use Rattle.edit.specs.Lent.{memoryAfter, EditIs}
 
 -- so many rows
 abbrev rows : (trees nodes properties values : ℕ) → Counts
@@ -69,11 +68,11 @@ second used = held (bytes "(;C[x];B[cd])" ++ (0 ∷ [])) used (2 ∷ 3 ∷ 0 ∷
 abbrev third : Memory
 third = held (bytes "(;C[x];B[y])" ++ (0 ∷ 0 ∷ [])) 13 (2 ∷ 3 ∷ 0 ∷ 1 ∷ 7 ∷ 8 ∷ 1 ∷ 1 ∷ []) (4 ∷ 5 ∷ 9 ∷ 10 ∷ [])
 
-first-edit : (decide.answers (outcomeOf first 0 (bytes "x")) ≡ edited.Changed 13) × (leaves (outcomeOf first 0 (bytes "x")) first ≡ second 14)
+first-edit : (editedFor (outcomeOf first 0 (bytes "x")) ≡ edited.Changed 13) × (memoryAfter (outcomeOf first 0 (bytes "x")) first ≡ second 14)
 unfolding outcomeOf Fit fitText nodesFit rangesFit spansFit trimmed white each sum tabulate orphans upward onPath firstUnder spans ascending plainName
 first-edit = (refl, refl)
 
-second-edit : leaves (outcomeOf (second 13) 1 (bytes "y")) (second 13) ≡ third
+second-edit : memoryAfter (outcomeOf (second 13) 1 (bytes "y")) (second 13) ≡ third
 unfolding outcomeOf Fit fitText nodesFit rangesFit spansFit trimmed white each sum tabulate orphans upward onPath firstUnder spans ascending plainName
 second-edit = refl
 

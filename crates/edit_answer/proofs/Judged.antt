@@ -1,5 +1,5 @@
 -- What an edit answers, test by test; and what an acceptance says. Assumes nothing.
-use Rattle.lists.proofs.Prelude.{ℕ, _+_, _-_, _≤_, _<_, Bool, true, false, List, [], _∷_, _≡_, refl, sym, ap, _∙_, subst, arith, ltb, length, take, lt-ltb, le-ltb, pick}
+use Rattle.lists.proofs.Prelude.{ℕ, _+_, _-_, _≤_, _<_, Bool, true, false, List, [], _∷_, _≡_, refl, sym, ap, _∙_, subst, arith, ltb, length, lt-ltb, le-ltb, pick}
 use types.Run.{OneOf, miss}
 use denote.Enum.Declared.{tagOf}
 use Rattle.lists.specs.Same.{same}
@@ -12,16 +12,15 @@ use Rattle.text_utf8.proofs.Trimmed as trimmed-type
 use Rattle.lexer.specs.Closed.{closed}
 use Rattle.tables.specs.Numbers.{textLimit}
 use Rattle.tables.specs.Rows.{ValRow, Tables}
-use Rattle.tables.specs.declared.Counts.{Counts}
 use Rattle.tables.specs.declared.Reason.the-variants.{TextTooLong, NotUtf8, NoRoom, NoSuchNumber, GameTypeFixed, NotClosed, NotFitting}
 use Rattle.parser.specs.Kind.{GM}
 use Rattle.tables.specs.Columns.{valFromAt, valToAt}
 use Rattle.tables.specs.Each.{tabulate}
-use Rattle.tables.specs.Memory.{memory}
+use Rattle.tables.specs.Memory.{Memory}
 use Rattle.fit.specs.Fit.{Fit}
-use Rattle.fit.specs.Record.{propRow, valRow, rowsOf}
+use Rattle.fit.specs.Record.{propRow, valRow, rowsIn, textIn}
 use Rattle.edit_answer.specs.Edit.{ownerName, spanAt, shifted, Outcome, refuses, outcome, edit}
-use Rattle.edit_answer.specs.Answer.{outcomeOf, answers}
+use Rattle.edit_answer.specs.Answer.{outcomeOf, editedFor}
 use Rattle.edit_answer.specs.Locals.{Weighed}
 use Rattle.edit_answer.specs.declared.Edited.{Edited}
 use Rattle.edit_answer.specs.declared.Edited.the-variants.{Changed, Refused}
@@ -38,7 +37,7 @@ whole-of (whole (inked f l)) z = (inked f l, refl)
 whole-of (part k s n r x) z = absurd (miss (1 ∷ 2 ∷ []) 0 tt z)
 whole-of (bad p) z = absurd (miss (1 ∷ 2 ∷ []) 0 tt z)
 
-bad-at : (u : Utf) (c l m : Bool) (t : List ℕ) (T : Tables) {p : ℕ} → Bad p ≡ shown u → Refused NotUtf8 p ≡ answers (outcome true false u c l m t T)
+bad-at : (u : Utf) (c l m : Bool) (t : List ℕ) (T : Tables) {p : ℕ} → Bad p ≡ shown u → Refused NotUtf8 p ≡ editedFor (outcome true false u c l m t T)
 bad-at (whole blank) c l m t T h = never cc
 bad-at (whole (inked f e)) c l m t T h = never cc
 bad-at (part k s n r x) c l m t T {p} h = let z : p ≡ s = cc in ap (Refused NotUtf8) z
@@ -68,56 +67,56 @@ module _ (new : List ℕ) (kept room : ℕ) where
 
 -- ---- the whole edit
 
-module _ (b : List ℕ) (used : ℕ) (c : Counts) (tr nd pr vl : List ℕ) (k : ℕ) (new : List ℕ) where
+module _ (m : Memory) (k : ℕ) (new : List ℕ) where
   abbrev Now : Outcome
-  Now = outcomeOf (memory b used c tr nd pr vl) k new
+  Now = outcomeOf m k new
 
   abbrev pub newText : List ℕ
-  newText = pasted (take used b) (valFromAt vl k) (valToAt vl k) new
+  newText = pasted (textIn m) (valFromAt (m .values) k) (valToAt (m .values) k) new
 
   abbrev pub newRows : Tables
-  newRows = shifted (rowsOf c tr nd pr vl) (valRow vl k) (length new)
+  newRows = shifted (rowsIn m) (valRow (m .values) k) (length new)
 
   abbrev fixed : Bool
-  fixed = same (ownerName (take used b) (tabulate (propRow pr) 0 (c .properties)) k) GM
+  fixed = same (ownerName (textIn m) (tabulate (propRow (m .properties)) 0 (m .counts .properties)) k) GM
 
-  pub decided-misfit : Fit (memory b used c tr nd pr vl) ≡ false → Refused NotFitting 0 ≡ answers Now
+  pub decided-misfit : Fit m ≡ false → Refused NotFitting 0 ≡ editedFor Now
   unfolding outcomeOf
   decided-misfit h = rw h
 
-  count-is : length (tabulate (valRow vl) 0 (c .values)) ≡ c .values
-  count-is = tabulate-length (valRow vl) 0 (c .values)
+  count-is : length (tabulate (valRow (m .values)) 0 (m .counts .values)) ≡ m .counts .values
+  count-is = tabulate-length (valRow (m .values)) 0 (m .counts .values)
 
-  module _ (fit : Fit (memory b used c tr nd pr vl) ≡ true) where
-    pub decided-beyond : c .values ≤ k → Refused NoSuchNumber 0 ≡ answers Now
+  module _ (fit : Fit m ≡ true) where
+    pub decided-beyond : m .counts .values ≤ k → Refused NoSuchNumber 0 ≡ editedFor Now
     unfolding outcomeOf
-    decided-beyond h = rw (fit, count-is, le-ltb k (c .values) h)
+    decided-beyond h = rw (fit, count-is, le-ltb k (m .counts .values) h)
 
-    module _ (below : k < c .values) where
-      span-is : spanAt (tabulate (valRow vl) 0 (c .values)) k ≡ valRow vl k
-      span-is = let e : 0 + k ≡ k = omega arith in tabulate-at (valRow vl) 0 (c .values) k (record { from = 0; to = 0 }) below ∙ ap (valRow vl) e
+    module _ (below : k < m .counts .values) where
+      span-is : spanAt (tabulate (valRow (m .values)) 0 (m .counts .values)) k ≡ valRow (m .values) k
+      span-is = let e : 0 + k ≡ k = omega arith in tabulate-at (valRow (m .values)) 0 (m .counts .values) k (record { from = 0; to = 0 }) below ∙ ap (valRow (m .values)) e
 
       -- the tests that are left, once the value is found
-      pub tests-are : Now ≡ outcome true fixed (utfs (whole blank) 0 new) (closed new) (ltb textLimit (length newText)) (ltb (length b) (length newText)) newText newRows
+      pub tests-are : Now ≡ outcome true fixed (utfs (whole blank) 0 new) (closed new) (ltb textLimit (length newText)) (ltb (length (m .text)) (length newText)) newText newRows
       unfolding outcomeOf
       tests-are =
-          ap (λ (z : Bool). pick z (edit (length b) (take used b) (rowsOf c tr nd pr vl) k new) (refuses NotFitting 0)) fit
-          ∙ ap (λ (z : ValRow). outcome (ltb k (length (tabulate (valRow vl) 0 (c .values)))) fixed (utfs (whole blank) 0 new) (closed new)
-          (ltb textLimit (length (pasted (take used b) (z .from) (z .to) new))) (ltb (length b) (length (pasted (take used b) (z .from) (z .to) new))) (pasted (take used b) (z .from) (z .to) new) (shifted (rowsOf c tr nd pr vl) z (length new))) span-is
-          ∙ ap (λ (z : Bool). outcome z fixed (utfs (whole blank) 0 new) (closed new) (ltb textLimit (length newText)) (ltb (length b) (length newText)) newText newRows)
-          (ap (ltb k) count-is ∙ lt-ltb k (c .values) below)
+          ap (λ (z : Bool). pick z (edit (length (m .text)) (textIn m) (rowsIn m) k new) (refuses NotFitting 0)) fit
+          ∙ ap (λ (z : ValRow). outcome (ltb k (length (tabulate (valRow (m .values)) 0 (m .counts .values)))) fixed (utfs (whole blank) 0 new) (closed new)
+          (ltb textLimit (length (pasted (textIn m) (z .from) (z .to) new))) (ltb (length (m .text)) (length (pasted (textIn m) (z .from) (z .to) new))) (pasted (textIn m) (z .from) (z .to) new) (shifted (rowsIn m) z (length new))) span-is
+          ∙ ap (λ (z : Bool). outcome z fixed (utfs (whole blank) 0 new) (closed new) (ltb textLimit (length newText)) (ltb (length (m .text)) (length newText)) newText newRows)
+          (ap (ltb k) count-is ∙ lt-ltb k (m .counts .values) below)
 
-      pub decided-fixed : true ≡ fixed → Refused GameTypeFixed 0 ≡ answers Now
-      decided-fixed h = sym (ap answers tests-are ∙ ap (λ (z : Bool). answers (outcome true z (utfs (whole blank) 0 new) (closed new) (ltb textLimit (length newText)) (ltb (length b) (length newText)) newText newRows)) (sym h))
+      pub decided-fixed : true ≡ fixed → Refused GameTypeFixed 0 ≡ editedFor Now
+      decided-fixed h = sym (ap editedFor tests-are ∙ ap (λ (z : Bool). editedFor (outcome true z (utfs (whole blank) 0 new) (closed new) (ltb textLimit (length newText)) (ltb (length (m .text)) (length newText)) newText newRows)) (sym h))
 
-      pub length-new : length newText ≡ valFromAt vl k + length new + (used - valToAt vl k)
-      length-new = length-pasted b new used (valFromAt vl k) (valToAt vl k) (fit-within b used c tr nd pr vl fit k below)
+      pub length-new : length newText ≡ valFromAt (m .values) k + length new + (m .used - valToAt (m .values) k)
+      length-new = length-pasted (m .text) new (m .used) (valFromAt (m .values) k) (valToAt (m .values) k) (fit-within m fit k below)
 
-      pub decided-weighed : false ≡ fixed → {s : ℕ} → s ≡ valToAt vl k - valFromAt vl k → {r : Edited} → Weighed new (used - s) (length b) r → r ≡ answers Now
+      pub decided-weighed : false ≡ fixed → {s : ℕ} → s ≡ valToAt (m .values) k - valFromAt (m .values) k → {r : Edited} → Weighed new (m .used - s) (length (m .text)) r → r ≡ editedFor Now
       decided-weighed h {s} es w =
-          let x = fit-within b used c tr nd pr vl fit k below in
+          let x = fit-within m fit k below in
           let o = x .order in
           let i = x .inside in
           w newText newRows (omega (arith, length-new))
-          ∙ ap (λ (z : Bool). answers (outcome true z (utfs (whole blank) 0 new) (closed new) (ltb textLimit (length newText)) (ltb (length b) (length newText)) newText newRows)) h
-          ∙ sym (ap answers tests-are)
+          ∙ ap (λ (z : Bool). editedFor (outcome true z (utfs (whole blank) 0 new) (closed new) (ltb textLimit (length newText)) (ltb (length (m .text)) (length newText)) newText newRows)) h
+          ∙ sym (ap editedFor tests-are)

@@ -13,6 +13,6 @@ unfoldable pub outcomeOf : Memory → (k : ℕ) → (new : List ℕ) → Outcome
 outcomeOf m k new = pick (Fit m) (edit (length (m .text)) (textIn m) (rowsIn m) k new) (refuses NotFitting 0)
 
 -- what is answered: the new used length, or the reason and the place
-abbrev pub answers : Outcome → Edited
-answers (refuses r p) = Refused r p
-answers (gives t T) = Changed (length t)
+abbrev pub editedFor : Outcome → Edited
+editedFor (refuses r p) = Refused r p
+editedFor (gives t T) = Changed (length t)

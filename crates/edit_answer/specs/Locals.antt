@@ -5,7 +5,7 @@ use Rattle.lexer.specs.Closed.{closed}
 use Rattle.tables.specs.Numbers.{textLimit}
 use Rattle.tables.specs.Rows.{Tables}
 use Rattle.tables.specs.Columns.{nameFromAt, nameToAt}
-use Rattle.edit_answer.specs.Answer.{answers}
+use Rattle.edit_answer.specs.Answer.{editedFor}
 use Rattle.edit_answer.specs.Edit.{outcome}
 use Rattle.edit_answer.specs.declared.Edited.{Edited}
 
@@ -17,4 +17,4 @@ NamesLie pr n bytes = (p : ℕ) → p < n → (nameFromAt pr p ≤ nameToAt pr p
 abbrev pub Weighed : List ℕ → (kept room : ℕ) → Edited → Type 0
 Weighed new kept room r =
     (t : List ℕ) (T : Tables) → length t ≡ kept + length new
-    → r ≡ answers (outcome true false (utfs (whole blank) 0 new) (closed new) (ltb textLimit (length t)) (ltb room (length t)) t T)
+    → r ≡ editedFor (outcome true false (utfs (whole blank) 0 new) (closed new) (ltb textLimit (length t)) (ltb room (length t)) t T)

@@ -10,7 +10,7 @@ ghost use Rattle.tables.specs.Columns.{propertyStride, valueStride, valFromAt, 
 ghost use Rattle.tables.specs.Each.{tabulate};
 ghost use Rattle.tables.specs.Memory.{memory};
 ghost use Rattle.fit.specs.Record.{propRow};
-ghost use Rattle.edit_answer.specs.Answer.{outcomeOf, answers};
+ghost use Rattle.edit_answer.specs.Answer.{outcomeOf, editedFor};
 ghost use Rattle.edit_answer.specs.Edit.{ownerName};
 ghost use Rattle.edit_answer.specs.Locals.{NamesLie, Weighed};
 use tables::Counts;
@@ -118,7 +118,7 @@ pub fn decided(
     k: usize,
     new: &[u8],
 ) -> Edited
-    ensures { λ r. ⌜ r ≡ answers (outcomeOf
+    ensures { λ r. ⌜ r ≡ editedFor (outcomeOf
         (memory (now (text .entry)) used counts (now (trees .entry)) (now (nodes .entry)) (now (properties .entry)) (now (values .entry)))
         k (now (new .entry))) ⌝ }
 {

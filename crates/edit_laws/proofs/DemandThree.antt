@@ -17,7 +17,7 @@ use Rattle.parser.specs.Read.{accepted, read}
 use Rattle.parser.proofs.Denoted.{read-denotes}
 use Rattle.edit_splice.specs.Splice.{pasted}
 use Rattle.edit_answer.specs.Edit.{ownerRow, ownerName, spanAt, shifted, Outcome, outcome, edit}
-use Rattle.edit_laws.specs.Run.{strictly, Held, Order, after, run, Fresh}
+use Rattle.edit_laws.specs.Run.{strictly, TextRows, Order, after, run, Fresh}
 use Rattle.edit_laws.proofs.Numbered.{noVal, ownerOf, valueOf, newText, newTrees, edit-number}
 
 -- ---- rows and trees
@@ -119,7 +119,7 @@ module _ (c : Bool) (room : ℕ) (t : List ℕ) (ts : List Tree) (k : ℕ) (new 
           }
 
 -- a record that strict reading gives stays one under any run of edits, refused ones of whatever number between them
-pub demand-three : (c : Bool) (room : ℕ) (s : Held) (xs : List Order) → Fresh (strictly c) s → Fresh (strictly c) (run room s xs)
+pub demand-three : (c : Bool) (room : ℕ) (s : TextRows) (xs : List Order) → Fresh (strictly c) s → Fresh (strictly c) (run room s xs)
 demand-three c room s [] f = f
 demand-three c room s (x ∷ xs) f =
     demand-three c room (after s (edit room (s .text) (s .rows) (x .value) (x .bytes))) xs

@@ -3,16 +3,17 @@ use Rattle.lists.proofs.Prelude.{ℕ, Bool, true, false, List, [], _∷_, _≡_
 use Rattle.tables.specs.Rows.{Tables, tables, countsOf}
 use Rattle.tables.specs.declared.Reason.the-variants.{NotFitting}
 use Rattle.tables.specs.Memory.{Memory}
+use Rattle.tables.specs.Memory.{Memory}
 use Rattle.fit.specs.Fit.{Fit}
 use Rattle.edit_answer.specs.Edit.{Outcome, refuses, gives, edit}
-use Rattle.edit_answer.specs.Answer.{outcomeOf, answers}
+use Rattle.edit_answer.specs.Answer.{outcomeOf, editedFor}
 use Rattle.edit_answer.specs.declared.Edited.{Edited}
 use Rattle.edit_answer.proofs.Judged.{newText, newRows}
-use Rattle.edit.specs.Lent.{leaves, EditIs}
+use Rattle.edit.specs.Lent.{memoryAfter, EditIs}
 use Rattle.edit.proofs.Given.{given}
 use Rattle.fit.proofs.RecordFits.{counts-of-rows}
 use Rattle.edit_laws.proofs.Left.{text-left, rows-left}
-use Rattle.edit_laws.specs.Calls.{heldIn, asked, next, Calls, none, call}
+use Rattle.edit_laws.specs.Calls.{textRows, asked, next, Calls, none, call}
 use Rattle.edit_laws.specs.Run.{strictly, Order, after, Fresh}
 use Rattle.edit_laws.proofs.DemandThree.{demand-three}
 
@@ -27,44 +28,44 @@ module _ (s : Memory) (x : Order) where
   Vl = s .values
 
   abbrev Text : List ℕ
-  Text = newText B (s .used) (s .counts) (s .trees) (s .nodes) Pr Vl (x .value) (x .bytes)
+  Text = newText s (x .value) (x .bytes)
 
   abbrev Rows : Tables
-  Rows = newRows B (s .used) (s .counts) (s .trees) (s .nodes) Pr Vl (x .value) (x .bytes)
+  Rows = newRows s (x .value) (x .bytes)
 
   -- text and rows in memory after the contract's answer are those that the definition gives
-  held-given : asked s x ≡ gives Text Rows → heldIn (next (leaves (asked s x) s) (answers (asked s x))) ≡ after (heldIn s) (asked s x)
+  held-given : asked s x ≡ gives Text Rows → textRows (next (memoryAfter (asked s x) s) (editedFor (asked s x))) ≡ after (textRows s) (asked s x)
   held-given e =
-      subst⁻¹ (λ (o : Outcome). heldIn (next (leaves o s) (answers o)) ≡ after (heldIn s) o) e
+      subst⁻¹ (λ (o : Outcome). textRows (next (memoryAfter o s) (editedFor o)) ≡ after (textRows s) o) e
       (ap₂ (λ (t : List ℕ) (T : Tables). record { text = t; rows = T }) (text-left Text B (s .used)) (rows-left (s .counts) (s .trees) (s .nodes) Pr Vl _ (length (x .bytes))))
 
-  held-after : (o : Outcome) → asked s x ≡ o → heldIn (next (leaves o s) (answers o)) ≡ after (heldIn s) o
+  held-after : (o : Outcome) → asked s x ≡ o → textRows (next (memoryAfter o s) (editedFor o)) ≡ after (textRows s) o
   held-after (refuses r p) e = refl
   held-after (gives t T) e =
-      let g = given B (s .used) (s .counts) (s .trees) (s .nodes) Pr Vl (x .value) (x .bytes) (length t) (ap answers (sym e)) in
-      subst (λ (o : Outcome). heldIn (next (leaves o s) (answers o)) ≡ after (heldIn s) o) e (held-given (g .is))
+      let g = given s (x .value) (x .bytes) (length t) (ap editedFor (sym e)) in
+      subst (λ (o : Outcome). textRows (next (memoryAfter o s) (editedFor o)) ≡ after (textRows s) o) e (held-given (g .is))
 
-  pub held-next : (r : Edited) (l : Memory) → EditIs s l (x .value) (x .bytes) r → heldIn (next l r) ≡ after (heldIn s) (asked s x)
-  held-next r l h = ap₂ (λ (q : Edited) (m : Memory). heldIn (next m q)) (h .answer) (h .memory) ∙ held-after (asked s x) refl
+  pub held-next : (r : Edited) (l : Memory) → EditIs s l (x .value) (x .bytes) r → textRows (next l r) ≡ after (textRows s) (asked s x)
+  held-next r l h = ap₂ (λ (q : Edited) (m : Memory). textRows (next m q)) (h .answer) (h .memory) ∙ held-after (asked s x) refl
 
-  fresh-asked : (c : Bool) → Fresh (strictly c) (heldIn s) → Fresh (strictly c) (after (heldIn s) (asked s x))
+  fresh-asked : (c : Bool) → Fresh (strictly c) (textRows s) → Fresh (strictly c) (after (textRows s) (asked s x))
   unfolding outcomeOf
-  fresh-asked c f = go (Fit s) (demand-three c (length B) (heldIn s) (x ∷ []) f)
+  fresh-asked c f = go (Fit s) (demand-three c (length B) (textRows s) (x ∷ []) f)
     where
-      go : (b : Bool) → Fresh (strictly c) (after (heldIn s) (edit (length B) (heldIn s .text) (heldIn s .rows) (x .value) (x .bytes)))
-          → Fresh (strictly c) (after (heldIn s) (pick b (edit (length B) (heldIn s .text) (heldIn s .rows) (x .value) (x .bytes)) (refuses NotFitting 0)))
+      go : (b : Bool) → Fresh (strictly c) (after (textRows s) (edit (length B) (textRows s .text) (textRows s .rows) (x .value) (x .bytes)))
+          → Fresh (strictly c) (after (textRows s) (pick b (edit (length B) (textRows s .text) (textRows s .rows) (x .value) (x .bytes)) (refuses NotFitting 0)))
       go true h = h
       go false h = f
 
 -- one call
-pub call-fresh : (c : Bool) (s : Memory) (x : Order) (r : Edited) (l : Memory) → Fresh (strictly c) (heldIn s) → EditIs s l (x .value) (x .bytes) r → Fresh (strictly c) (heldIn (next l r))
+pub call-fresh : (c : Bool) (s : Memory) (x : Order) (r : Edited) (l : Memory) → Fresh (strictly c) (textRows s) → EditIs s l (x .value) (x .bytes) r → Fresh (strictly c) (textRows (next l r))
 call-fresh c s x r l f h = subst⁻¹ (Fresh (strictly c)) (held-next s x r l h) (fresh-asked s x c f)
 
 -- any run of calls, refused ones of whatever number between them
-pub calls-fresh : (c : Bool) (s s′ : Memory) (xs : List Order) → Fresh (strictly c) (heldIn s) → Calls s xs s′ → Fresh (strictly c) (heldIn s′)
+pub calls-fresh : (c : Bool) (s s′ : Memory) (xs : List Order) → Fresh (strictly c) (textRows s) → Calls s xs s′ → Fresh (strictly c) (textRows s′)
 calls-fresh c s s′ xs f none = f
 calls-fresh c s s′ xs f (call {x = x} {xs = ys} r l h k) = calls-fresh c (next l r) s′ ys (call-fresh c s x r l f h) k
 
 -- the counts that the caller has are those of the reading
-pub counts-fresh : (c : Bool) (s : Memory) (f : Fresh (strictly c) (heldIn s)) → s .counts ≡ countsOf (tables (f .trees))
+pub counts-fresh : (c : Bool) (s : Memory) (f : Fresh (strictly c) (textRows s)) → s .counts ≡ countsOf (tables (f .trees))
 counts-fresh c s f = sym (counts-of-rows (s .counts) (s .trees) (s .nodes) (s .properties) (s .values)) ∙ ap countsOf (f .same-rows)

@@ -7,11 +7,11 @@ use Rattle.edit_answer.specs.Answer.{outcomeOf}
 use Rattle.edit_answer.specs.declared.Edited.{Edited}
 use Rattle.edit_answer.specs.declared.Edited.the-variants.{Changed, Refused}
 use Rattle.edit.specs.Lent.{EditIs}
-use Rattle.edit_laws.specs.Run.{Held, Order}
+use Rattle.edit_laws.specs.Run.{TextRows, Order}
 
 -- the used text and its rows
-abbrev pub heldIn : Memory → Held
-heldIn m = record { text = textIn m; rows = rowsIn m }
+abbrev pub textRows : Memory → TextRows
+textRows m = record { text = textIn m; rows = rowsIn m }
 
 -- what the definition says of an edit that is asked for
 abbrev pub asked : Memory → Order → Outcome

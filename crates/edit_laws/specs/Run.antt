@@ -11,7 +11,7 @@ abbrev pub strictly : Bool → Opts
 strictly c = record { lenient = false; convert = c }
 
 -- a used text and its rows
-pub record Held : Type 0 where
+pub record TextRows : Type 0 where
   pub text : List ℕ
   pub rows : Tables
 
@@ -21,17 +21,17 @@ pub record Order : Type 0 where
   pub bytes : List ℕ
 
 -- a refused edit changes nothing
-abbrev pub after : Held → Outcome → Held
+abbrev pub after : TextRows → Outcome → TextRows
 after s (refuses r p) = s
 after s (gives t T) = record { text = t; rows = T }
 
 -- any run of edits, refused ones between them
-abbrev pub run : (room : ℕ) → Held → List Order → Held
+abbrev pub run : (room : ℕ) → TextRows → List Order → TextRows
 run room s [] = s
 run room s (x ∷ xs) = run room (after s (edit room (s .text) (s .rows) (x .value) (x .bytes))) xs
 
 -- text and rows are what a fresh reading gives
-pub record Fresh (op : Opts) (s : Held) : Type 0 where
+pub record Fresh (op : Opts) (s : TextRows) : Type 0 where
   pub trees : List Tree
   pub reads : read op (s .text) ≡ accepted trees
   pub same-rows : s .rows ≡ tables trees

@@ -1,10 +1,10 @@
 -- The clauses of the fitting rule, each by its name: tables that fit have them, and tables that have them fit. Assumes nothing.
-use Rattle.lists.proofs.Prelude.{ℕ, _/_, _≤_, _<_, Bool, true, _&&_, List, _≡_, arith, leb, length, take, length-take-le, leb-true, le-leb}
+use Rattle.lists.proofs.Prelude.{ℕ, _/_, _≤_, _<_, Bool, true, _&&_, List, _≡_, arith, leb, length, length-take-le, leb-true, le-leb}
 use Rattle.tables.specs.Numbers.{none, textLimit}
 use Rattle.tables.specs.declared.Counts.{Counts}
-use Rattle.tables.specs.Columns.{firstPropAt, propCountAt, nameFromAt, nameToAt, firstValAt, valCountAt, valFromAt, valToAt}
+use Rattle.tables.specs.Columns.{nodeStride, firstPropAt, propCountAt, nameFromAt, nameToAt, firstValAt, valCountAt, valFromAt, valToAt}
 use Rattle.tables.specs.Each.{each}
-use Rattle.tables.specs.Memory.{memory}
+use Rattle.tables.specs.Memory.{Memory}
 use Rattle.fit.specs.Fit.{lentFor, validUtf8, fitText, Fit}
 use Rattle.fit.specs.Locals.{Held}
 use Rattle.fit_nodes.specs.Nodes.{rootsRight, parentRight, childRight, siblingRight, kindRight, nodesFit}
@@ -13,6 +13,7 @@ use Rattle.fit_spans.specs.Spans.{spans, ascending, nameRight, valueRight, span
 use Rattle.tables.proofs.Cases.{and-left, and-right}
 use Rattle.fit_spans.proofs.Lying.{names-lie, values-lie}
 use Rattle.fit.proofs.Whole.{fit-lent}
+use Rattle.fit.specs.Record.{textIn}
 
 -- of the used text t
 pub record Clauses (t : List ℕ) (c : Counts) (tr nd pr vl : List ℕ) : Type 0 where
@@ -41,16 +42,16 @@ five p q r s u h =
 three : (p q r : Bool) → (p && q && r) ≡ true → (p ≡ true) × (q ≡ true) × (r ≡ true)
 three p q r h = let h2 = and-left (p && q) r h in (and-left p q h2, and-right p q h2, and-right (p && q) r h)
 
-pub fit-clauses : (t : List ℕ) (used : ℕ) (c : Counts) (tr nd pr vl : List ℕ) → Fit (memory t used c tr nd pr vl) ≡ true → Clauses (take used t) c tr nd pr vl
+pub fit-clauses : (m : Memory) → Fit m ≡ true → Clauses (textIn m) (m .counts) (m .trees) (m .nodes) (m .properties) (m .values)
 unfolding Fit fitText nodesFit rangesFit spansFit
-fit-clauses t used c tr nd pr vl h =
-    let u : List ℕ = take used t in
-    let x = five (leb (length u) textLimit) (validUtf8 u) (nodesFit c tr nd) (rangesFit c nd pr) (spansFit u c pr vl) (and-right (lentFor (memory t used c tr nd pr vl)) (fitText u c tr nd pr vl) h) in
-    let n = five (rootsRight (c .trees) (c .nodes) tr nd) (each (c .nodes) (parentRight nd)) (each (c .nodes) (childRight nd (c .nodes))) (each (c .nodes) (siblingRight nd (c .nodes))) (each (c .trees) (kindRight tr)) (x .2) in
-    let r = three (gapless (firstPropAt nd) (propCountAt nd) (c .nodes) (c .properties)) (gapless (firstValAt pr) (valCountAt pr) (c .properties) (c .values)) (each (c .properties) (hasValue pr)) (x .3) in
-    let s = three (ascending (length u) 0 (spans pr vl 0 (c .properties))) (each (c .properties) (nameRight u pr)) (each (c .values) (valueRight u vl)) (x .4) in
+fit-clauses m h =
+    let u : List ℕ = textIn m in
+    let x = five (leb (length u) textLimit) (validUtf8 u) (nodesFit (m .counts) (m .trees) (m .nodes)) (rangesFit (m .counts) (m .nodes) (m .properties)) (spansFit u (m .counts) (m .properties) (m .values)) (and-right (lentFor m) (fitText u (m .counts) (m .trees) (m .nodes) (m .properties) (m .values)) h) in
+    let n = five (rootsRight (m .counts .trees) (m .counts .nodes) (m .trees) (m .nodes)) (each (m .counts .nodes) (parentRight (m .nodes))) (each (m .counts .nodes) (childRight (m .nodes) (m .counts .nodes))) (each (m .counts .nodes) (siblingRight (m .nodes) (m .counts .nodes))) (each (m .counts .trees) (kindRight (m .trees))) (x .2) in
+    let r = three (gapless (firstPropAt (m .nodes)) (propCountAt (m .nodes)) (m .counts .nodes) (m .counts .properties)) (gapless (firstValAt (m .properties)) (valCountAt (m .properties)) (m .counts .properties) (m .counts .values)) (each (m .counts .properties) (hasValue (m .properties))) (x .3) in
+    let s = three (ascending (length u) 0 (spans (m .properties) (m .values) 0 (m .counts .properties))) (each (m .counts .properties) (nameRight u (m .properties))) (each (m .counts .values) (valueRight u (m .values))) (x .4) in
     record {
-      held = fit-lent t used c tr nd pr vl h .1;
+      held = fit-lent m h .1;
       short = leb-true (length u) textLimit (x .0);
       utf8 = x .1;
       roots = n .0;
@@ -66,17 +67,17 @@ fit-clauses t used c tr nd pr vl h =
       values = s .2;
     }
 
-pub clauses-fit : (t : List ℕ) (used : ℕ) (c : Counts) (tr nd pr vl : List ℕ) → used ≤ length t → Clauses (take used t) c tr nd pr vl → Fit (memory t used c tr nd pr vl) ≡ true
+pub clauses-fit : (m : Memory) → m .used ≤ length (m .text) → Clauses (textIn m) (m .counts) (m .trees) (m .nodes) (m .properties) (m .values) → Fit m ≡ true
 unfolding Fit fitText nodesFit rangesFit spansFit
-clauses-fit t used c tr nd pr vl l f =
+clauses-fit m l f =
     rw (
-      le-leb used (length t) l,
-      le-leb (c .trees) (length tr / 2) (f .held .trees),
-      le-leb (c .nodes) (length nd / 5) (f .held .nodes),
-      le-leb (c .nodes) none (f .held .few),
-      le-leb (c .properties) (length pr / 4) (f .held .properties),
-      le-leb (c .values) (length vl / 2) (f .held .values),
-      le-leb (length (take used t)) textLimit (f .short),
+      le-leb (m .used) (length (m .text)) l,
+      le-leb (m .counts .trees) (length (m .trees) / 2) (f .held .trees),
+      le-leb (m .counts .nodes) (length (m .nodes) / nodeStride) (f .held .nodes),
+      le-leb (m .counts .nodes) none (f .held .few),
+      le-leb (m .counts .properties) (length (m .properties) / 4) (f .held .properties),
+      le-leb (m .counts .values) (length (m .values) / 2) (f .held .values),
+      le-leb (length (textIn m)) textLimit (f .short),
       f .utf8,
       f .roots,
       f .parents,
@@ -100,15 +101,15 @@ module _ {t : List ℕ} {c : Counts} {tr nd pr vl : List ℕ} (f : Clauses t c t
 
 -- ---- of the first `used` bytes of a buffer
 
-module _ (t : List ℕ) (used : ℕ) (c : Counts) (tr nd pr vl : List ℕ) (fit : Fit (memory t used c tr nd pr vl) ≡ true) where
-  used-is : length (take used t) ≡ used
-  used-is = length-take-le used t (fit-lent t used c tr nd pr vl fit .0)
+module _ (m : Memory) (fit : Fit m ≡ true) where
+  used-is : length (textIn m) ≡ m .used
+  used-is = length-take-le (m .used) (m .text) (fit-lent m fit .0)
 
-  pub fit-short : used ≤ textLimit
-  fit-short = omega (arith, fit-clauses t used c tr nd pr vl fit .short, used-is)
+  pub fit-short : m .used ≤ textLimit
+  fit-short = omega (arith, fit-clauses m fit .short, used-is)
 
-  pub fit-names : (p : ℕ) → p < c .properties → (nameFromAt pr p ≤ nameToAt pr p) × (nameToAt pr p ≤ used)
-  fit-names p l = let n = name-in (fit-clauses t used c tr nd pr vl fit) p l in (n .0, omega (arith, n .1, used-is))
+  pub fit-names : (p : ℕ) → p < m .counts .properties → (nameFromAt (m .properties) p ≤ nameToAt (m .properties) p) × (nameToAt (m .properties) p ≤ m .used)
+  fit-names p l = let n = name-in (fit-clauses m fit) p l in (n .0, omega (arith, n .1, used-is))
 
-  pub fit-vals : (v : ℕ) → v < c .values → (valFromAt vl v ≤ valToAt vl v) × (valToAt vl v ≤ used)
-  fit-vals v l = let n = value-in (fit-clauses t used c tr nd pr vl fit) v l in (n .0, omega (arith, n .1, used-is))
+  pub fit-vals : (v : ℕ) → v < m .counts .values → (valFromAt (m .values) v ≤ valToAt (m .values) v) × (valToAt (m .values) v ≤ m .used)
+  fit-vals v l = let n = value-in (fit-clauses m fit) v l in (n .0, omega (arith, n .1, used-is))

@@ -3,6 +3,7 @@ use Rattle.lists.proofs.Prelude.{ℕ, zero, suc, _+_, _*_, List, [], _∷_, _++
 use Rattle.tables.specs.Flat.{flatTrees, flatNodes, flatProps, flatVals}
 use Rattle.tables.specs.Rows.{TreeRow, NodeRow, PropRow, ValRow, Tables, countsOf}
 use Rattle.tables.specs.Each.{tabulate}
+use Rattle.tables.specs.Columns.{nodeStride}
 use Rattle.fit.specs.Record.{treeRow, nodeRow, propRow, valRow, rowsOf}
 
 tabulate-later : {A : Type 0} (f g : ℕ → A) → ((k : ℕ) → f (suc k) ≡ g k) → (k m : ℕ) → tabulate f (suc k) m ≡ tabulate g k m
@@ -33,11 +34,11 @@ tree-rows = rows-flat (λ r. r .root ∷ r .kind ∷ []) flatTrees treeRow (λ r
 node-rows : (rs : List NodeRow) (w : List ℕ) → tabulate (nodeRow (flatNodes rs ++ w)) 0 (length rs) ≡ rs
 node-rows = rows-flat (λ r. r .parent ∷ r .child ∷ r .sibling ∷ r .first ∷ r .count ∷ []) flatNodes nodeRow (λ r rs. refl) (λ r t. refl)
     (λ r t k.
-    let a : suc k * 5 ≡ suc (suc (suc (suc (suc (k * 5))))) = omega arith in
-    let b : suc k * 5 + 1 ≡ suc (suc (suc (suc (suc (k * 5 + 1))))) = omega arith in
-    let c : suc k * 5 + 2 ≡ suc (suc (suc (suc (suc (k * 5 + 2))))) = omega arith in
-    let d : suc k * 5 + 3 ≡ suc (suc (suc (suc (suc (k * 5 + 3))))) = omega arith in
-    let e : suc k * 5 + 4 ≡ suc (suc (suc (suc (suc (k * 5 + 4))))) = omega arith in
+    let a : suc k * nodeStride ≡ suc (suc (suc (suc (suc (k * nodeStride))))) = omega arith in
+    let b : suc k * nodeStride + 1 ≡ suc (suc (suc (suc (suc (k * nodeStride + 1))))) = omega arith in
+    let c : suc k * nodeStride + 2 ≡ suc (suc (suc (suc (suc (k * nodeStride + 2))))) = omega arith in
+    let d : suc k * nodeStride + 3 ≡ suc (suc (suc (suc (suc (k * nodeStride + 3))))) = omega arith in
+    let e : suc k * nodeStride + 4 ≡ suc (suc (suc (suc (suc (k * nodeStride + 4))))) = omega arith in
     rw (e, d, c, b, a))
 
 prop-rows : (rs : List PropRow) (w : List ℕ) → tabulate (propRow (flatProps rs ++ w)) 0 (length rs) ≡ rs

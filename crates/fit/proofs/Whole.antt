@@ -1,9 +1,10 @@
 -- What is lent for tables that fit; where it is lent, links and parts fit by their clauses alone. Assumes nothing.
-use Rattle.lists.proofs.Prelude.{ℕ, _-_, _/_, _≤_, Bool, true, _&&_, List, _≡_, refl, leb, length, take, leb-true, le-leb}
+use Rattle.lists.proofs.Prelude.{ℕ, _-_, _/_, _≤_, Bool, true, _&&_, List, _≡_, refl, leb, length, leb-true, le-leb}
 use Rattle.tables.specs.Numbers.{none, textLimit}
 use Rattle.tables.specs.declared.Counts.{Counts}
-use Rattle.tables.specs.Memory.{memory}
+use Rattle.tables.specs.Memory.{Memory}
 use Rattle.tables.proofs.Cases.{and-left, and-right}
+use Rattle.tables.specs.Columns.{nodeStride}
 use Rattle.fit_nodes.specs.Nodes.{nodesFit, linksFit}
 use Rattle.fit_spans.specs.Parts.{partsFit}
 use Rattle.fit_spans.specs.Ranges.{rangesFit}
@@ -12,6 +13,7 @@ use Rattle.fit.specs.Fit.{lentFor, sound, fitText, Fit}
 use Rattle.fit.specs.Locals.{Held}
 use Rattle.text_utf8.specs.Text.{Ink, blank, inked, whole}
 use Rattle.text_utf8.specs.Trim.{shown}
+use Rattle.fit.specs.Record.{textIn}
 
 module _ (c : Counts) (tr nd pr vl : List ℕ) (held : Held c tr nd pr vl) where
   pub links-held : linksFit c tr nd ≡ nodesFit c tr nd
@@ -24,7 +26,7 @@ module _ (c : Counts) (tr nd pr vl : List ℕ) (held : Held c tr nd pr vl) where
 
 -- ---- of what is lent
 
-module _ (t : List ℕ) (used : ℕ) (c : Counts) (tr nd pr vl : List ℕ) where
+module _ (m : Memory) where
   six : (p q r s u v : Bool) → (p && q && r && s && u && v) ≡ true → (p ≡ true) × (q ≡ true) × (r ≡ true) × (s ≡ true) × (u ≡ true) × (v ≡ true)
   six p q r s u v h =
       let h5 = and-left (p && q && r && s && u) v h in
@@ -33,22 +35,22 @@ module _ (t : List ℕ) (used : ℕ) (c : Counts) (tr nd pr vl : List ℕ) where
       let h2 = and-left (p && q) r h3 in
       (and-left p q h2, and-right p q h2, and-right (p && q) r h3, and-right (p && q && r) s h4, and-right (p && q && r && s) u h5, and-right (p && q && r && s && u) v h)
 
-  pub lent-is : lentFor (memory t used c tr nd pr vl) ≡ true → (used ≤ length t) × Held c tr nd pr vl
+  pub lent-is : lentFor m ≡ true → (m .used ≤ length (m .text)) × Held (m .counts) (m .trees) (m .nodes) (m .properties) (m .values)
   lent-is h =
-      let s = six (leb used (length t)) (leb (c .trees) (length tr / 2)) (leb (c .nodes) (length nd / 5)) (leb (c .nodes) none) (leb (c .properties) (length pr / 4)) (leb (c .values) (length vl / 2)) h in (
-        leb-true used (length t) (s .0),
+      let s = six (leb (m .used) (length (m .text))) (leb (m .counts .trees) (length (m .trees) / 2)) (leb (m .counts .nodes) (length (m .nodes) / nodeStride)) (leb (m .counts .nodes) none) (leb (m .counts .properties) (length (m .properties) / 4)) (leb (m .counts .values) (length (m .values) / 2)) h in (
+        leb-true (m .used) (length (m .text)) (s .0),
         record {
-          trees = leb-true (c .trees) (length tr / 2) (s .1);
-          nodes = leb-true (c .nodes) (length nd / 5) (s .2);
-          few = leb-true (c .nodes) none (s .3);
-          properties = leb-true (c .properties) (length pr / 4) (s .4);
-          values = leb-true (c .values) (length vl / 2) (s .5);
+          trees = leb-true (m .counts .trees) (length (m .trees) / 2) (s .1);
+          nodes = leb-true (m .counts .nodes) (length (m .nodes) / nodeStride) (s .2);
+          few = leb-true (m .counts .nodes) none (s .3);
+          properties = leb-true (m .counts .properties) (length (m .properties) / 4) (s .4);
+          values = leb-true (m .counts .values) (length (m .values) / 2) (s .5);
         },
       )
 
-  pub fit-lent : Fit (memory t used c tr nd pr vl) ≡ true → (used ≤ length t) × Held c tr nd pr vl
+  pub fit-lent : Fit m ≡ true → (m .used ≤ length (m .text)) × Held (m .counts) (m .trees) (m .nodes) (m .properties) (m .values)
   unfolding Fit
-  fit-lent fit = lent-is (and-left (lentFor (memory t used c tr nd pr vl)) (fitText (take used t) c tr nd pr vl) fit)
+  fit-lent fit = lent-is (and-left (lentFor m) (fitText (textIn m) (m .counts) (m .trees) (m .nodes) (m .properties) (m .values)) fit)
 
 -- ---- of the text
 

@@ -1,6 +1,6 @@
 -- What is lent where the test of it is passed; the value ranges of ranges that fit. Assumes nothing.
 use Rattle.lists.proofs.Prelude.{ℕ, _/_, _≤_, Bool, true, _&&_, List, _≡_, leb, length, leb-true}
-use Rattle.tables.specs.Columns.{firstPropAt, propCountAt, firstValAt, valCountAt}
+use Rattle.tables.specs.Columns.{nodeStride, firstPropAt, propCountAt, firstValAt, valCountAt}
 use Rattle.tables.specs.Each.{each}
 use Rattle.tables.specs.Numbers.{textLimit}
 use Rattle.tables.specs.declared.Counts.{Counts}
@@ -10,10 +10,10 @@ use Rattle.fit_spans.specs.Ranges.{gapless, hasValue, rangesFit}
 
 -- the text is within the limit, and so many nodes, properties and values are lent
 pub lent-is : (t : List ℕ) (c : Counts) (nd pr vl : List ℕ) → lentParts t c nd pr vl ≡ true
-    → (length t ≤ textLimit) × (c .nodes ≤ length nd / 5) × (c .properties ≤ length pr / 4) × (c .values ≤ length vl / 2)
+    → (length t ≤ textLimit) × (c .nodes ≤ length nd / nodeStride) × (c .properties ≤ length pr / 4) × (c .values ≤ length vl / 2)
 lent-is t c nd pr vl h =
     let p : Bool = leb (length t) textLimit in
-    let q : Bool = leb (c .nodes) (length nd / 5) in
+    let q : Bool = leb (c .nodes) (length nd / nodeStride) in
     let r : Bool = leb (c .properties) (length pr / 4) in
     let s : Bool = leb (c .values) (length vl / 2) in
     let h3 = and-left (p && q && r) s h in

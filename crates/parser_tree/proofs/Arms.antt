@@ -7,6 +7,7 @@ use Rattle.lexer.specs.declared.Head.the-variants.{Start, End, Node}
 use Rattle.tables.specs.Numbers.{none, depthLimit}
 use Rattle.tables.specs.Record.{Node as Noded}
 use Rattle.tables.specs.declared.Reason.the-variants.{UnexpectedGameTreeStart, UnexpectedGameTreeEnd}
+use Rattle.tables.specs.Columns.{nodeStride}
 use Rattle.parser.specs.Walk.{Opts, Walk, walk, shut, takes, refuse, closes, walked}
 use Rattle.parser.specs.Slice.{sliceFrom, Shallow}
 use Rattle.parser_tree.specs.Walks.{walkOf, Stored}
@@ -124,7 +125,7 @@ module _ {op : Opts} {u : List ℕ} {from base p0 v0 : ℕ} {t₀ q₀ w₀ t q 
 
   -- ---- a node
 
-  pub walking-node : headAt u (st .at) ≡ Node i → {t′ : List ℕ} → PutIs t (st .nodes * 5) (st .cur ∷ none ∷ none ∷ st .props ∷ 0 ∷ []) t′
+  pub walking-node : headAt u (st .at) ≡ Node i → {t′ : List ℕ} → PutIs t (st .nodes * nodeStride) (st .cur ∷ none ∷ none ∷ st .props ∷ 0 ∷ []) t′
       → {y : State} → y ≡ noded st i → Walking op u from base p0 v0 t₀ q₀ w₀ t′ q w a y
   unfolding sliceFrom Shallow
   walking-node g {t′} pu ey =

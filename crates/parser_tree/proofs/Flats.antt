@@ -5,6 +5,7 @@ use Rattle.tables.specs.Numbers.{none}
 use Rattle.tables.specs.Record.{Node, allProps, allVals}
 use Rattle.tables.specs.Rows.{propRows, valRows}
 use Rattle.tables.specs.Flat.{flatNodes, flatProps, flatVals}
+use Rattle.tables.specs.Columns.{nodeStride}
 use Rattle.parser_tree.specs.Flat.{bareRows}
 
 pub val-append : (xs ys : List Val) → flatVals (valRows (xs ++ ys)) ≡ flatVals (valRows xs) ++ flatVals (valRows ys)
@@ -41,6 +42,6 @@ node-append f (x ∷ xs) ys =
     ap (λ (z : List ℕ). x .parent ∷ none ∷ none ∷ f ∷ length (x .props) ∷ z)
     (node-append (f + length (x .props)) xs ys ∙ ap (λ (z : ℕ). flatNodes (bareRows (f + length (x .props)) xs) ++ flatNodes (bareRows z ys)) e)
 
-pub node-length : (f : ℕ) (xs : List Node) → length (flatNodes (bareRows f xs)) ≡ length xs * 5
+pub node-length : (f : ℕ) (xs : List Node) → length (flatNodes (bareRows f xs)) ≡ length xs * nodeStride
 node-length f [] = refl
 node-length f (x ∷ xs) = let h = node-length (f + length (x .props)) xs in omega arith

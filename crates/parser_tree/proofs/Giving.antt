@@ -9,6 +9,7 @@ use Rattle.tables.specs.Numbers.{none}
 use Rattle.tables.specs.Record.{Node as Noded, Tree}
 use Rattle.tables.specs.declared.Reason.{Reason}
 use Rattle.tables.specs.declared.Reason.the-variants.{UnexpectedEndOfData}
+use Rattle.tables.specs.Columns.{nodeStride}
 use Rattle.parser.specs.Walk.{Opts, Gate, Walk, walk, refuse, walked}
 use Rattle.parser.specs.Slice.{sliceFrom}
 use Rattle.parser.specs.Read.{growing, rooted, grown}
@@ -63,7 +64,7 @@ module _ {op : Opts} {u : List ℕ} {from base p0 v0 : ℕ} {t₀ q₀ w₀ t q 
         bigger zero e = absurd (h (omega arith))
         bigger (suc l) e = omega arith
 
-    gives-root : op .lenient ≡ true → st .nodes ≡ base → {t′ : List ℕ} → PutIs t (st .nodes * 5) (none ∷ none ∷ none ∷ st .props ∷ 0 ∷ []) t′ → TreeIs op u from base p0 v0 t₀ q₀ w₀ t′ q w o (st .nodes + 1) (st .props) (st .vals)
+    gives-root : op .lenient ≡ true → st .nodes ≡ base → {t′ : List ℕ} → PutIs t (st .nodes * nodeStride) (none ∷ none ∷ none ∷ st .props ∷ 0 ∷ []) t′ → TreeIs op u from base p0 v0 t₀ q₀ w₀ t′ q w o (st .nodes + 1) (st .props) (st .vals)
     gives-root l h {t′} p =
         let c = count x in
         let n : x .ns ≡ [] = empty (x .ns) (omega arith) in

@@ -7,6 +7,7 @@ use Rattle.tables.specs.Numbers.{none}
 use Rattle.tables.specs.Record.{Node, allProps, allVals}
 use Rattle.tables.specs.Rows.{propRows, valRows}
 use Rattle.tables.specs.Flat.{flatNodes, flatProps, flatVals}
+use Rattle.tables.specs.Columns.{nodeStride}
 use Rattle.parser_tree.specs.Flat.{bareRows}
 use Rattle.parser_tree.specs.Walks.{Stored}
 use Rattle.parser_tree.proofs.Flats.{val-append, val-length, vals-append, props-append, prop-append, prop-length, node-append, node-length}
@@ -17,7 +18,7 @@ stored-none base p0 v0 t q w =
       nodes = omega arith;
       props = omega arith;
       vals = omega arith;
-      tnodes = put-none t (base * 5);
+      tnodes = put-none t (base * nodeStride);
       tprops = put-none q (p0 * 4);
       tvals = put-none w (v0 * 2);
     }
@@ -49,14 +50,14 @@ stored-both {base} {p0} {v0} {t₀} {q₀} {w₀} {t} {q} {w} {n} {p} {v} {t′}
       nodes = omega arith;
       props = omega arith;
       vals = omega arith;
-      tnodes = subst (λ (z : List ℕ). PutIs t₀ (base * 5) z t′) (sym fn) (put-more (x .tnodes) (y .tnodes) (omega (arith, node-length p0 ds)));
+      tnodes = subst (λ (z : List ℕ). PutIs t₀ (base * nodeStride) z t′) (sym fn) (put-more (x .tnodes) (y .tnodes) (omega (arith, node-length p0 ds)));
       tprops = subst (λ (z : List ℕ). PutIs q₀ (p0 * 4) z q′) (sym fp) (put-more (x .tprops) (y .tprops) (omega (arith, prop-length v0 (allProps ds))));
       tvals = subst (λ (z : List ℕ). PutIs w₀ (v0 * 2) z w′) (sym fv) (put-more (x .tvals) (y .tvals) (omega (arith, val-length (allVals (allProps ds)))));
     }
 
 module _ {base p0 v0 : ℕ} {t₀ q₀ w₀ t q w : List ℕ} {n p v : ℕ} where
   -- a node without properties
-  pub stored-node : (es : List Node) → Stored base p0 v0 es t₀ q₀ w₀ t q w n p v → (cur : ℕ) {t′ : List ℕ} → PutIs t (n * 5) (cur ∷ none ∷ none ∷ p ∷ 0 ∷ []) t′
+  pub stored-node : (es : List Node) → Stored base p0 v0 es t₀ q₀ w₀ t q w n p v → (cur : ℕ) {t′ : List ℕ} → PutIs t (n * nodeStride) (cur ∷ none ∷ none ∷ p ∷ 0 ∷ []) t′
       → Stored base p0 v0 (es ++ (record { parent = cur; props = [] } ∷ [])) t₀ q₀ w₀ t′ q w (n + 1) p v
   stored-node es x cur {t′} h =
       stored-both es (record { parent = cur; props = [] } ∷ []) x
@@ -86,7 +87,7 @@ module _ {base p0 v0 : ℕ} {t₀ q₀ w₀ t q w : List ℕ} {n p v : ℕ} wher
 
     -- the last node's properties and one more: its row, those of its values, and the count in the node's row
     pub stored-prop : {first : ℕ} → first ≡ p0 + length (allProps es) → {q′ w′ t′ : List ℕ} → PutIs q (p * 4) (P .from ∷ P .to ∷ v ∷ length (P .vals) ∷ []) q′
-        → PutIs w (v * 2) (flatVals (valRows (P .vals))) w′ → PutIs t (n * 5 - 1) ((p + 1 - first) ∷ []) t′
+        → PutIs w (v * 2) (flatVals (valRows (P .vals))) w′ → PutIs t (n * nodeStride - 1) ((p + 1 - first) ∷ []) t′
         → Stored base p0 v0 (es ++ (record { parent = m .parent; props = m .props ++ (P ∷ []) } ∷ [])) t₀ q₀ w₀ t′ q′ w′ n (p + 1) (v + length (P .vals))
     unfolding m′
     stored-prop {first} e {q′} {w′} {t′} hq hw ht =
@@ -100,7 +101,7 @@ module _ {base p0 v0 : ℕ} {t₀ q₀ w₀ t q w : List ℕ} {n p v : ℕ} wher
         let l5 : length (allProps (es ++ (m ∷ []))) ≡ length (allProps es) + length (m .props) =
         ap length (props-append es (m ∷ []) ∙ ap (λ (z : List Prop). allProps es ++ z) (append-nil (m .props))) ∙ length-append (allProps es) (m .props) in
         let l6 : length (m .props ++ (P ∷ [])) ≡ length (m .props) + 1 = length-append (m .props) (P ∷ []) in
-        let l7 : length (flatNodes (bareRows p0 es) ++ (m .parent ∷ none ∷ none ∷ first ∷ [])) ≡ length es * 5 + 4 =
+        let l7 : length (flatNodes (bareRows p0 es) ++ (m .parent ∷ none ∷ none ∷ first ∷ [])) ≡ length es * nodeStride + 4 =
         length-append (flatNodes (bareRows p0 es)) (m .parent ∷ none ∷ none ∷ first ∷ []) ∙ ap (λ (z : ℕ). z + 4) (node-length p0 es) in
         let c : p + 1 - first ≡ length (m .props ++ (P ∷ [])) = omega arith in
         record {
@@ -108,10 +109,10 @@ module _ {base p0 v0 : ℕ} {t₀ q₀ w₀ t q w : List ℕ} {n p v : ℕ} wher
           props = omega arith;
           vals = omega arith;
           tnodes =
-              subst (λ (z : List ℕ). PutIs t₀ (base * 5) z t′) (sym (node-row m′ first e))
+              subst (λ (z : List ℕ). PutIs t₀ (base * nodeStride) z t′) (sym (node-row m′ first e))
               (put-last (flatNodes (bareRows p0 es) ++ (m .parent ∷ none ∷ none ∷ first ∷ [])) (length (m .props) ∷ [])
-              (subst (λ (z : List ℕ). PutIs t₀ (base * 5) z t) (node-row m first e) (x .tnodes))
-              (subst (λ (z : ℕ). PutIs t (n * 5 - 1) (z ∷ []) t′) c ht)
+              (subst (λ (z : List ℕ). PutIs t₀ (base * nodeStride) z t) (node-row m first e) (x .tnodes))
+              (subst (λ (z : ℕ). PutIs t (n * nodeStride - 1) (z ∷ []) t′) c ht)
               (omega arith) refl);
           tprops =
               subst (λ (z : List ℕ). PutIs q₀ (p0 * 4) z q′)

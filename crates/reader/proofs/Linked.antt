@@ -5,7 +5,7 @@ use Rattle.tables.specs.Numbers.{none}
 use Rattle.tables.specs.Record.{Node}
 use Rattle.tables.specs.Rows.{next, parents, nodeRows}
 use Rattle.tables.specs.Flat.{flatNodes}
-use Rattle.tables.specs.Columns.{parentAt, childAt}
+use Rattle.tables.specs.Columns.{nodeStride, parentAt, childAt}
 use Rattle.tables.specs.Links.{least, LinkedFrom}
 use Rattle.parser_tree.specs.Flat.{bareRows}
 use Rattle.reader.proofs.Parents.{Below}
@@ -40,7 +40,7 @@ module _ (all : List Node) (t₀ t rest : List ℕ) (few : length all ≤ none) 
       ∙ sym (ap (λ (m : ℕ). next p m 0 (parents all)) (sym z) ∙ next-skip p (suc i) 0 (parents all) ∙ ap (λ (m : ℕ). next p m m (drop (suc i) (parents all))) z)
 
   sibling-is : (i : ℕ) → i < N → (x : Node) → parentAt t₀ i ≡ x .parent → Below N x
-      → getD t (i * 5 + 2) 0 ≡ pick (eqb (x .parent) none) none (next (x .parent) (suc i) 0 (parents all))
+      → getD t (i * nodeStride + 2) 0 ≡ pick (eqb (x .parent) none) none (next (x .parent) (suc i) 0 (parents all))
   sibling-is i h x e (inl q) =
       L .next i (omega arith) h
       ∙ ap (λ (z : Bool). pick z (least t₀ (parentAt t₀ i) (suc i) (N - suc i)) none) (le-ltb (parentAt t₀ i) N (omega arith))
@@ -53,28 +53,28 @@ module _ (all : List Node) (t₀ t rest : List ℕ) (few : length all ≤ none) 
       ∙ ap (λ (z : Bool). pick z none (next (x .parent) (suc i) 0 (parents all))) (sym (ne-eqb (x .parent) none (λ z. omega arith)))
 
   -- the cells that are no links
-  kept-is : (k c : ℕ) → (c ≡ 1 → ⊥) → (c ≡ 2 → ⊥) → c < 5 → (d : List ℕ) → drop (k * 5) t₀ ≡ d → getD t (k * 5 + c) 0 ≡ getD d c 0
-  kept-is k c h1 h2 h5 d e = L .kept (k * 5 + c) (λ r h. ((λ q. h1 (omega arith)), (λ q. h2 (omega arith)))) ∙ cell t₀ (k * 5) c d e
+  kept-is : (k c : ℕ) → (c ≡ 1 → ⊥) → (c ≡ 2 → ⊥) → c < 5 → (d : List ℕ) → drop (k * nodeStride) t₀ ≡ d → getD t (k * nodeStride + c) 0 ≡ getD d c 0
+  kept-is k c h1 h2 h5 d e = L .kept (k * nodeStride + c) (λ r h. ((λ q. h1 (omega arith)), (λ q. h2 (omega arith)))) ∙ cell t₀ (k * nodeStride) c d e
 
-  past-is : (k : ℕ) → k ≡ N → drop (k * 5) t₀ ≡ rest → drop (k * 5) t ≡ rest
+  past-is : (k : ℕ) → k ≡ N → drop (k * nodeStride) t₀ ≡ rest → drop (k * nodeStride) t ≡ rest
   past-is k e q =
-      ext-getD 0 (drop (k * 5) t) (drop (k * 5) t₀) (length-drop (k * 5) t ∙ ap (λ (z : ℕ). z - k * 5) (L .len) ∙ sym (length-drop (k * 5) t₀))
-      (λ i h. getD-drop (k * 5) t i 0 ∙ L .kept (k * 5 + i) (λ r l. ((λ z. omega arith), (λ z. omega arith))) ∙ sym (getD-drop (k * 5) t₀ i 0))
+      ext-getD 0 (drop (k * nodeStride) t) (drop (k * nodeStride) t₀) (length-drop (k * nodeStride) t ∙ ap (λ (z : ℕ). z - k * nodeStride) (L .len) ∙ sym (length-drop (k * nodeStride) t₀))
+      (λ i h. getD-drop (k * nodeStride) t i 0 ∙ L .kept (k * nodeStride + i) (λ r l. ((λ z. omega arith), (λ z. omega arith))) ∙ sym (getD-drop (k * nodeStride) t₀ i 0))
       ∙ q
 
-  rows-from : (es : List Node) (k f : ℕ) → drop (k * 5) t₀ ≡ flatNodes (bareRows f es) ++ rest → k + length es ≡ N → All (Below N) es
-      → drop (k * 5) t ≡ flatNodes (nodeRows (parents all) k f es) ++ rest
+  rows-from : (es : List Node) (k f : ℕ) → drop (k * nodeStride) t₀ ≡ flatNodes (bareRows f es) ++ rest → k + length es ≡ N → All (Below N) es
+      → drop (k * nodeStride) t ≡ flatNodes (nodeRows (parents all) k f es) ++ rest
   rows-from [] k f e h a = past-is k (omega arith) e
   rows-from (n ∷ ns) k f e h a =
-      let s : suc k * 5 ≡ k * 5 + 5 = omega arith in
-      let o : k * 5 + 0 ≡ k * 5 = omega arith in
-      let room : k * 5 + 5 ≤ length t = omega (arith, ap length e, length-drop (k * 5) t₀, L .len) in
+      let s : suc k * nodeStride ≡ k * nodeStride + 5 = omega arith in
+      let o : k * nodeStride + 0 ≡ k * nodeStride = omega arith in
+      let room : k * nodeStride + 5 ≤ length t = omega (arith, ap length e, length-drop (k * nodeStride) t₀, L .len) in
       let hk : k < N = omega arith in
-      let c0 : getD t (k * 5) 0 ≡ n .parent = ap (λ (z : ℕ). getD t z 0) (sym o) ∙ kept-is k 0 (λ z. omega arith) (λ z. omega arith) (omega arith) _ e in
-      let p0 : parentAt t₀ k ≡ n .parent = ap (λ (z : ℕ). getD t₀ z 0) (sym o) ∙ cell t₀ (k * 5) 0 _ e in
-      let c3 : getD t (k * 5 + 3) 0 ≡ f = kept-is k 3 (λ z. omega arith) (λ z. omega arith) (omega arith) _ e in
-      let c4 : getD t (k * 5 + 4) 0 ≡ length (n .props) = kept-is k 4 (λ z. omega arith) (λ z. omega arith) (omega arith) _ e in
-      five t (k * 5) room
+      let c0 : getD t (k * nodeStride) 0 ≡ n .parent = ap (λ (z : ℕ). getD t z 0) (sym o) ∙ kept-is k 0 (λ z. omega arith) (λ z. omega arith) (omega arith) _ e in
+      let p0 : parentAt t₀ k ≡ n .parent = ap (λ (z : ℕ). getD t₀ z 0) (sym o) ∙ cell t₀ (k * nodeStride) 0 _ e in
+      let c3 : getD t (k * nodeStride + 3) 0 ≡ f = kept-is k 3 (λ z. omega arith) (λ z. omega arith) (omega arith) _ e in
+      let c4 : getD t (k * nodeStride + 4) 0 ≡ length (n .props) = kept-is k 4 (λ z. omega arith) (λ z. omega arith) (omega arith) _ e in
+      five t (k * nodeStride) room
       ∙ rw (c0, first-is k hk, sibling-is k hk n p0 (a .0), c3, c4, ← s)
       (ap (λ (z : List ℕ). n .parent ∷ next k 0 0 (parents all) ∷ pick (eqb (n .parent) none) none (next (n .parent) (suc k) 0 (parents all)) ∷ f ∷ length (n .props) ∷ z)
       (rows-from ns (suc k) (f + length (n .props)) (bare-next t₀ rest k f n ns e) (omega arith) (a .1)))

@@ -6,7 +6,7 @@ use Rattle.tables.specs.Numbers.{none}
 use Rattle.tables.specs.Record.{Node}
 use Rattle.tables.specs.Rows.{next, parents}
 use Rattle.tables.specs.Flat.{flatNodes}
-use Rattle.tables.specs.Columns.{parentAt, childAt}
+use Rattle.tables.specs.Columns.{nodeStride, parentAt, childAt}
 use Rattle.tables.specs.Links.{least}
 use Rattle.parser_tree.specs.Flat.{bareRows}
 
@@ -55,17 +55,17 @@ five t o h =
 -- the rows without links that stand from row k on
 module _ (t : List ℕ) (rest : List ℕ) where
   abbrev pub Bare : ℕ → ℕ → List Node → Type 0
-  Bare k f es = drop (k * 5) t ≡ flatNodes (bareRows f es) ++ rest
+  Bare k f es = drop (k * nodeStride) t ≡ flatNodes (bareRows f es) ++ rest
 
   pub bare-next : (k f : ℕ) (n : Node) (ns : List Node) → Bare k f (n ∷ ns) → Bare (suc k) (f + length (n .props)) ns
-  bare-next k f n ns e = let s : suc k * 5 ≡ k * 5 + 5 = omega arith in ap (λ (z : ℕ). drop z t) s ∙ sym (drop-drop 5 (k * 5) t) ∙ ap (drop 5) e
+  bare-next k f n ns e = let s : suc k * nodeStride ≡ k * nodeStride + 5 = omega arith in ap (λ (z : ℕ). drop z t) s ∙ sym (drop-drop 5 (k * nodeStride) t) ∙ ap (drop 5) e
 
   pub bare-parent : (k f j : ℕ) (es : List Node) → Bare k f es → j < length es → (parentAt t (k + j) ≡ getD (parents es) j 0) × (childAt t (k + j) ≡ none)
   bare-parent k f j [] e h = absurd (omega arith)
   bare-parent k f zero (n ∷ ns) e h =
-      let s : (k + 0) * 5 ≡ k * 5 + 0 = omega arith in
-      let s1 : (k + 0) * 5 + 1 ≡ k * 5 + 1 = omega arith in
-      (ap (λ (z : ℕ). getD t z 0) s ∙ cell t (k * 5) 0 _ e, ap (λ (z : ℕ). getD t z 0) s1 ∙ cell t (k * 5) 1 _ e)
+      let s : (k + 0) * nodeStride ≡ k * nodeStride + 0 = omega arith in
+      let s1 : (k + 0) * nodeStride + 1 ≡ k * nodeStride + 1 = omega arith in
+      (ap (λ (z : ℕ). getD t z 0) s ∙ cell t (k * nodeStride) 0 _ e, ap (λ (z : ℕ). getD t z 0) s1 ∙ cell t (k * nodeStride) 1 _ e)
   bare-parent k f (suc j) (n ∷ ns) e h =
       let s : k + suc j ≡ suc k + j = omega arith in
       let w = bare-parent (suc k) (f + length (n .props)) j ns (bare-next k f n ns e) (omega arith) in

@@ -27,6 +27,7 @@ use Rattle.reader.proofs.Linked.{linked-rows}
 use Rattle.reader.proofs.Plants.{tree-length}
 use Rattle.reader.proofs.Rooms.{tree-count, flat-nodes, Room, room-true}
 use Rattle.tables.proofs.Lengths.{prop-rows-length, val-rows-length, node-rows-length}
+use Rattle.tables.specs.Columns.{nodeStride}
 
 lent-same : {r t q w r1 t1 q1 w1 : List ℕ} → r1 ≡ r → t1 ≡ t → q1 ≡ q → w1 ≡ w → lent r1 t1 q1 w1 ≡ lent r t q w
 lent-same er et eq ew = rw (er, et, eq, ew)
@@ -42,7 +43,7 @@ module _ (es : List Node) (n : ℕ) (e : n ≡ length es) (few : n ≤ none) (be
   nodes-linked : t2 ≡ over (flatNodes (nodeRows (parents es) 0 0 es)) t
   nodes-linked =
       let l : length (flatNodes (bareRows 0 es)) ≡ length (flatNodes (nodeRows (parents es) 0 0 es)) =
-      node-length 0 es ∙ ap (λ (z : ℕ). z * 5) (sym (node-rows-length (parents es) 0 0 es)) ∙ sym (flat-nodes (nodeRows (parents es) 0 0 es)) in
+      node-length 0 es ∙ ap (λ (z : ℕ). z * nodeStride) (sym (node-rows-length (parents es) 0 0 es)) ∙ sym (flat-nodes (nodeRows (parents es) 0 0 es)) in
       linked-rows es t1 t2 (drop (length (flatNodes (bareRows 0 es))) t) (omega arith) put
       (subst (λ (z : ℕ). LinkedFrom z t1 t2 0) e (links .made room)) (subst (λ (z : ℕ). All (Below z) es) e below)
       ∙ ap (λ (z : ℕ). flatNodes (nodeRows (parents es) 0 0 es) ++ drop z t) l

@@ -7,10 +7,10 @@ use Rattle.tables.specs.Rows.{tables, next, parents, nodeRows, propRows, valRow
 use Rattle.tables.specs.declared.Counts.{Counts}
 use Rattle.tables.specs.Columns.{parentAt, childAt, siblingAt}
 use Rattle.tables.specs.Each.{tabulate}
-use Rattle.tables.specs.Memory.{memory}
+use Rattle.tables.specs.Memory.{Memory, memory}
 use Rattle.fit.specs.Fit.{Fit}
 use Rattle.fit_nodes.specs.Nodes.{firstUnder, nextOf, childRight, siblingRight}
-use Rattle.fit.specs.Record.{treeRow, nodeRow, propRow, valRow, rowsOf, treesOf, recordOf}
+use Rattle.fit.specs.Record.{treeRow, nodeRow, propRow, valRow, rowsOf, treesOf, recordOf, rowsIn}
 use Rattle.tables.proofs.Each.{each-at}
 use Rattle.fit.proofs.Clauses.{Clauses, fit-clauses}
 use Rattle.fit.proofs.Parts.{tabulate-length}
@@ -68,8 +68,8 @@ module _ {s : List ℕ} {c : Counts} {tr nd pr vl : List ℕ} (k : Clauses s c t
         rw (a, b, d, e)
 
 -- tables that fit are the tables of what they denote
-pub fit-tables : (t : List ℕ) (used : ℕ) (c : Counts) (tr nd pr vl : List ℕ) → Fit (memory t used c tr nd pr vl) ≡ true → (u : List ℕ) → tables (recordOf u (rowsOf c tr nd pr vl)) ≡ rowsOf c tr nd pr vl
-fit-tables t used c tr nd pr vl h u = tables-back (fit-clauses t used c tr nd pr vl h) u
+pub fit-tables : (m : Memory) → Fit m ≡ true → (u : List ℕ) → tables (recordOf u (rowsIn m)) ≡ rowsIn m
+fit-tables m h u = tables-back (fit-clauses m h) u
 
 -- two that fit one text and denote the same record, places included, are the same rows
 pub fit-once : (t : List ℕ) (used : ℕ) (c c′ : Counts) (tr nd pr vl tr′ nd′ pr′ vl′ : List ℕ) → Fit (memory t used c tr nd pr vl) ≡ true → Fit (memory t used c′ tr′ nd′ pr′ vl′) ≡ true
@@ -77,5 +77,5 @@ pub fit-once : (t : List ℕ) (used : ℕ) (c c′ : Counts) (tr nd pr vl tr′ 
     → (c ≡ c′) × (rowsOf c tr nd pr vl ≡ rowsOf c′ tr′ nd′ pr′ vl′)
 fit-once t used c c′ tr nd pr vl tr′ nd′ pr′ vl′ h h′ e =
     let r : rowsOf c tr nd pr vl ≡ rowsOf c′ tr′ nd′ pr′ vl′ =
-    sym (fit-tables t used c tr nd pr vl h (take used t)) ∙ ap tables e ∙ fit-tables t used c′ tr′ nd′ pr′ vl′ h′ (take used t) in
+    sym (fit-tables (memory t used c tr nd pr vl) h (take used t)) ∙ ap tables e ∙ fit-tables (memory t used c′ tr′ nd′ pr′ vl′) h′ (take used t) in
     (sym (counts-of-rows c tr nd pr vl) ∙ ap countsOf r ∙ counts-of-rows c′ tr′ nd′ pr′ vl′, r)

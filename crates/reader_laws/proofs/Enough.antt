@@ -13,6 +13,7 @@ use Rattle.parser.specs.Read.{Answer, accepted, lex, read}
 use Rattle.reader.specs.Lent.{Lent, answers}
 use Rattle.reader.proofs.Rooms.{tree-count}
 use Rattle.tables.proofs.Lengths.{prop-rows-length, val-rows-length, node-rows-length}
+use Rattle.tables.specs.Columns.{nodeStride}
 use Rattle.reader_laws.specs.Enough.{Rows, strictRows, lenientRows, Suffices, Lends}
 use Rattle.reader_laws.proofs.Accepted.{Reading, reading-is}
 use Rattle.reader_laws.proofs.Bracketing.{Ending, Parted, slices-parted}
@@ -103,7 +104,7 @@ module _ (op : Opts) (t : List ℕ) (ts : List Tree) (h : read op t ≡ accepted
       ap (λ (a : Answer). answers a l) h
       ∙ rw (
         le-leb (c .trees) (length (l .trees) / 2) (omega (arith, n .0, g .0)),
-        le-leb (c .nodes) (length (l .nodes) / 5) (omega (arith, n .1, g .1)),
+        le-leb (c .nodes) (length (l .nodes) / nodeStride) (omega (arith, n .1, g .1)),
         le-leb (c .properties) (length (l .props) / 4) (omega (arith, n .2, g .2)),
         le-leb (c .values) (length (l .vals) / 2) (omega (arith, n .3, g .3)),
       )

@@ -88,7 +88,7 @@ module _ (op : Opts) (t : List ℕ) (ts : List Tree) (h : read op t ≡ accepted
 -- of the first `used` bytes of a buffer, where enough is lent
 pub rows-fit : (op : Opts) (buf : List ℕ) (used : ℕ) (ts : List Tree) → used ≤ length buf → read op (take used buf) ≡ accepted ts
     → (c : Counts) (tr nd pr vl : List ℕ) → Room c (lent tr nd pr vl) → rowsOf c tr nd pr vl ≡ tables ts → Fit (memory buf used c tr nd pr vl) ≡ true
-rows-fit op buf used ts b h c tr nd pr vl room rows = clauses-fit buf used c tr nd pr vl b (clauses op (take used buf) ts h c tr nd pr vl rows room)
+rows-fit op buf used ts b h c tr nd pr vl room rows = clauses-fit (memory buf used c tr nd pr vl) b (clauses op (take used buf) ts h c tr nd pr vl rows room)
 
 -- ---- the flat tables of the reading, whatever stands behind them
 

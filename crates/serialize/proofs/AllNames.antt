@@ -1,18 +1,17 @@
 -- The names that the walk asks are those of the record that fitting tables denote. Assumes nothing.
-use Rattle.lists.proofs.Prelude.{ℕ, zero, suc, _+_, _-_, Bool, true, false, not, _&&_, _||_, or-false, List, [], _∷_, _++_, _≡_, refl, sym, ap, _∙_, arith, leb, ltb, length, take, lt-ltb, le-ltb, lt-leb, le-leb}
+use Rattle.lists.proofs.Prelude.{ℕ, zero, suc, _+_, _-_, Bool, true, false, not, _&&_, _||_, or-false, List, [], _∷_, _++_, _≡_, refl, sym, ap, _∙_, arith, leb, ltb, length, lt-ltb, le-ltb, lt-leb, le-leb}
 use Rattle.lexer.specs.Token.{Prop}
 use Rattle.values.specs.Read.{readIdentifier}
 use Rattle.tables.specs.Record.{allNodes, allProps}
 use Rattle.tables.specs.Rows.{PropRow}
-use Rattle.tables.specs.declared.Counts.{Counts}
 use Rattle.tables.proofs.Cases.{below-or}
 use Rattle.fit.proofs.Clauses.{fit-clauses}
 use Rattle.fit.proofs.Parts.{tabulate-last, map-tabulate}
 use Rattle.fit.proofs.RecordRows.{valsIn, record-props}
 use Rattle.tables.specs.Each.{each, tabulate}
-use Rattle.tables.specs.Memory.{memory}
+use Rattle.tables.specs.Memory.{Memory}
 use Rattle.fit.specs.Fit.{Fit}
-use Rattle.fit.specs.Record.{propRow, propOf, rowsOf, recordOf}
+use Rattle.fit.specs.Record.{propRow, propOf, textIn, recordIn}
 use Rattle.serialize.specs.Walk.{namesGood}
 use Rattle.serialize.specs.Write.{nameless}
 
@@ -42,11 +41,11 @@ module _ (p : ℕ → Prop) where
       go true l h = rw h
       go false l h = rw (h, some-not l, or-false (leb l 0))
 
-pub names-are : (t : List ℕ) (used : ℕ) (c : Counts) (tr nd pr vl : List ℕ) → Fit (memory t used c tr nd pr vl) ≡ true
-    → namesGood (take used t) pr (c .properties) ≡ not (nameless (allProps (allNodes (recordOf (take used t) (rowsOf c tr nd pr vl)))))
+pub names-are : (m : Memory) → Fit m ≡ true
+    → namesGood (textIn m) (m .properties) (m .counts .properties) ≡ not (nameless (allProps (allNodes (recordIn m))))
 unfolding namesGood
-names-are t used c tr nd pr vl h =
-    let u : List ℕ = take used t in
-    let prop : PropRow → Prop = propOf u (valsIn u vl (c .values)) in
-    names-below (λ p. prop (propRow pr p)) (c .properties)
-    ∙ ap (λ (z : List Prop). not (nameless z)) (sym (record-props (fit-clauses t used c tr nd pr vl h) u ∙ map-tabulate (propRow pr) prop 0 (c .properties)))
+names-are m h =
+    let u : List ℕ = textIn m in
+    let prop : PropRow → Prop = propOf u (valsIn u (m .values) (m .counts .values)) in
+    names-below (λ p. prop (propRow (m .properties) p)) (m .counts .properties)
+    ∙ ap (λ (z : List Prop). not (nameless z)) (sym (record-props (fit-clauses m h) u ∙ map-tabulate (propRow (m .properties)) prop 0 (m .counts .properties)))

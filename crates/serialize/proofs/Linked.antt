@@ -11,9 +11,9 @@ use Rattle.fit_spans.proofs.Ranges.{gapless-in}
 use Rattle.fit.proofs.RootRows.{root-in}
 use Rattle.tables.specs.Columns.{rootAt, kindAt, parentAt, firstPropAt, propCountAt, firstValAt, valCountAt}
 use Rattle.tables.specs.Each.{tabulate}
-use Rattle.tables.specs.Memory.{memory}
+use Rattle.tables.specs.Memory.{Memory}
 use Rattle.fit.specs.Fit.{Fit}
-use Rattle.fit.specs.Record.{treeRow, nodeRow, nodeOf, treesOf, rowsOf, recordOf}
+use Rattle.fit.specs.Record.{treeRow, nodeRow, nodeOf, treesOf, textIn, recordIn}
 use Rattle.serialize.specs.Form.{formProp, formNode, formTree, writing}
 use Rattle.serialize.specs.Walk.{begun, endsBefore, kindOver, propsText, nodeBy, nodeText, linked}
 use Rattle.serialize.specs.Write.{writeProps, writeTree}
@@ -128,9 +128,9 @@ module _ {t : List ℕ} {c : Counts} {tr nd pr vl : List ℕ} (fit : Clauses t c
       ∙ append-assoc (head 0) (joined T 1 (n - 1)) (endsBefore nd n none)
       ∙ sym (trees-from j 0 (omega arith) ∙ ap r f)
 
-pub linked-is : (t : List ℕ) (used : ℕ) (c : Counts) (tr nd pr vl : List ℕ) → Fit (memory t used c tr nd pr vl) ≡ true
-    → linked (take used t) tr nd pr vl (c .nodes) ≡ writing (recordOf (take used t) (rowsOf c tr nd pr vl))
+pub linked-is : (m : Memory) → Fit m ≡ true
+    → linked (textIn m) (m .trees) (m .nodes) (m .properties) (m .values) (m .counts .nodes) ≡ writing (recordIn m)
 unfolding linked nodeBy
-linked-is t used c tr nd pr vl h =
-    let f = fit-clauses t used c tr nd pr vl h in
-    ap (λ (z : List ℕ). z ++ endsBefore nd (c .nodes) none) (texts-joined (nodeText (take used t) tr nd pr vl) (c .nodes)) ∙ all-trees f (c .trees) refl
+linked-is m h =
+    let f = fit-clauses m h in
+    ap (λ (z : List ℕ). z ++ endsBefore (m .nodes) (m .counts .nodes) none) (texts-joined (nodeText (textIn m) (m .trees) (m .nodes) (m .properties) (m .values)) (m .counts .nodes)) ∙ all-trees f (m .counts .trees) refl

@@ -1,11 +1,10 @@
 -- What the writer wrote lies in the bytes lent. Assumes nothing.
-use Rattle.lists.proofs.Prelude.{ℕ, _≤_, Bool, true, false, List, _++_, _≡_, sym, ap, _∙_, arith, ltb, length, take, drop, length-append}
+use Rattle.lists.proofs.Prelude.{ℕ, _≤_, Bool, true, false, List, _++_, _≡_, sym, ap, _∙_, arith, ltb, length, drop, length-append}
 use Rattle.lists.proofs.Tests.{never}
 use Rattle.tables.specs.Record.{allNodes, allProps}
-use Rattle.tables.specs.declared.Counts.{Counts}
-use Rattle.tables.specs.Memory.{memory}
+use Rattle.tables.specs.Memory.{Memory}
 use Rattle.fit.specs.Fit.{Fit}
-use Rattle.fit.specs.Record.{rowsOf, recordOf}
+use Rattle.fit.specs.Record.{recordIn}
 use Rattle.serialize.specs.Form.{writing, answer, output, WriteIs}
 use Rattle.serialize.specs.Write.{nameless}
 use Rattle.serialize.specs.declared.Written.{Written}
@@ -18,10 +17,10 @@ answer-length true true s n w h = never cc
 answer-length true false true n w h = never cc
 answer-length true false false n w h = cc
 
-module _ (t : List ℕ) (used : ℕ) (c : Counts) (tr nd pr vl out out′ : List ℕ) (n : ℕ) where
-  pub write-room : {r : Written} → WriteIs (memory t used c tr nd pr vl) out out′ r → r ≡ Wrote n → n ≤ length out′
+module _ (m : Memory) (out out′ : List ℕ) (n : ℕ) where
+  pub write-room : {r : Written} → WriteIs m out out′ r → r ≡ Wrote n → n ≤ length out′
   write-room x e =
-      let ts = recordOf (take used t) (rowsOf c tr nd pr vl) in
-      let l = answer-length (Fit (memory t used c tr nd pr vl)) (nameless (allProps (allNodes ts))) (ltb (length out) (length (writing ts))) n (writing ts) (sym e ∙ x .is) in
+      let ts = recordIn m in
+      let l = answer-length (Fit m) (nameless (allProps (allNodes ts))) (ltb (length out) (length (writing ts))) n (writing ts) (sym e ∙ x .is) in
       let b : length out′ ≡ length (writing ts ++ drop n out) = ap length (x .bytes ∙ ap (λ (r : Written). output r (writing ts) out) e) in
       omega (arith, l, b, length-append (writing ts) (drop n out))

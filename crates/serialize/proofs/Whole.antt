@@ -1,15 +1,14 @@
 -- The writer's answer: 19, 15, 14, then the writing. Assumes nothing.
-use Rattle.lists.proofs.Prelude.{ℕ, _+_, _^_, _≤_, _<_, Bool, true, false, not, List, [], _++_, _≡_, refl, sym, ap, ap₂, _∙_, subst, arith, ltb, length, take, drop, length-take-le, lt-ltb, le-ltb, not-true, not-false}
+use Rattle.lists.proofs.Prelude.{ℕ, _+_, _^_, _≤_, _<_, Bool, true, false, not, List, [], _++_, _≡_, refl, sym, ap, ap₂, _∙_, subst, arith, ltb, length, drop, length-take-le, lt-ltb, le-ltb, not-true, not-false}
 use Rattle.store_bytes.specs.Wrote.{Wrote}
 use Rattle.store_bytes.proofs.Lists.{sets-out}
 use Rattle.store_bytes.proofs.Written.{wrote-all}
 use Rattle.tables.specs.Record.{Tree, allNodes, allProps}
-use Rattle.tables.specs.declared.Counts.{Counts}
 use Rattle.tables.specs.declared.Reason.the-variants.{NoRoom, EmptyIdentifier, NotFitting}
 use Rattle.tables.specs.Columns.{firstPropAt, propCountAt}
-use Rattle.tables.specs.Memory.{memory}
+use Rattle.tables.specs.Memory.{Memory}
 use Rattle.fit.specs.Fit.{Fit}
-use Rattle.fit.specs.Record.{rowsOf, recordOf}
+use Rattle.fit.specs.Record.{textIn, recordIn}
 use Rattle.fit.proofs.Clauses.{Clauses, fit-clauses, name-in}
 use Rattle.fit_spans.proofs.Ranges.{gapless-in}
 use Rattle.fit.proofs.Whole.{fit-lent}
@@ -25,9 +24,9 @@ use Rattle.serialize.proofs.Linked.{linked-is}
 pub measure-kept : {w e : List ℕ} {need : ℕ} (out : List ℕ) → Wrote w [] 0 e need → e ++ out ≡ out
 measure-kept {w} out m = ap (λ (z : List ℕ). z ++ out) (m .bytes ∙ sets-out [] 0 w (omega arith))
 
-module _ (t : List ℕ) (used : ℕ) (c : Counts) (tr nd pr vl out : List ℕ) where
+module _ (m : Memory) (out : List ℕ) where
   abbrev trees : List Tree
-  trees = recordOf (take used t) (rowsOf c tr nd pr vl)
+  trees = recordIn m
 
   abbrev blank : Bool
   blank = nameless (allProps (allNodes trees))
@@ -35,67 +34,67 @@ module _ (t : List ℕ) (used : ℕ) (c : Counts) (tr nd pr vl out : List ℕ) w
   abbrev short : Bool
   short = ltb (length out) (length (writing trees))
 
-  pub write-unfit : {f : Bool} → f ≡ Fit (memory t used c tr nd pr vl) → f ≡ false → WriteIs (memory t used c tr nd pr vl) out out (Refused NotFitting)
+  pub write-unfit : {f : Bool} → f ≡ Fit m → f ≡ false → WriteIs m out out (Refused NotFitting)
   write-unfit e h = record { is = ap (λ (z : Bool). answer z blank short (writing trees)) (sym h ∙ e); bytes = refl }
 
-  module _ (fit : Fit (memory t used c tr nd pr vl) ≡ true) where
-    clauses : Clauses (take used t) c tr nd pr vl
-    clauses = fit-clauses t used c tr nd pr vl fit
+  module _ (fit : Fit m ≡ true) where
+    clauses : Clauses (textIn m) (m .counts) (m .trees) (m .nodes) (m .properties) (m .values)
+    clauses = fit-clauses m fit
 
-    pub fit-used : used ≡ length (take used t)
-    fit-used = sym (length-take-le used t (fit-lent t used c tr nd pr vl fit .0))
+    pub fit-used : m .used ≡ length (textIn m)
+    fit-used = sym (length-take-le (m .used) (m .text) (fit-lent m fit .0))
 
-    pub fit-property : (p : ℕ) → p < c .properties → PropHeld (take used t) pr p
+    pub fit-property : (p : ℕ) → p < m .counts .properties → PropHeld (textIn m) (m .properties) p
     fit-property p h =
         let l = name-in clauses p h in
         record { row = omega (arith, clauses .held .properties); some = l .0; inside = l .1 }
 
-    pub fit-nodes : NodesHeld (take used t) nd pr (c .nodes)
+    pub fit-nodes : NodesHeld (textIn m) (m .nodes) (m .properties) (m .counts .nodes)
     fit-nodes =
-        let g = gapless-in (firstPropAt nd) (propCountAt nd) (c .nodes) (c .properties) (clauses .node-ranges) in
+        let g = gapless-in (firstPropAt (m .nodes)) (propCountAt (m .nodes)) (m .counts .nodes) (m .counts .properties) (clauses .node-ranges) in
         record {
           rows = clauses .held .nodes;
           ruled = record { most = clauses .held .few; rule = clauses .parents };
-          props = λ k h i l. fit-property (firstPropAt nd k + i) (omega (arith, g k h));
+          props = λ k h i l. fit-property (firstPropAt (m .nodes) k + i) (omega (arith, g k h));
         }
 
     -- the answer, where the names and the room are known
-    decided : {b s : Bool} → blank ≡ b → short ≡ s → answer true b s (writing trees) ≡ written (memory t used c tr nd pr vl) (length out)
+    decided : {b s : Bool} → blank ≡ b → short ≡ s → answer true b s (writing trees) ≡ written m (length out)
     decided {b} {s} eb es =
         ap₂ (λ (x y : Bool). answer true x y (writing trees)) (sym eb) (sym es) ∙ ap (λ (z : Bool). answer z blank short (writing trees)) (sym fit)
 
-    names : namesGood (take used t) pr (c .properties) ≡ not blank
-    names = names-are t used c tr nd pr vl fit
+    names : namesGood (textIn m) (m .properties) (m .counts .properties) ≡ not blank
+    names = names-are m fit
 
-    pub write-nameless : namesGood (take used t) pr (c .properties) ≡ false → WriteIs (memory t used c tr nd pr vl) out out (Refused EmptyIdentifier)
+    pub write-nameless : namesGood (textIn m) (m .properties) (m .counts .properties) ≡ false → WriteIs m out out (Refused EmptyIdentifier)
     write-nameless h = record { is = decided (not-false blank (sym names ∙ h)) refl; bytes = refl }
 
-    module _ (good : namesGood (take used t) pr (c .properties) ≡ true) (small : length out < 2 ^ 63) where
+    module _ (good : namesGood (textIn m) (m .properties) (m .counts .properties) ≡ true) (small : length out < 2 ^ 63) where
       abbrev walked : List ℕ
-      walked = linked (take used t) tr nd pr vl (c .nodes)
+      walked = linked (textIn m) (m .trees) (m .nodes) (m .properties) (m .values) (m .counts .nodes)
 
       same : walked ≡ writing trees
-      same = linked-is t used c tr nd pr vl fit
+      same = linked-is m fit
 
       named : blank ≡ false
       named = not-true blank (sym names ∙ good)
 
-      module _ {e : List ℕ} {need : ℕ} (m : Wrote walked [] 0 e need) where
-        pub write-short : length (e ++ out) < need → WriteIs (memory t used c tr nd pr vl) out (e ++ out) (Refused NoRoom)
+      module _ {e : List ℕ} {need : ℕ} (x : Wrote walked [] 0 e need) where
+        pub write-short : length (e ++ out) < need → WriteIs m out (e ++ out) (Refused NoRoom)
         write-short h =
-            let k = measure-kept out m in
+            let k = measure-kept out x in
             record {
-              is = decided named (lt-ltb (length out) (length (writing trees)) (omega (arith, m .place, ap length same, ap length k)));
+              is = decided named (lt-ltb (length out) (length (writing trees)) (omega (arith, x .place, ap length same, ap length k)));
               bytes = k;
             }
 
-        pub write-done : need ≤ length (e ++ out) → {out2 : List ℕ} {n : ℕ} → Wrote walked (e ++ out) 0 out2 n → WriteIs (memory t used c tr nd pr vl) out out2 (Done n)
+        pub write-done : need ≤ length (e ++ out) → {out2 : List ℕ} {n : ℕ} → Wrote walked (e ++ out) 0 out2 n → WriteIs m out out2 (Done n)
         write-done h {out2} {n} y =
-            let k = measure-kept out m in
-            let l : length walked ≤ length out = omega (arith, m .place, ap length k) in
+            let k = measure-kept out x in
+            let l : length walked ≤ length out = omega (arith, x .place, ap length k) in
             let q : n ≡ length walked = omega (arith, y .place) in
             let w : out2 ≡ walked ++ drop (length walked) out = wrote-all (subst (λ (z : List ℕ). Wrote walked z 0 out2 n) k y) l in
             record {
               is = ap Done (q ∙ ap length same) ∙ decided named (le-ltb (length out) (length (writing trees)) (omega (arith, ap length same)));
-              bytes = w ∙ ap₂ (λ (x : List ℕ) (i : ℕ). x ++ drop i out) same (sym q);
+              bytes = w ∙ ap₂ (λ (u : List ℕ) (i : ℕ). u ++ drop i out) same (sym q);
             }

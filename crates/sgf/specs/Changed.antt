@@ -3,8 +3,8 @@ use Rattle.lists.specs.Prelude.{ℕ, List, _≡_, length}
 use Rattle.tables.specs.Memory.{Memory}
 use Rattle.fit.specs.Record.{recordIn}
 use Rattle.serialize.specs.Form.{writing, written, output}
-use Rattle.edit_answer.specs.Answer.{outcomeOf, answers}
-use Rattle.edit.specs.Lent.{leaves}
+use Rattle.edit_answer.specs.Answer.{outcomeOf, editedFor}
+use Rattle.edit.specs.Lent.{memoryAfter}
 use Rattle.c_answers.specs.Shown.{writingShown, editShown}
 use Rattle.c_answers.specs.declared.SgfEdit.{SgfEdit}
 use Rattle.c_answers.specs.declared.SgfWriting.{SgfWriting}
@@ -16,5 +16,5 @@ pub record WriteShown (m : Memory) (out out′ : List ℕ) (r : SgfWriting) : Ty
 
 -- an edit and the lent memory after it
 pub record EditShown (m m′ : Memory) (k : ℕ) (new : List ℕ) (r : SgfEdit) : Type 0 where
-  pub is : r ≡ editShown (m .counts) (answers (outcomeOf m k new))
-  pub memory : m′ ≡ leaves (outcomeOf m k new) m
+  pub is : r ≡ editShown (m .counts) (editedFor (outcomeOf m k new))
+  pub memory : m′ ≡ memoryAfter (outcomeOf m k new) m

@@ -3,10 +3,11 @@ use Rattle.lists.proofs.Prelude.{ℕ, _+_, _-_, _*_, _/_, _^_, _≤_, _<_, _≡
 use mir.Syntax.{w32, w64}
 use mir.Val.{Fits}
 use Rattle.tables.specs.Numbers.{none}
+use Rattle.tables.specs.Columns.{nodeStride}
 
 -- a table of n rows whose bytes can be counted
 pub record Table (n : ℕ) (t : List ℕ) : Type 0 where
-  pub rows : n * 5 ≤ length t
+  pub rows : n * nodeStride ≤ length t
   pub bytes : length t * 4 < 2 ^ 64
 
 pub none-fits : Fits w64 none
@@ -22,29 +23,29 @@ under h = omega arith
 pub row-number : {k n : ℕ} → k < n → n ≤ none → Fits w32 k
 row-number h l = omega arith
 
-pub whole-rows : (n m : ℕ) → n ≤ m / 5 → n * 5 ≤ m
+pub whole-rows : (n m : ℕ) → n ≤ m / nodeStride → n * nodeStride ≤ m
 whole-rows n m h = omega arith
 
 module _ {n : ℕ} {t : List ℕ} (r : Table n t) (j : ℕ) (h : j < n) where
-  pub row-fits : Fits w64 (j * 5)
+  pub row-fits : Fits w64 (j * nodeStride)
   row-fits = let p = r .rows in let q = r .bytes in omega arith
 
-  pub row-bytes : Fits w64 (j * 5 * 4)
+  pub row-bytes : Fits w64 (j * nodeStride * 4)
   row-bytes = let p = r .rows in let q = r .bytes in omega arith
 
-  pub row-there : j * 5 < length t
+  pub row-there : j * nodeStride < length t
   row-there = let p = r .rows in omega arith
 
   -- the cell i of the row
   module _ (i : ℕ) (e : leb i 4 ≡ true) where
-    pub cell-fits : Fits w64 (j * 5 + i)
+    pub cell-fits : Fits w64 (j * nodeStride + i)
     cell-fits = let l = leb-true i 4 e in let p = r .rows in let q = r .bytes in omega arith
 
-    pub cell-bytes : Fits w64 ((j * 5 + i) * 4)
+    pub cell-bytes : Fits w64 ((j * nodeStride + i) * 4)
     cell-bytes = let l = leb-true i 4 e in let p = r .rows in let q = r .bytes in omega arith
 
-    pub cell-there : j * 5 + i < length t
+    pub cell-there : j * nodeStride + i < length t
     cell-there = let l = leb-true i 4 e in let p = r .rows in omega arith
 
-    pub cell-stays : (a v : ℕ) → j * 5 + i < length (set t a v)
+    pub cell-stays : (a v : ℕ) → j * nodeStride + i < length (set t a v)
     cell-stays a v = let l = length-set t a v in let p = cell-there in omega arith

@@ -6,15 +6,16 @@ use denote.Ref.{now}
 use Rattle.lists.proofs.Prelude.{arith, sym, ap, _∙_, needs}
 use Rattle.ask.proofs.display.Statement.{statement}
 use Rattle.ask.proofs.display.Tie as tie
+use Rattle.tables.specs.Memory.{memory}
 
 sub-show : tie.Need-sub-show
-sub-show c = let a = c .before .before .before .before .before .before .before .before .before .before .args in let h = access-inside (now (a .text)) (a .used) (a .counts) (now (a .trees)) (now (a .nodes)) (now (a .properties)) (now (a .values)) (a .k) _ _ (sym (c .before .before .before .access .ensures) ∙ c .before .start .given .1) in omega arith
+sub-show c = let a = c .before .before .before .before .before .before .before .before .before .before .args in let h = access-inside (memory (now (a .text)) (a .used) (a .counts) (now (a .trees)) (now (a .nodes)) (now (a .properties)) (now (a .values))) (a .k) _ _ (sym (c .before .before .before .access .ensures) ∙ c .before .start .given .1) in omega arith
 
 part-show-start : tie.Need-part-show-start
-part-show-start c = let a = c .before .before .before .before .before .before .before .before .before .before .args in let h = access-inside (now (a .text)) (a .used) (a .counts) (now (a .trees)) (now (a .nodes)) (now (a .properties)) (now (a .values)) (a .k) _ _ (sym (c .before .before .before .access .ensures) ∙ c .before .start .given .1) in omega arith
+part-show-start c = let a = c .before .before .before .before .before .before .before .before .before .before .args in let h = access-inside (memory (now (a .text)) (a .used) (a .counts) (now (a .trees)) (now (a .nodes)) (now (a .properties)) (now (a .values))) (a .k) _ _ (sym (c .before .before .before .access .ensures) ∙ c .before .start .given .1) in omega arith
 
 part-show-end : tie.Need-part-show-end
-part-show-end c = let a = c .before .before .before .before .before .before .before .before .before .before .args in let h = access-inside (now (a .text)) (a .used) (a .counts) (now (a .trees)) (now (a .nodes)) (now (a .properties)) (now (a .values)) (a .k) _ _ (sym (c .before .before .before .access .ensures) ∙ c .before .start .given .1) in omega arith
+part-show-end c = let a = c .before .before .before .before .before .before .before .before .before .before .args in let h = access-inside (memory (now (a .text)) (a .used) (a .counts) (now (a .trees)) (now (a .nodes)) (now (a .properties)) (now (a .values))) (a .k) _ _ (sym (c .before .before .before .access .ensures) ∙ c .before .start .given .1) in omega arith
 
 returns : tie.Need-returns
 returns c = let a = c .before .before .before .before .before .before .before .before .before .before .before .before .before .before .before .args in record { is = c .before .before .show .ensures .0 ∙ part-shown (now (a .text)) (now (a .out)) (a .kind) (sym (c .before .before .before .before .before .before .before .before .access .ensures) ∙ c .before .before .before .before .before .before .start .given .1); bytes = c .before .before .show .ensures .1 ∙ part-shown-in (now (a .text)) (now (a .out)) (a .kind) (sym (c .before .before .before .before .before .before .before .before .access .ensures) ∙ c .before .before .before .before .before .before .start .given .1) }

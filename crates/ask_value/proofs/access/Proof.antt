@@ -6,6 +6,7 @@ use Rattle.tables.proofs.Cases.{passed, refused}
 use Rattle.fit.proofs.Whole.{fit-lent}
 use Rattle.ask_value.proofs.access.Statement.{statement}
 use Rattle.ask_value.proofs.access.Tie as tie
+use Rattle.tables.specs.Memory.{memory}
 
 returns : tie.Need-returns
 unfolding accessed
@@ -16,7 +17,7 @@ unfolding accessed
 returns-2 c = rw (passed (c .before .before .before .fits2 .ensures) (c .before .before .if1 .left), le-ltb _ _ (c .if2 .taken))
 
 part-of-requires : tie.Need-part-of-requires
-part-of-requires c κs = let a = c .before .before .before .before .before .before .before .before .before .args in let h = fit-lent (now (a .text)) (a .used) (a .counts) (now (a .trees)) (now (a .nodes)) (now (a .properties)) (now (a .values)) (passed (c .before .before .before .fits2 .ensures) (c .before .before .if1 .left)) .1 .values in omega arith
+part-of-requires c κs = let a = c .before .before .before .before .before .before .before .before .before .args in let h = fit-lent (memory (now (a .text)) (a .used) (a .counts) (now (a .trees)) (now (a .nodes)) (now (a .properties)) (now (a .values))) (passed (c .before .before .before .fits2 .ensures) (c .before .before .if1 .left)) .1 .values in omega arith
 
 returns-3 : tie.Need-returns-3
 unfolding accessed

@@ -5,15 +5,16 @@ use Rattle.ask_value.specs.Access.{handed}
 use Rattle.ask_value.proofs.Inside.{access-inside, part-handed}
 use Rattle.ask_value.proofs.value.Statement.{statement}
 use Rattle.ask_value.proofs.value.Tie as tie
+use Rattle.tables.specs.Memory.{memory}
 
 sub-result : tie.Need-sub-result
-sub-result c = let a = c .before .before .before .before .before .before .before .before .before .args in let h = access-inside (now (a .text)) (a .used) (a .counts) (now (a .trees)) (now (a .nodes)) (now (a .properties)) (now (a .values)) (a .k) _ _ (sym (c .before .before .before .access .ensures) ∙ c .before .start .given .1) in omega arith
+sub-result c = let a = c .before .before .before .before .before .before .before .before .before .args in let h = access-inside (memory (now (a .text)) (a .used) (a .counts) (now (a .trees)) (now (a .nodes)) (now (a .properties)) (now (a .values))) (a .k) _ _ (sym (c .before .before .before .access .ensures) ∙ c .before .start .given .1) in omega arith
 
 part-result-start : tie.Need-part-result-start
-part-result-start c = let a = c .before .before .before .before .before .before .before .before .before .args in let h = access-inside (now (a .text)) (a .used) (a .counts) (now (a .trees)) (now (a .nodes)) (now (a .properties)) (now (a .values)) (a .k) _ _ (sym (c .before .before .before .access .ensures) ∙ c .before .start .given .1) in omega arith
+part-result-start c = let a = c .before .before .before .before .before .before .before .before .before .args in let h = access-inside (memory (now (a .text)) (a .used) (a .counts) (now (a .trees)) (now (a .nodes)) (now (a .properties)) (now (a .values))) (a .k) _ _ (sym (c .before .before .before .access .ensures) ∙ c .before .start .given .1) in omega arith
 
 part-result-end : tie.Need-part-result-end
-part-result-end c = let a = c .before .before .before .before .before .before .before .before .before .args in let h = access-inside (now (a .text)) (a .used) (a .counts) (now (a .trees)) (now (a .nodes)) (now (a .properties)) (now (a .values)) (a .k) _ _ (sym (c .before .before .before .access .ensures) ∙ c .before .start .given .1) in omega arith
+part-result-end c = let a = c .before .before .before .before .before .before .before .before .before .args in let h = access-inside (memory (now (a .text)) (a .used) (a .counts) (now (a .trees)) (now (a .nodes)) (now (a .properties)) (now (a .values))) (a .k) _ _ (sym (c .before .before .before .access .ensures) ∙ c .before .start .given .1) in omega arith
 
 returns : tie.Need-returns
 returns c = let a = c .before .before .before .before .before .before .before .before .before .before .args in part-handed (now (a .text)) (sym (c .before .before .before .before .access .ensures) ∙ c .before .before .start .given .1)

@@ -8,33 +8,34 @@ use Rattle.lists.proofs.Prelude.{length-take-le, arith, sym, _∙_, needs}
 use denote.Ref.{now}
 use Rattle.edit_answer.proofs.decided.Statement.{statement}
 use Rattle.edit_answer.proofs.decided.Tie as tie
+use Rattle.tables.specs.Memory.{memory}
 
 returns : tie.Need-returns
-returns c = let a = c .before .before .before .before .before .before .before .before .args in decided-misfit (now (a .text)) (a .used) (a .counts) (now (a .trees)) (now (a .nodes)) (now (a .properties)) (now (a .values)) (a .k) (now (a .new)) (refused (c .before .fits2 .ensures) (c .if1 .taken))
+returns c = let a = c .before .before .before .before .before .before .before .before .args in decided-misfit (memory (now (a .text)) (a .used) (a .counts) (now (a .trees)) (now (a .nodes)) (now (a .properties)) (now (a .values))) (a .k) (now (a .new)) (refused (c .before .fits2 .ensures) (c .if1 .taken))
 
 returns-2 : tie.Need-returns-2
-returns-2 c = let a = c .before .before .before .before .before .before .before .before .before .before .args in decided-beyond (now (a .text)) (a .used) (a .counts) (now (a .trees)) (now (a .nodes)) (now (a .properties)) (now (a .values)) (a .k) (now (a .new)) (passed (c .before .before .before .fits2 .ensures) (c .before .before .if1 .left)) (c .if2 .taken)
+returns-2 c = let a = c .before .before .before .before .before .before .before .before .before .before .args in decided-beyond (memory (now (a .text)) (a .used) (a .counts) (now (a .trees)) (now (a .nodes)) (now (a .properties)) (now (a .values))) (a .k) (now (a .new)) (passed (c .before .before .before .fits2 .ensures) (c .before .before .if1 .left)) (c .if2 .taken)
 
 slice-aggregate-is-fixed : tie.Need-slice-aggregate-is-fixed
-slice-aggregate-is-fixed c = let a = c .before .before .before .before .before .before .before .before .before .before .before .args in sym (length-take-le _ _ (fit-held (now (a .text)) (a .used) (a .counts) (now (a .trees)) (now (a .nodes)) (now (a .properties)) (now (a .values)) (passed (c .before .before .before .before .fits2 .ensures) (c .before .before .before .if1 .left)) .0))
+slice-aggregate-is-fixed c = let a = c .before .before .before .before .before .before .before .before .before .before .before .args in sym (length-take-le _ _ (fit-held (memory (now (a .text)) (a .used) (a .counts) (now (a .trees)) (now (a .nodes)) (now (a .properties)) (now (a .values))) (passed (c .before .before .before .before .fits2 .ensures) (c .before .before .before .if1 .left)) .0))
 
 is-fixed-requires : tie.Need-is-fixed-requires
-is-fixed-requires c κs = let a = c .before .before .before .before .before .before .before .before .before .before .before .args in let f = fit-names (now (a .text)) (a .used) (a .counts) (now (a .trees)) (now (a .nodes)) (now (a .properties)) (now (a .values)) (passed (c .before .before .before .before .fits2 .ensures) (c .before .before .before .if1 .left)) in let e = length-take-le (a .used) (now (a .text)) (fit-held (now (a .text)) (a .used) (a .counts) (now (a .trees)) (now (a .nodes)) (now (a .properties)) (now (a .values)) (passed (c .before .before .before .before .fits2 .ensures) (c .before .before .before .if1 .left)) .0) in (fit-held (now (a .text)) (a .used) (a .counts) (now (a .trees)) (now (a .nodes)) (now (a .properties)) (now (a .values)) (passed (c .before .before .before .before .fits2 .ensures) (c .before .before .before .if1 .left)) .1 .properties, λ p l. (f p l .0, omega (arith, f p l .1, e)))
+is-fixed-requires c κs = let a = c .before .before .before .before .before .before .before .before .before .before .before .args in let m = memory (now (a .text)) (a .used) (a .counts) (now (a .trees)) (now (a .nodes)) (now (a .properties)) (now (a .values)) in let f = fit-names m (passed (c .before .before .before .before .fits2 .ensures) (c .before .before .before .if1 .left)) in let e = length-take-le (a .used) (now (a .text)) (fit-held m (passed (c .before .before .before .before .fits2 .ensures) (c .before .before .before .if1 .left)) .0) in (fit-held m (passed (c .before .before .before .before .fits2 .ensures) (c .before .before .before .if1 .left)) .1 .properties, λ p l. (f p l .0, omega (arith, f p l .1, e)))
 
 returns-3 : tie.Need-returns-3
-returns-3 c = let a = c .before .before .before .before .before .before .before .before .before .before .before .before .before .args in decided-fixed (now (a .text)) (a .used) (a .counts) (now (a .trees)) (now (a .nodes)) (now (a .properties)) (now (a .values)) (a .k) (now (a .new)) (passed (c .before .before .before .before .before .before .fits2 .ensures) (c .before .before .before .before .before .if1 .left)) (c .before .before .before .if2 .left) (sym (c .if3 .taken) ∙ c .before .is-fixed .ensures)
+returns-3 c = let a = c .before .before .before .before .before .before .before .before .before .before .before .before .before .args in decided-fixed (memory (now (a .text)) (a .used) (a .counts) (now (a .trees)) (now (a .nodes)) (now (a .properties)) (now (a .values))) (a .k) (now (a .new)) (passed (c .before .before .before .before .before .before .fits2 .ensures) (c .before .before .before .before .before .if1 .left)) (c .before .before .before .if2 .left) (sym (c .if3 .taken) ∙ c .before .is-fixed .ensures)
 
 size-of-requires : tie.Need-size-of-requires
-size-of-requires c κs = let a = c .before .before .before .before .before .before .before .before .before .before .before .before .before .args in let h = fit-held (now (a .text)) (a .used) (a .counts) (now (a .trees)) (now (a .nodes)) (now (a .properties)) (now (a .values)) (passed (c .before .before .before .before .before .before .fits2 .ensures) (c .before .before .before .before .before .if1 .left)) .1 .values in let w = fit-within (now (a .text)) (a .used) (a .counts) (now (a .trees)) (now (a .nodes)) (now (a .properties)) (now (a .values)) (passed (c .before .before .before .before .before .before .fits2 .ensures) (c .before .before .before .before .before .if1 .left)) _ (c .before .before .before .if2 .left) in (omega (arith, c .before .before .before .if2 .left), w .order)
+size-of-requires c κs = let a = c .before .before .before .before .before .before .before .before .before .before .before .before .before .args in let m = memory (now (a .text)) (a .used) (a .counts) (now (a .trees)) (now (a .nodes)) (now (a .properties)) (now (a .values)) in let h = fit-held m (passed (c .before .before .before .before .before .before .fits2 .ensures) (c .before .before .before .before .before .if1 .left)) .1 .values in let w = fit-within m (passed (c .before .before .before .before .before .before .fits2 .ensures) (c .before .before .before .before .before .if1 .left)) _ (c .before .before .before .if2 .left) in (omega (arith, c .before .before .before .if2 .left), w .order)
 
 sub-weighed : tie.Need-sub-weighed
-sub-weighed c = let a = c .before .before .before .before .before .before .before .before .before .before .before .before .before .before .args in let w = fit-within (now (a .text)) (a .used) (a .counts) (now (a .trees)) (now (a .nodes)) (now (a .properties)) (now (a .values)) (passed (c .before .before .before .before .before .before .before .fits2 .ensures) (c .before .before .before .before .before .before .if1 .left)) _ (c .before .before .before .before .if2 .left) in let o = w .order in let i = w .inside in let s = fit-short (now (a .text)) (a .used) (a .counts) (now (a .trees)) (now (a .nodes)) (now (a .properties)) (now (a .values)) (passed (c .before .before .before .before .before .before .before .fits2 .ensures) (c .before .before .before .before .before .before .if1 .left)) in omega (arith, c .size-of .ensures)
+sub-weighed c = let a = c .before .before .before .before .before .before .before .before .before .before .before .before .before .before .args in let m = memory (now (a .text)) (a .used) (a .counts) (now (a .trees)) (now (a .nodes)) (now (a .properties)) (now (a .values)) in let w = fit-within m (passed (c .before .before .before .before .before .before .before .fits2 .ensures) (c .before .before .before .before .before .before .if1 .left)) _ (c .before .before .before .before .if2 .left) in let o = w .order in let i = w .inside in let s = fit-short m (passed (c .before .before .before .before .before .before .before .fits2 .ensures) (c .before .before .before .before .before .before .if1 .left)) in omega (arith, c .size-of .ensures)
 
 weighed-requires : tie.Need-weighed-requires
-weighed-requires c κs = let a = c .before .before .before .before .before .before .before .before .before .before .before .before .before .before .args in let w = fit-within (now (a .text)) (a .used) (a .counts) (now (a .trees)) (now (a .nodes)) (now (a .properties)) (now (a .values)) (passed (c .before .before .before .before .before .before .before .fits2 .ensures) (c .before .before .before .before .before .before .if1 .left)) _ (c .before .before .before .before .if2 .left) in let o = w .order in let i = w .inside in let s = fit-short (now (a .text)) (a .used) (a .counts) (now (a .trees)) (now (a .nodes)) (now (a .properties)) (now (a .values)) (passed (c .before .before .before .before .before .before .before .fits2 .ensures) (c .before .before .before .before .before .before .if1 .left)) in omega (arith, c .size-of .ensures)
+weighed-requires c κs = let a = c .before .before .before .before .before .before .before .before .before .before .before .before .before .before .args in let m = memory (now (a .text)) (a .used) (a .counts) (now (a .trees)) (now (a .nodes)) (now (a .properties)) (now (a .values)) in let w = fit-within m (passed (c .before .before .before .before .before .before .before .fits2 .ensures) (c .before .before .before .before .before .before .if1 .left)) _ (c .before .before .before .before .if2 .left) in let o = w .order in let i = w .inside in let s = fit-short m (passed (c .before .before .before .before .before .before .before .fits2 .ensures) (c .before .before .before .before .before .before .if1 .left)) in omega (arith, c .size-of .ensures)
 
 returns-4 : tie.Need-returns-4
-returns-4 c = let a = c .before .before .before .before .before .before .before .before .before .before .before .before .before .before .before .args in decided-weighed (now (a .text)) (a .used) (a .counts) (now (a .trees)) (now (a .nodes)) (now (a .properties)) (now (a .values)) (a .k) (now (a .new)) (passed (c .before .before .before .before .before .before .before .before .fits2 .ensures) (c .before .before .before .before .before .before .before .if1 .left)) (c .before .before .before .before .before .if2 .left) (sym (c .before .before .if3 .left) ∙ c .before .before .before .is-fixed .ensures) (c .before .size-of .ensures) (c .weighed .ensures)
+returns-4 c = let a = c .before .before .before .before .before .before .before .before .before .before .before .before .before .before .before .args in decided-weighed (memory (now (a .text)) (a .used) (a .counts) (now (a .trees)) (now (a .nodes)) (now (a .properties)) (now (a .values))) (a .k) (now (a .new)) (passed (c .before .before .before .before .before .before .before .before .fits2 .ensures) (c .before .before .before .before .before .before .before .if1 .left)) (c .before .before .before .before .before .if2 .left) (sym (c .before .before .if3 .left) ∙ c .before .before .before .is-fixed .ensures) (c .before .size-of .ensures) (c .weighed .ensures)
 
 pub decided-spec : {M : Type 1} → statement M
 decided-spec =

@@ -3,9 +3,10 @@ use Rattle.lists.proofs.Prelude.{_/_, _≤_, sym, _∙_, arith, length, needs}
 use Rattle.fit_nodes.proofs.Climbs.{Climbing, climb-self, climb-first, climb-in, climb-less, climb-root, climb-child, climb-bad, climb-up}
 use Rattle.fit_nodes.proofs.climb.Statement.{statement}
 use Rattle.fit_nodes.proofs.climb.Tie as tie
+use Rattle.tables.specs.Columns.{nodeStride}
 
 abbrev Inv-loop : tie.InvT-loop
-Inv-loop nodes n k p j₀ j = (n ≤ length nodes / 5) × Climbing nodes n k p j
+Inv-loop nodes n k p j₀ j = (n ≤ length nodes / nodeStride) × Climbing nodes n k p j
 
 abbrev μ-loop : tie.MeasureT-loop
 μ-loop nodes n k p j₀ j = j

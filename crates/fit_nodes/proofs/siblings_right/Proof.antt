@@ -1,12 +1,13 @@
 -- `fit_nodes::siblings_right` meets its contract. Assumes nothing.
 use Rattle.lists.proofs.Prelude.{_-_, _/_, _≤_, sym, arith, length, needs, not-true, not-false}
 use Rattle.tables.proofs.Each.{each-none}
+use Rattle.tables.specs.Columns.{nodeStride}
 use Rattle.fit_nodes.proofs.Siblings.{Past, past-first, past-next, past-last, past-more, past-end}
 use Rattle.fit_nodes.proofs.siblings_right.Statement.{statement}
 use Rattle.fit_nodes.proofs.siblings_right.Tie as tie
 
 abbrev Inv-loop : tie.InvT-loop
-Inv-loop nodes n k₀ k = (n ≤ length nodes / 5) × Past nodes n k
+Inv-loop nodes n k₀ k = (n ≤ length nodes / nodeStride) × Past nodes n k
 
 abbrev μ-loop : tie.MeasureT-loop
 μ-loop nodes n k₀ k = n - k

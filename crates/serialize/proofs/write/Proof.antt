@@ -4,47 +4,48 @@ use Rattle.tables.proofs.Cases.{passed, refused}
 use Rattle.serialize.proofs.Whole.{fit-used, fit-property, fit-nodes, write-unfit, write-nameless, write-short, write-done}
 use Rattle.serialize.proofs.write.Statement.{statement}
 use Rattle.serialize.proofs.write.Tie as tie
+use Rattle.tables.specs.Memory.{memory}
 
 returns : tie.Need-returns
 returns c =
     let args = c .before .before .before .before .before .before .before .before .args in
     let fits2 = c .before .fits2 in
-    write-unfit (args .text .now) (args .used) (args .counts) (args .trees .now) (args .nodes .now) (args .properties .now) (args .values .now) (args .out .now) (fits2 .ensures) (not-true (fits2 .result) (c .if1 .taken))
+    write-unfit (memory (args .text .now) (args .used) (args .counts) (args .trees .now) (args .nodes .now) (args .properties .now) (args .values .now)) (args .out .now) (fits2 .ensures) (not-true (fits2 .result) (c .if1 .taken))
 
 slice-aggregate-used-text : tie.Need-slice-aggregate-used-text
 slice-aggregate-used-text c =
     let args = c .before .before .before .before .before .before .before .before .before .args in
-    fit-used (args .text .now) (args .used) (args .counts) (args .trees .now) (args .nodes .now) (args .properties .now) (args .values .now) (args .out .now) (passed (c .before .before .fits2 .ensures) (c .before .if1 .left))
+    fit-used (memory (args .text .now) (args .used) (args .counts) (args .trees .now) (args .nodes .now) (args .properties .now) (args .values .now)) (args .out .now) (passed (c .before .before .fits2 .ensures) (c .before .if1 .left))
 
 names-good-requires : tie.Need-names-good-requires
 names-good-requires c κs =
     let args = c .before .before .before .before .before .before .before .before .before .args in
-    fit-property (args .text .now) (args .used) (args .counts) (args .trees .now) (args .nodes .now) (args .properties .now) (args .values .now) (args .out .now) (passed (c .before .before .fits2 .ensures) (c .before .if1 .left))
+    fit-property (memory (args .text .now) (args .used) (args .counts) (args .trees .now) (args .nodes .now) (args .properties .now) (args .values .now)) (args .out .now) (passed (c .before .before .fits2 .ensures) (c .before .if1 .left))
 
 returns-2 : tie.Need-returns-2
 returns-2 c =
     let args = c .before .before .before .before .before .before .before .before .before .before .before .args in
-    write-nameless (args .text .now) (args .used) (args .counts) (args .trees .now) (args .nodes .now) (args .properties .now) (args .values .now) (args .out .now) (passed (c .before .before .before .before .fits2 .ensures) (c .before .before .before .if1 .left)) (refused (c .before .names-good .ensures) (c .if2 .taken))
+    write-nameless (memory (args .text .now) (args .used) (args .counts) (args .trees .now) (args .nodes .now) (args .properties .now) (args .values .now)) (args .out .now) (passed (c .before .before .before .before .fits2 .ensures) (c .before .before .before .if1 .left)) (refused (c .before .names-good .ensures) (c .if2 .taken))
 
 put-all-requires : tie.Need-put-all-requires
 put-all-requires c κs =
     let args = c .before .before .before .before .before .before .before .before .before .before .before .before .args in
-    fit-nodes (args .text .now) (args .used) (args .counts) (args .trees .now) (args .nodes .now) (args .properties .now) (args .values .now) (args .out .now) (passed (c .before .before .before .before .before .fits2 .ensures) (c .before .before .before .before .if1 .left))
+    fit-nodes (memory (args .text .now) (args .used) (args .counts) (args .trees .now) (args .nodes .now) (args .properties .now) (args .values .now)) (args .out .now) (passed (c .before .before .before .before .before .fits2 .ensures) (c .before .before .before .before .if1 .left))
 
 returns-3 : tie.Need-returns-3
 returns-3 c =
     let args = c .before .before .before .before .before .before .before .before .before .before .before .before .before .before .before .before .args in
-    write-short (args .text .now) (args .used) (args .counts) (args .trees .now) (args .nodes .now) (args .properties .now) (args .values .now) (args .out .now) (passed (c .before .before .before .before .before .before .before .before .before .fits2 .ensures) (c .before .before .before .before .before .before .before .before .if1 .left)) (passed (c .before .before .before .before .before .before .names-good .ensures) (c .before .before .before .before .before .if2 .left)) (omega (arith, c .before .before .before .before .before .before .before .before .before .before .before .before .before .before .before .before .good)) (c .before .before .before .put-all .ensures) (c .if3 .taken)
+    write-short (memory (args .text .now) (args .used) (args .counts) (args .trees .now) (args .nodes .now) (args .properties .now) (args .values .now)) (args .out .now) (passed (c .before .before .before .before .before .before .before .before .before .fits2 .ensures) (c .before .before .before .before .before .before .before .before .if1 .left)) (passed (c .before .before .before .before .before .before .names-good .ensures) (c .before .before .before .before .before .if2 .left)) (omega (arith, c .before .before .before .before .before .before .before .before .before .before .before .before .before .before .before .before .good)) (c .before .before .before .put-all .ensures) (c .if3 .taken)
 
 put-all-requires-2 : tie.Need-put-all-requires-2
 put-all-requires-2 c κs =
     let args = c .before .before .before .before .before .before .before .before .before .before .before .before .before .before .before .before .before .args in
-    fit-nodes (args .text .now) (args .used) (args .counts) (args .trees .now) (args .nodes .now) (args .properties .now) (args .values .now) (args .out .now) (passed (c .before .before .before .before .before .before .before .before .before .before .fits2 .ensures) (c .before .before .before .before .before .before .before .before .before .if1 .left))
+    fit-nodes (memory (args .text .now) (args .used) (args .counts) (args .trees .now) (args .nodes .now) (args .properties .now) (args .values .now)) (args .out .now) (passed (c .before .before .before .before .before .before .before .before .before .before .fits2 .ensures) (c .before .before .before .before .before .before .before .before .before .if1 .left))
 
 returns-4 : tie.Need-returns-4
 returns-4 c =
     let args = c .before .before .before .before .before .before .before .before .before .before .before .before .before .before .before .before .before .before .before .before .args in
-    write-done (args .text .now) (args .used) (args .counts) (args .trees .now) (args .nodes .now) (args .properties .now) (args .values .now) (args .out .now) (passed (c .before .before .before .before .before .before .before .before .before .before .before .before .before .fits2 .ensures) (c .before .before .before .before .before .before .before .before .before .before .before .before .if1 .left)) (passed (c .before .before .before .before .before .before .before .before .before .before .names-good .ensures) (c .before .before .before .before .before .before .before .before .before .if2 .left)) (omega (arith, c .before .before .before .before .before .before .before .before .before .before .before .before .before .before .before .before .before .before .before .before .good)) (c .before .before .before .before .before .before .before .put-all .ensures) (c .before .before .before .before .if3 .left) (c .before .before .put-all2 .ensures)
+    write-done (memory (args .text .now) (args .used) (args .counts) (args .trees .now) (args .nodes .now) (args .properties .now) (args .values .now)) (args .out .now) (passed (c .before .before .before .before .before .before .before .before .before .before .before .before .before .fits2 .ensures) (c .before .before .before .before .before .before .before .before .before .before .before .before .if1 .left)) (passed (c .before .before .before .before .before .before .before .before .before .before .names-good .ensures) (c .before .before .before .before .before .before .before .before .before .if2 .left)) (omega (arith, c .before .before .before .before .before .before .before .before .before .before .before .before .before .before .before .before .before .before .before .before .good)) (c .before .before .before .before .before .before .before .put-all .ensures) (c .before .before .before .before .if3 .left) (c .before .before .put-all2 .ensures)
 
 pub write-spec : {M : Type 1} → statement M
 write-spec =

@@ -5,6 +5,7 @@ use Rattle.tables.proofs.Cells.{none-fits, one-less, under, row-number,
 use Rattle.tables.proofs.Links.{linked-none, link-child, link-root, links-all, links-none}
 use Rattle.tables.proofs.link_nodes.Statement.{statement}
 use Rattle.tables.proofs.link_nodes.Tie as tie
+use Rattle.tables.specs.Columns.{nodeStride}
 
 abbrev Inv-loop : tie.InvT-loop
 Inv-loop t₀ n k₀ t k = (k ≤ n) × HasRows n t₀ × LinkedFrom n t₀ t k
@@ -28,7 +29,7 @@ loop-holds : tie.Need-loop-holds Inv-loop μ-loop
 loop-holds c = (omega arith, (omega arith, omega arith), linked-none _ _)
 
 cast-parent : tie.Need-cast-parent Inv-loop μ-loop
-cast-parent c = omega (arith, c .slice-known .given ((c .before .before .loop .k - 1) * 5))
+cast-parent c = omega (arith, c .slice-known .given ((c .before .before .loop .k - 1) * nodeStride))
 
 loop-again : tie.Need-loop-again Inv-loop μ-loop
 loop-again c =
@@ -43,7 +44,7 @@ loop-again-2 c =
     (under (low (c .before .before)), p .1, link-root (p .2) (c .before .before .loop-test .taken) (p .0) (whole-rows _ (length t₀) (p .1 .0)) (c .if3 .left))
 
 slice-write-t-2 : tie.Need-slice-write-t-2 Inv-loop μ-loop
-slice-write-t-2 c = cell-stays (table (c .before .before .before .before)) (getD (c .before .before .before .before .loop .t) ((c .before .before .before .before .loop .k - 1) * 5) 0) (c .before .if3 .taken) 1 refl _ _
+slice-write-t-2 c = cell-stays (table (c .before .before .before .before)) (getD (c .before .before .before .before .loop .t) ((c .before .before .before .before .loop .k - 1) * nodeStride) 0) (c .before .if3 .taken) 1 refl _ _
 
 same-length : tie.Need-same-length Inv-loop μ-loop
 same-length c = (c .before .loop .inv) .2 .len
@@ -66,15 +67,15 @@ link-nodes-spec =
     (λ c. row-bytes (table (c .before)) (c .before .loop .k - 1) (low c))
     (λ c. row-there (table (c .before .before)) (c .before .before .loop .k - 1) (low (c .before)))
     cast-parent
-    (λ c. row-fits (table (c .before .before .before)) (getD (c .before .before .before .loop .t) ((c .before .before .before .loop .k - 1) * 5) 0) (c .if3 .taken))
-    (λ c. cell-fits (table (c .before .before .before)) (getD (c .before .before .before .loop .t) ((c .before .before .before .loop .k - 1) * 5) 0) (c .if3 .taken) 1 refl)
-    (λ c. cell-bytes (table (c .before .before .before)) (getD (c .before .before .before .loop .t) ((c .before .before .before .loop .k - 1) * 5) 0) (c .if3 .taken) 1 refl)
-    (λ c. cell-there (table (c .before .before .before .before)) (getD (c .before .before .before .before .loop .t) ((c .before .before .before .before .loop .k - 1) * 5) 0) (c .before .if3 .taken) 1 refl)
+    (λ c. row-fits (table (c .before .before .before)) (getD (c .before .before .before .loop .t) ((c .before .before .before .loop .k - 1) * nodeStride) 0) (c .if3 .taken))
+    (λ c. cell-fits (table (c .before .before .before)) (getD (c .before .before .before .loop .t) ((c .before .before .before .loop .k - 1) * nodeStride) 0) (c .if3 .taken) 1 refl)
+    (λ c. cell-bytes (table (c .before .before .before)) (getD (c .before .before .before .loop .t) ((c .before .before .before .loop .k - 1) * nodeStride) 0) (c .if3 .taken) 1 refl)
+    (λ c. cell-there (table (c .before .before .before .before)) (getD (c .before .before .before .before .loop .t) ((c .before .before .before .before .loop .k - 1) * nodeStride) 0) (c .before .if3 .taken) 1 refl)
     (λ c. cell-fits (table (c .before .before .before .before)) (c .before .before .before .before .loop .k - 1) (low (c .before .before .before)) 2 refl)
     (λ c. cell-bytes (table (c .before .before .before .before)) (c .before .before .before .before .loop .k - 1) (low (c .before .before .before)) 2 refl)
     (λ c. cell-there (table (c .before .before .before .before)) (c .before .before .before .before .loop .k - 1) (low (c .before .before .before)) 2 refl)
     (λ c. row-number (low (c .before .before .before)) (c .before .before .before .before .loop .inv .1 .1))
-    (λ c. cell-bytes (table (c .before .before .before .before)) (getD (c .before .before .before .before .loop .t) ((c .before .before .before .before .loop .k - 1) * 5) 0) (c .before .if3 .taken) 1 refl)
+    (λ c. cell-bytes (table (c .before .before .before .before)) (getD (c .before .before .before .before .loop .t) ((c .before .before .before .before .loop .k - 1) * nodeStride) 0) (c .before .if3 .taken) 1 refl)
     slice-write-t-2
     (λ c. one-less (c .before .before .before .before .loop .k) (c .before .before .before .loop-test .taken))
     loop-again
