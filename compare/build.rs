@@ -3,11 +3,11 @@ use std::env;
 use std::path::{Path, PathBuf};
 use std::process::Command;
 
-/// The folder that an environment variable names, or the default, seen from this project's folder.
+/// The folder that an environment variable names, or the default, seen from the repository.
 fn folder(variable: &str, default: &str) -> PathBuf {
     println!("cargo:rerun-if-env-changed={variable}");
-    let here = PathBuf::from(env::var_os("CARGO_MANIFEST_DIR").unwrap());
-    here.join(env::var_os(variable).unwrap_or_else(|| default.into()))
+    let repository = PathBuf::from(env::var_os("CARGO_MANIFEST_DIR").unwrap()).join("..");
+    repository.join(env::var_os(variable).unwrap_or_else(|| default.into()))
 }
 
 /// Puts libsgf_parse.rlib where `extern crate sgf_parse` finds it.
@@ -36,14 +36,14 @@ fn link_library(dir: &Path) {
         return;
     }
     let archive = dir.join("libsgf.a");
-    assert!(archive.exists(), "no {}: run `rt staticlib sgf`, or set SGF_LIB_DIR", archive.display());
     println!("cargo:rerun-if-changed={}", archive.display());
+    assert!(archive.exists(), "no {}: run ./library in the repository, or set SGF_LIB_DIR", archive.display());
     println!("cargo:rustc-link-search=native={}", dir.display());
     println!("cargo:rustc-link-lib=static=sgf");
 }
 
 fn main() {
     println!("cargo:rerun-if-changed=build.rs");
-    compile_oracle(&folder("SGF_PARSE_SRC", "../../shared/docs/src"));
-    link_library(&folder("SGF_LIB_DIR", "../target/staticlib"));
+    compile_oracle(&folder("SGF_PARSE_SRC", "../shared/docs/src"));
+    link_library(&folder("SGF_LIB_DIR", "target/lib"));
 }

@@ -1,6 +1,6 @@
 /* A soak of the C interface: random runs of readings, damage, edits and all other calls over one lent record.
  *
- *   cc -O2 -Iinclude fuzz/soak.c target/staticlib/libsgf.a -o soak && ./soak 1000000
+ *   cc -O2 -Iinclude fuzz/soak.c target/lib/libsgf.a -o soak && ./soak 1000000
  *
  * It is a libFuzzer target too, which fuzz/run builds and runs: an input is a text, then FF 00, then draws.
  *

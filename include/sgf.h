@@ -1,6 +1,6 @@
 /* Ekimorepa: reading, writing and editing SGF (FF[4]) without a heap, from C and C++.
  *
- * Link with libsgf.a (`rt staticlib sgf`). No function allocates, recurses, keeps state or calls back; all may run
+ * Link with libsgf.a (`./library`). No function allocates, recurses, keeps state or calls back; all may run
  * in several threads at once as long as no memory that one of them writes is lent to another.
  *
  * Memory is lent by the caller. Each lent array is a pointer and a length in elements, in this order; a pointer with

@@ -1,15 +1,15 @@
-//! Links libsgf.a from the folder that EKIMOREPA_LIB_DIR names, or from ../target/staticlib.
+//! Links libsgf.a, which `./library` makes, from ../target/lib or from the folder that SGF_LIB_DIR names, seen from the repository.
 use std::env;
 use std::path::PathBuf;
 
 fn main() {
     println!("cargo:rerun-if-changed=build.rs");
-    println!("cargo:rerun-if-env-changed=EKIMOREPA_LIB_DIR");
-    let here = PathBuf::from(env::var_os("CARGO_MANIFEST_DIR").unwrap());
-    let dir = here.join(env::var_os("EKIMOREPA_LIB_DIR").unwrap_or_else(|| "../target/staticlib".into()));
+    println!("cargo:rerun-if-env-changed=SGF_LIB_DIR");
+    let repository = PathBuf::from(env::var_os("CARGO_MANIFEST_DIR").unwrap()).join("..");
+    let dir = repository.join(env::var_os("SGF_LIB_DIR").unwrap_or_else(|| "target/lib".into()));
     let archive = dir.join("libsgf.a");
-    assert!(archive.exists(), "no {}: run `rt staticlib sgf`, or set EKIMOREPA_LIB_DIR", archive.display());
     println!("cargo:rerun-if-changed={}", archive.display());
+    assert!(archive.exists(), "no {}: run ./library in the repository, or set SGF_LIB_DIR", archive.display());
     println!("cargo:rustc-link-search=native={}", dir.display());
     println!("cargo:rustc-link-lib=static=sgf");
 }

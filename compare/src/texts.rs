@@ -129,10 +129,10 @@ fn placed(sequence: &[u8], visit: Visitor) {
     visit(&[b" ", sequence, b";"].concat());
 }
 
-/// Every file of the folder that SGF_CORPUS names (by default beside the repository); none if it is missing.
+/// Every file of the folder that SGF_CORPUS names, seen from the repository (by default beside it); none if it is missing.
 pub fn corpus() -> Vec<Vec<u8>> {
-    let named = std::env::var_os("SGF_CORPUS").map(PathBuf::from);
-    let folder = named.unwrap_or_else(|| Path::new(env!("CARGO_MANIFEST_DIR")).join("../../shared/corpus"));
+    let named = std::env::var_os("SGF_CORPUS").map_or_else(|| PathBuf::from("../shared/corpus"), PathBuf::from);
+    let folder = Path::new(env!("CARGO_MANIFEST_DIR")).join("..").join(named);
     if !folder.is_dir() {
         println!("  no real records: {} is missing (SGF_CORPUS names the folder)", folder.display());
         return vec![];

@@ -1,7 +1,8 @@
-/* Reads a record from a file, prints the moves of its main line, corrects its first comment, and writes it.
+/* Reads a record from a file, prints the moves of its main line, corrects its comments, and writes it.
  *
- *   cc -Iinclude examples/c/main_line.c target/staticlib/libsgf.a -o main_line
- *   ./main_line examples/c/sample.sgf
+ *   ./library
+ *   cc -Iinclude examples/c/main_line.c target/lib/libsgf.a -o target/main_line
+ *   target/main_line examples/c/sample.sgf
  */
 #include "sgf.h"
 
@@ -71,11 +72,16 @@ static char letter(uint32_t coordinate) {
     return (char)(coordinate < 26 ? 'a' + coordinate : 'A' + (coordinate - 26));
 }
 
-/* Whether property p has this identifier. */
+/* Whether property p has this identifier. What counts are the uppercase letters of what stands before its `[`: `C [x]`
+ * and `Comment[x]` are comments too. */
 static bool is_named(const Record *r, size_t p, const char *name) {
     const uint32_t *row = r->properties + p * SGF_PROPERTY_STRIDE;
-    size_t length = row[SGF_PROPERTY_IDENTIFIER_END] - row[SGF_PROPERTY_IDENTIFIER_START];
-    return length == strlen(name) && memcmp(r->text + row[SGF_PROPERTY_IDENTIFIER_START], name, length) == 0;
+    for (size_t i = row[SGF_PROPERTY_IDENTIFIER_START]; i < row[SGF_PROPERTY_IDENTIFIER_END]; i++) {
+        if (r->text[i] >= 'A' && r->text[i] <= 'Z' && (char)r->text[i] != *name++) {
+            return false;
+        }
+    }
+    return *name == '\0';
 }
 
 /* The moves of one node of a tree with this game type. The tables come from a reading, so they fit. */
@@ -87,10 +93,11 @@ static void print_moves(const Record *r, const uint32_t *node, uint32_t game_typ
         size_t length = row[SGF_PROPERTY_IDENTIFIER_END] - row[SGF_PROPERTY_IDENTIFIER_START];
         SgfGoValue value = sgf_go_property(game_type, name, length, r->text, r->used, r->values, r->values_len,
                                            row[SGF_PROPERTY_FIRST_VALUE], row[SGF_PROPERTY_VALUE_COUNT]);
+        const char *colour = is_named(r, p, "B") ? "B" : "W";
         if (value.kind == SGF_MOVE) {
-            printf("  %.*s %c%c\n", (int)length, (const char *)name, letter(value.x), letter(value.y));
+            printf("  %s %c%c\n", colour, letter(value.x), letter(value.y));
         } else if (value.kind == SGF_PASS) {
-            printf("  %.*s passes\n", (int)length, (const char *)name);
+            printf("  %s passes\n", colour);
         }
     }
 }
@@ -107,15 +114,8 @@ static void print_main_line(const Record *r) {
     }
 }
 
-/* Shows the first comment, and replaces `teh` in it. */
-static void correct_comment(Record *r) {
-    size_t p = 0;
-    while (p < r->counts.properties && !is_named(r, p, "C")) {
-        p++;
-    }
-    if (p == r->counts.properties) {
-        return;
-    }
+/* Shows the comment that is property p, and replaces `teh` in it. */
+static void correct_comment(Record *r, size_t p) {
     size_t k = r->properties[p * SGF_PROPERTY_STRIDE + SGF_PROPERTY_FIRST_VALUE];
     SgfSpan span = sgf_value(LENT(r), k);
     size_t length = span.to - span.from;
@@ -165,7 +165,11 @@ int main(int argc, char **argv) {
     load(&r, argv[1]);
     read_record(&r);
     print_main_line(&r);
-    correct_comment(&r);
+    for (size_t p = 0; p < r.counts.properties; p++) {
+        if (is_named(&r, p, "C")) {
+            correct_comment(&r, p);
+        }
+    }
     write_record(&r);
     return 0;
 }

@@ -1,5 +1,5 @@
-//! Reads a record from a file, prints the moves of its main line, corrects its first comment, and writes it.
-use ekimorepa::{Move, Record, parse};
+//! Reads a record from a file, prints the moves of its main line, corrects its comments, and writes it.
+use ekimorepa::{Move, Record, Value, parse};
 use std::process::ExitCode;
 
 fn print_main_line(record: &Record) {
@@ -17,11 +17,14 @@ fn print_main_line(record: &Record) {
 fn run(text: &[u8]) -> Result<String, ekimorepa::Error> {
     let mut record = parse(text)?;
     print_main_line(&record);
-    let comment = record.properties().find(|property| property.identifier() == "C");
-    if let Some(value) = comment.map(|property| property.value()) {
+    let comments = record.properties().filter(|property| property.identifier() == "C").map(|property| property.value());
+    let corrected = |value: Value| {
         println!("comment: {}", value.text());
-        let (number, corrected) = (value.number(), value.as_str().replace("teh", "the"));
-        record.set_value(number, corrected)?;
+        (value.number(), value.as_str().replace("teh", "the"))
+    };
+    let edits: Vec<(usize, String)> = comments.map(corrected).collect();
+    for (number, text) in edits {
+        record.set_value(number, text)?;
     }
     record.to_sgf()
 }

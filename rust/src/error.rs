@@ -82,23 +82,33 @@ impl Error {
         format!("{:?}", self.kind)
     }
 
+    /// What it tells a user, without its place.
+    pub fn meaning(&self) -> &'static str {
+        KINDS[self.number() as usize - 1].1
+    }
+
     /// The byte at which it lies: of kinds 2 to 5, in the text, or in the new value of an edit; else 0.
     pub fn place(&self) -> usize {
         self.place
     }
 
-    /// The place as line and column in characters, from 1, of the text that was refused.
+    /// The place as line and column in characters, from 1, of the text that was refused; none where the kind has no place.
     ///
     /// ```
     /// let text = "(;C[\u{e9}]\n;B)";
     /// let error = ekimorepa::parse(text).unwrap_err();
-    /// assert_eq!((error.place(), error.line_and_column(text)), (9, (2, 2)));
+    /// assert_eq!((error.place(), error.line_and_column(text)), (9, Some((2, 2))));
+    /// let text = "(;C[cut off]";
+    /// assert_eq!(ekimorepa::parse(text).unwrap_err().line_and_column(text), None);
     /// ```
-    pub fn line_and_column(&self, text: impl AsRef<[u8]>) -> (usize, usize) {
+    pub fn line_and_column(&self, text: impl AsRef<[u8]>) -> Option<(usize, usize)> {
+        if !self.has_place() {
+            return None;
+        }
         let text = text.as_ref();
         let before = &text[..self.place.min(text.len())];
         let line = before.iter().rposition(|b| *b == b'\n').map_or(before, |at| &before[at + 1..]);
-        (1 + before.iter().filter(|b| **b == b'\n').count(), 1 + String::from_utf8_lossy(line).chars().count())
+        Some((1 + before.iter().filter(|b| **b == b'\n').count(), 1 + String::from_utf8_lossy(line).chars().count()))
     }
 
     fn has_place(&self) -> bool {
@@ -108,11 +118,10 @@ impl Error {
 
 impl fmt::Display for Error {
     fn fmt(&self, f: &mut fmt::Formatter<'_>) -> fmt::Result {
-        let told = KINDS[self.number() as usize - 1].1;
         if self.has_place() {
             write!(f, "at byte {}: ", self.place)?;
         }
-        write!(f, "{told} ({:?})", self.kind)
+        write!(f, "{} ({:?})", self.meaning(), self.kind)
     }
 }
 
@@ -128,5 +137,15 @@ mod tests {
             assert_eq!(*kind as usize, at + 1);
             assert!(Error::new(at as u32 + 1, 0).to_string().contains(told));
         }
+    }
+
+    #[test]
+    fn only_kinds_with_a_place_have_a_line_and_a_column() {
+        for number in 1..=19 {
+            let known = (2..=5).contains(&number);
+            assert_eq!(Error::new(number, 0).line_and_column("(;)"), known.then_some((1, 1)), "{number}");
+        }
+        assert_eq!(Error::new(5, 6).line_and_column("(;\n\u{e9}\n"), Some((3, 1)));
+        assert_eq!(Error::new(2, 9).line_and_column("(;"), Some((1, 3)));
     }
 }

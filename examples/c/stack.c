@@ -1,0 +1,164 @@
+/* How much stack each function takes: it is called on a stack of its own that was painted before, and what is no longer
+ * as painted was used. No function recurses, and none has a frame whose size depends on its input, so texts that reach
+ * every part show the most. Prints a line a function, and fails where one takes more than README says. */
+#define _XOPEN_SOURCE 700
+#include "sgf.h"
+
+#include <stdio.h>
+#include <stdlib.h>
+#include <string.h>
+#include <ucontext.h>
+
+enum { STACK = 1 << 16, ROOM = 4096, ROWS = 4096, PAINT = 0xA5 };
+
+/* A record, and what is asked of it. The calls go through pointers, so that each can also be made of a function that
+ * only says where its stack begins. */
+static uint8_t text[ROOM], out[1 << 20];
+static uint32_t trees[SGF_TREE_STRIDE * ROWS], nodes[SGF_NODE_STRIDE * ROWS], properties[SGF_PROPERTY_STRIDE * ROWS], values[SGF_VALUE_STRIDE * ROWS];
+static size_t used, asked, room;
+static uint32_t options;
+static const char *replacement;
+static SgfCounts counts;
+#define TABLES trees, sizeof trees / 4, nodes, sizeof nodes / 4, properties, sizeof properties / 4, values, sizeof values / 4
+#define RECORD text, ROOM, used, counts, TABLES
+
+static SgfReading reading;
+static SgfSpan span;
+static SgfDisplay display;
+static SgfGoValue go;
+static SgfWriting writing;
+static SgfEdit edit;
+static SgfTrim trim;
+static SgfToken token;
+static SgfValue value;
+static uint32_t number;
+
+static unsigned char stack[STACK];
+static volatile uintptr_t begin;
+
+/* A function of each kind that notes where its stack begins. */
+#define NOTE(type, name, ...) \
+    __attribute__((noinline)) static type name(__VA_ARGS__) { \
+        volatile unsigned char here = 0; \
+        static type answer; \
+        begin = (uintptr_t)&here; \
+        return answer; \
+    }
+#define TABLE_TYPES uint32_t *a, size_t b, uint32_t *c, size_t d, uint32_t *e, size_t f, uint32_t *g, size_t h
+#pragma GCC diagnostic ignored "-Wunused-parameter"
+NOTE(SgfReading, note_read, const uint8_t *t, size_t n, uint32_t o, TABLE_TYPES)
+NOTE(uint32_t, note_fits, SGF_RECORD)
+NOTE(SgfSpan, note_value, SGF_RECORD, size_t k)
+NOTE(SgfDisplay, note_display, SGF_RECORD, size_t k, uint32_t kind, uint8_t *to, size_t to_len)
+NOTE(SgfGoValue, note_go_value, SGF_RECORD, size_t p)
+NOTE(SgfGoValue, note_go_property, uint32_t type, const uint8_t *i, size_t n, const uint8_t *t, size_t m, const uint32_t *v, size_t l, size_t first, size_t count)
+NOTE(SgfWriting, note_write, SGF_RECORD, uint8_t *to, size_t to_len)
+NOTE(SgfEdit, note_edit, uint8_t *t, size_t n, size_t m, SgfCounts k, const uint32_t *a, size_t b, const uint32_t *c, size_t d, uint32_t *e, size_t f, uint32_t *g, size_t h, size_t i, const uint8_t *r, size_t l)
+NOTE(SgfTrim, note_trim, const uint8_t *t, size_t n)
+NOTE(SgfToken, note_token, const uint8_t *t, size_t n, size_t at)
+NOTE(SgfValue, note_next_value, const uint8_t *t, size_t n, size_t at)
+
+static int noting;
+#define EITHER(name) (noting ? note_##name : sgf_##name)
+static void call_read(void) { reading = EITHER(read)(text, used, options, TABLES); }
+static void call_fits(void) { number = EITHER(fits)(RECORD); }
+static void call_value(void) { span = EITHER(value)(RECORD, asked); }
+static void call_display(void) { display = EITHER(display)(RECORD, asked, options, out, room); }
+static void call_go_value(void) { go = EITHER(go_value)(RECORD, asked); }
+static void call_go_property(void) {
+    const uint32_t *row = properties + asked * SGF_PROPERTY_STRIDE;
+    go = EITHER(go_property)(SGF_GO, text + row[0], row[1] - row[0], text, used, values, sizeof values / 4, row[2], row[3]);
+}
+static void call_write(void) { writing = EITHER(write)(RECORD, out, room); }
+static void call_edit(void) { edit = EITHER(edit)(RECORD, asked, (const uint8_t *)replacement, strlen(replacement)); }
+static void call_trim(void) { trim = EITHER(trim)(text, used); }
+static void call_token(void) { token = EITHER(token)(text, used, asked); }
+static void call_next_value(void) { value = EITHER(next_value)(text, used, asked); }
+
+static struct function {
+    const char *name;
+    void (*call)(void);
+    size_t most, allowed; /* bytes */
+} functions[] = {
+    {"sgf_read", call_read, 0, 6144},
+    {"sgf_fits", call_fits, 0, 1024},
+    {"sgf_value", call_value, 0, 1024},
+    {"sgf_display", call_display, 0, 1024},
+    {"sgf_go_value", call_go_value, 0, 12288},
+    {"sgf_go_property", call_go_property, 0, 9216},
+    {"sgf_write", call_write, 0, 10240},
+    {"sgf_edit", call_edit, 0, 1024},
+    {"sgf_trim", call_trim, 0, 512},
+    {"sgf_token", call_token, 0, 512},
+    {"sgf_next_value", call_next_value, 0, 512},
+};
+enum { COUNT = sizeof functions / sizeof *functions };
+
+static ucontext_t here, there;
+
+static void on_stack(void (*call)(void)) {
+    getcontext(&there);
+    there.uc_stack.ss_sp = stack;
+    there.uc_stack.ss_size = STACK;
+    there.uc_link = &here;
+    makecontext(&there, call, 0);
+    swapcontext(&here, &there);
+}
+
+/* Calls function i twice: to see where its stack begins, and how far it goes. */
+static void measure(size_t i) {
+    noting = 1;
+    on_stack(functions[i].call);
+    noting = 0;
+    memset(stack, PAINT, STACK);
+    on_stack(functions[i].call);
+    const unsigned char *deepest = stack;
+    while (*deepest == PAINT) {
+        deepest++;
+    }
+    size_t taken = (begin - (uintptr_t)deepest + 95) / 64 * 64; /* begin lies up to 32 bytes within */
+    functions[i].most = taken > functions[i].most ? taken : functions[i].most;
+}
+
+static void load(const char *source) {
+    used = strlen(source);
+    memcpy(text, source, used);
+    reading = sgf_read(text, used, SGF_STRICT, TABLES);
+    counts = (SgfCounts){reading.trees, reading.nodes, reading.properties, reading.values};
+}
+
+int main(void) {
+    static char deep[2 * 600 + 600 + 1];
+    static const char *texts[] = {
+        "(;FF[4]GM[1]SZ[19]HA[2]AB[aa:cc][dd]AW[ZZ]TB[ba][aa]C[a\\]b\\\nc\r\n\td];B[ee]C [x];W[](;B[tt])(;Black[zz]N[\xC3\xA9]))(;GM[2];B[e4])",
+        "\xC2\xA0(;HA[+012]HA[-1]AB[aa:ZZ];AB[x]TW[])\xE3\x80\x80",
+        "(;[x])", "(;a[])", "", "(;B)", "(;\xC3)", "(;B\xC3\xA9[])", "(;A[x][y", ")", "(;", "((;))", "(B[aa])", "(;GM[x])", "(;GM[1]GM[2])", "(;())(", deep,
+    };
+    static const char *const news[] = {"", "a longer value than it was", "]", "\\", "\xFF", "a\\]b"};
+    for (int i = 0; i < 600; i++) {
+        memcpy(deep + 2 * i, "(;", 2);
+        deep[1200 + i] = ')';
+    }
+    for (size_t t = 0; t < sizeof texts / sizeof *texts; t++) {
+        for (size_t i = 0; i < COUNT; i++) {
+            for (asked = 0; asked < 24; asked++) {
+                for (options = 0; options < 4; options++) {
+                    load(texts[t]);
+                    replacement = news[(asked + options) % 6];
+                    room = options == 3 ? 3 : sizeof out;
+                    measure(i);
+                }
+            }
+        }
+    }
+    int failed = 0;
+    for (size_t i = 0; i < COUNT; i++) {
+        printf("stack: %s %zu bytes\n", functions[i].name, functions[i].most);
+        if (functions[i].most > functions[i].allowed) {
+            printf("stack: that is more than %zu bytes\n", functions[i].allowed);
+            failed = 1;
+        }
+    }
+    (void)span, (void)display, (void)go, (void)writing, (void)edit, (void)trim, (void)token, (void)value, (void)number;
+    return failed;
+}
