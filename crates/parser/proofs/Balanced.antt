@@ -39,7 +39,7 @@ Accepts (no r) = numberOf r ≡ 9
 
 -- ---- what splitting comes to: e ends and s starts behind, from the depth d and l slices on
 
-abbrev Comes : (e s d l : ℕ) → Splitting → Type 0
+abbrev pub Comes : (e s d l : ℕ) → Splitting → Type 0
 Comes e s d l (splitting d′ m cur ss) = (d′ + e ≡ d + s) × (l ≤ length ss) × (length ss ≤ l + e) × (d′ ≡ 0 → 0 < d + s → 0 < length ss)
 Comes e s d l (over m ss) = ⊥
 Comes e s d l (wrong r) = ⊥
@@ -59,7 +59,7 @@ come-end e s d l (splitting d′ m cur ss) (a, b, c, h) = (omega (arith, a), b, 
 come-end e s d l (over m ss) h = h
 come-end e s d l (wrong r) h = h
 
-comes : (ts : List Tok) (d m : ℕ) (cur : List Tok) (ss : List (List Tok)) → Covered d ts → Comes (ends ts) (starts ts) d (length ss) (split false (splitting d m cur ss) ts)
+pub comes : (ts : List Tok) (d m : ℕ) (cur : List Tok) (ss : List (List Tok)) → Covered d ts → Comes (ends ts) (starts ts) d (length ss) (split false (splitting d m cur ss) ts)
 comes [] d m cur ss h = (omega arith, omega arith, omega arith, λ z p. absurd (omega (arith, z, p)))
 comes (start o ∷ ts) d m cur ss h = come-start (ends ts) (starts ts) d (length ss) (split false (splitting (suc d) (max m (suc d)) (start o ∷ cur) ss) ts)
     (comes ts (suc d) (max m (suc d)) (start o ∷ cur) ss (λ k. omega (arith, h (suc k))))

@@ -41,7 +41,7 @@ pub record Cut (d m : ℕ) (cur : List Tok) (ss : List (List Tok)) (x : Splittin
   pub low : m ≤ deepest x
   pub shallow : deepest x ≤ depthLimit → ShallowFrom d more ts
 
-shift : (t : Tok) (cur xs : List Tok) → reverse (t ∷ cur) ++ xs ≡ reverse cur ++ (t ∷ xs)
+pub shift : (t : Tok) (cur xs : List Tok) → reverse (t ∷ cur) ++ xs ≡ reverse cur ++ (t ∷ xs)
 shift t cur xs = ap (λ (z : List Tok). z ++ xs) (reverse-cons t cur) ∙ append-assoc (reverse cur) (t ∷ []) xs
 
 -- a token that ends no slice

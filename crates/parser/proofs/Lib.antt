@@ -7,7 +7,9 @@ pub mod Meets
 pub mod Moved
 pub mod MovedKind
 pub mod MovedSlices
+pub mod Runs
 pub mod Slices
 pub mod Splits
 pub mod Surveys
+pub mod Texts
 pub mod Tokens

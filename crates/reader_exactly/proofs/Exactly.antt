@@ -1,0 +1,98 @@
+-- Each number that a reading gives, exactly when: document 01's conditions stand in specs/When and specs/Slicing. Of 13 nothing is said. Assumes nothing.
+use Rattle.lists.proofs.Prelude.{ℕ, _≤_, _<_, _≡_, sym, ap, _∙_, Bool, _⊎_, ⊎-elim, List, length}
+use Rattle.text_chars.specs.Table.{BadFrom}
+use Rattle.lexer.specs.Token.{Tok}
+use Rattle.lexer.specs.declared.Fault.the-variants.{MissingPropertyIdentifier as no-identifier, UnexpectedEndOfPropertyIdentifier as foreign, UnexpectedEndOfPropertyValue as unclosed}
+use Rattle.tables.specs.Numbers.{textLimit}
+use Rattle.tables.specs.declared.Reason.{Reason}
+use Rattle.tables.specs.declared.Reason.the-variants.{TextTooLong, NotUtf8, MissingPropertyIdentifier, UnexpectedEndOfPropertyIdentifier, UnexpectedEndOfPropertyValue, UnexpectedGameTreeEnd, UnexpectedEndOfData, NoGameTrees, TooDeep, UnexpectedGameTreeStart, UnexpectedProperty, InvalidGameType}
+use Rattle.parser.specs.Read.{Answer, refused, read}
+use Rattle.parser.proofs.Balanced.{Balanced}
+use Rattle.parser.proofs.Texts.{text-long}
+use Rattle.reader_exactly.specs.Slicing.{Exactly, Any, slicesFrom, Uncovered, Deep}
+use Rattle.reader_exactly.specs.When.{strict, lax, Valid, tokensOf, FailsAt, Lexes, Unclosed, Bare, Splits, First, StartsEmpty, Unexpected, WrongGame, Nodeless}
+use Rattle.reader_exactly.proofs.Cover.{uncovered-six, unclosed-seven, bare-eight}
+use Rattle.reader_exactly.proofs.Growths.{starts-fails, unexpected-fails, wrong-fails, nodeless-fails}
+use Rattle.reader_exactly.proofs.Stages.{bad-read, too-deep}
+use Rattle.reader_exactly.proofs.Gives.{fault-read, split-read, tree-read}
+use Rattle.reader_exactly.proofs.Why.{only}
+use Rattle.reader_exactly.proofs.Lenient.{deep-read, only-mild}
+
+-- the place is 0
+at-0 : {a : Answer} {p : ℕ} (r : Reason) → a ≡ refused r 0 → p ≡ 0 → a ≡ refused r p
+at-0 r e z = e ∙ ap (refused r) (sym z)
+
+module _ (c : Bool) (t : List ℕ) (p : ℕ) where
+  abbrev pub toks : List Tok
+  toks = tokensOf t .toks
+
+  -- ---- strict
+
+  pub strict-1 : Exactly (read (strict c) t ≡ refused TextTooLong p) ((textLimit < length t) × (p ≡ 0))
+  strict-1 = ((λ e. only c t e), λ h. at-0 TextTooLong (text-long (strict c) t (h .0)) (h .1))
+
+  pub strict-2 : Exactly (read (strict c) t ≡ refused NotUtf8 p) ((length t ≤ textLimit) × BadFrom t p)
+  strict-2 = ((λ e. only c t e), λ h. bad-read (strict c) t p (h .0) (h .1))
+
+  pub strict-3 : Exactly (read (strict c) t ≡ refused MissingPropertyIdentifier p) (Valid t × FailsAt t no-identifier p)
+  strict-3 = ((λ e. only c t e), λ h. fault-read c t no-identifier p (h .0) (h .1))
+
+  pub strict-4 : Exactly (read (strict c) t ≡ refused UnexpectedEndOfPropertyIdentifier p) (Valid t × FailsAt t foreign p)
+  strict-4 = ((λ e. only c t e), λ h. fault-read c t foreign p (h .0) (h .1))
+
+  pub strict-5 : Exactly (read (strict c) t ≡ refused UnexpectedEndOfPropertyValue p) (Valid t × FailsAt t unclosed p)
+  strict-5 = ((λ e. only c t e), λ h. fault-read c t unclosed p (h .0) (h .1))
+
+  pub strict-6 : Exactly (read (strict c) t ≡ refused UnexpectedGameTreeEnd p) (Lexes t × Uncovered 0 toks × (p ≡ 0))
+  strict-6 = ((λ e. only c t e), λ h. at-0 UnexpectedGameTreeEnd (split-read c t (h .0) (uncovered-six toks (h .1))) (h .2))
+
+  -- by splitting, or by the first slice that is refused
+  pub strict-7 : Exactly (read (strict c) t ≡ refused UnexpectedEndOfData p)
+      (((Lexes t × Unclosed toks) ⊎ (Splits t × First (strict c) (Nodeless (strict c)) (slicesFrom 0 toks))) × (p ≡ 0))
+  strict-7 = (
+    (λ e. only c t e),
+    λ h. at-0 UnexpectedEndOfData
+        (⊎-elim (λ x. split-read c t (x .0) (unclosed-seven toks (x .1)))
+        (λ x. tree-read c t (Nodeless (strict c)) UnexpectedEndOfData (nodeless-fails c) (x .0) (x .1)) (h .0)) (h .1),
+  )
+
+  pub strict-8 : Exactly (read (strict c) t ≡ refused NoGameTrees p) (Lexes t × Bare toks × (p ≡ 0))
+  strict-8 = ((λ e. only c t e), λ h. at-0 NoGameTrees (split-read c t (h .0) (bare-eight toks (h .1))) (h .2))
+
+  pub strict-9 : Exactly (read (strict c) t ≡ refused TooDeep p) (Lexes t × Balanced toks × Any (Deep 0) (slicesFrom 0 toks) × (p ≡ 0))
+  strict-9 = ((λ e. only c t e), λ h. at-0 TooDeep (split-read c t (h .0) (too-deep toks (h .1) (h .2))) (h .3))
+
+  pub strict-10 : Exactly (read (strict c) t ≡ refused UnexpectedGameTreeStart p)
+      ((Splits t × First (strict c) (StartsEmpty (strict c)) (slicesFrom 0 toks)) × (p ≡ 0))
+  strict-10 = (
+    (λ e. only c t e),
+    λ h. at-0 UnexpectedGameTreeStart
+        (tree-read c t (StartsEmpty (strict c)) UnexpectedGameTreeStart (λ b s v. starts-fails c b s) (h .0 .0) (h .0 .1)) (h .1),
+  )
+
+  pub strict-11 : Exactly (read (strict c) t ≡ refused UnexpectedProperty p)
+      ((Splits t × First (strict c) (Unexpected (strict c)) (slicesFrom 0 toks)) × (p ≡ 0))
+  strict-11 = (
+    (λ e. only c t e),
+    λ h. at-0 UnexpectedProperty
+        (tree-read c t (Unexpected (strict c)) UnexpectedProperty (λ b s v. unexpected-fails c b s) (h .0 .0) (h .0 .1)) (h .1),
+  )
+
+  pub strict-12 : Exactly (read (strict c) t ≡ refused InvalidGameType p)
+      ((Splits t × First (strict c) (λ _ s. WrongGame s) (slicesFrom 0 toks)) × (p ≡ 0))
+  strict-12 = (
+    (λ e. only c t e),
+    λ h. at-0 InvalidGameType
+        (tree-read c t (λ _ s. WrongGame s) InvalidGameType (λ b s v. wrong-fails c b s) (h .0 .0) (h .0 .1)) (h .1),
+  )
+
+  -- ---- lenient: these three and no other
+
+  pub lenient-1 : Exactly (read (lax c) t ≡ refused TextTooLong p) ((textLimit < length t) × (p ≡ 0))
+  lenient-1 = ((λ e. only-mild c t e), λ h. at-0 TextTooLong (text-long (lax c) t (h .0)) (h .1))
+
+  pub lenient-2 : Exactly (read (lax c) t ≡ refused NotUtf8 p) ((length t ≤ textLimit) × BadFrom t p)
+  lenient-2 = ((λ e. only-mild c t e), λ h. bad-read (lax c) t p (h .0) (h .1))
+
+  pub lenient-9 : Exactly (read (lax c) t ≡ refused TooDeep p) (Valid t × Any (Deep 0) (slicesFrom 0 toks) × (p ≡ 0))
+  lenient-9 = ((λ e. only-mild c t e), λ h. at-0 TooDeep (deep-read c t (h .0) (h .1)) (h .2))

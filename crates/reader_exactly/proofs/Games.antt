@@ -1,0 +1,84 @@
+-- Why a game type is refused: 11 and 12 as document 01 says; and the reasons of a slice. Assumes nothing.
+use Rattle.lists.proofs.Prelude.{ℕ, _-_, _^_, _≤_, _≡_, refl, sym, ap, _∙_, subst, Bool, true, false, false≢true, inl, List, [], _∷_, arith, length, pick}
+use Rattle.lists.specs.Same.{same}
+use Rattle.lists.proofs.Tests.{never}
+use Rattle.values.specs.Read.{readValue}
+use Rattle.values.specs.Decimal.{decimalOf}
+use Rattle.lexer.specs.Token.{Val, Prop, Tok}
+use Rattle.tables.specs.declared.Reason.{Reason}
+use Rattle.tables.specs.declared.Reason.the-variants.{TextTooLong, NotUtf8, MissingPropertyIdentifier, UnexpectedEndOfPropertyIdentifier, UnexpectedEndOfPropertyValue, UnexpectedGameTreeEnd, UnexpectedEndOfData, NoGameTrees, TooDeep, UnexpectedGameTreeStart, UnexpectedProperty, InvalidGameType, InvalidFF4Property, NoRoom, EmptyIdentifier, NoSuchNumber, GameTypeFixed, NotClosed, NotFitting}
+use Rattle.parser.specs.Kind.{Kind, is, unkind, numbered, kindVals, kindProps, kind}
+use Rattle.reader_exactly.specs.When.{strict, games, Numeric, WrongGame, TwoGames, StartsEmpty, Unexpected, Nodeless}
+
+-- why a slice is refused, by the reason; of 13 nothing is said
+abbrev pub Refuses : Bool → (base : ℕ) → List Tok → Reason → Type 0
+Refuses c base s TextTooLong = ⊥
+Refuses c base s NotUtf8 = ⊥
+Refuses c base s MissingPropertyIdentifier = ⊥
+Refuses c base s UnexpectedEndOfPropertyIdentifier = ⊥
+Refuses c base s UnexpectedEndOfPropertyValue = ⊥
+Refuses c base s UnexpectedGameTreeEnd = ⊥
+Refuses c base s UnexpectedEndOfData = Nodeless (strict c) base s
+Refuses c base s NoGameTrees = ⊥
+Refuses c base s TooDeep = ⊥
+Refuses c base s UnexpectedGameTreeStart = StartsEmpty (strict c) base s
+Refuses c base s UnexpectedProperty = Unexpected (strict c) base s
+Refuses c base s InvalidGameType = WrongGame s
+Refuses c base s InvalidFF4Property = Unit {0}
+Refuses c base s NoRoom = ⊥
+Refuses c base s EmptyIdentifier = ⊥
+Refuses c base s NoSuchNumber = ⊥
+Refuses c base s GameTypeFixed = ⊥
+Refuses c base s NotClosed = ⊥
+Refuses c base s NotFitting = ⊥
+
+abbrev valid : Val → Bool
+valid v = numbered (decimalOf (2 ^ 31 - 1) (readValue (v .raw)))
+
+not-numeric : (v : Val) → valid v ≡ false → Numeric (v ∷ []) → ⊥
+not-numeric v e (w, q, n) = let z : v ≡ w = cc in false≢true (sym e ∙ ap valid z ∙ n)
+
+module _ (c : Bool) (base : ℕ) (s : List Tok) where
+  abbrev KindWhy : Kind → Type 0
+  KindWhy (is k) = Unit {0}
+  KindWhy (unkind r) = Refuses c base s r
+
+  -- one GM property, by its values
+  vals-why : (p : Prop) → games s ≡ p ∷ [] → (vs : List Val) → p .vals ≡ vs → KindWhy (kindVals vs)
+  vals-why p e [] q = (p, e, λ x. let y : [] ≡ x .0 ∷ [] = sym q ∙ x .1 in never cc)
+  vals-why p e (v ∷ []) q = go (valid v) refl
+    where
+      go : (b : Bool) → valid v ≡ b → KindWhy (pick b (is (pick (same (readValue (v .raw)) (0x31 ∷ [])) 0 1)) (unkind InvalidGameType))
+      go true f = tt
+      go false f = (p, e, λ x. not-numeric v f (subst Numeric q x))
+  vals-why p e (v ∷ u ∷ vs) q = (p, e, λ x. let y : v ∷ u ∷ vs ≡ x .0 ∷ [] = sym q ∙ x .1 in let z = ap length y in absurd (omega (arith, z)))
+
+  games-why : (ps : List Prop) → games s ≡ ps → KindWhy (kindProps ps)
+  games-why [] e = tt
+  games-why (p ∷ []) e = vals-why p e (p .vals) refl
+  games-why (p ∷ q ∷ ps) e = inl (omega (arith, ap length e))
+
+  pub kind-why : (r : Reason) → kind s ≡ unkind r → Refuses c base s r
+  kind-why r e = subst KindWhy e (games-why (games s) refl)
+
+-- ---- and so it is refused
+
+two-games : (ps : List Prop) → 2 ≤ length ps → kindProps ps ≡ unkind UnexpectedProperty
+two-games [] h = absurd (omega arith)
+two-games (p ∷ []) h = absurd (omega arith)
+two-games (p ∷ q ∷ ps) h = refl
+
+wrong-vals : (vs : List Val) → (Numeric vs → ⊥) → kindVals vs ≡ unkind InvalidGameType
+wrong-vals [] n = refl
+wrong-vals (v ∷ []) n = go (valid v) refl
+  where
+    go : (b : Bool) → valid v ≡ b → pick b (is (pick (same (readValue (v .raw)) (0x31 ∷ [])) 0 1)) (unkind InvalidGameType) ≡ unkind InvalidGameType
+    go true f = absurd (n (v, refl, f))
+    go false f = refl
+wrong-vals (v ∷ u ∷ vs) n = refl
+
+pub two-unkind : (s : List Tok) → TwoGames s → kind s ≡ unkind UnexpectedProperty
+two-unkind s h = two-games (games s) h
+
+pub wrong-unkind : (s : List Tok) → WrongGame s → kind s ≡ unkind InvalidGameType
+wrong-unkind s (p, e, n) = ap kindProps e ∙ wrong-vals (p .vals) n

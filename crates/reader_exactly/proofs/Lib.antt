@@ -1,0 +1,14 @@
+pub mod Chars
+pub mod Cover
+pub mod Deeper
+pub mod Exactly
+pub mod Firm
+pub mod Games
+pub mod Gives
+pub mod Growths
+pub mod Lenient
+pub mod Stages
+pub mod Standing
+pub mod Trims
+pub mod Walking
+pub mod Why

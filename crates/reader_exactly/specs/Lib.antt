@@ -1,0 +1,3 @@
+pub mod Kept
+pub mod Slicing
+pub mod When
