@@ -42,9 +42,9 @@ enum {
     SGF_UNEXPECTED_END_OF_DATA = 7,                 /* a `(` without its `)`, or a tree without a node */
     SGF_NO_GAME_TREES = 8,                          /* neither `(` nor `)` */
     SGF_TOO_DEEP = 9,                               /* more than SGF_DEPTH_LIMIT trees open at once */
-    SGF_UNEXPECTED_GAME_TREE_START = 10,            /* a tree begins with a tree */
-    SGF_UNEXPECTED_PROPERTY = 11,                   /* a property outside a node, or a second GM */
-    SGF_INVALID_GAME_TYPE = 12,                     /* GM without exactly one value, or that is no 32-bit number */
+    SGF_UNEXPECTED_GAME_TREE_START = 10,            /* a `(` in a tree without a node yet (see below) */
+    SGF_UNEXPECTED_PROPERTY = 11,                   /* a property not directly behind a node; a second GM (see below) */
+    SGF_INVALID_GAME_TYPE = 12,                     /* GM (see below) without exactly one value, or no 32-bit number */
     SGF_INVALID_FF4_PROPERTY = 13,                  /* with SGF_KEEP_IDENTIFIERS: not only uppercase letters */
     SGF_NO_ROOM = 14,                               /* needed rows or bytes exceed those lent */
     SGF_EMPTY_IDENTIFIER = 15,                      /* writing: an identifier has no uppercase letter */
@@ -53,6 +53,9 @@ enum {
     SGF_NOT_CLOSED = 18,                            /* edit: an unescaped `]` in the new value, or a `\` left open */
     SGF_NOT_FITTING = 19                            /* the tables do not fit the text */
 };
+/* 10: nor may a tree before that one, beside it, have a node: `((;))` and `(;((;)))` are 10, `(;(;)((;)))` is accepted.
+ * A tree's game type is taken from the properties that directly follow its second token, as a rule the root's: a GM
+ * elsewhere is neither 11 nor 12 (`(;GM[1];GM[x])` is accepted). */
 
 /* Limits, and "none" in a row. */
 #define SGF_TEXT_LIMIT 1048576
@@ -176,7 +179,9 @@ SgfGoValue sgf_go_value(SGF_RECORD, size_t p);
 
 /* The same of one property without the check, for callers whose tables are known to fit: the game type of its tree,
  * its raw identifier, and its values, `count` rows of the value table from row `first` on. The number is 0. Rows that
- * do not fit do no harm: a row that is not there is an empty value, a span is cut at the end of the text. */
+ * do not fit do no harm: a row that is not there is an empty value, a span is cut at the end of the text. With count
+ * 0, which no text and no tables that fit can have, AB, AW, AE, TB and TW are valid sets without a point, B, W and HA
+ * invalid. */
 SgfGoValue sgf_go_property(uint32_t game_type, const uint8_t *identifier, size_t identifier_len,
                            const uint8_t *text, size_t text_len, const uint32_t *values, size_t values_len,
                            size_t first, size_t count);
@@ -223,7 +228,8 @@ SgfTrim sgf_trim(const uint8_t *text, size_t text_len);
 enum { SGF_DONE = 0, SGF_START = 1, SGF_END = 2, SGF_NODE = 3, SGF_PROPERTY = 4, SGF_FAULT = 5 };
 
 /* A token and its span, whose end is the next place; `opens` is a property's first `[`, else the start. The number
- * is 3, 4 or 5 for a fault, else 0. */
+ * is 3, 4 or 5 for a fault, else 0. After a fault there is no next place: `from`, `opens` and `to` are the start of the
+ * token that fails; at the end of the text (SGF_DONE) they are the place asked for. */
 typedef struct {
     uint32_t kind, number;
     size_t from, opens, to;

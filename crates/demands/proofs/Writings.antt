@@ -11,7 +11,7 @@ use Rattle.parser.specs.Walk.{Opts}
 use Rattle.reader.specs.Lent.{Lent, ReadIs}
 use Rattle.reader_laws.proofs.Lent.{read-rows}
 use Rattle.serialize.specs.Form.{writing, WriteIs}
-use Rattle.serialize.specs.Write.{nameless}
+use Rattle.serialize.specs.Branch.{nameless}
 use Rattle.serialize.proofs.Room.{answer-length}
 use Rattle.serialize.specs.declared.Written.the-variants.{Wrote}
 

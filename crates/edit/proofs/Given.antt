@@ -20,8 +20,8 @@ use Rattle.edit_splice.specs.Locals.{Replaceable}
 use Rattle.edit_splice.specs.Splice.{cleared, replaced}
 use Rattle.edit_splice.proofs.May.{replaced-is}
 use Rattle.edit_answer.specs.Answer.{outcomeOf, editedFor}
-use Rattle.edit_answer.specs.Edit.{ownerName, Outcome, refuses, gives, outcome}
-use Rattle.edit_answer.specs.Locals.{NamesLie}
+use Rattle.edit_answer.specs.Edit.{ownerName, Outcome, refuses, gives}
+use Rattle.edit_answer.specs.Locals.{outcome, NamesLie}
 use Rattle.edit_answer.specs.declared.Edited.the-variants.{Changed, Refused}
 use Rattle.edit_answer.proofs.Fitting.{fit-within}
 use Rattle.edit_answer.proofs.Judged.{newText, newRows, decided-misfit, decided-beyond, tests-are, length-new}

@@ -19,9 +19,9 @@ use Rattle.tables.specs.Each.{tabulate}
 use Rattle.tables.specs.Memory.{Memory}
 use Rattle.fit.specs.Fit.{Fit}
 use Rattle.fit.specs.Record.{propRow, valRow, rowsIn, textIn}
-use Rattle.edit_answer.specs.Edit.{ownerName, spanAt, shifted, Outcome, refuses, outcome, edit}
+use Rattle.edit_answer.specs.Edit.{ownerName, spanAt, shifted, Outcome, refuses, edit}
+use Rattle.edit_answer.specs.Locals.{outcome, Weighed}
 use Rattle.edit_answer.specs.Answer.{outcomeOf, editedFor}
-use Rattle.edit_answer.specs.Locals.{Weighed}
 use Rattle.edit_answer.specs.declared.Edited.{Edited}
 use Rattle.edit_answer.specs.declared.Edited.the-variants.{Changed, Refused}
 use Rattle.edit_answer.proofs.Fitting.{fit-within}

@@ -1,5 +1,5 @@
 -- The value edit over the used text and its rows.
-use Rattle.lists.specs.Prelude.{ℕ, _+_, Bool, true, false, List, [], _∷_, ltb, length, getD, slice, pick}
+use Rattle.lists.specs.Prelude.{ℕ, _+_, not, List, [], _∷_, ltb, length, getD, slice, pick}
 use Rattle.lists.specs.Same.{same}
 use Rattle.text_utf8.specs.Text.{Utf, whole, part, bad, blank, utfs}
 use Rattle.lexer.specs.Closed.{closed}
@@ -34,21 +34,20 @@ pub data Outcome : Type 0 where
   refuses : Reason → (place : ℕ) → Outcome
   gives : List ℕ → Tables → Outcome
 
--- is k below the count; is its identifier GM; the new bytes' UTF-8; are they closed; is the new text too long, or longer than the bytes lent
-abbrev pub outcome : Bool → Bool → Utf → Bool → Bool → Bool → List ℕ → Tables → Outcome
-outcome false g u c l m t T = refuses NoSuchNumber 0
-outcome true true u c l m t T = refuses GameTypeFixed 0
-outcome true false (part k s n r x) c l m t T = refuses NotUtf8 s
-outcome true false (bad p) c l m t T = refuses NotUtf8 p
-outcome true false (whole k) false l m t T = refuses NotClosed 0
-outcome true false (whole k) true true m t T = refuses TextTooLong 0
-outcome true false (whole k) true false true t T = refuses NoRoom 0
-outcome true false (whole k) true false false t T = gives t T
+-- a text that is not UTF-8 is refused, with the place of its first bad sequence; else what follows
+abbrev pub unlessBad : Utf → Outcome → Outcome
+unlessBad (bad p) o = refuses NotUtf8 p
+unlessBad (part k s n r x) o = refuses NotUtf8 s
+unlessBad (whole k) o = o
 
--- the edit of value k, where `room` bytes are lent
+-- the edit of value k, where `room` bytes are lent: the first refusal that applies, else the new text and rows
 abbrev pub edit : (room : ℕ) → List ℕ → Tables → (k : ℕ) → (new : List ℕ) → Outcome
 edit room t T k new =
     let u = pasted t (spanAt (T .vals) k .from) (spanAt (T .vals) k .to) new in
-    outcome (ltb k (length (T .vals))) (same (ownerName t (T .props) k) GM) (utfs (whole blank) 0 new) (closed new)
-    (ltb textLimit (length u)) (ltb room (length u))
-    u (shifted T (spanAt (T .vals) k) (length new))
+    pick (not (ltb k (length (T .vals)))) (refuses NoSuchNumber 0)
+    (pick (same (ownerName t (T .props) k) GM) (refuses GameTypeFixed 0)
+    (unlessBad (utfs (whole blank) 0 new)
+    (pick (not (closed new)) (refuses NotClosed 0)
+    (pick (ltb textLimit (length u)) (refuses TextTooLong 0)
+    (pick (ltb room (length u)) (refuses NoRoom 0)
+    (gives u (shifted T (spanAt (T .vals) k) (length new))))))))

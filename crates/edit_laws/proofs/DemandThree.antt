@@ -16,7 +16,8 @@ use Rattle.parser.specs.Kind.{GM}
 use Rattle.parser.specs.Read.{accepted, read}
 use Rattle.parser.proofs.Denoted.{read-denotes}
 use Rattle.edit_splice.specs.Splice.{pasted}
-use Rattle.edit_answer.specs.Edit.{ownerRow, ownerName, spanAt, shifted, Outcome, outcome, edit}
+use Rattle.edit_answer.specs.Edit.{ownerRow, ownerName, spanAt, shifted, Outcome, edit}
+use Rattle.edit_answer.specs.Locals.{outcome}
 use Rattle.edit_laws.specs.Run.{strictly, TextRows, Order, after, run, Fresh}
 use Rattle.edit_laws.proofs.Numbered.{noVal, ownerOf, valueOf, newText, newTrees, edit-number}
 

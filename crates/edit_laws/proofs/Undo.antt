@@ -20,7 +20,8 @@ use Rattle.parser.specs.Read.{Answer, refused, accepted, decoded, read}
 use Rattle.parser.proofs.Denoted.{read-denotes}
 use Rattle.parser.proofs.Lift.{OfAnswer, of-tokens, of-trees}
 use Rattle.tables.specs.declared.Reason.the-variants.{TextTooLong}
-use Rattle.edit_answer.specs.Edit.{gives, outcome, edit}
+use Rattle.edit_answer.specs.Edit.{gives, edit}
+use Rattle.edit_answer.specs.Locals.{outcome}
 use Rattle.edit_laws.specs.Run.{strictly}
 use Rattle.edit_laws.proofs.Accepted.{Accepted, accepted-is}
 use Rattle.edit_laws.proofs.Numbered.{noVal, ownerOf, valueOf, newText, newTrees, Owned, owned, cut-text, inside-text, edit-number}

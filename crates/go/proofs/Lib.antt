@@ -3,6 +3,7 @@ pub mod Choosing
 pub mod Keeps
 pub mod Listed
 pub mod Marked
+pub mod Order
 pub mod ReadBack
 pub mod Sets
 pub mod Shapes

@@ -97,6 +97,11 @@ module _ (kind : ℕ) (identifier : List ℕ) where
   unfolding normal goValue written
   normal-unknown vs h = rw (ne-eqb kind 0 h)
 
+  -- so does one whose value is invalid
+  pub normal-invalid : (vs : List (List ℕ)) → goValue kind identifier vs .value ≡ Invalid → normal kind identifier vs ≡ vs
+  unfolding normal written
+  normal-invalid vs e = ap (λ (v : Value). written v (goValue kind identifier vs .marks) vs) e
+
 -- and the game type
 pub normal-game : (kind : ℕ) (vs : List (List ℕ)) → normal kind (0x47 ∷ 0x4d ∷ []) vs ≡ vs
 unfolding shapeOf

@@ -1,4 +1,5 @@
 pub mod AllNames
+pub mod Branches
 pub mod Climbs
 pub mod Joined
 pub mod Linked
@@ -8,6 +9,7 @@ pub mod Room
 pub mod Siblings
 pub mod Texts
 pub mod TreeSlices
+pub mod TreeTexts
 pub mod TreeWalk
 pub mod Walked
 pub mod Whole

@@ -16,7 +16,7 @@ use Rattle.fit.specs.Fit.{Fit}
 use Rattle.fit.specs.Record.{treeRow, nodeRow, nodeOf, treesOf, textIn, recordIn}
 use Rattle.serialize.specs.Form.{formProp, formNode, formTree, writing}
 use Rattle.serialize.specs.Walk.{begun, endsBefore, kindOver, propsText, nodeBy, nodeText, linked}
-use Rattle.serialize.specs.Write.{writeProps, writeTree}
+use Rattle.serialize.specs.Branch.{writeProps, treeText}
 use Rattle.serialize.proofs.Joined.{joined, joined-more, texts-joined}
 use Rattle.serialize.proofs.PropTexts.{node-text}
 use Rattle.serialize.proofs.TreeSlices.{linking, stretch-next, stretch-last, kind-here}
@@ -71,10 +71,10 @@ module _ {t : List ℕ} {c : Counts} {tr nd pr vl : List ℕ} (fit : Clauses t c
         ∙ ap (λ (z : ℕ). propsText t nd pr vl z k) (sym (kind-here fit i l x k u v))
 
     tree-text : (us : List Node) → us ≡ tabulate nodeK (R i) (b - R i)
-        → writeTree (formTree (record { root = R i; kind = kindAt tr i; nodes = us })) ≡ head (R i) ++ (joined T (suc (R i)) (b - suc (R i)) ++ endsBefore nd b none)
+        → treeText (formTree (record { root = R i; kind = kindAt tr i; nodes = us })) ≡ head (R i) ++ (joined T (suc (R i)) (b - suc (R i)) ++ endsBefore nd b none)
     tree-text us e =
-        ap (λ (z : List Node). writeTree (formTree (record { root = R i; kind = kindAt tr i; nodes = z }))) e
-        ∙ ap (λ (z : List Node). writeTree (record { root = R i; kind = kindAt tr i; nodes = z })) (map-tabulate nodeK (formNode (kindAt tr i)) (R i) (b - R i))
+        ap (λ (z : List Node). treeText (formTree (record { root = R i; kind = kindAt tr i; nodes = z }))) e
+        ∙ ap (λ (z : List Node). treeText (record { root = R i; kind = kindAt tr i; nodes = z })) (map-tabulate nodeK (formNode (kindAt tr i)) (R i) (b - R i))
         ∙ tree-is (linking fit) x propsOf body body-is (kindAt tr i)
 
   nodes-are : ns ≡ tabulate nodeK 0 n
@@ -99,7 +99,7 @@ module _ {t : List ℕ} {c : Counts} {tr nd pr vl : List ℕ} (fit : Clauses t c
   trees-from : (j i : ℕ) → i + suc j ≡ m → writing (treesOf ns (tabulate (treeRow tr) i (suc j))) ≡ head (R i) ++ (joined T (suc (R i)) (n - suc (R i)) ++ endsBefore nd n none)
   unfolding tabulate
   trees-from zero i e =
-      append-nil (writeTree (formTree (record { root = R i; kind = kindAt tr i; nodes = drop (R i) ns })))
+      append-nil (treeText (formTree (record { root = R i; kind = kindAt tr i; nodes = drop (R i) ns })))
       ∙ tree-text i n (omega arith) (stretch-last fit i (omega arith)) (drop (R i) ns) (from-root (R i))
   trees-from (suc j) i e =
       let x = stretch-next fit i (omega arith) in

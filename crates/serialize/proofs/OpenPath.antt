@@ -1,5 +1,5 @@
 -- The open nodes of the writing are the chain of parents: what they end, and which are left. Assumes nothing.
-use Rattle.lists.proofs.Prelude.{ℕ, zero, suc, _≤_, _<_, Bool, true, false, List, [], _∷_, _++_, append-assoc, _≡_, refl, sym, ap, ap₂, _∙_, subst, arith, eqb, eq-eqb, ne-eqb, pick}
+use Rattle.lists.proofs.Prelude.{ℕ, zero, suc, _≤_, _<_, Bool, true, false, List, [], _∷_, _++_, append-assoc, inl, inr, _≡_, refl, sym, ap, ap₂, _∙_, subst, arith, eqb, eq-eqb, ne-eqb, pick}
 use Rattle.tables.specs.Numbers.{none}
 use Rattle.tables.proofs.Cases.{true-false}
 use Rattle.lists.proofs.Tests.{same-or}
@@ -8,6 +8,7 @@ use Rattle.tables.specs.Columns.{parentAt}
 use Rattle.fit_nodes.specs.Nodes.{hasParent, onPath}
 use Rattle.serialize.specs.Walk.{inBrackets, shut, climbs, endsBefore}
 use Rattle.serialize.specs.Write.{Open, ends, left, shuts}
+use Rattle.serialize.proofs.Branches.{On}
 
 module _ (nd : List ℕ) where
   -- node j and those above it up to the root, which stands in its tree's brackets
@@ -27,6 +28,12 @@ module _ (nd : List ℕ) where
   left-path j p (x ∷ y ∷ ys) h o =
       same-or j p (λ e. rw (eq-eqb (x .num) p (h .0 ∙ e)) (subst (λ (z : ℕ). PathFrom z (x ∷ y ∷ ys)) e h))
       (λ e. rw (ne-eqb (x .num) p (λ z. e (sym (h .0) ∙ z))) (left-path (parentAt nd j) p (y ∷ ys) (h .3) (path-down nd j p e o .1)))
+
+  pub path-on : (j p : ℕ) (xs : List Open) → PathFrom j xs → onPath nd j p ≡ true → On p xs
+  path-on j p [] h o = h
+  path-on j p (x ∷ []) h o = inl (h .0 ∙ root-only j p (h .2) o)
+  path-on j p (x ∷ y ∷ ys) h o =
+      same-or j p (λ e. inl (h .0 ∙ e)) (λ e. inr ((λ z. e (sym (h .0) ∙ z)), path-on (parentAt nd j) p (y ∷ ys) (h .3) (path-down nd j p e o .1)))
 
   shuts-end : (b : Bool) (r : List ℕ) → shuts b r ≡ pick b (0x29 ∷ []) [] ++ r
   shuts-end true r = refl

@@ -13,7 +13,7 @@ use Rattle.fit.specs.Record.{nodeRow, propRow, propOf, nodeOf, rawOf}
 use Rattle.serialize.specs.Form.{placeless, formProp, formNode}
 use Rattle.serialize.specs.Walk.{nameAt, valuesText, propText, propsText}
 use Rattle.serialize_values.specs.Boxes.{boxes}
-use Rattle.serialize.specs.Write.{boxed, writeProps}
+use Rattle.serialize.specs.Branch.{writeProps, boxed}
 use Rattle.serialize.proofs.Joined.{joined, texts-from}
 
 boxed-boxes : (vs : List (List ℕ)) → boxed (map placeless vs) ≡ boxes vs

@@ -5,8 +5,9 @@ use Rattle.tables.specs.Record.{allNodes, allProps}
 use Rattle.tables.specs.Memory.{Memory}
 use Rattle.fit.specs.Fit.{Fit}
 use Rattle.fit.specs.Record.{recordIn}
-use Rattle.serialize.specs.Form.{writing, answer, output, WriteIs}
-use Rattle.serialize.specs.Write.{nameless}
+use Rattle.serialize.specs.Form.{writing, output, WriteIs}
+use Rattle.serialize.specs.Locals.{answer}
+use Rattle.serialize.specs.Branch.{nameless}
 use Rattle.serialize.specs.declared.Written.{Written}
 use Rattle.serialize.specs.declared.Written.the-variants.{Wrote}
 

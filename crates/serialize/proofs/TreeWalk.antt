@@ -5,6 +5,7 @@ use Rattle.tables.specs.Numbers.{none}
 use Rattle.tables.specs.Record.{Node}
 use Rattle.tables.specs.Rows.{parents}
 use Rattle.tables.proofs.Cases.{below-or, true-false}
+use Rattle.fit.proofs.Parts.{tabulate-length}
 use Rattle.fit_nodes.proofs.Path.{has-none, path-out, path-le}
 use Rattle.fit_nodes.proofs.Rule.{rule-at, rule-has, off-on}
 use Rattle.tables.specs.Columns.{parentAt, childAt, siblingAt}
@@ -12,10 +13,13 @@ use Rattle.tables.specs.Each.{tabulate}
 use Rattle.fit_nodes.specs.Locals.{Ruled}
 use Rattle.fit_nodes.specs.Nodes.{firstUnder, nextOf, onPath}
 use Rattle.serialize.specs.Walk.{inBrackets, begun, endsBefore}
-use Rattle.serialize.specs.Write.{Open, bracketed, left, opened, ends, writeNodes, writeProps, writeTree}
+use Rattle.serialize.specs.Branch.{treeText, writeProps}
+use Rattle.serialize.specs.Write.{Open, bracketed, left, opened, ends, writeNodes, writeTree}
+use Rattle.serialize.proofs.Branches.{opening, Good}
 use Rattle.serialize.proofs.Joined.{joined}
-use Rattle.serialize.proofs.OpenPath.{PathFrom, left-path, ends-before, ends-last}
+use Rattle.serialize.proofs.OpenPath.{PathFrom, left-path, path-on, ends-before, ends-last}
 use Rattle.serialize.proofs.Siblings.{counted-none, brackets-are, counted-here}
+use Rattle.serialize.proofs.TreeTexts.{tree-text}
 
 -- n nodes whose links are right
 pub record Linking (nd : List ℕ) (n : ℕ) : Type 0 where
@@ -116,10 +120,10 @@ module _ {nd : List ℕ} {n a b : ℕ} (linking : Linking nd n) (stretch : Stret
       let e : b - a ≡ suc (b - suc a) = omega (arith, stretch .some) in
       rw (e, eq-eqb (parentAt nd a) none (stretch .root), counted-none nd none (b - suc a) (suc a) (λ i l u. stretch .others i (omega arith) (omega arith)))
 
-  pub tree-is : (kind : ℕ) → writeTree (record { root = a; kind = kind; nodes = tabulate nodeAt a (b - a) })
+  tree-walked : (kind : ℕ) → writeTree (record { root = a; kind = kind; nodes = tabulate nodeAt a (b - a) })
       ≡ (begun nd a ++ (0x3b ∷ body a)) ++ (joined (textOf nd body) (suc a) (b - suc a) ++ endsBefore nd b none)
   unfolding tabulate
-  tree-is kind =
+  tree-walked kind =
       let s = stretch .some in
       let e : b - a ≡ suc (b - suc a) = omega arith in
       let top : Open = record { num = a; brk = bracketed ps (parentAt nd a) } in
@@ -133,3 +137,34 @@ module _ {nd : List ℕ} {n a b : ℕ} (linking : Linking nd n) (stretch : Stret
       ∙ ap₂ (λ (x : Bool) (y : List ℕ). (pick x (0x28 ∷ []) [] ++ (0x3b ∷ y)) ++ (r ++ (0x29 ∷ []))) f (body-is a (omega arith) s))
       ∙ ap₂ (λ (x y : List ℕ). x ++ y) g
       (walk-is (b - suc a) a (top ∷ []) (omega arith) (omega arith) (refl, f, stretch .root))
+
+  -- ---- the tree by recursion
+
+  good-from : (m j : ℕ) (xs : List Open) → suc j + m ≡ b → a ≤ j → PathFrom nd j xs → Good ps (suc j) xs (tabulate nodeAt (suc j) m)
+  unfolding tabulate
+  good-from zero j xs e l h = tt
+  good-from (suc m) j xs e l h =
+      let q : ℕ = parentAt nd (suc j) in
+      let u : suc j < b = omega arith in
+      (path-on nd j q xs h (on-path j l u), good-from m (suc j) (opening ps (suc j) q ∷ left q xs) (omega arith) (omega arith) (path-next j l u (bracketed ps q) xs (brackets-here j l u) h))
+
+  parents-from : ps ≡ none ∷ parents (tabulate nodeAt (suc a) (b - suc a))
+  unfolding tabulate
+  parents-from =
+      let e : b - a ≡ suc (b - suc a) = omega (arith, stretch .some) in
+      ap (tabulate (parentAt nd) a) e ∙ ap₂ (λ (x : ℕ) (y : List ℕ). x ∷ y) (stretch .root) (sym (parents-are (b - suc a) (suc a)))
+
+  pub tree-is : (kind : ℕ) → treeText (record { root = a; kind = kind; nodes = tabulate nodeAt a (b - a) })
+      ≡ (begun nd a ++ (0x3b ∷ body a)) ++ (joined (textOf nd body) (suc a) (b - suc a) ++ endsBefore nd b none)
+  unfolding tabulate
+  tree-is kind =
+      let s = stretch .some in
+      let e : b - a ≡ suc (b - suc a) = omega arith in
+      let ns : List Node = tabulate nodeAt (suc a) (b - suc a) in
+      let top : List ℕ → Open = λ z. opening z a none in
+      ap (λ (z : ℕ). treeText (record { root = a; kind = kind; nodes = tabulate nodeAt a z })) e
+      ∙ sym (tree-text a kind (nodeAt a) ns (stretch .root) (subst (λ (z : List ℕ). bracketed z none ≡ false) parents-from root-counted)
+      (subst (λ (z : List ℕ). Good z (suc a) (top z ∷ []) ns) parents-from (good-from (b - suc a) a (top ps ∷ []) (omega arith) (omega arith) (refl, root-counted, stretch .root)))
+      (omega (arith, tabulate-length nodeAt (suc a) (b - suc a), linking .ruled .most, stretch .inside)))
+      ∙ ap (λ (z : ℕ). writeTree (record { root = a; kind = kind; nodes = tabulate nodeAt a z })) (sym e)
+      ∙ tree-walked kind

@@ -12,10 +12,10 @@ use Rattle.fit.specs.Record.{textIn, recordIn}
 use Rattle.fit.proofs.Clauses.{Clauses, fit-clauses, name-in}
 use Rattle.fit_spans.proofs.Ranges.{gapless-in}
 use Rattle.fit.proofs.Whole.{fit-lent}
-use Rattle.serialize.specs.Form.{writing, answer, written, WriteIs}
-use Rattle.serialize.specs.Locals.{PropHeld, NodesHeld}
+use Rattle.serialize.specs.Form.{writing, written, WriteIs}
+use Rattle.serialize.specs.Locals.{answer, PropHeld, NodesHeld}
 use Rattle.serialize.specs.Walk.{linked, namesGood}
-use Rattle.serialize.specs.Write.{nameless}
+use Rattle.serialize.specs.Branch.{nameless}
 use Rattle.serialize.specs.declared.Written.the-variants.{Wrote as Done, Refused}
 use Rattle.serialize.proofs.AllNames.{names-are}
 use Rattle.serialize.proofs.Linked.{linked-is}

@@ -1,5 +1,5 @@
 -- What is written: the form of the values, the writing of a record, and the writer's answer.
-use Rattle.lists.specs.Prelude.{ℕ, _≡_, Bool, true, false, List, _++_, map, ltb, length, drop}
+use Rattle.lists.specs.Prelude.{ℕ, _≡_, not, List, _++_, map, ltb, length, drop, pick}
 use Rattle.lexer.specs.Token.{Val, Prop}
 use Rattle.values.specs.Read.{readIdentifier}
 use Rattle.go.specs.Normal.{normal}
@@ -8,7 +8,7 @@ use Rattle.tables.specs.Memory.{Memory}
 use Rattle.tables.specs.declared.Reason.the-variants.{NoRoom, EmptyIdentifier, NotFitting}
 use Rattle.fit.specs.Fit.{Fit}
 use Rattle.fit.specs.Record.{rawsOf, recordIn}
-use Rattle.serialize.specs.Write.{writeTrees, nameless}
+use Rattle.serialize.specs.Branch.{treesText, nameless}
 use Rattle.serialize.specs.declared.Written.{Written}
 use Rattle.serialize.specs.declared.Written.the-variants.{Wrote, Refused}
 
@@ -30,22 +30,15 @@ formTree t = record { root = t .root; kind = t .kind; nodes = map (formNode (t .
 
 -- the writing of a record
 abbrev pub writing : List Tree → List ℕ
-writing ts = writeTrees (map formTree ts)
+writing ts = treesText (map formTree ts)
 
--- do the tables fit; does an identifier of any tree read as empty; is the writing w longer than the bytes lent
-abbrev pub answer : Bool → Bool → Bool → (w : List ℕ) → Written
-answer false named short w = Refused NotFitting
-answer true true short w = Refused EmptyIdentifier
-answer true false true w = Refused NoRoom
-answer true false false w = Wrote (length w)
-
--- of trees
-abbrev pub answerFor : Bool → (room : ℕ) → List Tree → Written
-answerFor fits room ts = answer fits (nameless (allProps (allNodes ts))) (ltb room (length (writing ts))) (writing ts)
-
--- of lent memory
+-- the writer's answer over lent memory: the first refusal that applies, else how many bytes are written
 abbrev pub written : Memory → (room : ℕ) → Written
-written m room = answerFor (Fit m) room (recordIn m)
+written m room =
+    pick (not (Fit m)) (Refused NotFitting)
+    (pick (nameless (allProps (allNodes (recordIn m)))) (Refused EmptyIdentifier)
+    (pick (ltb room (length (writing (recordIn m)))) (Refused NoRoom)
+    (Wrote (length (writing (recordIn m))))))
 
 -- the lent bytes then: the writing and what was behind it; a refusal changes none
 abbrev pub output : Written → (w out : List ℕ) → List ℕ

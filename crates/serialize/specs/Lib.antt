@@ -1,3 +1,4 @@
+pub mod Branch
 pub mod Form
 pub mod Locals
 pub mod Walk

@@ -1,9 +1,12 @@
 -- What the writer's own functions promise and ask of each other.
-use Rattle.lists.specs.Prelude.{ℕ, suc, _+_, _/_, _<_, _≤_, _-_, true, List, _≡_, length}
+use Rattle.lists.specs.Prelude.{ℕ, suc, _+_, _/_, _<_, _≤_, _-_, Bool, true, not, List, _≡_, length, pick}
 use Rattle.tables.specs.Numbers.{none}
 use Rattle.tables.specs.Columns.{nodeStride, propertyStride, parentAt, firstPropAt, propCountAt, nameFromAt, nameToAt}
 use Rattle.fit_nodes.specs.Locals.{Ruled}
 use Rattle.fit_nodes.specs.Nodes.{onPath}
+use Rattle.tables.specs.declared.Reason.the-variants.{NoRoom, EmptyIdentifier, NotFitting}
+use Rattle.serialize.specs.declared.Written.{Written}
+use Rattle.serialize.specs.declared.Written.the-variants.{Wrote, Refused}
 
 -- row p of the properties is there, and its identifier lies in the text
 pub record PropHeld (t pr : List ℕ) (p : ℕ) : Type 0 where
@@ -31,3 +34,7 @@ pub record NodesHeld (t nd pr : List ℕ) (n : ℕ) : Type 0 where
 -- the nodes up to node k
 abbrev pub NodeHeld : (t nd pr : List ℕ) (k : ℕ) → Type 0
 NodeHeld t nd pr k = NodesHeld t nd pr (suc k)
+
+-- the writer's answer by its tests: do the tables fit; does an identifier read as empty; is the writing w longer than the bytes lent
+abbrev pub answer : (fits blank short : Bool) → (w : List ℕ) → Written
+answer fits blank short w = pick (not fits) (Refused NotFitting) (pick blank (Refused EmptyIdentifier) (pick short (Refused NoRoom) (Wrote (length w))))

@@ -1,25 +1,14 @@
--- Writing: a walk over the nodes, in order, with the open nodes on a path; values as they are raw.
-use Rattle.lists.specs.Prelude.{ℕ, suc, Bool, true, false, _||_, List, [], _∷_, _++_, length, leb, eqb, pick}
-use Rattle.lexer.specs.Token.{Val, Prop}
+-- The writing as a walk over the nodes, in order, with the open nodes on a path: steps towards the code, which Branch is proved equal to.
+use Rattle.lists.specs.Prelude.{ℕ, suc, Bool, true, false, List, [], _∷_, _++_, leb, eqb, pick}
 use Rattle.tables.specs.Numbers.{none}
 use Rattle.tables.specs.Record.{Node, Tree}
 use Rattle.tables.specs.Rows.{parents}
-use Rattle.values.specs.Read.{readIdentifier}
+use Rattle.serialize.specs.Branch.{writeProps}
 
 -- an open node: its number, and whether it stands in brackets
 pub record Open : Type 0 where
   pub num : ℕ
   pub brk : Bool
-
--- the values in their brackets
-abbrev pub boxed : List Val → List ℕ
-boxed [] = []
-boxed (v ∷ vs) = 0x5b ∷ (v .raw ++ (0x5d ∷ boxed vs))
-
--- read identifiers and values
-abbrev pub writeProps : List Prop → List ℕ
-writeProps [] = []
-writeProps (p ∷ ps) = readIdentifier (p .name) ++ (boxed (p .vals) ++ writeProps ps)
 
 -- how many of the parents are p
 abbrev pub times : ℕ → List ℕ → ℕ
@@ -66,8 +55,3 @@ writeTree t = 0x28 ∷ (writeNodes (parents (t .nodes)) (t .root) [] (t .nodes) 
 abbrev pub writeTrees : List Tree → List ℕ
 writeTrees [] = []
 writeTrees (t ∷ ts) = writeTree t ++ writeTrees ts
-
--- an identifier reads as empty
-abbrev pub nameless : List Prop → Bool
-nameless [] = false
-nameless (p ∷ ps) = leb (length (readIdentifier (p .name))) 0 || nameless ps

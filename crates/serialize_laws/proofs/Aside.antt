@@ -5,7 +5,7 @@ use Rattle.serialize_laws.proofs.FormProps.{form-places, form-twice}
 use Rattle.serialize_laws.proofs.ReadBack.{zero-trees}
 use Rattle.serialize_laws.specs.Back.{zProp, zNode, zTree}
 use Rattle.serialize.specs.Form.{formProp, formNode, formTree, writing}
-use Rattle.serialize.specs.Write.{writeTrees}
+use Rattle.serialize.specs.Branch.{treesText}
 use Rattle.tables.specs.Record.{Node, Tree}
 
 aside-props : (k : ℕ) (ps : List Prop) → map zProp (map (formProp k) ps) ≡ map zProp (map (formProp k) (map zProp ps))
@@ -36,9 +36,9 @@ twice-trees (t ∷ ts) = ap₂ (λ (x : List Node) (y : List Tree). record { roo
 pub written-alike : (ts us : List Tree) → map zTree ts ≡ map zTree us → writing ts ≡ writing us
 written-alike ts us e =
     sym (zero-trees (map formTree ts))
-    ∙ ap writeTrees (aside-trees ts ∙ ap (λ (z : List Tree). map zTree (map formTree z)) e ∙ sym (aside-trees us))
+    ∙ ap treesText (aside-trees ts ∙ ap (λ (z : List Tree). map zTree (map formTree z)) e ∙ sym (aside-trees us))
     ∙ zero-trees (map formTree us)
 
 -- trees in normal form are written as they were
 pub written-twice : (ts : List Tree) → writing (map formTree ts) ≡ writing ts
-written-twice ts = sym (zero-trees (map formTree (map formTree ts))) ∙ ap writeTrees (twice-trees ts) ∙ zero-trees (map formTree ts)
+written-twice ts = sym (zero-trees (map formTree (map formTree ts))) ∙ ap treesText (twice-trees ts) ∙ zero-trees (map formTree ts)

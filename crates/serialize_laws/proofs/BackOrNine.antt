@@ -1,5 +1,5 @@
--- A writing within the text limit is read back, or is refused with 9. Assumes nothing.
-use Rattle.lists.proofs.Prelude.{_≡_, refl, sym, ap, _∙_, _⊎_, inl, inr, ℕ, _≤_, _<_, arith, Bool, true, false, List, [], map, reverse, reverseAux, ltb, length, length-map, length-reverseAux, take-length, le-ltb, ltb-true, ltb-false, pick}
+-- A writing within the text limit is refused with 9 where it is too deep, and else read back. Assumes nothing.
+use Rattle.lists.proofs.Prelude.{_≡_, refl, sym, ap, _∙_, subst, ℕ, _≤_, _<_, arith, Bool, true, false, List, [], map, reverse, reverseAux, ltb, length, length-map, length-reverseAux, take-length, le-ltb, lt-ltb, ltb-true, pick}
 use Rattle.edit_laws.proofs.Reread.{in-textLimit}
 use Rattle.edit_laws.specs.Run.{strictly}
 use Rattle.lexer.specs.Token.{End, Lexed, Tok, lexFrom}
@@ -7,16 +7,19 @@ use Rattle.lists.proofs.Tests.{never}
 use Rattle.parser.proofs.Moved.{move-tokens, moveAnswer}
 use Rattle.parser.specs.Read.{Answer, accepted, decoded, lexing, planted, read, refused}
 use Rattle.parser.specs.Split.{Splitting, no, sliced, slices, split, splitting}
-use Rattle.serialize_laws.proofs.ReadBack.{Back, Form, gm-same, read-back-again}
+use Rattle.serialize_laws.proofs.ReadBack.{Back, Form, gm-same, read-back-again, walk-writes}
+use Rattle.serialize_laws.proofs.Deep.{written-depth}
 use Rattle.serialize_laws.proofs.Inked.{written-ink}
 use Rattle.serialize_laws.proofs.Resplit.{deepest, filled-any, split-trees}
 use Rattle.serialize_laws.proofs.Written.{lex-written, tokTree, tokTrees}
+use Rattle.serialize.specs.Branch.{treesText}
 use Rattle.serialize.specs.Write.{writeTrees}
 use Rattle.tables.specs.Numbers.{depthLimit, textLimit}
 use Rattle.tables.specs.Record.{Tree}
 use Rattle.tables.specs.declared.Reason.the-variants.{TooDeep}
 use Rattle.text_utf8.specs.Text.{Utf, blank, utfs, whole}
 use Rattle.serialize_laws.specs.Back.{Z, K}
+use Rattle.serialize_laws.specs.Depth.{depthOf}
 
 -- the answer for a writing is the answer for its tokens, places aside
 read-tokens : (c : Bool) (ts : List Tree) → Form ts → length (writeTrees ts) ≤ textLimit
@@ -54,9 +57,22 @@ nine c ts f s b =
     go (refused n p) e h = e ∙ h
     go (accepted us) e h = never cc
 
-pub back-or-nine : (c : Bool) (ts : List Tree) → Form ts → length (writeTrees ts) ≤ textLimit → (read (strictly c) (writeTrees ts) ≡ refused TooDeep 0) ⊎ Back c ts
-back-or-nine c ts f s = go (ltb depthLimit (deepest (split false (splitting 0 0 [] []) (tokTrees ts)))) refl
-  where
-    go : (b : Bool) → ltb depthLimit (deepest (split false (splitting 0 0 [] []) (tokTrees ts))) ≡ b → (read (strictly c) (writeTrees ts) ≡ refused TooDeep 0) ⊎ Back c ts
-    go true e = inl (nine c ts f s e)
-    go false e = inr (read-back-again c ts (record { form = f; shallow = ltb-false depthLimit (deepest (split false (splitting 0 0 [] []) (tokTrees ts))) e; short = s }))
+module _ (c : Bool) (ts : List Tree) (f : Form ts) (s : length (treesText ts) ≤ textLimit) where
+  walked : writeTrees ts ≡ treesText ts
+  walked = walk-writes ts f
+
+  short : length (writeTrees ts) ≤ textLimit
+  short = subst (λ (z : List ℕ). length z ≤ textLimit) (sym walked) s
+
+  depth : depthOf (treesText ts) ≡ deepest (split false (splitting 0 0 [] []) (tokTrees ts))
+  depth = ap depthOf (sym walked) ∙ written-depth ts f
+
+  -- 9 where the writing is too deep
+  pub deep-nine : depthLimit < depthOf (treesText ts) → read (strictly c) (treesText ts) ≡ refused TooDeep 0
+  deep-nine d =
+      let D : ℕ = deepest (split false (splitting 0 0 [] []) (tokTrees ts)) in
+      ap (read (strictly c)) (sym walked) ∙ nine c ts f short (lt-ltb depthLimit D (omega (arith, d, depth)))
+
+  -- else it is read back
+  pub shallow-back : depthOf (treesText ts) ≤ depthLimit → Back c ts
+  shallow-back d = read-back-again c ts (record { form = f; shallow = omega (arith, d, depth); short = short })

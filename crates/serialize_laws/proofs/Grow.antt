@@ -6,20 +6,13 @@ use Rattle.lists.specs.All.{All}
 use Rattle.parser.specs.Walk.{Gate, Walk, children, takes, walk, walked}
 use Rattle.serialize_laws.proofs.WrittenProps.{Plain}
 use Rattle.serialize_laws.proofs.Written.{PlainNode, tokEnds, tokNodes, tokOpened, tokProps}
+use Rattle.serialize.proofs.Branches.{opening, Good}
 use Rattle.serialize.specs.Write.{Open, bracketed, left}
 use Rattle.tables.specs.Numbers.{none}
 use Rattle.tables.specs.Record.{Node}
 use Rattle.tables.specs.Rows.{parents}
 use Rattle.serialize_laws.specs.Back.{zProp, zNode}
-use Rattle.serialize_laws.proofs.GrowNode.{walked-append, top, stk, On, Chain, two, ends-to, ends-all, left-top, left-chain, chain-up, props-run, open-run, or-right}
-
-abbrev pub opening : List ℕ → ℕ → ℕ → Open
-opening ps k p = record { num = k; brk = bracketed ps p }
-
--- each node's parent is open when the node is written
-abbrev pub Good : List ℕ → ℕ → List Open → List Node → Type 0
-Good ps k path [] = Unit {0}
-Good ps k path (n ∷ ns) = On (n .parent) path × Good ps (suc k) (opening ps k (n .parent) ∷ left (n .parent) path) ns
+use Rattle.serialize_laws.proofs.GrowNode.{walked-append, top, stk, Chain, two, ends-to, ends-all, left-top, left-chain, chain-up, props-run, open-run, or-right}
 
 module _ (c : Bool) (base : ℕ) (ps : List ℕ) where
   -- `;` and the properties

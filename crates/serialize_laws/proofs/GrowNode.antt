@@ -6,6 +6,7 @@ use Rattle.lists.specs.All.{All}
 use Rattle.parser.specs.Walk.{Gate, Opts, Walk, children, opens, shut, takes, walk, walked, walks}
 use Rattle.serialize_laws.proofs.WrittenProps.{Plain}
 use Rattle.serialize_laws.proofs.Written.{tokEnds, tokOpened, tokProps, tokShuts}
+use Rattle.serialize.proofs.Branches.{On}
 use Rattle.serialize.specs.Write.{Open, bracketed, left, times}
 use Rattle.tables.specs.Numbers.{none}
 use Rattle.tables.specs.Record.{Node}
@@ -28,11 +29,6 @@ push false n st = st
 abbrev pub stk : List Open → List ℕ
 stk [] = none ∷ []
 stk (x ∷ xs) = push (x .brk) (top xs) (stk xs)
-
--- p is a number of the path
-abbrev pub On : ℕ → List Open → Type 0
-On p [] = ⊥
-On p (x ∷ xs) = (x .num ≡ p) ⊎ ((x .num ≡ p → ⊥) × On p xs)
 
 -- each open node's parent is the one below it on the path, which has a child among the nodes; its bracket is the writer's
 abbrev pub Chain : List ℕ → List Node → List Open → Type 0

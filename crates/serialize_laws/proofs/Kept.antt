@@ -73,19 +73,19 @@ same-trees ts us e = pairs-from zTree (λ t. zTree (formTree t)) SameTree same-t
 -- ---- their rows
 
 module _ {A : Type 0} (R : A → A → Type 0) where
-  pairs-length : (xs ys : List A) → Pairs R xs ys → length ys ≡ length xs
+  pub pairs-length : (xs ys : List A) → Pairs R xs ys → length ys ≡ length xs
   pairs-length [] [] h = refl
   pairs-length [] (y ∷ ys) h = absurd h
   pairs-length (x ∷ xs) [] h = absurd h
   pairs-length (x ∷ xs) (y ∷ ys) h = ap suc (pairs-length xs ys (h .1))
 
-  pairs-append : (xs ys zs ws : List A) → Pairs R xs ys → Pairs R zs ws → Pairs R (xs ++ zs) (ys ++ ws)
+  pub pairs-append : (xs ys zs ws : List A) → Pairs R xs ys → Pairs R zs ws → Pairs R (xs ++ zs) (ys ++ ws)
   pairs-append [] [] zs ws h k = k
   pairs-append [] (y ∷ ys) zs ws h k = absurd h
   pairs-append (x ∷ xs) [] zs ws h k = absurd h
   pairs-append (x ∷ xs) (y ∷ ys) zs ws h k = (h .0, pairs-append xs ys zs ws (h .1) k)
 
-  pairs-map : (S : A → A → Type 0) → ((x y : A) → R x y → S x y) → (xs ys : List A) → Pairs R xs ys → Pairs S xs ys
+  pub pairs-map : (S : A → A → Type 0) → ((x y : A) → R x y → S x y) → (xs ys : List A) → Pairs R xs ys → Pairs S xs ys
   pairs-map S f [] [] h = tt
   pairs-map S f [] (y ∷ ys) h = h
   pairs-map S f (x ∷ xs) [] h = h

@@ -1,6 +1,8 @@
+pub mod Alikes
 pub mod Aside
 pub mod BackOrNine
 pub mod Closing
+pub mod Deep
 pub mod FormProps
 pub mod Grow
 pub mod GrowNode
@@ -9,6 +11,8 @@ pub mod Inked
 pub mod Kept
 pub mod Nested
 pub mod Normal
+pub mod OneSet
+pub mod OneWriting
 pub mod Opening
 pub mod Pieces
 pub mod ReadBack

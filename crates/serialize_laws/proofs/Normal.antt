@@ -3,13 +3,13 @@ use Rattle.lists.proofs.Prelude.{_≡_, refl, sym, ap, _∙_, subst, ℕ, suc, 
 use Rattle.lexer.specs.Token.{Prop}
 use Rattle.lists.specs.All.{All}
 use Rattle.serialize_laws.proofs.FormProps.{form-plain, form-valid, form-kinds}
-use Rattle.serialize_laws.proofs.Grow.{Good, opening}
 use Rattle.serialize_laws.proofs.ReadBack.{Form}
 use Rattle.serialize_laws.proofs.Inked.{ValidNode, ValidProp, ValidTree}
 use Rattle.serialize_laws.proofs.Resplit.{Few}
 use Rattle.serialize_laws.proofs.Regrow.{SoundNodes, SoundTrees}
 use Rattle.serialize_laws.proofs.WrittenProps.{Plain}
 use Rattle.serialize_laws.proofs.Written.{PlainNode, PlainTree}
+use Rattle.serialize.proofs.Branches.{opening, Good}
 use Rattle.serialize.specs.Form.{formProp, formNode, formTree}
 use Rattle.serialize.specs.Write.{Open, bracketed, left}
 use Rattle.tables.specs.Numbers.{none}

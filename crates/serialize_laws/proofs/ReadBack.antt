@@ -1,5 +1,5 @@
 -- Strict reading of a writing gives the same trees, places aside; the writer sees no places. Assumes nothing.
-use Rattle.lists.proofs.Prelude.{_≡_, refl, sym, ap, ap₂, _∙_, ℕ, suc, _≤_, _<_, Bool, false, List, [], _∷_, _++_, map, ltb, length, take-length, le-ltb}
+use Rattle.lists.proofs.Prelude.{_≡_, refl, sym, ap, ap₂, _∙_, subst, ℕ, _+_, _≤_, _<_, Bool, false, List, [], _∷_, _++_, map, ltb, length, take-length, le-ltb}
 use Rattle.edit_laws.proofs.Reread.{in-textLimit}
 use Rattle.edit_laws.specs.Run.{strictly}
 use Rattle.lexer_laws.proofs.Invariant.{OfTok}
@@ -12,13 +12,13 @@ use Rattle.parser.proofs.MovedKind.{GmStays}
 use Rattle.parser.specs.Read.{Answer, accepted, decoded, lexing, planted, read, refused}
 use Rattle.parser.specs.Split.{sliced, split, splitting}
 use Rattle.serialize_laws.proofs.Resplit.{Few, deepest, planted-written}
-use Rattle.serialize_laws.proofs.Regrow.{SoundTrees, raws-stay}
+use Rattle.serialize_laws.proofs.Regrow.{SoundNodes, SoundTrees, raws-stay}
 use Rattle.serialize_laws.proofs.Written.{PlainTree, lex-written, tokTrees}
-use Rattle.serialize.specs.Write.{Open, boxed, bracketed, ends, left, opened, writeNodes, writeProps, writeTree, writeTrees}
-use Rattle.tables.proofs.Moved.{parents-move}
+use Rattle.serialize.proofs.TreeTexts.{tree-text, Alike, alike-tree}
+use Rattle.serialize.specs.Branch.{boxed, writeProps, treeText, treesText}
+use Rattle.serialize.specs.Write.{writeTree, writeTrees}
 use Rattle.tables.specs.Numbers.{textLimit}
 use Rattle.tables.specs.Record.{Node, Tree}
-use Rattle.tables.specs.Rows.{parents}
 use Rattle.text_utf8.specs.Text.{Utf, blank, utfs, whole}
 use Rattle.values.specs.Read.{readIdentifier}
 use Rattle.serialize_laws.specs.Back.{some, Z, K, zProp, zTok, zNode, zTree}
@@ -77,25 +77,33 @@ zero-props : (ps : List Prop) → writeProps (map zProp ps) ≡ writeProps ps
 zero-props [] = refl
 zero-props (p ∷ ps) = ap₂ (λ (y z : List ℕ). readIdentifier (p .name) ++ (y ++ z)) (zero-boxed (p .vals)) (zero-props ps)
 
-zero-nodes : (ps : List ℕ) (k : ℕ) (path : List Open) (ns : List Node) → writeNodes ps k path (map zNode ns) ≡ writeNodes ps k path ns
-zero-nodes ps k path [] = refl
-zero-nodes ps k path (n ∷ ns) =
-    ap₂ (λ (y z : List ℕ). ends (n .parent) path ++ opened (bracketed ps (n .parent)) (0x3b ∷ (y ++ z))) (zero-props (n .props))
-    (zero-nodes ps (suc k) (record { num = k; brk = bracketed ps (n .parent) } ∷ left (n .parent) path) ns)
+zero-nodes : (ns : List Node) → Alike (map zNode ns) ns
+zero-nodes [] = tt
+zero-nodes (n ∷ ns) = (refl, zero-props (n .props), zero-nodes ns)
 
-zero-tree : (t : Tree) → writeTree (zTree t) ≡ writeTree t
-zero-tree t =
-    ap (λ (ps : List ℕ). 0x28 ∷ (writeNodes ps (t .root) [] (map zNode (t .nodes)) ++ (0x29 ∷ []))) (parents-move Z Z K (t .nodes))
-    ∙ ap (λ (z : List ℕ). 0x28 ∷ (z ++ (0x29 ∷ []))) (zero-nodes (parents (t .nodes)) (t .root) [] (t .nodes))
-
-pub zero-trees : (ts : List Tree) → writeTrees (map zTree ts) ≡ writeTrees ts
+pub zero-trees : (ts : List Tree) → treesText (map zTree ts) ≡ treesText ts
 zero-trees [] = refl
-zero-trees (t ∷ ts) = ap₂ (λ (y z : List ℕ). y ++ z) (zero-tree t) (zero-trees ts)
+zero-trees (t ∷ ts) = ap₂ (λ (y z : List ℕ). y ++ z) (alike-tree (t .root) (t .kind) (t .kind) (map zNode (t .nodes)) (t .nodes) (zero-nodes (t .nodes))) (zero-trees ts)
+
+walk-nodes : (r k : ℕ) (ns : List Node) → SoundNodes r k ns → writeTree (record { root = r; kind = k; nodes = ns }) ≡ treeText (record { root = r; kind = k; nodes = ns })
+walk-nodes r k [] h = absurd h
+walk-nodes r k (n ∷ ns) h = tree-text r k n ns (h .0) (h .1 .single) (h .1 .good) (h .1 .few)
+
+walk-trees : (base : ℕ) (ts : List Tree) → SoundTrees base ts → writeTrees ts ≡ treesText ts
+walk-trees base [] h = refl
+walk-trees base (t ∷ ts) h =
+    ap₂ (λ (y z : List ℕ). y ++ z)
+    (walk-nodes (t .root) (t .kind) (t .nodes) (subst (λ (r : ℕ). SoundNodes r (t .kind) (t .nodes)) (sym (h .0)) (h .1)))
+    (walk-trees (base + length (t .nodes)) ts (h .2))
+
+-- the walk over such trees gives their writing
+pub walk-writes : (ts : List Tree) → Form ts → writeTrees ts ≡ treesText ts
+walk-writes ts f = walk-trees 0 ts (f .sound)
 
 -- a strict reading of the writing, values as they are raw, is accepted with trees that are the same but for places
 pub record Back (c : Bool) (ts : List Tree) : Type 0 where
   pub again : List Tree
-  pub accepts : read (strictly c) (writeTrees ts) ≡ accepted again
+  pub accepts : read (strictly c) (treesText ts) ≡ accepted again
   pub alike : map zTree again ≡ map zTree ts
 
 pub read-back-again : (c : Bool) (ts : List Tree) → Writable ts → Back c ts
@@ -103,4 +111,4 @@ read-back-again c ts w = go (read (strictly c) (writeTrees ts)) refl (read-back 
   where
     go : (a : Answer) → read (strictly c) (writeTrees ts) ≡ a → moveAnswer Z Z K a ≡ accepted (map zTree ts) → Back c ts
     go (refused n p) e h = never cc
-    go (accepted us) e h = record { again = us; accepts = e; alike = cc }
+    go (accepted us) e h = record { again = us; accepts = ap (read (strictly c)) (sym (walk-writes ts (w .form))) ∙ e; alike = cc }

@@ -5,8 +5,8 @@ use Rattle.lexer.specs.Token.{Prop, Tok, end, node, prop, start}
 use Rattle.lists.specs.All.{All}
 use Rattle.parser.specs.Read.{accepted, answer, growAll, growing, planted}
 use Rattle.parser.specs.Split.{Splitting, deep, filled, no, over, sliced, slices, split, splits, splitting, wrong}
-use Rattle.serialize_laws.proofs.Grow.{opening}
 use Rattle.serialize_laws.proofs.Written.{tokEnds, tokNodes, tokOpened, tokProps, tokShuts, tokTree, tokTrees}
+use Rattle.serialize.proofs.Branches.{opening}
 use Rattle.serialize.specs.Write.{Open, bracketed, left}
 use Rattle.tables.specs.Numbers.{depthLimit, none}
 use Rattle.tables.specs.Record.{Node, Tree}

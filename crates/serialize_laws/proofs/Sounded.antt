@@ -7,13 +7,13 @@ use Rattle.lists.proofs.Tests.{never}
 use Rattle.parser.specs.Kind.{GM, Kind, is, kind, kindProps, named, props, unkind}
 use Rattle.parser.specs.Read.{Growing, failing, growAll, growing, grown, grows, kinded, rooted}
 use Rattle.parser.specs.Walk.{Walk, halted, shut, stopped, walk, walked}
-use Rattle.serialize_laws.proofs.Grow.{Good, opening}
 use Rattle.serialize_laws.proofs.Closing.{Closes, SliceOk}
 use Rattle.serialize_laws.proofs.Nested.{DescP, FInv, GoodR, desc-left, on-less, pathR, w-slice}
 use Rattle.serialize_laws.proofs.InOrder.{good-nodes, good-tail}
 use Rattle.serialize_laws.proofs.Regrow.{reverse-reverseAux}
 use Rattle.serialize_laws.proofs.RootProps.{RootIs, root-slice, rootProps}
 use Rattle.serialize_laws.proofs.Sizes.{AtMost, most-walked, total}
+use Rattle.serialize.proofs.Branches.{opening, Good}
 use Rattle.serialize.specs.Write.{bracketed, times}
 use Rattle.tables.specs.Numbers.{none}
 use Rattle.tables.specs.Record.{Node, Tree}

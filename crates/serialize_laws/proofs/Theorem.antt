@@ -1,21 +1,25 @@
 -- Document 01's "Reading back". Assumes nothing.
-use Rattle.lists.proofs.Prelude.{_≡_, _∙_, _⊎_, inl, inr, ℕ, _≤_, Bool, List, [], _∷_, map, length}
+use Rattle.lists.proofs.Prelude.{_≡_, sym, _∙_, _⊎_, inl, inr, ℕ, _≤_, _<_, Bool, List, [], _∷_, map, length}
 use Rattle.edit_laws.specs.Run.{strictly}
 use Rattle.lists.proofs.All.{all-left, all-right}
 use Rattle.lists.specs.All.{All}
+use Rattle.parser.proofs.Answers.{not-both}
 use Rattle.parser.proofs.Lift.{OfNode, OfTree}
 use Rattle.parser.specs.Read.{accepted, read, refused}
 use Rattle.serialize_laws.proofs.Aside.{written-alike, written-twice}
-use Rattle.serialize_laws.proofs.BackOrNine.{back-or-nine}
+use Rattle.serialize_laws.proofs.BackOrNine.{deep-nine, shallow-back}
 use Rattle.serialize_laws.proofs.Kept.{same-trees, same-tree-rows, same-node-rows}
 use Rattle.serialize_laws.proofs.Normal.{normal-form}
-use Rattle.serialize_laws.proofs.ReadBack.{Back}
+use Rattle.serialize_laws.proofs.ReadBack.{Back, Form}
 use Rattle.serialize_laws.proofs.Sounding.{writable}
 use Rattle.serialize_laws.specs.Back.{Named, BeginsAll}
+use Rattle.serialize_laws.specs.Depth.{depthOf}
 use Rattle.serialize_laws.specs.Same.{ReadsBack}
 use Rattle.serialize.specs.Form.{formTree, writing}
-use Rattle.tables.specs.Numbers.{textLimit}
+use Rattle.tables.proofs.Cases.{below-or}
+use Rattle.tables.specs.Numbers.{depthLimit, textLimit}
 use Rattle.tables.specs.Record.{Node, Tree, allNodes, allProps}
+use Rattle.tables.specs.declared.Reason.{Reason}
 use Rattle.tables.specs.declared.Reason.the-variants.{TooDeep}
 
 named-nodes : (ns : List Node) → All Named (allProps ns) → All (OfNode Named) ns
@@ -26,22 +30,34 @@ named-trees : (ts : List Tree) → All (OfNode Named) (allNodes ts) → All (OfT
 named-trees [] h = tt
 named-trees (t ∷ ts) h = (all-left (OfNode Named) (t .nodes) (allNodes ts) h, named-trees ts (all-right (OfNode Named) (t .nodes) (allNodes ts) h))
 
--- a text that is strictly accepted, conversion on or off, whose trees each begin with `(` and whose raw identifiers are non-empty and uppercase:
--- its writing, if within the text limit, is too deep or is read back, conversion on or off
-pub reads-back : (c d : Bool) (t : List ℕ) (ts : List Tree) → read (strictly c) t ≡ accepted ts → BeginsAll t → All Named (allProps (allNodes ts))
-    → length (writing ts) ≤ textLimit → (read (strictly d) (writing ts) ≡ refused TooDeep 0) ⊎ ReadsBack d ts
-reads-back c d t ts h b nm s =
-    go (back-or-nine d (map formTree ts) (normal-form ts (writable c t ts h b (named-trees ts (named-nodes (allNodes ts) nm)))) s)
-  where
-    go : (read (strictly d) (writing ts) ≡ refused TooDeep 0) ⊎ Back d (map formTree ts) → (read (strictly d) (writing ts) ≡ refused TooDeep 0) ⊎ ReadsBack d ts
-    go (inl e) = inl e
-    go (inr x) =
-        let same = same-trees ts (x .again) (x .alike) in
-        inr (record {
-          again = x .again;
-          accepts = x .accepts;
-          same = same;
-          tree-rows = same-tree-rows ts (x .again) same;
-          node-rows = same-node-rows ts (x .again) same;
-          bytes = written-alike (x .again) (map formTree ts) (x .alike) ∙ written-twice ts;
-        })
+-- a text that is strictly accepted, conversion on or off, whose trees each begin with `(` and whose raw identifiers are non-empty and uppercase;
+-- its writing, within the text limit, is read with conversion on or off
+module _ (c d : Bool) (t : List ℕ) (ts : List Tree) (h : read (strictly c) t ≡ accepted ts) (b : BeginsAll t) (nm : All Named (allProps (allNodes ts)))
+    (s : length (writing ts) ≤ textLimit) where
+  form : Form (map formTree ts)
+  form = normal-form ts (writable c t ts h b (named-trees ts (named-nodes (allNodes ts) nm)))
+
+  -- within the depth it is read back
+  pub reads-back-within : depthOf (writing ts) ≤ depthLimit → ReadsBack d ts
+  reads-back-within l =
+      let x : Back d (map formTree ts) = shallow-back d (map formTree ts) form s l in
+      let same = same-trees ts (x .again) (x .alike) in
+      record {
+        again = x .again;
+        accepts = x .accepts;
+        same = same;
+        tree-rows = same-tree-rows ts (x .again) same;
+        node-rows = same-node-rows ts (x .again) same;
+        bytes = written-alike (x .again) (map formTree ts) (x .alike) ∙ written-twice ts;
+      }
+
+  -- above it, and only there, it is 9
+  pub too-deep : depthLimit < depthOf (writing ts) → read (strictly d) (writing ts) ≡ refused TooDeep 0
+  too-deep = deep-nine d (map formTree ts) form s
+
+  pub only-too-deep : (r : Reason) (p : ℕ) → read (strictly d) (writing ts) ≡ refused r p → depthLimit < depthOf (writing ts)
+  only-too-deep r p e = below-or depthLimit (depthOf (writing ts)) (λ l. l) (λ l. not-both r p (reads-back-within l .again) (sym e ∙ reads-back-within l .accepts))
+
+  -- so one of the two
+  pub reads-back : (read (strictly d) (writing ts) ≡ refused TooDeep 0) ⊎ ReadsBack d ts
+  reads-back = below-or depthLimit (depthOf (writing ts)) (λ l. inl (too-deep l)) (λ l. inr (reads-back-within l))

@@ -2,7 +2,8 @@
 use Rattle.lists.proofs.Prelude.{_≡_, refl, ap, _∙_, subst, ℕ, suc, Bool, true, false, List, [], _∷_, _++_, map, append-assoc, map-append, eqb, pick}
 use Rattle.lexer.specs.Token.{Prop, St, Tok, after, between, done, emits, end, ends, fault, finish, ident, lexFrom, node, prop, start, value}
 use Rattle.lists.specs.All.{All}
-use Rattle.serialize.specs.Write.{Open, boxed, bracketed, left, opened, writeNodes, writeProps, writeTree, writeTrees}
+use Rattle.serialize.specs.Write.{Open, bracketed, left, opened, writeNodes, writeTree, writeTrees}
+use Rattle.serialize.specs.Branch.{writeProps, boxed}
 use Rattle.tables.specs.Numbers.{none}
 use Rattle.tables.specs.Record.{Node, Tree}
 use Rattle.tables.specs.Rows.{parents}

@@ -9,7 +9,7 @@ use Rattle.lexer_scan.specs.Scan.{space}
 use Rattle.lists.proofs.Tests.{and-both}
 use Rattle.lists.specs.All.{All}
 use Rattle.parser.specs.Walk.{uppers}
-use Rattle.serialize.specs.Write.{boxed}
+use Rattle.serialize.specs.Branch.{boxed}
 use Rattle.text_utf8.proofs.Steps.{place}
 use Rattle.text_chars.specs.White.{within}
 use Rattle.values.specs.Read.{readIdentifier}

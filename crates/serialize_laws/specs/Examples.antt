@@ -1,23 +1,35 @@
 -- Document 01's examples P1 to P10: one table, one statement.
-use Rattle.lists.specs.Prelude.{_≡_, refl, ℕ, true, List, [], _∷_}
+use Rattle.lists.specs.Prelude.{_≡_, refl, ℕ, zero, suc, List, [], _∷_, _++_, length, take}
 use Prim.Native.String.{String}
 use Rattle.text_chars.specs.White.{white}
+use Rattle.text_utf8.specs.Trim.{trimmed}
 use Rattle.lexer_scan.specs.Scan.{space}
 use Rattle.values.specs.Read.{readFrom, readIdentifier}
 use Rattle.values.specs.Decimal.{decimalOf, digitsFrom, digitOf}
-use Rattle.go.specs.Normal.{normal, written}
+use Rattle.go.specs.Normal as go
+use Rattle.go.specs.Normal.{normal}
 use Rattle.go_shape.specs.Shape.{shapeOf}
 use Rattle.go.specs.Value.{valueBy, goValue}
+use Rattle.tables.specs.Each.{each, sum, tabulate}
+use Rattle.tables.specs.Memory.{Memory, memory}
 use Rattle.tables.specs.Numbers.{none, numberOf}
-use Rattle.tables.specs.Rows.{Tables, tables}
+use Rattle.tables.specs.Rows.{Tables, countsOf, tables}
 use Rattle.tables.specs.Flat.{flatTrees, flatNodes, flatProps, flatVals}
+use Rattle.fit_nodes.specs.Nodes.{orphans, upward, onPath, firstUnder, nodesFit}
+use Rattle.fit_spans.specs.Ranges.{rangesFit}
+use Rattle.fit_spans.specs.Spans.{spans, ascending, plainName, spansFit}
+use Rattle.fit.specs.Fit.{fitText, Fit}
+use Rattle.fit.specs.Record.{recordIn}
 use Rattle.parser.specs.Examples.{bytes, strict, lenient}
 use Rattle.parser.specs.Walk.{Opts}
 use Rattle.parser.specs.Read.{Answer, refused, accepted, read}
-use Rattle.edit_answer.specs.Edit.{Outcome, refuses, gives, edit}
-use Rattle.serialize.specs.Form.{writing, answerFor}
+use Rattle.edit_answer.specs.Answer.{outcomeOf, editedFor}
+use Rattle.edit_answer.specs.declared.Edited.{Edited}
+use Rattle.edit_answer.specs.declared.Edited.the-variants.{Changed, Refused}
+use Rattle.edit.specs.Lent.{memoryAfter}
+use Rattle.serialize.specs.Form.{writing, written, output}
 use Rattle.serialize.specs.declared.Written.{Written}
-use Rattle.serialize.specs.declared.Written.the-variants.{Wrote, Refused}
+use Rattle.serialize.specs.declared.Written.the-variants as writer
 
 -- what is done with a text: it is read; or read strictly and written; or read strictly and value k edited
 pub data Deed : Type 0 where
@@ -25,12 +37,12 @@ pub data Deed : Type 0 where
   rewriting : Deed
   editing : (k : ℕ) → String → Deed
 
--- what is answered: a number and a place; the four tables; what is written; or the text and the four tables after an edit
+-- what is answered: a number and a place; the four tables; what is written; or the used length, and the text and the tables after an edit
 pub data Says : Type 0 where
   number : (n place : ℕ) → Says
   rows : (trees nodes props vals : List ℕ) → Says
   text : List ℕ → Says
-  edited : List ℕ → (trees nodes props vals : List ℕ) → Says
+  edited : (used : ℕ) → List ℕ → (trees nodes props vals : List ℕ) → Says
 
 -- a text, what is done with it, and what is answered
 pub record Row : Type 0 where
@@ -78,42 +90,51 @@ table =
     ∷ row "(;(;);)" (reading strict) (rows one (none ∷ 1 ∷ none ∷ 0 ∷ 0 ∷ 0 ∷ none ∷ 2 ∷ 0 ∷ 0 ∷ 0 ∷ none ∷ none ∷ 0 ∷ 0 ∷ []) [] [])
     ∷ row "(;(;);)" rewriting (text (bytes "(;(;)(;))"))
     ∷ row "(;C[ab];B[cd])" (reading strict) (rows one twain (2 ∷ 3 ∷ 0 ∷ 1 ∷ 8 ∷ 9 ∷ 1 ∷ 1 ∷ []) (4 ∷ 6 ∷ 10 ∷ 12 ∷ []))
-    ∷ row "(;C[ab];B[cd])" (editing 0 "x") (edited (bytes "(;C[x];B[cd])") one twain (2 ∷ 3 ∷ 0 ∷ 1 ∷ 7 ∷ 8 ∷ 1 ∷ 1 ∷ []) (4 ∷ 5 ∷ 9 ∷ 11 ∷ []))
+    ∷ row "(;C[ab];B[cd])" (editing 0 "x") (edited 13 (bytes "(;C[x];B[cd])" ++ (0 ∷ [])) one twain (2 ∷ 3 ∷ 0 ∷ 1 ∷ 7 ∷ 8 ∷ 1 ∷ 1 ∷ []) (4 ∷ 5 ∷ 9 ∷ 11 ∷ []))
     ∷ []
 
--- the four tables as they are lent
-abbrev pub flat : ((trees nodes props vals : List ℕ) → Says) → Tables → Says
-flat f T = f (flatTrees (T .trees)) (flatNodes (T .nodes)) (flatProps (T .props)) (flatVals (T .vals))
+-- a text and the tables of what was read of it, in memory that has room for just these
+abbrev pub held : List ℕ → Tables → Memory
+held t T = memory t (length t) (countsOf T) (flatTrees (T .trees)) (flatNodes (T .nodes)) (flatProps (T .props)) (flatVals (T .vals))
 
 -- a reading shown
 abbrev pub readSays : Answer → Says
 readSays (refused r p) = number (numberOf r) p
-readSays (accepted ts) = flat rows (tables ts)
+readSays (accepted ts) = let T = tables ts in rows (flatTrees (T .trees)) (flatNodes (T .nodes)) (flatProps (T .props)) (flatVals (T .vals))
 
--- a writing shown
-abbrev pub writtenSays : Written → List ℕ → Says
-writtenSays (Wrote n) w = text w
-writtenSays (Refused r) w = number (numberOf r) 0
+-- so many bytes that are 0
+abbrev pub zeros : ℕ → List ℕ
+zeros zero = []
+zeros (suc n) = 0 ∷ zeros n
 
--- what was read, written into 100 bytes
-abbrev pub writeSays : Answer → Says
-writeSays (refused r p) = number (numberOf r) p
-writeSays (accepted ts) = writtenSays (answerFor true 100 ts) (writing ts)
+-- a writing shown: as many of the bytes lent as were written
+abbrev pub writtenSays : Written → (out : List ℕ) → Says
+writtenSays (writer.Wrote n) out = text (take n out)
+writtenSays (writer.Refused r) out = number (numberOf r) 0
 
--- an edit shown
-abbrev pub outcomeSays : Outcome → Says
-outcomeSays (refuses r p) = number (numberOf r) p
-outcomeSays (gives t T) = flat (edited t) T
+-- what was read of a text, written into 100 bytes
+abbrev pub writeSays : List ℕ → Answer → Says
+writeSays t (refused r p) = number (numberOf r) p
+writeSays t (accepted ts) =
+    let w = written (held t (tables ts)) 100 in
+    writtenSays w (output w (writing (recordIn (held t (tables ts)))) (zeros 100))
 
--- the text t, read, with value k edited where 100 bytes are lent
+-- an edit shown, with the memory after it
+abbrev pub editedSays : Edited → Memory → Says
+editedSays (Refused r p) m = number (numberOf r) p
+editedSays (Changed n) m = edited n (m .text) (m .trees) (m .nodes) (m .properties) (m .values)
+
+-- the text t, read, with value k edited
 abbrev pub editSays : List ℕ → ℕ → List ℕ → Answer → Says
 editSays t k new (refused r p) = number (numberOf r) p
-editSays t k new (accepted ts) = outcomeSays (edit 100 t (tables ts) k new)
+editSays t k new (accepted ts) =
+    let o = outcomeOf (held t (tables ts)) k new in
+    editedSays (editedFor o) (memoryAfter o (held t (tables ts)))
 
 -- what is answered to one
 abbrev pub does : List ℕ → Deed → Says
 does t (reading op) = readSays (read op t)
-does t rewriting = writeSays (read strict t)
+does t rewriting = writeSays t (read strict t)
 does t (editing k new) = editSays t k (bytes new) (read strict t)
 
 -- what is answered, row by row
@@ -128,5 +149,5 @@ wanted (r ∷ rs) = r .says ∷ wanted rs
 
 -- each row is answered as document 01 wants
 pub examples : answered table ≡ wanted table
-unfolding white space readFrom readIdentifier decimalOf digitsFrom digitOf normal written goValue shapeOf valueBy
+unfolding white space readFrom readIdentifier decimalOf digitsFrom digitOf normal go.written goValue shapeOf valueBy outcomeOf Fit fitText nodesFit rangesFit spansFit trimmed each sum tabulate orphans upward onPath firstUnder spans ascending plainName
 examples = refl

@@ -1,4 +1,6 @@
+pub mod Alike
 pub mod Back
+pub mod Depth
 pub mod Examples
 pub mod Needed
 pub mod Same

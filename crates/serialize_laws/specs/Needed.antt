@@ -2,6 +2,7 @@
 use Rattle.lists.specs.Prelude.{_≡_, refl, ℕ, List, [], _∷_, map}
 use Prim.Native.String.{String}
 use Rattle.text_chars.specs.White.{white}
+use Rattle.text_utf8.specs.Trim.{trimmed}
 use Rattle.lexer_scan.specs.Scan.{space}
 use Rattle.values.specs.Read.{readFrom, readIdentifier}
 use Rattle.values.specs.Decimal.{decimalOf, digitsFrom, digitOf}
@@ -10,8 +11,13 @@ use Rattle.go.specs.Marks.{marksOf, marksFrom, inRect}
 use Rattle.go.specs.Normal.{normal, written, pointsFrom}
 use Rattle.go_shape.specs.Shape.{shapeOf}
 use Rattle.go.specs.Value.{valueBy, goValue, pointsOf}
+use Rattle.tables.specs.Each.{each, sum, tabulate}
 use Rattle.tables.specs.Numbers.{numberOf}
 use Rattle.tables.specs.Record.{Tree}
+use Rattle.fit_nodes.specs.Nodes.{orphans, upward, onPath, firstUnder, nodesFit}
+use Rattle.fit_spans.specs.Ranges.{rangesFit}
+use Rattle.fit_spans.specs.Spans.{spans, ascending, plainName, spansFit}
+use Rattle.fit.specs.Fit.{fitText, Fit}
 use Rattle.parser.specs.Examples.{bytes, strict}
 use Rattle.parser.specs.Read.{Answer, refused, accepted, read}
 use Rattle.serialize.specs.Form.{writing}
@@ -86,5 +92,5 @@ writings =
 
 -- each text is written as its row says
 pub writings-right : paper.answered writings ≡ paper.wanted writings
-unfolding white space readFrom readIdentifier normal written goValue shapeOf valueBy pointsOf pointsFrom marksOf marksFrom inRect areaOf cornered letterOf letter
+unfolding white space readFrom readIdentifier normal written goValue shapeOf valueBy pointsOf pointsFrom marksOf marksFrom inRect areaOf cornered letterOf letter Fit fitText nodesFit rangesFit spansFit trimmed each sum tabulate orphans upward onPath firstUnder spans ascending plainName
 writings-right = refl
