@@ -1,4 +1,5 @@
 //! Speed of reading, beside sgf_parse::parse on the same texts in the same run.
+use crate::by_hand;
 use crate::library;
 use crate::rng::Rng;
 use std::any::Any;
@@ -49,22 +50,23 @@ fn timed<T>(mut run: impl FnMut() -> T) -> Duration {
 }
 
 /// The tokens of a text, one by one.
-fn walk(text: &[u8]) -> usize {
+pub fn tokens(text: &[u8]) -> usize {
     let mut token = library::token(text, 0);
-    while token.kind != library::DONE {
+    while token.kind != library::DONE && token.kind != library::REFUSED {
         token = library::token(text, token.to);
     }
     token.to
 }
 
-/// The times of trimming, of a walk over the tokens, of a strict reading, and of the crate.
-fn round(text: &str, tables: &mut [Vec<u32>; 4]) -> [Duration; 4] {
+/// The times of trimming, of a walk over the tokens, of a strict reading, of the reader by hand, and of the crate.
+fn round(text: &str, tables: &mut [Vec<u32>; 4]) -> [Duration; 5] {
     let bytes = black_box(text.as_bytes());
     let [trees, nodes, properties, values] = tables;
     [
         timed(|| library::trim(bytes)),
-        timed(|| walk(bytes)),
+        timed(|| tokens(bytes)),
         timed(|| library::read(bytes, 0, [trees, nodes, properties, values])),
+        timed(|| by_hand::read(bytes, [trees, nodes, properties, values])),
         timed(|| sgf_parse::parse(black_box(text))),
     ]
 }
@@ -87,16 +89,16 @@ pub fn in_turn<const N: usize>(mut runs: [&mut dyn FnMut() -> Made; N]) -> [Dura
 }
 
 /// The least of each time over rounds that take turns, so that a busy machine is busy for all.
-fn least(text: &str) -> [Duration; 4] {
+fn least(text: &str) -> [Duration; 5] {
     let rows = text.len() + 1;
     let mut tables = [2, 5, 4, 2].map(|stride| vec![0u32; rows * stride]);
     assert!(sgf_parse::parse(text).is_ok(), "a text to be read");
     let begun = Instant::now();
-    let mut least = [Duration::MAX; 4];
+    let mut least = [Duration::MAX; 5];
     let mut rounds = 0;
     while rounds < ROUNDS || begun.elapsed() < SPENT {
         let times = round(text, &mut tables);
-        least = [0, 1, 2, 3].map(|k| least[k].min(times[k]));
+        least = [0, 1, 2, 3, 4].map(|k| least[k].min(times[k]));
         rounds += 1;
     }
     least
@@ -105,13 +107,14 @@ fn least(text: &str) -> [Duration; 4] {
 fn row(name: &str, text: &str) {
     let times = least(text).map(|time| time.as_secs_f64() * 1e9 / text.len() as f64);
     let columns: String = times.iter().map(|time| format!("{time:>11.3}")).collect();
-    println!("{name:<24}{:>9}{columns}{:>9.1}", text.len(), times[3] / times[2]);
+    println!("{name:<24}{:>9}{columns}{:>9.1}{:>9.2}", text.len(), times[4] / times[2], times[2] / times[3]);
 }
 
 /// Prints the table.
 pub fn run() {
-    println!("{}; ns per byte, least of all rounds; the ratio is sgf-parse to reading", library::NAME);
-    println!("{:<24}{:>9}{:>11}{:>11}{:>11}{:>11}{:>9}", "text", "bytes", "trimming", "tokens", "reading", "sgf-parse", "ratio");
+    println!("{}; ns per byte, least of all rounds; the ratios are sgf-parse to reading and reading to the reader by hand", library::NAME);
+    let heads = ["trimming", "tokens", "reading", "by hand", "sgf-parse"].map(|head| format!("{head:>11}")).concat();
+    println!("{:<24}{:>9}{heads}{:>9}{:>9}", "text", "bytes", "ratio", "ratio");
     row("game", &game(200_000));
     row("long comments", &comments());
     row("many small games", &"(;GM[1]SZ[9];B[aa];W[bb];B[cc])\n".repeat(6_250));

@@ -23,6 +23,12 @@ pub fn compare(text: &[u8]) -> Result<(), String> {
     same("a reading's own tables", held::fits(&whole.held()), 0)
 }
 
+/// Compares the check on what stands behind a text's first `[`, taken as a value of its own.
+pub fn compare_alone(text: &[u8]) -> Result<(), String> {
+    let from = text.iter().position(|b| *b == b'[').map_or(text.len(), |at| at + 1);
+    check(&mut Whole::alone(&text[from..]), || "a value of its own".into())
+}
+
 fn check(whole: &mut Whole, what: impl Fn() -> String) -> Result<(), String> {
     let case = count(1);
     let expected = if plain_fit::fits(&whole.held()) { 0 } else { 19 };

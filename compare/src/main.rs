@@ -3,6 +3,8 @@ extern crate sgf_parse;
 
 mod bench;
 mod bench_records;
+mod bench_values;
+mod by_hand;
 mod display;
 mod edits;
 mod examples;
@@ -53,13 +55,17 @@ fn run() -> bool {
         Some("store-tokens") => {
             stored::write(&folder.unwrap_or_else(|| Path::new(env!("CARGO_MANIFEST_DIR")).join("../crates/cases_tokens")))
         }
+        Some("bench-values") => {
+            bench_values::run();
+            true
+        }
         Some("bench") => {
             bench::run();
             bench_records::run();
             true
         }
         _ => {
-            eprintln!("usage: compare short [SUBJECT] | long [SUBJECT] | store-tokens [DIR] | bench");
+            eprintln!("usage: compare short [SUBJECT] | long [SUBJECT] | store-tokens [DIR] | bench | bench-values");
             false
         }
     }

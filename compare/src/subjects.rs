@@ -1,7 +1,7 @@
 //! The subjects that are compared, each on its families of texts, and how many of them.
 use crate::report::Report;
 use crate::rng::Rng;
-use crate::{display, edits, examples, fitting, go_values, library, limits, reader, texts, tokens, value_texts, writing};
+use crate::{by_hand, display, edits, examples, fitting, go_values, library, limits, reader, texts, tokens, value_texts, writing};
 
 /// How many texts of each family to compare.
 pub struct Scale {
@@ -22,6 +22,8 @@ pub struct Scale {
     damaged_records: usize,
     edited_records: usize,
     limits_step: usize,
+    placed_runs_step: usize,
+    damaged_runs_step: usize,
 }
 
 pub const SHORT: Scale = Scale {
@@ -42,6 +44,8 @@ pub const SHORT: Scale = Scale {
     damaged_records: 60,
     edited_records: 1_500,
     limits_step: 13,
+    placed_runs_step: 41,
+    damaged_runs_step: 1_501,
 };
 
 pub const LONG: Scale = Scale {
@@ -62,6 +66,8 @@ pub const LONG: Scale = Scale {
     damaged_records: 1_500,
     edited_records: 30_000,
     limits_step: 1,
+    placed_runs_step: 1,
+    damaged_runs_step: 31,
 };
 
 /// Compares the families of texts that tokens and readings share; of the edges of UTF-8 one in so many.
@@ -90,6 +96,8 @@ fn compare_tokens(scale: &Scale) -> bool {
     let mut report = Report::new("tokens", tokens::compare);
     texts::sequences(texts::TOKEN_BYTES, scale.token_bytes, &mut |text| report.text(text));
     report.group("all short strings");
+    texts::runs(1, &mut |text| report.text(text));
+    report.group("runs");
     compare_shared(&mut report, scale, scale.token_records, 1);
     report.close()
 }
@@ -97,6 +105,9 @@ fn compare_tokens(scale: &Scale) -> bool {
 fn compare_places(scale: &Scale) -> bool {
     let mut report = Report::new("places", tokens::compare_places);
     texts::sequences(texts::TOKEN_BYTES, scale.placed_bytes, &mut |text| report.text(text));
+    report.group("all short strings");
+    texts::runs(scale.placed_runs_step, &mut |text| report.text(text));
+    report.group("runs");
     report.close()
 }
 
@@ -111,6 +122,16 @@ fn compare_reader(scale: &Scale) -> bool {
         report.text(&text);
     }
     report.group("limits");
+    report.close()
+}
+
+/// The benchmark's reader by hand, so that it is one of the same answers.
+fn compare_by_hand(scale: &Scale) -> bool {
+    let mut report = Report::new("reader by hand", by_hand::compare);
+    texts::sequences(texts::WORDS, scale.words, &mut |text| report.text(text));
+    report.group("all short sequences of words");
+    texts::made(6, scale.tree_records, scale.copies, &mut |text| report.text(text));
+    texts::corpus().iter().for_each(|text| report.text(text));
     report.close()
 }
 
@@ -143,7 +164,13 @@ fn compare_fitting(scale: &Scale) -> bool {
     }
     texts::made(5, scale.damaged_records, 1, &mut |text| report.text(text));
     texts::corpus().iter().step_by(40).for_each(|text| report.text(text));
-    report.close()
+    report.group("examples, made and real records");
+    texts::runs(scale.damaged_runs_step, &mut |text| report.text(text));
+    report.group("runs");
+    let good = report.close();
+    let mut alone = Report::new("fitting of one value", fitting::compare_alone);
+    texts::runs(1, &mut |text| alone.text(text));
+    good & alone.close()
 }
 
 fn compare_writing(scale: &Scale) -> bool {
@@ -176,11 +203,12 @@ type Subject = fn(&Scale) -> bool;
 /// Compares one subject, or all; true if nothing differed.
 pub fn compare(scale: &Scale, subject: Option<&str>) -> bool {
     println!("library: {}", library::NAME);
-    let subjects: [(&str, Subject); 9] = [
+    let subjects: [(&str, Subject); 10] = [
         ("tokens", compare_tokens),
         ("places", compare_places),
         ("examples", |_| examples::hold()),
         ("reader", compare_reader),
+        ("by_hand", compare_by_hand),
         ("go", compare_go_values),
         ("display", compare_display),
         ("fitting", compare_fitting),

@@ -129,6 +129,21 @@ fn placed(sequence: &[u8], visit: Visitor) {
     visit(&[b" ", sequence, b";"].concat());
 }
 
+/// The seams of runs that a scan steps over: values of every length up to 210 with a `]`, an escaped one, one behind an escaped
+/// backslash or a backslash at every place, closed and cut off, from two places that differ by an odd number; one in so many.
+pub fn runs(step: usize, visit: Visitor) {
+    const MARKS: [&[u8]; 4] = [b"]", b"\\]", b"\\\\]", b"\\"];
+    const HEADS: [&[u8]; 2] = [b"(;C[", b"(;KM[6]C["];
+    const TAILS: [&[u8]; 2] = [b"])", b""];
+    let plain = [b'a'; 210];
+    let ends = MARKS.iter().flat_map(|mark| HEADS.iter().flat_map(move |head| TAILS.map(|tail| (*head, *mark, tail))));
+    let places = (0..=plain.len()).flat_map(|length| (0..=length).map(move |place| (place, length - place)));
+    for (place, rest, (head, mark, tail)) in places.flat_map(|(place, rest)| ends.clone().map(move |end| (place, rest, end))).step_by(step)
+    {
+        visit(&[head, &plain[..place], mark, &plain[..rest], tail].concat());
+    }
+}
+
 /// Every file of the folder that SGF_CORPUS names, seen from the repository (by default beside it); none if it is missing.
 pub fn corpus() -> Vec<Vec<u8>> {
     let named = std::env::var_os("SGF_CORPUS").map_or_else(|| PathBuf::from("../shared/corpus"), PathBuf::from);

@@ -1,23 +1,159 @@
--- Demand 1, total: any bytes, options and lent tables get an answer, and a refusal changes no lent byte or row. Assumes nothing.
--- That every input has an answer, and which, is each contract itself, which has no premise: reader's ReadIs, serialize's WriteIs, edit's EditIs,
--- record's DisplayIs and goAnswer, fit's Fit and accessed. Where the order of numbers is said: parser/specs/Read, serialize/specs/Form.answer, edit_answer/specs/Edit.outcome.
-use Rattle.lists.proofs.Prelude.{ℕ, List, _≡_}
+-- Demand 1, total: any bytes, options and lent tables get an answer; each refusal is given exactly when document 01 says; a refusal changes no lent byte or row. Assumes nothing.
+-- That every input has an answer, and one only, is each contract itself, which has no premise (demands/proofs/UniqueExported). Said here of the exported functions, by their numbers;
+-- what a refusal leaves is said of the functions below them as well. When the reader's definition refuses, and with which number, is said of `read`.
+use Rattle.lists.proofs.Prelude.{ℕ, _<_, true, false, List, _≡_, ap, length}
+use Rattle.text_chars.specs.Table.{WellFormed, BadFrom}
+use Rattle.text_utf8.specs.Trim.{trimmed}
+use Rattle.lexer.specs.declared.Step.{Step}
+use Rattle.c_tokens.specs.Tokens.{TrimIs, TokenIs}
+use Rattle.go.specs.declared.value.GoValue.{GoValue}
 use Rattle.value_display.specs.declared.Kind.{Kind}
+use Rattle.tables.specs.Memory.{Memory}
+use Rattle.tables.specs.Numbers.{numberOf}
 use Rattle.tables.specs.declared.Reading.the-variants.{Refused}
 use Rattle.tables.specs.declared.Reason.{Reason}
-use Rattle.tables.specs.Memory.{Memory}
+use Rattle.tables.specs.declared.Reason.the-variants.{NotUtf8, NotFitting}
+use Rattle.fit.specs.Fit.{Fit}
 use Rattle.ask_value.specs.Access.{accessed}
 use Rattle.parser.specs.Read.{read}
 use Rattle.parser.specs.Walk.{Opts}
 use Rattle.reader.specs.Lent.{Lent, ReadIs}
-use Rattle.ask.specs.Ask.{DisplayIs}
+use Rattle.ask.specs.Ask.{DisplayIs, goAnswer}
 use Rattle.ask.specs.declared.Shown.the-variants.{NotShown}
 use Rattle.serialize.specs.Form.{WriteIs}
 use Rattle.serialize.specs.declared.Written.the-variants as written
 use Rattle.edit_answer.specs.Answer.{outcomeOf}
 use Rattle.edit_answer.specs.declared.Edited.the-variants as edited
 use Rattle.edit.specs.Lent.{EditIs}
+use Rattle.c_answers.specs.Shown.{spanShown, goShown}
+use Rattle.c_answers.specs.declared.SgfDisplay.{SgfDisplay}
+use Rattle.c_answers.specs.declared.SgfEdit.{SgfEdit}
+use Rattle.c_answers.specs.declared.SgfGoValue.{SgfGoValue}
+use Rattle.c_answers.specs.declared.SgfReading.{SgfReading}
+use Rattle.c_answers.specs.declared.SgfSpan.{SgfSpan}
+use Rattle.c_answers.specs.declared.SgfWriting.{SgfWriting}
+use Rattle.sgf.specs.Asked.{fitsShown, DisplayShown, answerShown}
+use Rattle.sgf.specs.Changed.{WriteShown, EditShown}
+use Rattle.sgf.specs.Shown.{ReadShown}
+use Rattle.edit_laws.specs.Edits.{Allowed, Forbidden}
+use Rattle.demands.specs.Calls.{countsIn}
+use Rattle.demands.specs.Cells.{countsRead, noCounts}
+use Rattle.demands.specs.Lists.{OneOf, strictNumbers, lenientNumbers, writerNumbers, editNumbers, askedNumbers, displayNumbers, fitsNumbers, tokenNumbers}
+use Rattle.demands.specs.When.{Exactly, Reads, Unread, Writes, Unwritten, Asked, Unasked, Displays, Undisplayed}
+use Rattle.demands.proofs.Asked as asked
+use Rattle.demands.proofs.Edited as edit
+use Rattle.demands.proofs.Numbers as numbers
+use Rattle.demands.proofs.Readings as reading
 use Rattle.demands.proofs.Refusals.{reading-leaves, edit-leaves, display-leaves}
+use Rattle.demands.proofs.Texts as texts
+use Rattle.demands.proofs.Written as writing
+
+-- no reason has the number of acceptance
+pub number-some : (r : Reason) → 0 < numberOf r
+number-some = numbers.number-some
+
+-- no two reasons share a number
+pub number-once : (r s : Reason) → numberOf r ≡ numberOf s → r ≡ s
+number-once = numbers.number-once
+
+module _ (op : Opts) (t : List ℕ) (before after : Lent) (r : SgfReading) (s : ReadShown (read op t) before after r) where
+  -- sgf_read: 0 exactly where the text reads as a record whose rows are lent; each number, with its place, exactly where the definition refuses so, or, 14, rows are too few
+  pub reading-exactly : Exactly (r .number) (Reads op t before) (λ x. (p : ℕ) × Unread op t before x p × (r .place ≡ p))
+  reading-exactly = reading.reading-exactly op t before after r s
+
+  -- any other number than 0 leaves every number of the four tables
+  pub reading-stays : 0 < r .number → after ≡ before
+  reading-stays = reading.reading-stays op t before after r s
+
+  -- and gives no counts
+  pub reading-zeros : 0 < r .number → countsRead r ≡ noCounts
+  reading-zeros = reading.reading-zeros op t before after r s
+
+  -- 0 to 14 are its numbers
+  pub reading-numbers : OneOf strictNumbers (r .number)
+  reading-numbers = reading.strict-listed op t before after r s
+
+  -- lenient: 0, 1, 2, 9, 14
+  pub lenient-numbers : op .lenient ≡ true → OneOf lenientNumbers (r .number)
+  lenient-numbers = reading.lenient-listed op t before after r s
+
+module _ (m : Memory) (out out′ : List ℕ) (r : SgfWriting) (s : WriteShown m out out′ r) where
+  -- sgf_write: 19, 15, 14
+  pub writing-exactly : Exactly (r .number) (Writes m (length out)) (Unwritten m (length out))
+  writing-exactly = writing.writing-exactly m out out′ r s
+
+  -- any other number than 0 leaves every byte of the output
+  pub writing-stays : 0 < r .number → out′ ≡ out
+  writing-stays = writing.writing-stays m out out′ r s
+
+  pub writing-numbers : OneOf writerNumbers (r .number)
+  writing-numbers = writing.writing-listed m out out′ r s
+
+module _ (m m′ : Memory) (k : ℕ) (new : List ℕ) (r : SgfEdit) (s : EditShown m m′ k new r) where
+  -- sgf_edit: 19, 16, 17, 2, 18, 1, 14, with the place
+  pub edit-exactly : Exactly (r .number) (Allowed m k new) (λ x. (p : ℕ) × Forbidden m k new x p × (r .place ≡ p))
+  edit-exactly = edit.edit-exactly m m′ k new r s
+
+  -- any other number than 0 leaves every byte of the buffer and every number of the tables
+  pub edit-stays : 0 < r .number → m′ ≡ m
+  edit-stays = edit.edit-stays m m′ k new r s
+
+  -- and gives no length and no counts
+  pub edit-zeros : 0 < r .number → (r .used ≡ 0) × (countsIn r ≡ noCounts)
+  edit-zeros = edit.edit-zeros m m′ k new r s
+
+  pub edit-numbers : OneOf editNumbers (r .number)
+  edit-numbers = edit.edit-listed m m′ k new r s
+
+module _ (m : Memory) (k : ℕ) (r : SgfSpan) (s : r ≡ spanShown (accessed m k)) where
+  -- sgf_value: 19, 16; lent memory is read only
+  pub value-exactly : Exactly (r .number) (Asked m (m .counts .values) k) (Unasked m (m .counts .values) k)
+  value-exactly = asked.value-exactly m k r s
+
+  pub value-numbers : OneOf askedNumbers (r .number)
+  value-numbers = asked.value-listed m k r s
+
+module _ (m : Memory) (k : ℕ) (kind : Kind) (out out′ : List ℕ) (r : SgfDisplay) (s : DisplayShown m k kind out out′ r) where
+  -- sgf_display: 19, 16, 14
+  pub display-exactly : Exactly (r .number) (Displays m k kind (length out)) (Undisplayed m k kind (length out))
+  display-exactly = asked.display-exactly m k kind out out′ r s
+
+  -- any other number than 0 leaves every byte of the output
+  pub display-stays : 0 < r .number → out′ ≡ out
+  display-stays = asked.display-stays m k kind out out′ r s
+
+  pub display-numbers : OneOf displayNumbers (r .number)
+  display-numbers = asked.display-listed m k kind out out′ r s
+
+module _ (m : Memory) (p : ℕ) (r : SgfGoValue) (s : r ≡ answerShown (goAnswer m p)) where
+  -- sgf_go_value: 19, 16; lent memory is read only
+  pub go-exactly : Exactly (r .number) (Asked m (m .counts .properties) p) (Unasked m (m .counts .properties) p)
+  go-exactly = asked.go-exactly m p r s
+
+  pub go-numbers : OneOf askedNumbers (r .number)
+  go-numbers = asked.go-listed m p r s
+
+module _ (m : Memory) (n : ℕ) (s : n ≡ fitsShown (Fit m)) where
+  -- sgf_fits: 19; lent memory is read only
+  pub fits-exactly : Exactly n (Fit m ≡ true) (λ x. (x ≡ NotFitting) × (Fit m ≡ false))
+  fits-exactly = asked.fits-exactly m n s
+
+  pub fits-numbers : OneOf fitsNumbers n
+  fits-numbers = asked.fits-listed m n s
+
+-- sgf_trim: 0 exactly where the text is well formed by table 3-7, else 2 with the start of the first bad sequence
+pub trim-exactly : (t : List ℕ) (n p f l : ℕ) → TrimIs (trimmed t) n p f l → Exactly n (WellFormed t) (λ x. (x ≡ NotUtf8) × BadFrom t p)
+trim-exactly = texts.trim-exactly
+
+-- sgf_token: 0, 3, 4, 5
+pub token-numbers : (at k n f o to : ℕ) (x : Step) → TokenIs at x k n f o to → OneOf tokenNumbers n
+token-numbers = texts.token-listed
+
+-- sgf_go_property: 0
+pub property-numbers : (g : GoValue) (r : SgfGoValue) → r ≡ goShown 0 g → r .number ≡ 0
+property-numbers g r e = ap (λ (z : SgfGoValue). z .number) e
+
+-- ---- what a refusal leaves, of the functions below these
 
 -- a refused reading leaves every number of the four tables
 pub reading-refused : (op : Opts) (t : List ℕ) (before after : Lent) (r : Reason) (p : ℕ) → ReadIs (read op t) before after (Refused r p) → after ≡ before

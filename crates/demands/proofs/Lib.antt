@@ -1,8 +1,19 @@
+pub mod Asked
+pub mod CallsShown
 pub mod Demand1
 pub mod Demand2
 pub mod Demand3
+pub mod Edited
+pub mod Editing
+pub mod Exported
+pub mod ExportedAgain
+pub mod Listed
+pub mod Numbers
+pub mod Readings
 pub mod Refusals
 pub mod Rereadings
+pub mod RoundTrip
+pub mod Texts
 pub mod UniqueExported
 pub mod UniqueReading
 pub mod UniqueRecord
@@ -11,3 +22,4 @@ pub mod UniqueText
 pub mod UniqueValues
 pub mod Useless
 pub mod Writings
+pub mod Written

@@ -18,7 +18,7 @@ use Rattle.parser.proofs.Denoted.{read-denotes}
 use Rattle.edit_splice.specs.Splice.{pasted}
 use Rattle.edit_answer.specs.Edit.{ownerRow, ownerName, spanAt, shifted, Outcome, edit}
 use Rattle.edit_answer.specs.Locals.{outcome}
-use Rattle.edit_laws.specs.Run.{strictly, TextRows, Order, after, run, Fresh}
+use Rattle.edit_laws.specs.Run.{strictly, TextRows, Order, after, run, Reads}
 use Rattle.edit_laws.proofs.Numbered.{noVal, ownerOf, valueOf, newText, newTrees, edit-number}
 
 -- ---- rows and trees
@@ -93,18 +93,18 @@ module _ (c : Bool) (room : ℕ) (t : List ℕ) (ts : List Tree) (k : ℕ) (new 
       (ltb textLimit (length U)) (ltb room (length U)) U T) name-is (sym rows-is)
 
   -- one edit: what it leaves is what a strict reading gives
-  fresh-after : Fresh (strictly c) (after (record { text = t; rows = tables ts }) (edit room t (tables ts) k new))
-  fresh-after =
-      subst (λ (z : Outcome). Fresh (strictly c) (after (record { text = t; rows = tables ts }) z)) (sym edit-is)
+  reads-after : Reads (strictly c) (after (record { text = t; rows = tables ts }) (edit room t (tables ts) k new))
+  reads-after =
+      subst (λ (z : Outcome). Reads (strictly c) (after (record { text = t; rows = tables ts }) z)) (sym edit-is)
       (go (ltb k (length (allVals (allProps (allNodes ts))))) (same (ownerOf (allProps (allNodes ts)) k) GM) (utfs (whole blank) 0 new) (closed new)
       (ltb textLimit (length U)) (ltb room (length U)) refl refl refl refl refl)
     where
-      still : Fresh (strictly c) (record { text = t; rows = tables ts })
+      still : Reads (strictly c) (record { text = t; rows = tables ts })
       still = record { trees = ts; reads = h; same-rows = refl }
 
       go : (b g : Bool) (w : Utf) (d l m : Bool) → ltb k (length (allVals (allProps (allNodes ts)))) ≡ b → same (ownerOf (allProps (allNodes ts)) k) GM ≡ g
           → utfs (whole blank) 0 new ≡ w → closed new ≡ d → ltb textLimit (length U) ≡ l
-          → Fresh (strictly c) (after (record { text = t; rows = tables ts }) (outcome b g w d l m U (tables US)))
+          → Reads (strictly c) (after (record { text = t; rows = tables ts }) (outcome b g w d l m U (tables US)))
       go false g w d l m eb eg ew ed el = still
       go true true w d l m eb eg ew ed el = still
       go true false (part i s n r y) d l m eb eg ew ed el = still
@@ -120,9 +120,9 @@ module _ (c : Bool) (room : ℕ) (t : List ℕ) (ts : List Tree) (k : ℕ) (new 
           }
 
 -- a record that strict reading gives stays one under any run of edits, refused ones of whatever number between them
-pub demand-three : (c : Bool) (room : ℕ) (s : TextRows) (xs : List Order) → Fresh (strictly c) s → Fresh (strictly c) (run room s xs)
+pub demand-three : (c : Bool) (room : ℕ) (s : TextRows) (xs : List Order) → Reads (strictly c) s → Reads (strictly c) (run room s xs)
 demand-three c room s [] f = f
 demand-three c room s (x ∷ xs) f =
     demand-three c room (after s (edit room (s .text) (s .rows) (x .value) (x .bytes))) xs
-    (subst (λ (T : Tables). Fresh (strictly c) (after (record { text = s .text; rows = T }) (edit room (s .text) T (x .value) (x .bytes)))) (sym (f .same-rows))
-    (fresh-after c room (s .text) (f .trees) (x .value) (x .bytes) (f .reads)))
+    (subst (λ (T : Tables). Reads (strictly c) (after (record { text = s .text; rows = T }) (edit room (s .text) T (x .value) (x .bytes)))) (sym (f .same-rows))
+    (reads-after c room (s .text) (f .trees) (x .value) (x .bytes) (f .reads)))

@@ -96,10 +96,10 @@ module _ (m : Memory) (k : ℕ) (new : List ℕ) {n : ℕ} (x : Given m k new n)
       all-apart (m .properties) (m .values) (length t) k (m .counts .properties) 0 0 (λ i _ l. gapless-first (firstValAt (m .properties)) (valCountAt (m .properties)) (m .counts .properties) (m .counts .values) (F .prop-ranges) i (omega arith)) (F .ascend)
       (omega (arith, up-none)) (omega (arith, x .below, up-all))
 
-  name-apart : (p : ℕ) → p < m .counts .properties → (nameToAt (m .properties) p < q) ⊎ (e < nameFromAt (m .properties) p)
+  pub name-apart : (p : ℕ) → p < m .counts .properties → (nameToAt (m .properties) p < q) ⊎ (e < nameFromAt (m .properties) p)
   name-apart p l = apart .names p (omega arith) (omega arith)
 
-  val-apart : (j : ℕ) → j < m .counts .values → (j ≡ k → ⊥) → (valToAt (m .values) j < q) ⊎ (e < valFromAt (m .values) j)
+  pub val-apart : (j : ℕ) → j < m .counts .values → (j ≡ k → ⊥) → (valToAt (m .values) j < q) ⊎ (e < valFromAt (m .values) j)
   val-apart j l d = apart .values j (omega (arith, up-none)) (omega (arith, up-all)) d
 
   -- ---- the clauses

@@ -186,6 +186,6 @@ module _ (c : Bool) (room : ℕ) (t : List ℕ) (ts : List Tree) (k : ℕ) (new 
   -- the edit undone by the old bytes: text and rows are as before
   pub edit-undone : (u : List ℕ) (T : Tables) → edit room t (tables ts) k new ≡ gives u T → edit room u T k old ≡ gives t (tables ts)
   edit-undone u T e =
-      let x = gave _ _ _ _ _ _ _ _ _ _ (sym (edit-is c room t ts k new h) ∙ e) in
+      let x = gave (ltb k (length (allVals ps))) (same (ownerOf ps k) GM) (utfs (whole blank) 0 new) (closed new) (ltb textLimit (length U)) (ltb room (length U)) U u (tables US) T (sym (edit-is c room t ts k new h) ∙ e) in
       let d = undone (ltb-true k (length (allVals ps)) (x .below)) (x .free) (x .shut) (x .ink) (x .valid) (ltb-false textLimit (length U) (x .short)) in
       ap (λ (z : List ℕ). edit room z T k old) (sym (x .text)) ∙ ap (λ (z : Tables). edit room U z k old) (sym (x .rows)) ∙ d

@@ -1,2 +1,4 @@
 pub mod Calls
+pub mod Edits
+pub mod Fresh
 pub mod Run

@@ -31,7 +31,7 @@ run room s [] = s
 run room s (x ∷ xs) = run room (after s (edit room (s .text) (s .rows) (x .value) (x .bytes))) xs
 
 -- text and rows are what a fresh reading gives
-pub record Fresh (op : Opts) (s : TextRows) : Type 0 where
+pub record Reads (op : Opts) (s : TextRows) : Type 0 where
   pub trees : List Tree
   pub reads : read op (s .text) ≡ accepted trees
   pub same-rows : s .rows ≡ tables trees

@@ -1,9 +1,10 @@
 -- A scan for a closing bracket steps over plain bytes. Assumes nothing.
-use Rattle.lists.proofs.Prelude.{ℕ, zero, suc, _+_, _≤_, _<_, _≡_, refl, ap, sym, _∙_, subst, Bool, true, not, List, arith, eqb, length, drop, getD, not-true, eqb-false}
+use Rattle.lists.proofs.Prelude.{ℕ, zero, suc, _+_, _≤_, _<_, _≡_, refl, ap, sym, _∙_, subst, Bool, true, _&&_, not, List, arith, eqb, length, drop, getD, not-true, eqb-true, eqb-false}
 use Rattle.lists.proofs.Tests.{and-both}
-use Rattle.lexer_close.proofs.Steps.{close-on}
+use Rattle.lexer_close.proofs.Steps.{close-here, close-on}
 use Rattle.lexer_close.specs.Close.{closeFrom, closeAt}
 use Rattle.lexer_close.specs.Run.{plain, LeadsTo}
+use Rattle.lexer_close.specs.declared.Close.the-variants.{At}
 
 -- one byte
 pub close-plain : (s : List ℕ) (i : ℕ) → i < length s → plain (getD s i 0) ≡ true → closeAt s (i + 1) ≡ closeAt s i
@@ -27,3 +28,12 @@ leads-plain (suc n) s i h p =
     let l = leads-plain n s i (omega (arith, h)) (λ k b. p k (omega (arith, b))) in
     let e : i + n + 1 ≡ i + suc n = omega arith in
     subst (LeadsTo s i) e (leads-on l (leads-one s (i + n) (omega (arith, h)) (p n (omega arith))))
+
+-- two plain bytes and a `]`
+pub close-pair : (s : List ℕ) (i : ℕ) → i + 3 ≤ length s → {a b : Bool} → a ≡ plain (getD s i 0) → b ≡ plain (getD s (i + 1) 0) → eqb (getD s (i + 2) 0) 0x5d && (a && b) ≡ true → closeAt s i ≡ At (i + 2)
+close-pair s i h {a} {b} p q e =
+    let both = and-both (eqb (getD s (i + 2) 0) 0x5d) (a && b) e in
+    let ab = and-both a b (both .1) in
+    let j : i + 1 + 1 ≡ i + 2 = omega arith in
+    let l = leads-on (leads-one s i (omega (arith, h)) (sym p ∙ ab .0)) (leads-one s (i + 1) (omega (arith, h)) (sym q ∙ ab .1)) in
+    sym (l .same) ∙ ap (closeAt s) j ∙ close-here s (i + 2) (omega (arith, h)) (eqb-true (getD s (i + 2) 0) 0x5d (both .0))

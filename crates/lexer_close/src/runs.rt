@@ -45,14 +45,17 @@ pub fn past_short(s: &[u8], from: usize) -> usize
     i
 }
 
-// Is there a `]`.
-pub fn closes(s: &[u8], i: usize) -> bool
-    ensures { λ r. ⌜ (r ≡ true → closeAt (now (s .entry)) i ≡ At i) ⌝ }
+// Do two plain bytes and a `]` stand there.
+pub fn is_pair(s: &[u8], i: usize) -> bool
+    ensures { λ r. ⌜ (r ≡ true → closeAt (now (s .entry)) i ≡ At (i + 2)) ⌝ }
 {
     if s.len() <= i {
         return false;
     }
-    s[i] == b']'
+    if s.len() - i < 3 {
+        return false;
+    }
+    (s[i + 2] == b']') & (is_plain(s[i]) & is_plain(s[i + 1]))
 }
 
 // Past plain blocks of 64 bytes.

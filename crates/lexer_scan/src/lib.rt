@@ -66,7 +66,7 @@ pub fn next_value(s: &[u8], at: usize) -> ValueStep
     if s[at] != b'[' {
         return ValueStep::NoMore;
     }
-    let Close::At(to) = lexer_close::value_end(s, at + 1) else {
+    let Close::At(to) = lexer_close::quick_end(s, at + 1) else {
         return ValueStep::Unclosed;
     };
     let next = skip_space(s, to + 1);
@@ -85,7 +85,7 @@ pub fn values_end(s: &[u8], from: usize) -> Close
         if s[i] != b'[' {
             break Close::At(i);
         }
-        let Close::At(to) = lexer_close::value_end(s, i + 1) else {
+        let Close::At(to) = lexer_close::quick_end(s, i + 1) else {
             break Close::Open;
         };
         i = skip_space(s, to + 1);

@@ -1,5 +1,5 @@
 -- What proofs take: all that definitions take, and laws of the logic and its libraries.
-pub use Rattle.lists.specs.Prelude.{Bool, List, List·Memᴰ, [], _%_, _&&_, _*_, _++_, _+_, _-_, _/_, _<_, _^_, _||_, _∷_, _≡_, _≤_, _⊎_, drop, eqb, false, getD, leb, length, ltb, map, max, min, not, pick, refl, replicate, reverse, sets, slice, suc, take, true, zero, ℕ}
+pub use Rattle.lists.specs.Prelude.{Bool, List, List·Memᴰ, [], _%_, _&&_, _*_, _++_, _+_, _-_, _/_, _<_, _^_, _||_, _↔_, _∷_, _≡_, _≤_, _⊎_, drop, eqb, false, getD, leb, length, ltb, map, max, min, not, pick, refl, replicate, reverse, sets, slice, suc, take, true, zero, ℕ}
 pub use native.Mathlib.Nat.{add-suc, add-zero, div-add-mod', le-antisymm, le-of-suc-le-suc, le-refl, lt-of-not-le, mod-lt, mul-le-mul-right, not-suc-le-zero, pow-suc, suc-add, suc-mul, zero-add}
 pub use native.Mathlib.Numerals.{add-one, add-two, sub-one}
 pub use native.Mathlib.Omega.{arith}

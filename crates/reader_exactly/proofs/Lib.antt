@@ -7,8 +7,11 @@ pub mod Games
 pub mod Gives
 pub mod Growths
 pub mod Lenient
+pub mod Spellings
 pub mod Stages
 pub mod Standing
 pub mod Trims
 pub mod Walking
+pub mod White
 pub mod Why
+pub mod Wide

@@ -52,7 +52,7 @@ abbrev pub nodesText : (brackets : Bool) → Nodes → List ℕ
 nodesText b bare = []
 nodesText b (stand ps cs ns) = enclosed b (0x3b ∷ (writeProps ps ++ nodesText (several cs) cs)) ++ nodesText b ns
 
--- each tree is `(`, its root, `)`
+-- each tree is `(`, its root, `)`: the root is the node that has no parent
 abbrev pub treeText : Tree → List ℕ
 treeText t = enclosed true (nodesText false (under none (hung (t .root) (t .nodes))))
 

@@ -5,7 +5,7 @@ use Rattle.lexer.specs.Token.{Prop}
 use Rattle.lists.specs.All.{All}
 use Rattle.serialize_laws.proofs.Kept.{pairs-length, pairs-append, pairs-map}
 use Rattle.serialize_laws.proofs.WrittenProps.{letters-same}
-use Rattle.serialize_laws.specs.Alike.{AlikeProp, AlikeNode, AlikeTree, Alike}
+use Rattle.serialize_laws.specs.Alike.{AlikeProp, AlikeNode, Alike}
 use Rattle.serialize_laws.specs.Back.{some, Named}
 use Rattle.serialize_laws.specs.Same.{Pairs, SameProp, SameNode, SameTree}
 use Rattle.ask.specs.Ask.{noProp, goOf, goAt}

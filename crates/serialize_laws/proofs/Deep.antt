@@ -11,7 +11,7 @@ use Rattle.serialize_laws.specs.Back.{zTok, toksOf}
 use Rattle.serialize_laws.specs.Depth.{deepestFrom, depthOf}
 use Rattle.serialize.specs.Write.{writeTrees}
 use Rattle.tables.specs.Record.{Tree}
-use Rattle.text_utf8.specs.Text.{Utf, blank, utfs, whole}
+use Rattle.text_utf8.specs.Text.{Utf}
 
 -- n is the greatest depth that this state has seen
 abbrev Sees : ℕ → Splitting → Type 0

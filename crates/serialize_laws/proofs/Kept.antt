@@ -26,7 +26,7 @@ module _ {A C : Type 0} (f g : A → C) (R : A → A → Type 0) (step : (x y : 
   pairs-from (x ∷ xs) (y ∷ ys) e = (step x y (head-eq-of-cons-eq e), pairs-from xs ys (tail-eq-of-cons-eq e))
 
 -- a value that is not valid keeps its bytes
-normal-raws : (k : ℕ) (w : List ℕ) (vs : List (List ℕ)) → valid (goValue k w vs .value) ≡ false → normal k w vs ≡ vs
+pub normal-raws : (k : ℕ) (w : List ℕ) (vs : List (List ℕ)) → valid (goValue k w vs .value) ≡ false → normal k w vs ≡ vs
 unfolding normal written
 normal-raws k w vs h = go (goValue k w vs .value) h
   where

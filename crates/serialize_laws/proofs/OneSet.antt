@@ -1,9 +1,9 @@
 -- One set of points in any order and spelling: such properties are alike. Assumes nothing.
-use Rattle.lists.proofs.Prelude.{ℕ, zero, suc, _≡_, refl, sym, ap, ap₂, _∙_, Bool, true, false, _&&_, _||_, false≢true, List, [], _∷_, List·Memᴰ, List·Memᴰ·head, List·Memᴰ·tail}
+use Rattle.lists.proofs.Prelude.{ℕ, zero, suc, _≡_, refl, sym, ap, ap₂, _∙_, Bool, true, false, _||_, false≢true, List, [], _∷_, List·Memᴰ, List·Memᴰ·head, List·Memᴰ·tail}
 use Rattle.fit.specs.Record.{rawsOf}
 use Rattle.go.proofs.Shapes.{points-valid}
 use Rattle.go.specs.Marks.{good, inArea, allGood, inSome, marksFrom, marksOf}
-use Rattle.go.specs.Value.{marked, areasOf, pointsOf, valueBy, goValue}
+use Rattle.go.specs.Value.{marked, areasOf, valueBy, goValue}
 use Rattle.lexer.specs.Token.{Prop}
 use Rattle.lists.proofs.Tests.{never, and-both}
 use Rattle.serialize_laws.specs.Alike.{AlikeProp, OneSet, Among}
@@ -12,7 +12,6 @@ use Rattle.ask.specs.Ask.{goOf}
 use Rattle.go_shape.specs.Shape.{shapeOf}
 use Rattle.go_shape.specs.declared.Shape.{Shape}
 use Rattle.go_shape.specs.declared.Shape.the-variants.{ManyPoints}
-use Rattle.go_points.specs.declared.Value.the-variants.{Points}
 use Rattle.values.specs.Read.{readValue, readIdentifier}
 use Rattle.go_points.specs.Area.{areaOf}
 

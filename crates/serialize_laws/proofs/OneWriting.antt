@@ -1,8 +1,7 @@
 -- Records that are alike have one writing: the order of a set's points, the spelling of rectangles, white space and places leave no trace. Assumes nothing.
-use Rattle.lists.proofs.Prelude.{ℕ, _≡_, refl, sym, ap, ap₂, _∙_, Bool, true, false, false≢true, List, [], _∷_, _++_, map}
+use Rattle.lists.proofs.Prelude.{ℕ, _≡_, refl, sym, ap, ap₂, _∙_, Bool, false, List, [], _∷_, _++_, map}
 use Rattle.fit.specs.Record.{rawsOf}
 use Rattle.go.specs.Normal.{normal, written}
-use Rattle.go.specs.Value.{goValue}
 use Rattle.go.specs.declared.value.GoValue.{GoValue}
 use Rattle.lexer.specs.Token.{Prop}
 use Rattle.go_points.specs.declared.Value.{Value}

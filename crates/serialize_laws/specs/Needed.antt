@@ -83,11 +83,13 @@ pub needed-right : right needed ≡ wanted needed
 unfolding white space readFrom readIdentifier decimalOf digitsFrom digitOf normal written goValue shapeOf valueBy
 needed-right = refl
 
--- the paper's writing program; and points by coordinates, not by the byte codes of their letters
+-- the paper's writing program; points by coordinates, not by the byte codes of their letters; one set in another order and spelling; an identifier that reads as empty
 abbrev pub writings : List paper.Row
 writings =
     paper.row "(;AB[bb:cc]TB[ba][aa]C[a:b\\]c])" paper.rewriting (paper.text (bytes "(;AB[bb][bc][cb][cc]TB[aa][ba]C[a:b\\]c])"))
     ∷ paper.row "(;AB[Aa][aA][aa])" paper.rewriting (paper.text (bytes "(;AB[aa][aA][Aa])"))
+    ∷ paper.row "(;AB[bb] [aa:ab])" paper.rewriting (paper.text (bytes "(;AB[aa][ab][bb])"))
+    ∷ paper.row "(;B[aa]b[x])" paper.rewriting (paper.number 15 0)
     ∷ []
 
 -- each text is written as its row says

@@ -15,19 +15,19 @@ returns-2 c = let s = now (c .before .before .before .before .args .s) in sym (v
 returns-3 : tie.Need-returns-3
 returns-3 c =
     let s = now (c .before .before .before .before .before .before .before .args .s) in
-    sym (value-open s _ (c .before .before .before .if2 .left) (sym (c .before .before .value-end .ensures) ∙ c .enum-told .given .1))
+    sym (value-open s _ (c .before .before .before .if2 .left) (sym (c .before .before .quick-end .ensures) ∙ c .enum-told .given .1))
 
 add-skip-space : tie.Need-add-skip-space
 add-skip-space c =
     let x = c .before in
-    let b = close-bounds (now (x .before .before .before .before .before .before .before .args .s)) _ _ (sym (x .before .before .value-end .ensures) ∙ x .to .given .1) in
+    let b = close-bounds (now (x .before .before .before .before .before .before .before .args .s)) _ _ (sym (x .before .before .quick-end .ensures) ∙ x .to .given .1) in
     omega arith
 
 returns-4 : tie.Need-returns-4
 returns-4 c =
     let x = c .before .before in
     let s = now (x .before .before .before .before .before .before .before .args .s) in
-    sym (value-on s _ _ _ (x .before .before .before .if2 .left) (sym (x .before .before .value-end .ensures) ∙ x .to .given .1) (c .skip-space .ensures))
+    sym (value-on s _ _ _ (x .before .before .before .if2 .left) (sym (x .before .before .quick-end .ensures) ∙ x .to .given .1) (c .skip-space .ensures))
 
 pub next-value-spec : {M : Type 1} → statement M
 next-value-spec =

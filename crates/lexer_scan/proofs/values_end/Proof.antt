@@ -17,7 +17,7 @@ abbrev μ-loop : tie.MeasureT-loop
 add-skip-space : tie.Need-add-skip-space Inv-loop μ-loop
 add-skip-space c =
     let x = c .before in
-    let b = close-bounds (now (x .before .before .before .before .before .before .before .before .args .s)) _ _ (sym (x .before .before .value-end .ensures) ∙ x .to .given .1) in
+    let b = close-bounds (now (x .before .before .before .before .before .before .before .before .args .s)) _ _ (sym (x .before .before .quick-end .ensures) ∙ x .to .given .1) in
     omega arith
 
 loop-less : tie.Need-loop-less Inv-loop μ-loop
@@ -25,14 +25,14 @@ loop-less c =
     let x = c .before .before in
     let s = now (x .before .before .before .before .before .before .before .before .args .s) in
     let e : c .skip-space .result ≡ skipAt s (x .to .given .0 .0 + 1) = c .skip-space .ensures in
-    let b = close-bounds s _ _ (sym (x .before .before .value-end .ensures) ∙ x .to .given .1) in
+    let b = close-bounds s _ _ (sym (x .before .before .quick-end .ensures) ∙ x .to .given .1) in
     omega (arith, b, skip-bounds s (x .to .given .0 .0 + 1), x .before .before .before .before .before .if1 .left)
 
 loop-again : tie.Need-loop-again Inv-loop μ-loop
 loop-again c =
     let x = c .before .before in
     let s = now (x .before .before .before .before .before .before .before .before .args .s) in
-    sym (values-more s _ _ _ _ (value-on s _ _ _ (x .before .before .before .if2 .left) (sym (x .before .before .value-end .ensures) ∙ x .to .given .1) (c .skip-space .ensures)))
+    sym (values-more s _ _ _ _ (value-on s _ _ _ (x .before .before .before .if2 .left) (sym (x .before .before .quick-end .ensures) ∙ x .to .given .1) (c .skip-space .ensures)))
     ∙ x .before .before .before .before .before .before .loop .inv
 
 returns : tie.Need-returns Inv-loop μ-loop
@@ -48,7 +48,7 @@ returns-2 c =
 returns-3 : tie.Need-returns-3 Inv-loop μ-loop
 returns-3 c =
     let s = now (c .before .before .before .before .before .before .before .before .args .s) in
-    sym (sym (c .before .before .before .before .before .before .loop .inv) ∙ values-unclosed s _ (value-open s _ (c .before .before .before .if2 .left) (sym (c .before .before .value-end .ensures) ∙ c .enum-told .given .1)))
+    sym (sym (c .before .before .before .before .before .before .loop .inv) ∙ values-unclosed s _ (value-open s _ (c .before .before .before .if2 .left) (sym (c .before .before .quick-end .ensures) ∙ c .enum-told .given .1)))
 
 pub values-end-spec : {M : Type 1} → statement M
 values-end-spec =

@@ -1,0 +1,95 @@
+-- The exported reading: when each number is given, what a refusal leaves, and which numbers there are. Assumes nothing.
+use Rattle.lists.proofs.Prelude.{ℕ, _<_, Bool, true, List, _⊎_, inl, inr, ⊎-elim, _≡_, refl, sym, ap, _∙_, subst⁻¹, arith, pick}
+use Rattle.tables.specs.Numbers.{numberOf}
+use Rattle.tables.specs.Rows.{tables, countsOf}
+use Rattle.tables.specs.declared.Reading.the-variants.{Accepted, Refused}
+use Rattle.tables.specs.declared.Reason.{Reason}
+use Rattle.tables.specs.declared.Reason.the-variants.{NoRoom}
+use Rattle.tables.proofs.Cases.{either-bool, true-false}
+use Rattle.parser.specs.Read.{Answer, refused, accepted, read}
+use Rattle.parser.specs.Walk.{Opts}
+use Rattle.reader.specs.Lent.{Lent, roomy, answers}
+use Rattle.reader.proofs.Reasons.{refused-with}
+use Rattle.c_answers.specs.Shown.{readingShown}
+use Rattle.c_answers.specs.declared.SgfReading.{SgfReading}
+use Rattle.sgf.specs.Shown.{ReadShown}
+use Rattle.demands.specs.Cells.{countsRead, noCounts}
+use Rattle.demands.specs.When.{Exactly, Reads, Unread, unread, few}
+use Rattle.demands.specs.Lists.{OneOf, strictNumbers, lenientNumbers}
+use Rattle.demands.proofs.Listed.{one-of}
+use Rattle.demands.proofs.Numbers.{exactly}
+use Rattle.demands.proofs.Refusals.{reading-leaves}
+
+module _ (op : Opts) (t : List ℕ) (before : Lent) where
+  read-decided : Reads op t before ⊎ ((x : Reason) × (p : ℕ) × Unread op t before x p)
+  read-decided = go (read op t) refl
+    where
+      go : (a : Answer) → read op t ≡ a → Reads op t before ⊎ ((x : Reason) × (p : ℕ) × Unread op t before x p)
+      go (refused x p) e = inr (x, p, unread e)
+      go (accepted ts) e = either-bool (roomy (tables ts) before) (λ f. inl (record { trees = ts; is = e; room = f })) (λ f. inr (NoRoom, 0, few ts e f))
+
+  pub reads-answer : (x : Reads op t before) → answers (read op t) before ≡ Accepted (countsOf (tables (x .trees)))
+  reads-answer x = ap (λ (a : Answer). answers a before) (x .is) ∙ ap (λ (b : Bool). pick b (Accepted (countsOf (tables (x .trees)))) (Refused NoRoom 0)) (x .room)
+
+  unread-answer : {x : Reason} {p : ℕ} → Unread op t before x p → answers (read op t) before ≡ Refused x p
+  unread-answer (unread e) = ap (λ (a : Answer). answers a before) e
+  unread-answer (few ts e f) = ap (λ (a : Answer). answers a before) e ∙ ap (λ (b : Bool). pick b (Accepted (countsOf (tables ts))) (Refused NoRoom 0)) f
+
+  module _ (after : Lent) (r : SgfReading) (s : ReadShown (read op t) before after r) where
+    abbrev Because : Reason → Type 0
+    Because x = (p : ℕ) × Unread op t before x p × (r .place ≡ p)
+
+    shown-read : (x : Reads op t before) → r ≡ readingShown (Accepted (countsOf (tables (x .trees))))
+    shown-read x = s .shown ∙ ap readingShown (reads-answer x)
+
+    shown-unread : {x : Reason} {p : ℕ} → Unread op t before x p → r ≡ readingShown (Refused x p)
+    shown-unread u = s .shown ∙ ap readingShown (unread-answer u)
+
+    pub reading-exactly : Exactly (r .number) (Reads op t before) Because
+    reading-exactly =
+        exactly (r .number) (Reads op t before) Because
+        (⊎-elim (λ a. inl a) (λ u. inr (u .0, (u .1, u .2, ap (λ (z : SgfReading). z .place) (shown-unread (u .2))))) read-decided)
+        (λ a. ap (λ (z : SgfReading). z .number) (shown-read a)) (λ x u. ap (λ (z : SgfReading). z .number) (shown-unread (u .1)))
+
+    pub reading-stays : 0 < r .number → after ≡ before
+    reading-stays l =
+        ⊎-elim (λ a. absurd (omega (arith, ap (λ (z : SgfReading). z .number) (shown-read a))))
+        (λ u. reading-leaves (read op t) before after (u .0) (u .1) (sym (unread-answer (u .2))) (s .tables)) read-decided
+
+    pub reading-zeros : 0 < r .number → countsRead r ≡ noCounts
+    reading-zeros l = ⊎-elim (λ a. absurd (omega (arith, ap (λ (z : SgfReading). z .number) (shown-read a)))) (λ u. ap countsRead (shown-unread (u .2))) read-decided
+
+    -- a list that has 0, 14 and the numbers of the definition's reasons has every number given
+    numbers-in : (xs : List ℕ) → OneOf xs 0 → OneOf xs 14 → ((x : Reason) (p : ℕ) → read op t ≡ refused x p → OneOf xs (numberOf x)) → OneOf xs (r .number)
+    numbers-in xs zero room each =
+        ⊎-elim (λ a. subst⁻¹ (OneOf xs) (ap (λ (z : SgfReading). z .number) (shown-read a)) zero)
+        (λ u. subst⁻¹ (OneOf xs) (ap (λ (z : SgfReading). z .number) (shown-unread (u .2))) (of (u .2))) read-decided
+      where
+        of : {x : Reason} {p : ℕ} → Unread op t before x p → OneOf xs (numberOf x)
+        of (unread {x = x} {p = p} e) = each x p e
+        of (few ts e f) = room
+
+    pub strict-listed : OneOf strictNumbers (r .number)
+    strict-listed =
+        numbers-in strictNumbers (one-of strictNumbers 0 refl) (one-of strictNumbers 14 refl)
+        (λ x p e.
+        refused-with op (λ (z : Reason). OneOf strictNumbers (numberOf z)) (one-of strictNumbers 1 refl) (one-of strictNumbers 2 refl) (one-of strictNumbers 9 refl)
+        (λ _. record {
+          no3 = one-of strictNumbers 3 refl;
+          no4 = one-of strictNumbers 4 refl;
+          no5 = one-of strictNumbers 5 refl;
+          no6 = one-of strictNumbers 6 refl;
+          no7 = one-of strictNumbers 7 refl;
+          no8 = one-of strictNumbers 8 refl;
+          no10 = one-of strictNumbers 10 refl;
+          no11 = one-of strictNumbers 11 refl;
+          no12 = one-of strictNumbers 12 refl;
+        })
+        (λ _ _. one-of strictNumbers 13 refl) t e)
+
+    pub lenient-listed : op .lenient ≡ true → OneOf lenientNumbers (r .number)
+    lenient-listed h =
+        numbers-in lenientNumbers (one-of lenientNumbers 0 refl) (one-of lenientNumbers 14 refl)
+        (λ x p e.
+        refused-with op (λ (z : Reason). OneOf lenientNumbers (numberOf z)) (one-of lenientNumbers 1 refl) (one-of lenientNumbers 2 refl) (one-of lenientNumbers 9 refl)
+        (λ f. true-false (op .lenient) h f) (λ f _. true-false (op .lenient) h f) t e)

@@ -1,0 +1,5 @@
+pub mod Calls
+pub mod Cells
+pub mod Holding
+pub mod Lists
+pub mod When

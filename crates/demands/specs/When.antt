@@ -1,0 +1,71 @@
+-- When each exported function accepts, and when it gives each number: in document 01's order, each where none before it applies.
+use Rattle.lists.specs.Prelude.{ℕ, _≤_, _<_, true, false, List, _↔_, _≡_, length, slice}
+use Rattle.values.specs.Read.{readValue}
+use Rattle.value_display.specs.Display.{shown}
+use Rattle.value_display.specs.declared.Kind.{Kind}
+use Rattle.tables.specs.Columns.{valFromAt, valToAt}
+use Rattle.tables.specs.Memory.{Memory}
+use Rattle.tables.specs.Numbers.{numberOf}
+use Rattle.tables.specs.Record.{Tree, allNodes, allProps}
+use Rattle.tables.specs.Rows.{tables}
+use Rattle.tables.specs.declared.Reason.{Reason}
+use Rattle.tables.specs.declared.Reason.the-variants.{NoRoom, EmptyIdentifier, NoSuchNumber, NotFitting}
+use Rattle.fit.specs.Fit.{Fit}
+use Rattle.fit.specs.Record.{recordIn}
+use Rattle.parser.specs.Read.{refused, accepted, read}
+use Rattle.parser.specs.Walk.{Opts}
+use Rattle.reader.specs.Lent.{Lent, roomy}
+use Rattle.serialize.specs.Form.{writing}
+use Rattle.serialize.specs.Branch.{nameless}
+
+-- number 0 exactly on acceptance, and the number of each reason exactly where that reason holds
+pub record Exactly (number : ℕ) (Accepts : Type 0) (Because : Reason → Type 0) : Type 0 where
+  pub zero : (number ≡ 0) ↔ Accepts
+  pub each : (x : Reason) → (number ≡ numberOf x) ↔ Because x
+
+-- a reading is accepted: the text reads as a record, whose rows are lent
+pub record Reads (op : Opts) (t : List ℕ) (before : Lent) : Type 0 where
+  pub trees : List Tree
+  pub is : read op t ≡ accepted trees
+  pub room : roomy (tables trees) before ≡ true
+
+-- or refused, with the place: for the definition's reason; or, 14 last, too few rows are lent
+pub data Unread (op : Opts) (t : List ℕ) (before : Lent) : Reason → ℕ → Type 0 where
+  unread : {x : Reason} {p : ℕ} → read op t ≡ refused x p → Unread op t before x p
+  few : (ts : List Tree) → read op t ≡ accepted ts → roomy (tables ts) before ≡ false → Unread op t before NoRoom 0
+
+-- a writing into `room` bytes is accepted: the tables fit, no identifier reads as empty, the writing has room
+pub record Writes (m : Memory) (room : ℕ) : Type 0 where
+  pub fits : Fit m ≡ true
+  pub named : nameless (allProps (allNodes (recordIn m))) ≡ false
+  pub long : length (writing (recordIn m)) ≤ room
+
+-- or refused: 19, 15, 14
+pub data Unwritten (m : Memory) (room : ℕ) : Reason → Type 0 where
+  unfit : Fit m ≡ false → Unwritten m room NotFitting
+  unnamed : Fit m ≡ true → nameless (allProps (allNodes (recordIn m))) ≡ true → Unwritten m room EmptyIdentifier
+  narrow : Fit m ≡ true → nameless (allProps (allNodes (recordIn m))) ≡ false → room < length (writing (recordIn m)) → Unwritten m room NoRoom
+
+-- number k, of so many, is answered: the tables fit, and it is below the count
+pub record Asked (m : Memory) (count k : ℕ) : Type 0 where
+  pub fits : Fit m ≡ true
+  pub below : k < count
+
+-- or not: 19, 16
+pub data Unasked (m : Memory) (count k : ℕ) : Reason → Type 0 where
+  misfit : Fit m ≡ false → Unasked m count k NotFitting
+  beyond : Fit m ≡ true → count ≤ k → Unasked m count k NoSuchNumber
+
+-- what value k shows
+abbrev pub display : Memory → ℕ → Kind → List ℕ
+display m k kind = shown kind (readValue (slice (valFromAt (m .values) k) (valToAt (m .values) k) (m .text)))
+
+-- value k is displayed in `room` bytes
+pub record Displays (m : Memory) (k : ℕ) (kind : Kind) (room : ℕ) : Type 0 where
+  pub asked : Asked m (m .counts .values) k
+  pub long : length (display m k kind) ≤ room
+
+-- or not: 19, 16, 14
+pub data Undisplayed (m : Memory) (k : ℕ) (kind : Kind) (room : ℕ) : Reason → Type 0 where
+  unasked : {x : Reason} → Unasked m (m .counts .values) k x → Undisplayed m k kind room x
+  full : Asked m (m .counts .values) k → room < length (display m k kind) → Undisplayed m k kind room NoRoom
