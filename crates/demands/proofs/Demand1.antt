@@ -47,6 +47,10 @@ use Rattle.demands.proofs.Readings as reading
 use Rattle.demands.proofs.Refusals.{reading-leaves, edit-leaves, display-leaves}
 use Rattle.demands.proofs.Texts as texts
 use Rattle.demands.proofs.Written as writing
+-- when the definition refuses, number by number, in the scope's words: strict 1 to 12 (of 13 nothing is said), lenient 1, 2, 9
+pub use Rattle.reader_exactly.proofs.Exactly.{strict-1, strict-2, strict-3, strict-4, strict-5, strict-6}
+pub use Rattle.reader_exactly.proofs.Exactly.{strict-7, strict-8, strict-9, strict-10, strict-11, strict-12}
+pub use Rattle.reader_exactly.proofs.Exactly.{lenient-1, lenient-2, lenient-9}
 
 -- no reason has the number of acceptance
 pub number-some : (r : Reason) → 0 < numberOf r
