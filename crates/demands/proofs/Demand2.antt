@@ -167,14 +167,20 @@ exported-reads = exported.strict-accepted
 pub exported-writes : (m : Memory) (out out′ : List ℕ) (r : SgfWriting) → WriteShown m out out′ r → r .number ≡ 0 → WriteIs m out out′ (Wrote (r .length))
 exported-writes = exported.shown-wrote
 
--- read, write, read, write: the second writing has number 0 where it has room, the same length and the same bytes
-pub exported-again : (o o₂ : ℕ) (t : List ℕ) (before after : Lent) (a : SgfReading) → optionsOf o .lenient ≡ false → ReadShown (read (optionsOf o) t) before after a → a .number ≡ 0
-    → BeginsAll t → All Named (allProps (allNodes (recordIn (holding t (countsRead a) after)))) → (out out′ : List ℕ) (r : SgfWriting)
-    → WriteShown (holding t (countsRead a) after) out out′ r → r .number ≡ 0 → r .length ≤ textLimit → depthOf (take (r .length) out′) ≤ depthLimit
-    → (before₂ after₂ : Lent) (a₂ : SgfReading) → optionsOf o₂ .lenient ≡ false → ReadShown (read (optionsOf o₂) (take (r .length) out′)) before₂ after₂ a₂ → a₂ .number ≡ 0
-    → (out₂ out₂′ : List ℕ) (r₂ : SgfWriting) → WriteShown (holding (take (r .length) out′) (countsRead a₂) after₂) out₂ out₂′ r₂ → r .length ≤ length out₂
-    → (r₂ .number ≡ 0) × (r₂ .length ≡ r .length) × (take (r .length) out₂′ ≡ take (r .length) out′)
-exported-again = again.again
+-- read, write, read, write, under document 01's premises
+module _ (o o₂ : ℕ) (t : List ℕ) (before after : Lent) (a : SgfReading) (e : optionsOf o .lenient ≡ false) (x : ReadShown (read (optionsOf o) t) before after a) (z : a .number ≡ 0)
+    (b : BeginsAll t) (nm : All Named (allProps (allNodes (recordIn (holding t (countsRead a) after))))) (out out′ : List ℕ) (r : SgfWriting)
+    (w : WriteShown (holding t (countsRead a) after) out out′ r) (v : r .number ≡ 0) (l : r .length ≤ textLimit)
+    (before₂ after₂ : Lent) (a₂ : SgfReading) (e₂ : optionsOf o₂ .lenient ≡ false) (x₂ : ReadShown (read (optionsOf o₂) (take (r .length) out′)) before₂ after₂ a₂) where
+  -- the second reading's number is 9 where the writing is too deep, and nowhere else
+  pub exported-nine : (depthLimit < depthOf (take (r .length) out′) → a₂ .number ≡ 9) × (a₂ .number ≡ 9 → depthLimit < depthOf (take (r .length) out′))
+  exported-nine = again.nine o o₂ t before after a e x z b nm out out′ r w v l before₂ after₂ a₂ e₂ x₂
+
+  -- where it is 0 the second writing's is 0 if it has room, with the same length and the same bytes
+  pub exported-again : depthOf (take (r .length) out′) ≤ depthLimit → a₂ .number ≡ 0 → (out₂ out₂′ : List ℕ) (r₂ : SgfWriting)
+      → WriteShown (holding (take (r .length) out′) (countsRead a₂) after₂) out₂ out₂′ r₂ → r .length ≤ length out₂
+      → (r₂ .number ≡ 0) × (r₂ .length ≡ r .length) × (take (r .length) out₂′ ≡ take (r .length) out′)
+  exported-again = again.again o o₂ t before after a e x z b nm out out′ r w v l before₂ after₂ a₂ e₂ x₂
 
 -- a text beyond the limit, whatever it is, is 1: a writing as well
 pub long-one : (op : Opts) (t : List ℕ) (before after : Lent) (r : Reading) → textLimit < length t → ReadIs (read op t) before after r → r ≡ Refused TextTooLong 0

@@ -79,15 +79,6 @@ module _ (c : Bool) (m : Memory) where
         → (r ≡ Accepted (m .counts)) × (after ≡ tablesIn m)
     own-reading = again.reread-own c m f
 
-    -- whatever tables it is read into, an accepted reading has the rows that are in memory
-    pub fresh-rows : (before after : Lent) (k : Counts) → ReadIs (read (strictly c) (textIn m)) before after (Accepted k)
-        → rowsOf k (after .trees) (after .nodes) (after .props) (after .vals) ≡ rowsIn m
-    fresh-rows = again.reread-rows c m f
-
-    -- the counts that the caller keeps are the lengths of the definition's tables
-    pub counts-fresh : m .counts ≡ countsOf (tables (f .reads .trees))
-    counts-fresh = again.fresh-counts c m f
-
 -- memory without tables holds no reading, whatever its cells would read as
 pub bare-not-fresh : Fresh (strictly true) bare.bare → ⊥
 bare-not-fresh = bare.bare-not-fresh
@@ -127,6 +118,23 @@ pub shown-run : (m m′ : Memory) (xs : List Order) → Fit m ≡ true → Calls
     → (Fit m′ ≡ true) × (edit.textRows m′ ≡ run (length (m .text)) (edit.textRows m) xs)
 shown-run m m′ xs f k = calls-run m m′ xs f (calls-shown k)
 
--- rows that read as the text still do after any calls, whether the tables are lent or not
-pub calls-reads : (c : Bool) (m m′ : Memory) (xs : List Order) → Reads (strictly c) (edit.textRows m) → edit.Calls m xs m′ → Reads (strictly c) (edit.textRows m′)
-calls-reads = code.calls-reads
+-- ---- of rows that read as the used text, whether the tables are lent or not
+
+module _ (c : Bool) (m : Memory) where
+  -- an accepted strict reading leaves such rows
+  pub reading-reads : (before : Lent) → ReadIs (read (strictly c) (textIn m)) before (tablesIn m) (Accepted (m .counts)) → Reads (strictly c) (edit.textRows m)
+  reading-reads = again.read-reads c m
+
+  module _ (f : Reads (strictly c) (edit.textRows m)) where
+    -- they stay such under any calls
+    pub calls-reads : (xs : List Order) (m′ : Memory) → edit.Calls m xs m′ → Reads (strictly c) (edit.textRows m′)
+    calls-reads xs m′ = code.calls-reads c m m′ xs f
+
+    -- the counts that the caller keeps are the lengths of the definition's tables
+    pub counts-reads : m .counts ≡ countsOf (tables (f .trees))
+    counts-reads = code.counts-reads c m f
+
+    -- whatever tables it is read into, an accepted reading has these rows
+    pub reads-rows : (before after : Lent) (k : Counts) → ReadIs (read (strictly c) (textIn m)) before after (Accepted k)
+        → rowsOf k (after .trees) (after .nodes) (after .props) (after .vals) ≡ rowsIn m
+    reads-rows = again.reread-rows c m f

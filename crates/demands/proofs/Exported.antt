@@ -41,11 +41,13 @@ shown-wrote m out out′ r x z = go (written m (length out)) refl (x .is)
     go (Refused q) e h = absurd (omega (arith, number-some q, ap (λ (y : SgfWriting). y .number) h, z))
 
 -- options whose lowest bit is not set ask for a strict reading
+pub strict-shown : (o : ℕ) (t : List ℕ) (before after : Lent) (a : SgfReading) → optionsOf o .lenient ≡ false → ReadShown (read (optionsOf o) t) before after a
+    → ReadShown (read (strictly (optionsOf o .convert)) t) before after a
+strict-shown o t before after a e x = subst (λ (l : Bool). ReadShown (read (record { lenient = l; convert = optionsOf o .convert }) t) before after a) e x
+
 pub strict-accepted : (o : ℕ) (t : List ℕ) (before after : Lent) (a : SgfReading) → optionsOf o .lenient ≡ false → ReadShown (read (optionsOf o) t) before after a → a .number ≡ 0
     → ReadIs (read (strictly (optionsOf o .convert)) t) before after (reading.Accepted (countsRead a))
-strict-accepted o t before after a e x z =
-    subst (λ (l : Bool). ReadIs (read (record { lenient = l; convert = optionsOf o .convert }) t) before after (reading.Accepted (countsRead a))) e
-    (shown-accepted (read (optionsOf o) t) before after a x z)
+strict-accepted o t before after a e x z = shown-accepted (read (strictly (optionsOf o .convert)) t) before after a (strict-shown o t before after a e x) z
 
 -- one record, one writing
 pub one-writing : (o o′ : ℕ) (t u : List ℕ) (before after before′ after′ : Lent) (a a′ : SgfReading)

@@ -17,9 +17,11 @@ use Rattle.reader_laws.proofs.Lent.{read-rows, read-buffer-fits}
 use Rattle.c_answers.specs.Shown.{readingShown}
 use Rattle.c_answers.specs.declared.SgfReading.{SgfReading}
 use Rattle.sgf.specs.Shown.{ReadShown}
+use Rattle.edit_laws.specs.Calls.{textRows}
 use Rattle.edit_laws.specs.Calls as edit
 use Rattle.edit_laws.specs.Fresh.{Fresh}
 use Rattle.edit_laws.specs.Run.{strictly, Order}
+use Rattle.edit_laws.specs.Run as rows
 use Rattle.edit_laws.proofs.CallsRun.{calls-fit}
 use Rattle.edit_laws.proofs.Cells.{tree-cells, node-cells, property-cells, value-cells}
 use Rattle.edit_laws.proofs.OnCode.{calls-reads, counts-reads}
@@ -27,14 +29,13 @@ use Rattle.demands.specs.Cells.{tablesIn, hasRoom, countsRead, SameCells
 use Rattle.demands.specs.When.{Reads}
 use Rattle.demands.proofs.Readings.{reading-exactly, reads-answer}
 
+pub read-reads : (c : Bool) (m : Memory) (before : Lent) → ReadIs (read (strictly c) (textIn m)) before (tablesIn m) (Accepted (m .counts)) → rows.Reads (strictly c) (textRows m)
+read-reads c m before x = let r = read-rows (strictly c) (textIn m) before (tablesIn m) (m .counts) x in record { trees = r .0; reads = r .1; same-rows = r .2 }
+
 pub read-fresh : (c : Bool) (m : Memory) (before : Lent) → m .used ≤ length (m .text)
     → ReadIs (read (strictly c) (textIn m)) before (tablesIn m) (Accepted (m .counts)) → Fresh (strictly c) m
 read-fresh c m before l x =
-    let r = read-rows (strictly c) (textIn m) before (tablesIn m) (m .counts) x in
-    record {
-      fits = read-buffer-fits (strictly c) (m .text) (m .used) before (tablesIn m) (m .counts) l x;
-      reads = record { trees = r .0; reads = r .1; same-rows = r .2 };
-    }
+    record { fits = read-buffer-fits (strictly c) (m .text) (m .used) before (tablesIn m) (m .counts) l x; reads = read-reads c m before x }
 
 pub shown-fresh : (c : Bool) (m : Memory) (before : Lent) (r : SgfReading) → m .used ≤ length (m .text)
     → ReadShown (read (strictly c) (textIn m)) before (tablesIn m) r → r .number ≡ 0 → countsRead r ≡ m .counts → Fresh (strictly c) m
@@ -52,6 +53,12 @@ calls-fresh c m m′ xs f k = record { fits = calls-fit m m′ xs (f .fits) k; r
 pub trees-once : {ts us : List Tree} → accepted ts ≡ accepted us → ts ≡ us
 trees-once e = cc
 
+pub reread-rows : (c : Bool) (m : Memory) → rows.Reads (strictly c) (textRows m) → (before after : Lent) (k : Counts) → ReadIs (read (strictly c) (textIn m)) before after (Accepted k)
+    → rowsOf k (after .trees) (after .nodes) (after .props) (after .vals) ≡ rowsIn m
+reread-rows c m f before after k x =
+    let r = read-rows (strictly c) (textIn m) before after k x in
+    r .2 ∙ ap tables (trees-once (sym (r .1) ∙ f .reads)) ∙ sym (f .same-rows)
+
 take-over : (xs ys t : List ℕ) (n : ℕ) → xs ≡ take n t → n ≤ length t → take n (over xs ys) ≡ take n t
 take-over xs ys t n e h = ap (λ (z : List ℕ). take n (over z ys)) e ∙ take-at (take n t) (drop (length (take n t)) ys) n (length-take-le n t h)
 
@@ -68,17 +75,11 @@ module _ (c : Bool) (m : Memory) (f : Fresh (strictly c) m) where
   held : Held (m .counts) (m .trees) (m .nodes) (m .properties) (m .values)
   held = fit-lent m (f .fits) .1
 
-  pub fresh-counts : m .counts ≡ countsOf T
+  fresh-counts : m .counts ≡ countsOf T
   fresh-counts = counts-reads c m (f .reads)
 
   pub own-room : hasRoom (m .counts) (tablesIn m) ≡ true
   own-room = all-four (le-leb _ _ (held .trees)) (le-leb _ _ (held .nodes)) (le-leb _ _ (held .properties)) (le-leb _ _ (held .values))
-
-  pub reread-rows : (before after : Lent) (k : Counts) → ReadIs (read (strictly c) (textIn m)) before after (Accepted k)
-      → rowsOf k (after .trees) (after .nodes) (after .props) (after .vals) ≡ rowsIn m
-  reread-rows before after k x =
-      let r = read-rows (strictly c) (textIn m) before after k x in
-      r .2 ∙ ap tables (trees-once (sym (r .1) ∙ f .reads .reads)) ∙ sym (f .reads .same-rows)
 
   module _ (before : Lent) (h : hasRoom (m .counts) before ≡ true) where
     roomy-again : roomy T before ≡ true

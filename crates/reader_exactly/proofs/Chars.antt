@@ -1,10 +1,11 @@
 -- Characters of table 3-7 in joined bytes: how wide they are, and what the machine makes of them. Assumes nothing.
-use Rattle.lists.proofs.Prelude.{ℕ, suc, _+_, _≤_, _≡_, refl, sym, ap, _∙_, subst, Bool, true, false, List, [], _∷_, _++_, arith, leb, length, take, drop, take-append-le, drop-append-le, le-leb, lt-leb, pick}
+use Rattle.lists.proofs.Prelude.{ℕ, suc, _+_, _≤_, _≡_, refl, sym, ap, _∙_, subst, Bool, true, List, [], _∷_, _++_, arith, leb, length, take, drop, take-append-le, drop-append-le, le-leb, lt-leb, pick}
 use Rattle.text_chars.specs.White.{white}
 use Rattle.text_chars.specs.Table.{Bytes, to, table, fits, listed, scalar, WellFormed, empty, begins}
 use Rattle.text_chars.proofs.Rows.{listed-elim, fits-both, listed-long, listed-take}
 use Rattle.text_chars.proofs.Tests.{within-true}
 use Rattle.text_utf8.specs.Text.{Ink, inked, mark, whole, utfs}
+use Rattle.text_utf8.proofs.Blocks.{mark-inked}
 use Rattle.text_utf8.proofs.Taken.{listed-taken}
 use Rattle.reader_exactly.specs.Kept.{Begins, Blanks, no-space, space}
 
@@ -108,13 +109,9 @@ utfs-blanks no-space k o = refl
 utfs-blanks (space {t = t} n h x) k o = utfs-begins true n t h k o ∙ utfs-blanks x k (o + n)
 
 -- ink that has begun
-inked-mark : (w : Bool) (a l s e : ℕ) → (m : ℕ) × (mark w (inked a l) s e ≡ inked a m)
-inked-mark true a l s e = (l, refl)
-inked-mark false a l s e = (e, refl)
-
 pub utfs-inked : {t : List ℕ} → WellFormed t → (a l o : ℕ) → (m : ℕ) × (utfs (whole (inked a l)) o t ≡ whole (inked a m))
 utfs-inked empty a l o = (l, refl)
 utfs-inked (begins {t = t} n h x) a l o =
-    let k = inked-mark (white (scalar (take n t))) a l o (o + n) in
+    let k = mark-inked (white (scalar (take n t))) a l o (o + n) in
     let r = utfs-inked x a (k .0) (o + n) in
     (r .0, listed-taken n t h (inked a l) o ∙ ap (λ (z : Ink). utfs (whole z) (o + n) (drop n t)) (k .1) ∙ r .1)

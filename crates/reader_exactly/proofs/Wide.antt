@@ -1,10 +1,11 @@
--- The white space of three bytes that display shows as a space is Unicode's. Assumes nothing.
-use Rattle.lists.proofs.Prelude.{ℕ, _+_, _*_, _-_, _≤_, _<_, _≡_, refl, sym, _∙_, Bool, true, _&&_, _||_, [], _∷_, arith, leb, eqb, leb-true, le-leb, eqb-true, ne-eqb}
+-- The white space of three bytes that display shows as a space is Unicode's, and none has four. Assumes nothing.
+use Rattle.lists.proofs.Prelude.{ℕ, _+_, _*_, _-_, _≤_, _<_, _≡_, refl, sym, _∙_, Bool, true, false, _&&_, _||_, [], _∷_, arith, leb, eqb, leb-true, le-leb, eqb-true, ne-eqb}
 use Rattle.lists.proofs.Tests.{and-both, same-or}
 use Rattle.text_chars.specs.White.{within, white}
 use Rattle.text_chars.specs.Table.{listed, scalar}
 use Rattle.text_chars.proofs.Tests.{within-true, in-within, above-within}
-use Rattle.text_chars.proofs.Widths.{listed-3}
+use Rattle.text_chars.proofs.White.{far-dark}
+use Rattle.text_chars.proofs.Widths.{listed-3, listed-4}
 use Rattle.value_display.specs.Display.{blank3}
 use Rattle.reader_exactly.proofs.White.{both-ways, either, white-cases}
 
@@ -97,6 +98,14 @@ module _ (a b c v : ℕ) (ev : v ≡ ((a - 0xe0) * 64 + (b - 0x80)) * 64 + (c - 
         (λ e. three-at 2 1 31 e (omega arith) (omega arith) refl)
         (λ e. three-at 3 0 0 e (omega arith) (omega arith) refl)
 
+-- the first two bytes in a row of the table
+row : {X : Type 0} (a b p q r s : ℕ) → (p ≤ a → a ≤ q → r ≤ b → b ≤ s → X) → (within p q a && within r s b) ≡ true → X
+row a b p q r s f e =
+    let w = and-both (within p q a) (within r s b) e in
+    let x = within-true p q a (w .0) in
+    let y = within-true r s b (w .1) in
+    f (x .0) (x .1) (y .0) (y .1)
+
 module _ (a b : ℕ) where
   abbrev r0 : Bool
   r0 = within 0xe0 0xe0 a && within 0xa0 0xbf b
@@ -116,17 +125,10 @@ first-two : (a b : ℕ) → (within 0xe0 0xe0 a && within 0xa0 0xbf b || within 
 first-two a b h =
     either (r0 a b || r1 a b || r2 a b) (r3 a b) h
     (λ i. either (r0 a b || r1 a b) (r2 a b) i
-    (λ j. either (r0 a b) (r1 a b) j (row 0xe0 0xe0 0xa0 0xbf (λ p q r s. (omega arith, omega arith, omega arith, omega arith, omega arith)))
-    (row 0xe1 0xec 0x80 0xbf (λ p q r s. (omega arith, omega arith, omega arith, omega arith, omega arith))))
-    (row 0xed 0xed 0x80 0x9f (λ p q r s. (omega arith, omega arith, omega arith, omega arith, omega arith))))
-    (row 0xee 0xef 0x80 0xbf (λ p q r s. (omega arith, omega arith, omega arith, omega arith, omega arith)))
-  where
-    row : {X : Type 0} (p q r s : ℕ) → (p ≤ a → a ≤ q → r ≤ b → b ≤ s → X) → (within p q a && within r s b) ≡ true → X
-    row p q r s f e =
-        let w = and-both (within p q a) (within r s b) e in
-        let x = within-true p q a (w .0) in
-        let y = within-true r s b (w .1) in
-        f (x .0) (x .1) (y .0) (y .1)
+    (λ j. either (r0 a b) (r1 a b) j (row a b 0xe0 0xe0 0xa0 0xbf (λ p q r s. (omega arith, omega arith, omega arith, omega arith, omega arith)))
+    (row a b 0xe1 0xec 0x80 0xbf (λ p q r s. (omega arith, omega arith, omega arith, omega arith, omega arith))))
+    (row a b 0xed 0xed 0x80 0x9f (λ p q r s. (omega arith, omega arith, omega arith, omega arith, omega arith))))
+    (row a b 0xee 0xef 0x80 0xbf (λ p q r s. (omega arith, omega arith, omega arith, omega arith, omega arith)))
 
 -- a character of three bytes
 pub blank3-white : (a b c : ℕ) → listed 3 (a ∷ b ∷ c ∷ []) ≡ true → blank3 a b c ≡ white (scalar (a ∷ b ∷ c ∷ []))
@@ -142,3 +144,29 @@ blank3-white a b c h =
   where
     far : (x y : ℕ) → 0x20 ≤ x → 0x800 ≤ x * 64 + y
     far x y l = omega arith
+
+module _ (a b : ℕ) where
+  abbrev q0 : Bool
+  q0 = within 0xf0 0xf0 a && within 0x90 0xbf b
+
+  abbrev q1 : Bool
+  q1 = within 0xf1 0xf3 a && within 0x80 0xbf b
+
+  abbrev q2 : Bool
+  q2 = within 0xf4 0xf4 a && within 0x80 0x8f b
+
+  -- of four bytes
+  lead-four : (q0 || q1 || q2) ≡ true → 0x10 ≤ (a - 0xf0) * 64 + (b - 0x80)
+  lead-four h =
+      either (q0 || q1) q2 h
+      (λ i. either q0 q1 i (row a b 0xf0 0xf0 0x90 0xbf (λ p q r s. omega arith)) (row a b 0xf1 0xf3 0x80 0xbf (λ p q r s. omega arith)))
+      (row a b 0xf4 0xf4 0x80 0x8f (λ p q r s. omega arith))
+
+-- a character of four bytes is no white space
+pub four-dark : (a b c d : ℕ) → listed 4 (a ∷ b ∷ c ∷ d ∷ []) ≡ true → white (scalar (a ∷ b ∷ c ∷ d ∷ [])) ≡ false
+four-dark a b c d h =
+    let p = and-both (q0 a b || q1 a b || q2 a b) (within 0x80 0xbf c && within 0x80 0xbf d) (sym (listed-4 a b c d) ∙ h) in
+    far-dark (scalar (a ∷ b ∷ c ∷ d ∷ [])) (far ((a - 0xf0) * 64 + (b - 0x80)) (c - 0x80) (d - 0x80) (lead-four a b (p .0)))
+  where
+    far : (x y z : ℕ) → 0x10 ≤ x → 0x3000 < (x * 64 + y) * 64 + z
+    far x y z l = omega arith

@@ -3,6 +3,7 @@ use Rattle.lists.proofs.Prelude.{_≡_, refl, sym, ap, _∙_, ℕ, suc, _+_, _�
 use Rattle.edit_laws.specs.Run.{strictly}
 use Rattle.lexer.specs.Token.{Prop, Tok, node}
 use Rattle.lists.specs.All.{All}
+use Rattle.parser.proofs.Runs.{walked-append}
 use Rattle.parser.specs.Walk.{Gate, Walk, children, takes, walk, walked}
 use Rattle.serialize_laws.proofs.WrittenProps.{Plain}
 use Rattle.serialize_laws.proofs.Written.{PlainNode, tokEnds, tokNodes, tokOpened, tokProps}
@@ -12,7 +13,7 @@ use Rattle.tables.specs.Numbers.{none}
 use Rattle.tables.specs.Record.{Node}
 use Rattle.tables.specs.Rows.{parents}
 use Rattle.serialize_laws.specs.Back.{zProp, zNode}
-use Rattle.serialize_laws.proofs.GrowNode.{walked-append, top, stk, Chain, two, ends-to, ends-all, left-top, left-chain, chain-up, props-run, open-run, or-right}
+use Rattle.serialize_laws.proofs.GrowNode.{top, stk, Chain, two, ends-to, ends-all, left-top, left-chain, chain-up, props-run, open-run, or-right}
 
 module _ (c : Bool) (base : ℕ) (ps : List ℕ) where
   -- `;` and the properties

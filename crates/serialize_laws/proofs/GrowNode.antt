@@ -13,10 +13,6 @@ use Rattle.tables.specs.Record.{Node}
 use Rattle.tables.specs.Rows.{parents}
 use Rattle.serialize_laws.specs.Back.{zProp}
 
-pub walked-append : (op : Opts) (base : ℕ) (w : Walk) (xs ys : List Tok) → walked op base w (xs ++ ys) ≡ walked op base (walked op base w xs) ys
-walked-append op base w [] ys = refl
-walked-append op base w (t ∷ xs) ys = walked-append op base (walks op base w t) xs ys
-
 -- the number at the top of the path, and the reader's stack at that path
 abbrev pub top : List Open → ℕ
 top [] = none

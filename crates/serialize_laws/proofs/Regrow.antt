@@ -6,9 +6,10 @@ use Rattle.lists.specs.All.{All}
 use Rattle.parser.proofs.MovedKind.{move-kindProps, move-named}
 use Rattle.parser.specs.Kind.{GM, Kind, is, kind, kindProps, named, props}
 use Rattle.parser.specs.Read.{Growing, growAll, growing, grown, grows, kinded, rooted}
+use Rattle.parser.proofs.Runs.{walked-append}
 use Rattle.parser.specs.Walk.{Gate, Walk, shut, takes, walk, walked}
 use Rattle.serialize_laws.proofs.Grow.{node-run, walk-nodes}
-use Rattle.serialize_laws.proofs.GrowNode.{stk, walked-append}
+use Rattle.serialize_laws.proofs.GrowNode.{stk}
 use Rattle.serialize_laws.proofs.Written.{PlainNode, tokEnds, tokNodes, tokOpened, tokProps, tokShuts, tokTree}
 use Rattle.serialize.proofs.Branches.{opening, Good}
 use Rattle.serialize.specs.Write.{Open, bracketed, left}
