@@ -38,7 +38,7 @@ static size_t given_text_len;
 static unsigned long operations, accepted, refusals[20];
 
 /* What a fuzzer is told beside the code that was reached: which call gave which number, and sizes by their bits. */
-enum { READ, WALK, FITS, VALUE, DISPLAY, GO_VALUE, GO_PROPERTY, WRITE, EDIT, CALLS };
+enum { READ, WALK, FITS, VALUE, DISPLAY, DISPLAY_VALUE, GO_VALUE, GO_PROPERTY, WRITE, EDIT, CALLS };
 #ifdef FUZZER
 __attribute__((section("__libfuzzer_extra_counters")))
 #endif
@@ -164,7 +164,7 @@ static void read_text(void) {
     SgfReading r = sgf_read(lent[TEXTS].at, used, options, LENT_TABLES);
     uint32_t may = options & 1 ? MAY(2) | MAY(9) | MAY(14) : 0x7FFCu;
     bool good = answered(READ, r.number, is_short ? may : may & ~MAY(14), MAY(TREES) | MAY(NODES) | MAY(PROPERTIES) | MAY(VALUES));
-    size_t found[TABLES] = {r.trees, r.nodes, r.properties, r.values};
+    size_t found[TABLES] = {r.counts.trees, r.counts.nodes, r.counts.properties, r.counts.values};
     for (int t = 0; t < TABLES; t++) {
         REQUIRE(good || found[t] == 0);
         stays_but(t, 0, 4 * strides[t] * found[t]);
@@ -172,7 +172,7 @@ static void read_text(void) {
     }
     tell(READ, 4, r.place);
     REQUIRE(r.place == 0 || (r.number >= 2 && r.number <= 5 && r.place < used));
-    counts = (SgfCounts){r.trees, r.nodes, r.properties, r.values};
+    counts = r.counts;
     REQUIRE(!good || sgf_fits(RECORD) == 0);
     is_strict = good && (options & 1) == 0;
     is_plain = is_strict && (options & 2) != 0;
@@ -234,6 +234,10 @@ static bool walk(void) {
     return begins;
 }
 
+static bool same_counts(SgfCounts a, SgfCounts b) {
+    return a.trees == b.trees && a.nodes == b.nodes && a.properties == b.properties && a.values == b.values;
+}
+
 /* Tables of a second reading. */
 static uint32_t fresh[TABLES][5 * OUT];
 #define FRESH fresh[0], 5 * OUT, fresh[1], 5 * OUT, fresh[2], 5 * OUT, fresh[3], 5 * OUT
@@ -242,7 +246,7 @@ static uint32_t fresh[TABLES][5 * OUT];
 static void check_fresh(void) {
     SgfReading r = sgf_read(lent[TEXTS].at, used, SGF_STRICT, FRESH);
     size_t rows[TABLES] = {counts.trees, counts.nodes, counts.properties, counts.values};
-    REQUIRE(r.number == 0 && r.trees == rows[0] && r.nodes == rows[1] && r.properties == rows[2] && r.values == rows[3]);
+    REQUIRE(r.number == 0 && same_counts(r.counts, counts));
     for (int t = 0; t < TABLES; t++) {
         REQUIRE(memcmp(fresh[t], lent[t].at, rows[t] * strides[t] * 4) == 0);
     }
@@ -252,9 +256,9 @@ static void check_fresh(void) {
 static void check_again(size_t length) {
     static uint8_t again[OUT];
     SgfReading r = sgf_read(lent[OUTS].at, length, SGF_STRICT, FRESH);
-    REQUIRE(r.number == 0 && r.trees == counts.trees && r.nodes == counts.nodes && r.properties == counts.properties);
-    REQUIRE(memcmp(fresh[0], TABLE(TREES), 8 * r.trees) == 0 && memcmp(fresh[1], TABLE(NODES), 20 * r.nodes) == 0);
-    SgfCounts c = {r.trees, r.nodes, r.properties, r.values};
+    SgfCounts c = r.counts;
+    REQUIRE(r.number == 0 && c.trees == counts.trees && c.nodes == counts.nodes && c.properties == counts.properties);
+    REQUIRE(memcmp(fresh[0], TABLE(TREES), 8 * c.trees) == 0 && memcmp(fresh[1], TABLE(NODES), 20 * c.nodes) == 0);
     SgfWriting w = sgf_write(lent[OUTS].at, length, length, c, FRESH, again, OUT);
     REQUIRE(w.number == 0 && w.length == length && memcmp(again, lent[OUTS].at, length) == 0);
 }
@@ -285,10 +289,10 @@ static void edit(size_t k) {
     tell(EDIT, 0, e.place);
     REQUIRE(e.place == 0 || (e.number == 2 && e.place < length));
     if (!answered(EDIT, e.number, may, MAY(TEXTS) | MAY(PROPERTIES) | MAY(VALUES))) {
-        REQUIRE((e.used | e.trees | e.nodes | e.properties | e.values) == 0);
+        REQUIRE(e.used == 0 && same_counts(e.counts, (SgfCounts){0, 0, 0, 0}));
         return;
     }
-    REQUIRE(e.trees == counts.trees && e.nodes == counts.nodes && e.properties == counts.properties && e.values == counts.values);
+    REQUIRE(same_counts(e.counts, counts));
     used = e.used;
     stays_but(TEXTS, from, used > old_used ? used : old_used);
     stays_but(PROPERTIES, 0, 16 * counts.properties);
@@ -324,6 +328,27 @@ static void display(size_t k, uint32_t kind) {
     tell(DISPLAY, (int)kind, d.length);
 }
 
+/* Any part of the text as a raw value; where it is value k of tables that fit, it is displayed as by its number. */
+static void display_value(size_t k, uint32_t kind) {
+    static uint8_t first[OUT];
+    size_t length = lent[TEXTS].length, from = draw((uint32_t)length + 1), to = from + draw((uint32_t)(length - from) + 1);
+    SgfSpan span = sgf_value(RECORD, k);
+    if (span.number == 0) {
+        from = span.from;
+        to = span.to;
+    }
+    SgfDisplay d = sgf_display_value(kind, lent[TEXTS].at + from, to - from, BYTES(OUTS));
+    answered(DISPLAY_VALUE, d.number, to - from > lent[OUTS].length ? MAY(14) : 0, MAY(OUTS));
+    stays_but(OUTS, 0, d.length);
+    REQUIRE(d.length <= to - from && d.reserved == 0);
+    tell(DISPLAY_VALUE, (int)kind, d.length);
+    if (span.number == 0) {
+        memcpy(first, lent[OUTS].at, d.length);
+        SgfDisplay again = sgf_display(RECORD, k, kind, BYTES(OUTS));
+        REQUIRE(again.number == d.number && again.length == d.length && memcmp(first, lent[OUTS].at, d.length) == 0);
+    }
+}
+
 static void go_value(size_t p) {
     SgfGoValue v = sgf_go_value(RECORD, p);
     answered(GO_VALUE, v.number, MAY(19) | MAY(16), 0);
@@ -354,6 +379,7 @@ static void call(int what) {
     case FITS: answered(FITS, sgf_fits(RECORD), MAY(19), 0); break;
     case VALUE: answered(VALUE, sgf_value(RECORD, k).number, MAY(19) | MAY(16), 0); break;
     case DISPLAY: display(k, draw(3)); break;
+    case DISPLAY_VALUE: display_value(k, draw(3)); break;
     case GO_VALUE: go_value(k); break;
     case GO_PROPERTY: go_property(k); break;
     case WRITE: write_text(); break;

@@ -26,9 +26,19 @@
 #include <stddef.h>
 #include <stdint.h>
 
+/* The version of this header; sgf_version() is that of the archive, equal where both are of one release. */
+#define SGF_VERSION_MAJOR 0
+#define SGF_VERSION_MINOR 6
+#define SGF_VERSION_PATCH 0
+#define SGF_VERSION_STRING "0.6.0"
+#define SGF_VERSION (SGF_VERSION_MAJOR * UINT32_C(65536) + SGF_VERSION_MINOR * UINT32_C(256) + SGF_VERSION_PATCH)
+
 #ifdef __cplusplus
 extern "C" {
 #endif
+
+/* The version of the archive: major * 65536 + minor * 256 + patch. */
+uint32_t sgf_version(void);
 
 /* Numbers given back. The names of 3 to 8 and 10 to 13 are those of the Rust crate sgf-parse. */
 enum {
@@ -108,7 +118,8 @@ typedef struct {
 /* Number 0 and the used rows of each table; or the number of a refusal and its place. `reserved` is always 0. */
 typedef struct {
     uint32_t number, reserved;
-    size_t place, trees, nodes, properties, values;
+    size_t place;
+    SgfCounts counts;
 } SgfReading;
 
 /* Reads a text into the lent tables. Numbers, in this order: 1; 2; 3 to 5, the first in the text; 6; 7; 8; 9; then
@@ -130,13 +141,15 @@ SgfReading sgf_read(const uint8_t *text, size_t text_len, uint32_t options,
 /* 0 where the tables fit the text, else 19. */
 uint32_t sgf_fits(SGF_RECORD);
 
-/* A number, and the span of a value in the text. */
+/* A number, and the span of a value of a record, from its row: what stands between its brackets. (SgfValue, below, is a
+ * value found in a text without tables.) */
 typedef struct {
     uint32_t number, reserved;
     size_t from, to;
 } SgfSpan;
 
-/* The span of value k. Numbers: 19, 16. */
+/* The span of value k of a record: values are numbered from 0 in the order of the text. Numbers: 19, 16. Without
+ * tables, sgf_next_value finds the values of a property one after the other. */
 SgfSpan sgf_value(SGF_RECORD, size_t k);
 
 /* A number, and how many bytes were written. */
@@ -148,10 +161,12 @@ typedef struct {
 /* How a value is displayed: white space as spaces, escapes resolved; in SimpleText line breaks become spaces too. */
 enum { SGF_TEXT = 0, SGF_SIMPLE_TEXT = 1 }; /* any other kind is SGF_SIMPLE_TEXT */
 
-/* Displays value k in `out`. No display is longer than the raw value. Numbers: 19, 16, 14.
- * To display one value of a large record without the cost of the check, lend it alone: the text from its `[` to its
- * `]`, one row each of {0, 1}, {SGF_NONE, SGF_NONE, SGF_NONE, 0, 1}, {0, 0, 0, 1} and {1, 1 + length}, and k 0. */
+/* Displays value k in `out`. No display is longer than the raw value. Numbers: 19, 16, 14. */
 SgfDisplay sgf_display(SGF_RECORD, size_t k, uint32_t kind, uint8_t *out, size_t out_len);
+
+/* The same of one raw value, as it stands between its brackets, without a record and its check. The number is 0, or 14
+ * where the display exceeds out_len; never 14 where out_len is at least raw_len. */
+SgfDisplay sgf_display_value(uint32_t kind, const uint8_t *raw, size_t raw_len, uint8_t *out, size_t out_len);
 
 /* Kinds of Go value. */
 enum {
@@ -200,7 +215,8 @@ SgfWriting sgf_write(SGF_RECORD, uint8_t *out, size_t out_len);
 /* A number and a place, and the used bytes and rows from now on. */
 typedef struct {
     uint32_t number, reserved;
-    size_t place, used, trees, nodes, properties, values;
+    size_t place, used;
+    SgfCounts counts;
 } SgfEdit;
 
 /* Replaces value k by new bytes. Tables that fit stay fitting, and those of a strict reading, after any run of edits,
@@ -241,13 +257,14 @@ SgfToken sgf_token(const uint8_t *text, size_t text_len, size_t at);
 /* Kinds of value step. */
 enum { SGF_NO_VALUE = 0, SGF_VALUE = 1, SGF_UNCLOSED = 2 };
 
-/* A value's span between its brackets and the place of the next; for the other kinds the place asked for. */
+/* A step over the values of a property, found in the text itself: a value's span between its brackets and the place of
+ * the next; for the other kinds the place asked for. (SgfSpan is a value of a record, by its number.) */
 typedef struct {
     uint32_t kind;
     size_t from, to, next;
 } SgfValue;
 
-/* The value whose `[` stands at a place. */
+/* The value whose `[` stands at a place: from a property's `opens` on, then from `next` to `next`. */
 SgfValue sgf_next_value(const uint8_t *text, size_t text_len, size_t at);
 
 #ifdef __cplusplus

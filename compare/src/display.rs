@@ -4,7 +4,7 @@ use crate::plain;
 use crate::report::{count, same};
 use crate::whole::{Fenced, Whole};
 
-/// Values of a text that are displayed out of the whole record; each is displayed alone as well.
+/// Values of a text that are displayed out of the whole record; each is displayed in a record of its own and without one as well.
 const WHOLE: usize = 4;
 
 /// Compares access to and the display of each value of a text that is accepted leniently.
@@ -46,14 +46,23 @@ fn compare_kind(whole: &Whole, k: usize, kind: u32, expected: &str) -> Result<()
     for spare in [0, 1 + expected.len() % 5] {
         let mut out = Fenced::new(&[], expected.len() + spare);
         let answer = held::display(&whole.held(), k, kind, out.lent_mut());
-        same("display", answer, Length { number: 0, reserved: 0, length: expected.len() })?;
-        same("displayed", String::from_utf8_lossy(&out.lent()[..expected.len()]).as_ref(), expected)?;
-        same("bytes behind the display", out.stands_from(expected.len()), true)?;
+        compare_shown(answer, &out, expected)?;
+        let mut out = Fenced::new(&[], expected.len() + spare);
+        let answer = held::display_value(kind, whole.raw(k), out.lent_mut());
+        compare_shown(answer, &out, expected)?;
     }
     if expected.is_empty() {
         return Ok(());
     }
     let mut short = Fenced::new(&[], expected.len() - 1);
     same("display in too few bytes", held::display(&whole.held(), k, kind, short.lent_mut()), refused(14))?;
+    same("display alone in too few bytes", held::display_value(kind, whole.raw(k), short.lent_mut()), refused(14))?;
     same("bytes after a refusal", short.stands_from(0), true)
+}
+
+/// An accepted display, and what stands behind it.
+fn compare_shown(answer: Length, out: &Fenced<u8>, expected: &str) -> Result<(), String> {
+    same("display", answer, Length { number: 0, reserved: 0, length: expected.len() })?;
+    same("displayed", String::from_utf8_lossy(&out.lent()[..expected.len()]).as_ref(), expected)?;
+    same("bytes behind the display", out.stands_from(expected.len()), true)
 }

@@ -33,7 +33,11 @@ pub fn display(h: &Held, k: usize, kind: u32, out: &mut [u8]) -> Length {
     if span.number != 0 {
         return Length { number: span.number, reserved: 0, length: 0 };
     }
-    let text = String::from_utf8(plain::unescape(&h.text[span.from..span.to])).expect("a part between brackets is UTF-8");
+    display_value(kind, &h.text[span.from..span.to], out)
+}
+
+pub fn display_value(kind: u32, raw: &[u8], out: &mut [u8]) -> Length {
+    let text = String::from_utf8(plain::unescape(raw)).expect("a part between brackets is UTF-8");
     let bytes = if kind == TEXT { sgf_parse::Text { text }.to_string() } else { sgf_parse::SimpleText { text }.to_string() };
     put(bytes.as_bytes(), out)
 }

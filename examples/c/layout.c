@@ -28,10 +28,7 @@ static SgfCounts counts;
 static SgfReading read_bytes(size_t length, uint32_t options) {
     SgfReading r = sgf_read(text, length, options, TABLES);
     used = length;
-    counts.trees = r.trees;
-    counts.nodes = r.nodes;
-    counts.properties = r.properties;
-    counts.values = r.values;
+    counts = r.counts;
     return r;
 }
 
@@ -42,6 +39,18 @@ static SgfReading read_text(const char *source, uint32_t options) {
 
 static SgfEdit edit(size_t k, const char *replacement) {
     return sgf_edit(RECORD, k, (const uint8_t *)replacement, strlen(replacement));
+}
+
+static bool has(SgfCounts c, size_t in_trees, size_t in_nodes, size_t in_properties, size_t in_values) {
+    return c.trees == in_trees && c.nodes == in_nodes && c.properties == in_properties && c.values == in_values;
+}
+
+/* The header's version is the archive's, and its string spells it. */
+static void check_version(void) {
+    char spelled[32];
+    CHECK(sgf_version() == SGF_VERSION);
+    sprintf(spelled, "%d.%d.%d", SGF_VERSION_MAJOR, SGF_VERSION_MINOR, SGF_VERSION_PATCH);
+    CHECK(strcmp(spelled, SGF_VERSION_STRING) == 0);
 }
 
 static void check_tokens(void) {
@@ -65,7 +74,7 @@ static void check_tokens(void) {
 static void check_reading(void) {
     SgfReading r = read_text("(;A[a][b]B[c](;)(;C[d]))(;GM[2])", SGF_STRICT);
     CHECK(r.number == SGF_ACCEPTED && r.reserved == 0 && r.place == 0);
-    CHECK(r.trees == 2 && r.nodes == 4 && r.properties == 4 && r.values == 5);
+    CHECK(has(r.counts, 2, 4, 4, 5));
     CHECK(trees[SGF_TREE_ROOT] == 0 && trees[SGF_TREE_GAME_TYPE] == SGF_GO);
     CHECK(trees[SGF_TREE_STRIDE + SGF_TREE_ROOT] == 3 && trees[SGF_TREE_STRIDE + SGF_TREE_GAME_TYPE] == SGF_UNKNOWN_GAME);
     const uint32_t *node = nodes + SGF_NODE_STRIDE;
@@ -76,8 +85,8 @@ static void check_reading(void) {
     CHECK(property[SGF_PROPERTY_IDENTIFIER_START] == 9 && property[SGF_PROPERTY_IDENTIFIER_END] == 10);
     CHECK(property[SGF_PROPERTY_FIRST_VALUE] == 2 && property[SGF_PROPERTY_VALUE_COUNT] == 1);
     CHECK(values[SGF_VALUE_STRIDE + SGF_VALUE_START] == 7 && values[SGF_VALUE_STRIDE + SGF_VALUE_END] == 8);
-    CHECK(read_text("(;a[])", SGF_KEEP_IDENTIFIERS | SGF_LENIENT).properties == 0);
-    CHECK(read_text("", SGF_LENIENT).nodes == SGF_NODES_FOR(0) && SGF_TREES_FOR(0) == 1);
+    CHECK(read_text("(;a[])", SGF_KEEP_IDENTIFIERS | SGF_LENIENT).counts.properties == 0);
+    CHECK(read_text("", SGF_LENIENT).counts.nodes == SGF_NODES_FOR(0) && SGF_TREES_FOR(0) == 1);
     CHECK(sgf_read(NULL, 0, SGF_LENIENT, NULL, 0, NULL, 0, NULL, 0, NULL, 0).number == SGF_NO_ROOM);
 }
 
@@ -101,7 +110,7 @@ static void check_refused_readings(void) {
     };
     for (size_t i = 0; i < sizeof cases / sizeof *cases; i++) {
         SgfReading r = read_text(cases[i].source, cases[i].options);
-        CHECK(r.number == cases[i].number && r.place == cases[i].place && r.trees + r.nodes + r.properties + r.values == 0);
+        CHECK(r.number == cases[i].number && r.place == cases[i].place && has(r.counts, 0, 0, 0, 0));
     }
     memset(text, ' ', sizeof text);
     CHECK(read_bytes(SGF_TEXT_LIMIT, SGF_STRICT).number == SGF_NO_GAME_TREES);
@@ -122,6 +131,14 @@ static void check_record(void) {
     CHECK(shown.number == 0 && shown.reserved == 0 && shown.length == 5 && memcmp(out, "a b\nc", 5) == 0);
     CHECK(sgf_display(RECORD, 0, SGF_SIMPLE_TEXT, out, 5).length == 5 && memcmp(out, "a b c", 5) == 0);
     CHECK(sgf_display(RECORD, 0, SGF_TEXT, out, 4).number == SGF_NO_ROOM && sgf_display(RECORD, 0, 0, out, 4).length == 0);
+    const uint8_t *raw = (const uint8_t *)"a\tb\nc\\]";
+    shown = sgf_display_value(SGF_TEXT, raw, 7, out, 6);
+    CHECK(shown.number == 0 && shown.reserved == 0 && shown.length == 6 && memcmp(out, "a b\nc]", 6) == 0);
+    CHECK(sgf_display_value(SGF_SIMPLE_TEXT, raw, 7, out, 7).length == 6 && memcmp(out, "a b c]", 6) == 0);
+    CHECK(sgf_display_value(7, raw, 7, out, 7).length == 6 && memcmp(out, "a b c]", 6) == 0);
+    shown = sgf_display_value(SGF_TEXT, raw, 7, out, 5);
+    CHECK(shown.number == SGF_NO_ROOM && shown.length == 0 && memcmp(out, "a b c]", 6) == 0);
+    CHECK(sgf_display_value(SGF_TEXT, NULL, 0, NULL, 0).number == 0);
     SgfGoValue go = sgf_go_value(RECORD, 2);
     CHECK(go.number == 0 && go.kind == SGF_POINTS && go.x == 0 && go.y == 0 && go.handicap == 0);
     size_t marked = 0;
@@ -154,18 +171,19 @@ static void check_edit(void) {
     read_text("(;C[ab](;B[cd])(;GM[2][]))(;)", SGF_STRICT);
     SgfEdit e = edit(0, "x");
     CHECK(e.number == SGF_ACCEPTED && e.reserved == 0 && e.place == 0 && e.used == 28);
-    CHECK(e.trees == 2 && e.nodes == 4 && e.properties == 3 && e.values == 4);
+    CHECK(has(e.counts, 2, 4, 3, 4));
     CHECK(memcmp(text, "(;C[x](;B[cd])(;GM[2][]))(;)\0", 29) == 0 && values[2] == 10 && values[3] == 12);
     used = e.used;
     CHECK(edit(4, "").number == SGF_NO_SUCH_NUMBER && edit(2, "").number == SGF_GAME_TYPE_FIXED);
     CHECK(edit(0, "ab\xFF").number == SGF_NOT_UTF8 && edit(0, "ab\xFF").place == 2 && edit(0, "\xFF").used == 0);
-    CHECK(edit(0, "]").number == SGF_NOT_CLOSED && edit(0, "\\").values == 0);
+    CHECK(edit(0, "]").number == SGF_NOT_CLOSED && has(edit(0, "\\").counts, 0, 0, 0, 0));
     CHECK(sgf_edit(text, used, used, counts, TABLES, 0, (const uint8_t *)"xy", 2).number == SGF_NO_ROOM);
     counts.trees = 1;
     CHECK(edit(0, "").number == SGF_NOT_FITTING);
 }
 
 int main(void) {
+    check_version();
     check_tokens();
     check_reading();
     check_refused_readings();

@@ -65,7 +65,7 @@ static void read_record(Record *r) {
     if (reading.number != SGF_ACCEPTED) {
         fail("reading", reading.number, reading.place);
     }
-    r->counts = (SgfCounts){reading.trees, reading.nodes, reading.properties, reading.values};
+    r->counts = reading.counts;
 }
 
 static char letter(uint32_t coordinate) {
@@ -134,7 +134,7 @@ static void correct_comment(Record *r, size_t p) {
         fail("edit", edit.number, edit.place);
     }
     r->used = edit.used;
-    r->counts = (SgfCounts){edit.trees, edit.nodes, edit.properties, edit.values};
+    r->counts = edit.counts;
     free(shown);
     free(corrected);
 }

@@ -5,7 +5,7 @@
 #include <stdio.h>
 #include <string.h>
 
-enum { READ, FITS, VALUE, DISPLAY, GO_VALUE, WRITE, EDIT, TRIM, TOKEN, CALLS };
+enum { READ, FITS, VALUE, DISPLAY, GO_VALUE, WRITE, EDIT, TRIM, TOKEN, DISPLAY_VALUE, CALLS };
 enum { FIT, DAMAGED }; /* the tables of a reading, or with a game type that there is not */
 enum { ROOM = 64, ROWS = 1100, LONG = SGF_TEXT_LIMIT };
 
@@ -58,6 +58,9 @@ static const Row rows[] = {
     {14, 0, DISPLAY, "(;C[ab])", 0, FIT, 0, "", 1},
     {16, 0, DISPLAY, "(;C[ab])", 0, FIT, 1, "", 0},
     {19, 0, DISPLAY, "(;C[ab])", 0, DAMAGED, 1, "", 0},
+    {0, 0, DISPLAY_VALUE, "a\\]b", 0, FIT, 0, "", 3},
+    {14, 0, DISPLAY_VALUE, "a\\]b", 0, FIT, 0, "", 2},
+    {0, 0, DISPLAY_VALUE, "", 0, FIT, 0, "", 0},
     {0, 0, GO_VALUE, "(;B[ab])", 0, FIT, 0, "", 0},
     {16, 0, GO_VALUE, "(;B[ab])", 0, FIT, 1, "", 0},
     {19, 0, GO_VALUE, "(;B[ab])", 0, DAMAGED, 1, "", 0},
@@ -93,6 +96,10 @@ static SgfReading reading(size_t length, uint32_t options, size_t value_rows) {
                     lent.values, 2 * value_rows);
 }
 
+static bool none(SgfCounts c) {
+    return (c.trees | c.nodes | c.properties | c.values) == 0;
+}
+
 #define RECORD \
     lent.text, length + r->room, length, counts, lent.trees, 2 * ROWS, lent.nodes, 5 * ROWS, lent.properties, 4 * ROWS, \
     lent.values, 2 * ROWS
@@ -104,8 +111,7 @@ static uint32_t answer(const Row *r, uint32_t options, size_t *place, bool *is_z
     memset(&lent, 0xA5, sizeof lent);
     memcpy(lent.text, r->text, length);
     if (r->call != READ && r->call < TRIM) {
-        SgfReading made = reading(length, SGF_STRICT, ROWS);
-        counts = (SgfCounts){made.trees, made.nodes, made.properties, made.values};
+        counts = reading(length, SGF_STRICT, ROWS).counts;
         lent.trees[SGF_TREE_GAME_TYPE] = r->state == DAMAGED ? 2 : lent.trees[SGF_TREE_GAME_TYPE];
     }
     memcpy(&before, &lent, sizeof lent);
@@ -115,7 +121,7 @@ static uint32_t answer(const Row *r, uint32_t options, size_t *place, bool *is_z
     case READ: {
         SgfReading a = reading(length, options, options & 4 ? 0 : ROWS);
         *place = a.place;
-        *is_zero = (a.trees | a.nodes | a.properties | a.values) == 0;
+        *is_zero = none(a.counts);
         return a.number;
     }
     case FITS: return sgf_fits(RECORD);
@@ -142,7 +148,7 @@ static uint32_t answer(const Row *r, uint32_t options, size_t *place, bool *is_z
     case EDIT: {
         SgfEdit a = sgf_edit(RECORD, r->k, (const uint8_t *)r->given, strlen(r->given));
         *place = a.place;
-        *is_zero = (a.used | a.trees | a.nodes | a.properties | a.values) == 0;
+        *is_zero = a.used == 0 && none(a.counts);
         return a.number;
     }
     case TRIM: {
@@ -151,9 +157,14 @@ static uint32_t answer(const Row *r, uint32_t options, size_t *place, bool *is_z
         *is_zero = (a.first | a.last) == 0;
         return a.number;
     }
-    default: {
+    case TOKEN: {
         SgfToken a = sgf_token(lent.text, length, r->k);
         *place = a.number != 0 ? a.from : 0;
+        return a.number;
+    }
+    default: {
+        SgfDisplay a = sgf_display_value(SGF_TEXT, lent.text, length, lent.out, r->room);
+        *is_zero = a.length == 0;
         return a.number;
     }
     }

@@ -136,6 +136,8 @@ declare! {
 }
 
 unsafe extern "C" {
+    fn sgf_version() -> u32;
+    fn sgf_display_value(kind: u32, raw: *const u8, raw_len: usize, out: *mut u8, out_len: usize) -> Length;
     fn sgf_trim(text: *const u8, text_len: usize) -> Trimmed;
     fn sgf_token(text: *const u8, text_len: usize, at: usize) -> Token;
     fn sgf_next_value(text: *const u8, text_len: usize, at: usize) -> Value;
@@ -174,6 +176,10 @@ macro_rules! over {
                 properties.as_ptr(), properties.len(), values.as_ptr(), values.len(), $($more),*)
         }
     }};
+}
+
+pub fn version() -> u32 {
+    unsafe { sgf_version() }
 }
 
 pub fn trim(text: &[u8]) -> Trimmed {
@@ -217,6 +223,10 @@ pub fn value(h: &Held, k: usize) -> Span {
 
 pub fn display(h: &Held, k: usize, kind: u32, out: &mut [u8]) -> Length {
     over!(sgf_display, h, k, kind, out.as_mut_ptr(), out.len())
+}
+
+pub fn display_value(kind: u32, raw: &[u8], out: &mut [u8]) -> Length {
+    unsafe { sgf_display_value(kind, raw.as_ptr(), raw.len(), out.as_mut_ptr(), out.len()) }
 }
 
 pub fn go_value(h: &Held, p: usize) -> GoValue {

@@ -57,6 +57,17 @@ pub use property::{Property, Value, escape};
 pub use record::{ParseOptions, Record, parse, parse_lenient, parse_with_options, serialize};
 pub use tables::Tables;
 
+/// The version of the linked library: major, minor, patch; that of this crate, where both are of one release.
+///
+/// ```
+/// let [major, minor, patch] = ekimorepa::version();
+/// assert_eq!(format!("{major}.{minor}.{patch}"), env!("CARGO_PKG_VERSION"));
+/// ```
+pub fn version() -> [u32; 3] {
+    let number = ffi::version();
+    [number >> 16, number >> 8 & 255, number & 255]
+}
+
 /// The longest text, in bytes.
 pub const TEXT_LIMIT: usize = 1_048_576;
 /// The greatest number of open trees.

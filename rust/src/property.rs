@@ -1,7 +1,6 @@
 //! Properties and their values.
 #![forbid(unsafe_code)]
-use crate::tables::NONE;
-use crate::{GameType, GoValue, Node, Record, Tables, ffi};
+use crate::{GameType, GoValue, Node, Record, ffi};
 use std::borrow::Cow;
 
 /// A property of a node.
@@ -147,19 +146,11 @@ impl<'r> Value<'r> {
         self.display(SIMPLE_TEXT)
     }
 
-    /// Lends the value alone, in its brackets, so that the cost is that of the value and not of the record.
     fn display(self, kind: u32) -> String {
-        let [from, to] = self.record.tables.values[self.number];
-        let boxed = &self.record.text[from as usize - 1..to as usize + 1];
-        let alone = Tables {
-            trees: vec![[0, 1]],
-            nodes: vec![[NONE, NONE, NONE, 0, 1]],
-            properties: vec![[0, 0, 0, 1]],
-            values: vec![[1, 1 + to - from]],
-        };
-        let mut out = vec![0; boxed.len()];
-        let shown = ffi::display(&alone.held(boxed), 0, kind, &mut out);
-        assert_eq!(shown.number, 0, "a value in its brackets fits, and is displayed in no more bytes");
+        let raw = self.as_bytes();
+        let mut out = vec![0; raw.len()];
+        let shown = ffi::display_value(kind, raw, &mut out);
+        assert_eq!(shown.number, 0, "a value is displayed in no more bytes than it has");
         out.truncate(shown.length);
         String::from_utf8(out).expect("a displayed value is UTF-8")
     }

@@ -23,10 +23,14 @@ use Rattle.c_answers.specs.declared.SgfReading.{SgfReading}
 use Rattle.c_answers.specs.declared.SgfSpan.{SgfSpan}
 use Rattle.c_answers.specs.declared.SgfWriting.{SgfWriting}
 
+-- no row of any table
+abbrev pub noRows : Counts
+noRows = record { trees = 0; nodes = 0; properties = 0; values = 0 }
+
 -- number, place, and the used rows of each table
 abbrev pub readingShown : Reading → SgfReading
-readingShown (Accepted c) = record { number = 0; reserved = 0; place = 0; trees = c .trees; nodes = c .nodes; properties = c .properties; values = c .values }
-readingShown (NotRead r s) = record { number = numberOf r; reserved = 0; place = s; trees = 0; nodes = 0; properties = 0; values = 0 }
+readingShown (Accepted c) = record { number = 0; reserved = 0; place = 0; counts = c }
+readingShown (NotRead r s) = record { number = numberOf r; reserved = 0; place = s; counts = noRows }
 
 -- the span of a value that is accessed; a refusal's number and an empty span
 abbrev pub spanShown : Accessed → SgfSpan
@@ -62,6 +66,5 @@ writingShown (NotWritten r) = record { number = numberOf r; reserved = 0; length
 
 -- the new used length and the counts; a refusal's number and place, and all else 0
 abbrev pub editShown : Counts → Edited → SgfEdit
-editShown c (Changed n) =
-    record { number = 0; reserved = 0; place = 0; used = n; trees = c .trees; nodes = c .nodes; properties = c .properties; values = c .values }
-editShown c (NotChanged r p) = record { number = numberOf r; reserved = 0; place = p; used = 0; trees = 0; nodes = 0; properties = 0; values = 0 }
+editShown c (Changed n) = record { number = 0; reserved = 0; place = 0; used = n; counts = c }
+editShown c (NotChanged r p) = record { number = numberOf r; reserved = 0; place = p; used = 0; counts = noRows }

@@ -7,7 +7,9 @@ use go_points::Value;
 use serialize::Written;
 use tables::Counts;
 use tables::Reading;
+use value_display::Displayed;
 ghost use mathlib.Core.Path.{_≡_};
+ghost use Rattle.ask.specs.Ask.{shownFor};
 ghost use Rattle.c_answers.specs.Shown.{readingShown, spanShown, displayShown, figuresShown, goShown, writingShown, editShown};
 
 // Number 0 and the counts of used rows; or the number of a refusal and its place, the counts 0.
@@ -16,10 +18,7 @@ pub struct SgfReading {
     pub number: u32,
     pub reserved: u32,
     pub place: usize,
-    pub trees: usize,
-    pub nodes: usize,
-    pub properties: usize,
-    pub values: usize,
+    pub counts: Counts,
 }
 
 // A reading.
@@ -31,19 +30,18 @@ pub fn reading_shown(reading: Reading) -> SgfReading
             number: 0,
             reserved: 0,
             place: 0,
-            trees: c.trees,
-            nodes: c.nodes,
-            properties: c.properties,
-            values: c.values,
+            counts: c,
         },
         Reading::Refused(reason, place) => SgfReading {
             number: tables::number(reason),
             reserved: 0,
             place: place,
-            trees: 0,
-            nodes: 0,
-            properties: 0,
-            values: 0,
+            counts: Counts {
+                trees: 0,
+                nodes: 0,
+                properties: 0,
+                values: 0,
+            },
         },
     }
 }
@@ -97,6 +95,24 @@ pub fn display_shown(shown: Shown) -> SgfDisplay
         },
         Shown::NotShown(reason) => SgfDisplay {
             number: tables::number(reason),
+            reserved: 0,
+            length: 0,
+        },
+    }
+}
+
+// A raw value displayed without a record.
+pub fn value_shown(displayed: Displayed) -> SgfDisplay
+    ensures { λ r. ⌜ r ≡ displayShown (shownFor displayed) ⌝ }
+{
+    match displayed {
+        Displayed::Length(n) => SgfDisplay {
+            number: 0,
+            reserved: 0,
+            length: n,
+        },
+        Displayed::NoRoom => SgfDisplay {
+            number: 14,
             reserved: 0,
             length: 0,
         },
@@ -229,10 +245,7 @@ pub struct SgfEdit {
     pub reserved: u32,
     pub place: usize,
     pub used: usize,
-    pub trees: usize,
-    pub nodes: usize,
-    pub properties: usize,
-    pub values: usize,
+    pub counts: Counts,
 }
 
 // An edit of a record with these counts.
@@ -245,20 +258,19 @@ pub fn edit_shown(c: Counts, edited: Edited) -> SgfEdit
             reserved: 0,
             place: 0,
             used: n,
-            trees: c.trees,
-            nodes: c.nodes,
-            properties: c.properties,
-            values: c.values,
+            counts: c,
         },
         Edited::Refused(reason, place) => SgfEdit {
             number: tables::number(reason),
             reserved: 0,
             place: place,
             used: 0,
-            trees: 0,
-            nodes: 0,
-            properties: 0,
-            values: 0,
+            counts: Counts {
+                trees: 0,
+                nodes: 0,
+                properties: 0,
+                values: 0,
+            },
         },
     }
 }

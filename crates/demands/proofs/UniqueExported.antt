@@ -6,13 +6,18 @@ use Rattle.lists.proofs.Once.{once-is}
 use Rattle.lists.specs.Once.{Once}
 use Rattle.tables.specs.Memory.{Memory}
 use Rattle.value_display.specs.declared.Kind.{Kind}
-use Rattle.sgf.specs.Asked.{fitsShown, DisplayShown}
+use Rattle.sgf.specs.Asked.{fitsShown, DisplayShown, RawShown}
 use Rattle.sgf.specs.Changed.{WriteShown, EditShown}
+use Rattle.c_version.specs.Version.{version}
 use Rattle.c_answers.specs.declared.SgfDisplay.{SgfDisplay}
 use Rattle.c_answers.specs.declared.SgfEdit.{SgfEdit}
 use Rattle.c_answers.specs.declared.SgfWriting.{SgfWriting}
 use Rattle.sgf.specs.Shown.{ReadShown}
 use Rattle.c_answers.specs.declared.SgfReading.{SgfReading}
+
+-- c_version, and sgf_version by it
+pub version-once : Once (λ (n : ℕ). n ≡ version)
+version-once = once-is version
 
 -- sgf
 
@@ -27,6 +32,10 @@ fits-once x = once-is (fitsShown x)
 -- the answer and the bytes lent
 pub display-once : (m : Memory) (k : ℕ) (kind : Kind) (out x y : List ℕ) (r s : SgfDisplay) → DisplayShown m k kind out x r → DisplayShown m k kind out y s → (r ≡ s) × (x ≡ y)
 display-once m k kind out x y r s p q = (p .is ∙ sym (q .is), p .bytes ∙ sym (q .bytes))
+
+-- of one raw value
+pub display-value-once : (kind : Kind) (raw out x y : List ℕ) (r s : SgfDisplay) → RawShown kind raw out x r → RawShown kind raw out y s → (r ≡ s) × (x ≡ y)
+display-value-once kind raw out x y r s p q = (p .is ∙ sym (q .is), p .bytes ∙ sym (q .bytes))
 
 pub write-once : (m : Memory) (out x y : List ℕ) (r s : SgfWriting) → WriteShown m out x r → WriteShown m out y s → (r ≡ s) × (x ≡ y)
 write-once m out x y r s p q = (p .is ∙ sym (q .is), p .bytes ∙ sym (q .bytes))

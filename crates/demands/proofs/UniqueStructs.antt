@@ -13,6 +13,8 @@ use Rattle.tables.specs.declared.Counts.{Counts}
 use Rattle.tables.specs.declared.Reading.{Reading}
 use Rattle.ask_value.specs.declared.Accessed.{Accessed}
 use Rattle.go.specs.declared.value.GoValue.{GoValue}
+use Rattle.value_display.specs.declared.Displayed.{Displayed}
+use Rattle.ask.specs.Ask.{shownFor}
 use Rattle.ask.specs.declared.Shown.{Shown}
 use Rattle.serialize.specs.declared.Written.{Written}
 use Rattle.edit_answer.specs.declared.Edited.{Edited}
@@ -61,6 +63,9 @@ span-once a = once-is (spanShown a)
 
 pub display-once : (a : Shown) → Once (λ (r : SgfDisplay). r ≡ displayShown a)
 display-once a = once-is (displayShown a)
+
+pub display-value-once : (d : Displayed) → Once (λ (r : SgfDisplay). r ≡ displayShown (shownFor d))
+display-value-once d = once-is (displayShown (shownFor d))
 
 pub go-once : (n : ℕ) (g : GoValue) → Once (λ (r : SgfGoValue). r ≡ goShown n g)
 go-once n g = once-is (goShown n g)

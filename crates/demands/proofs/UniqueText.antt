@@ -1,5 +1,5 @@
 -- No second answer: of each public function, two answers that meet its contract are equal. Assumes nothing.
-use Rattle.lists.proofs.Prelude.{ℕ, _≡_, sym, _∙_, List, Bool, drop, ap}
+use Rattle.lists.proofs.Prelude.{ℕ, _≡_, sym, _∙_, List, Bool, drop, take, replicate, ap}
 use Rattle.lists.specs.Once.{Once}
 use Rattle.lists.proofs.Once.{once-is}
 use Rattle.store_bytes.specs.Wrote.{Wrote}
@@ -32,6 +32,15 @@ wide-once cell = once-is cell
 -- of put_byte, put_bytes and values::spell::put_decimal, whatever is put: the place after it, and all of the memory
 pub put-once : (w out : List ℕ) (at : ℕ) (x y : List ℕ) (n m : ℕ) → Wrote w out at x n → Wrote w out at y m → (x ≡ y) × (n ≡ m)
 put-once w out at x y n m p q = (p .bytes ∙ sym (q .bytes), p .place ∙ sym (q .place))
+
+-- tool
+
+-- of a room of n zeros
+pub room-once : (n : ℕ) → Once (λ (r : List ℕ). r ≡ replicate n 0)
+room-once n = once-is (replicate n 0)
+
+pub first-once : (bytes : List ℕ) (n : ℕ) → Once (λ (r : List ℕ). r ≡ take n bytes)
+first-once bytes n = once-is (take n bytes)
 
 -- text_chars
 

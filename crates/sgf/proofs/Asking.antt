@@ -1,9 +1,14 @@
 -- Answers about a record in memory as they are shown. Assumes nothing.
-use Rattle.lists.proofs.Prelude.{ℕ, List, _≡_, ap, _∙_, eq-eqb, ne-eqb}
+use Rattle.lists.proofs.Prelude.{ℕ, List, _≡_, ap, _∙_, eq-eqb, ne-eqb, slice}
 use Rattle.value_display.specs.declared.Kind.{Kind}
 use Rattle.value_display.specs.declared.Kind.the-variants.{Text, SimpleText}
+use Rattle.value_display.specs.Display.{shown, displayed, displayedIn}
+use Rattle.value_display.specs.declared.Displayed.{Displayed}
+use Rattle.values.specs.Read.{readValue}
 use Rattle.ask_value.specs.Access.{accessed}
-use Rattle.ask.specs.Ask.{display, displayIn, DisplayIs}
+use Rattle.ask_value.specs.declared.Accessed.{Accessed}
+use Rattle.ask_value.specs.declared.Accessed.the-variants.{Part}
+use Rattle.ask.specs.Ask.{shownFor, shownAs, shownIn, display, displayIn, DisplayIs}
 use Rattle.ask.specs.declared.Shown.{Shown}
 use Rattle.tables.specs.Memory.{Memory}
 use Rattle.fit.specs.Record.{recordIn}
@@ -15,7 +20,7 @@ use Rattle.c_answers.specs.Shown.{displayShown, writingShown, editShown}
 use Rattle.sgf.specs.Changed.{WriteShown, EditShown}
 use Rattle.c_answers.specs.declared.SgfEdit.{SgfEdit}
 use Rattle.c_answers.specs.declared.SgfWriting.{SgfWriting}
-use Rattle.sgf.specs.Asked.{kindOf, DisplayShown}
+use Rattle.sgf.specs.Asked.{kindOf, DisplayShown, RawShown}
 use Rattle.c_answers.specs.declared.SgfDisplay.{SgfDisplay}
 
 pub kind-text : {k : ℕ} → k ≡ 0 → Text ≡ kindOf k
@@ -31,6 +36,24 @@ display-shown {m} {k} {kind} {kind′} {out} e x d =
     record {
       is = d ∙ ap displayShown (x .is ∙ ap (λ (y : Kind). display (m .text) (accessed m k) y out) e);
       bytes = x .bytes ∙ ap (λ (y : Kind). displayIn (m .text) (accessed m k) y out) e;
+    }
+
+-- of a raw value's
+pub raw-shown : {kind kind′ : Kind} {raw out out′ : List ℕ} {x : Displayed} {d : SgfDisplay} → kind ≡ kind′ → x ≡ displayed (shown kind (readValue raw)) out
+    → out′ ≡ displayedIn (shown kind (readValue raw)) out → d ≡ displayShown (shownFor x) → RawShown kind′ raw out out′ d
+raw-shown {kind} {kind′} {raw} {out} e x b d =
+    record {
+      is = d ∙ ap (λ (y : Displayed). displayShown (shownFor y)) x ∙ ap (λ (y : Kind). displayShown (shownAs y raw out)) e;
+      bytes = b ∙ ap (λ (y : Kind). shownIn y raw out) e;
+    }
+
+-- by its number or by its bytes a value is displayed alike
+pub display-raw : {m : Memory} {k a e : ℕ} {kind : Kind} {out out′ : List ℕ} {r : SgfDisplay} → accessed m k ≡ Part a e → DisplayShown m k kind out out′ r
+    → RawShown kind (slice a e (m .text)) out out′ r
+display-raw {m} {k} {a} {e} {kind} {out} h x =
+    record {
+      is = x .is ∙ ap (λ (y : Accessed). displayShown (display (m .text) y kind out)) h;
+      bytes = x .bytes ∙ ap (λ (y : Accessed). displayIn (m .text) y kind out) h;
     }
 
 -- what is shown of a writing's answer

@@ -25,10 +25,19 @@ ghost use Rattle.ask.specs.Ask.{refusalNumber, goAnswer};
 ghost use Rattle.values.specs.Read.{readIdentifier};
 ghost use Rattle.c_answers.specs.Shown.{spanShown, goShown};
 ghost use Rattle.sgf.specs.Changed.{WriteShown, EditShown};
-ghost use Rattle.sgf.specs.Asked.{kindOf, fitsShown, answerShown, DisplayShown};
+ghost use Rattle.sgf.specs.Asked.{kindOf, fitsShown, answerShown, DisplayShown, RawShown};
 ghost use Rattle.sgf.specs.Shown.{optionsOf, ReadShown};
 ghost use Rattle.c_tokens.specs.Tokens.{TrimIs, TokenIs, ValueIs};
 ghost use Rattle.tables.specs.Memory.{memory};
+ghost use Rattle.c_version.specs.Version.{version};
+
+// The version of the library: major * 65536 + minor * 256 + patch.
+#[no_mangle]
+pub extern "C" fn sgf_version() -> u32
+    ensures { λ r. ⌜ r ≡ version ⌝ }
+{
+    c_version::number()
+}
 
 // Is the text UTF-8, and what does trimming keep of it.
 #[no_mangle]
@@ -161,6 +170,14 @@ pub extern "C" fn sgf_display(
         kind_of(kind),
         out,
     ))
+}
+
+// Displays a raw value in the output without a record, for callers whose tables are known to fit, or who have none.
+#[no_mangle]
+pub extern "C" fn sgf_display_value(kind: u32, raw: &[u8], out: &mut [u8]) -> SgfDisplay
+    ensures { λ r. ⌜ RawShown (kindOf kind) (now (raw .entry)) (now (out .entry)) (now (out .exit)) r ⌝ }
+{
+    c_answers::value_shown(value_display::display(kind_of(kind), raw, out))
 }
 
 // The number of a refusal, 0 for none.

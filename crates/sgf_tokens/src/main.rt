@@ -5,9 +5,9 @@ ghost use Prim.Native.Nat.{_≤_};
 ghost use lib.ListN.{length};
 
 fn say_span(from: usize, to: usize) {
-    io::print_decimal(1, from as u64);
-    io::write_all(1, b"..");
-    io::print_decimal(1, to as u64);
+    let mut line = io::buffer();
+    let n = tool::put_span(&mut line, 0, from, to);
+    io::write_all(1, tool::first(&line, n));
 }
 
 fn say_single(name: &[u8], from: usize, to: usize) {
@@ -24,10 +24,9 @@ fn say_property(text: &[u8], from: usize, opens: usize, to: usize)
 }
 
 fn say_refused(number: u32, place: usize) {
-    io::write_all(1, b"refused ");
-    io::print_decimal(1, number as u64);
-    io::write_all(1, b" at ");
-    io::print_decimal(1, place as u64);
+    let mut line = io::buffer();
+    let n = tool::put_refused(&mut line, 0, number, place);
+    io::write_all(1, tool::first(&line, n));
 }
 
 // Says the next token and gives the place behind it; a fault and the end of the text leave the place as it is.
@@ -86,12 +85,11 @@ fn say_text(text: &[u8]) {
 }
 
 fn main() {
-    let mut input = io::large_buffer();
+    let mut input = tool::text_room();
     let n = io::read_full(0, &mut input);
-    let mut more = io::buffer();
-    let m = io::read_full(0, &mut more);
-    if 0 < m {
-        io::write_all(1, b"refused 1 at 0\n");
+    if 65536 < n {
+        say_refused(1, 0);
+        io::write_all(1, b"\n");
         return;
     }
     say_text(&input[..n]);

@@ -4,10 +4,9 @@ use tables::Counts;
 use tables::Reading;
 
 fn say_refused(number: u32, place: usize) {
-    io::write_all(1, b"refused ");
-    io::print_decimal(1, number as u64);
-    io::write_all(1, b" at ");
-    io::print_decimal(1, place as u64);
+    let mut line = io::buffer();
+    let n = tool::put_refused(&mut line, 0, number, place);
+    io::write_all(1, tool::first(&line, n));
     io::write_all(1, b"\n");
 }
 
@@ -40,34 +39,11 @@ fn say_written(
     }
 }
 
-// Rows enough for 65,536 bytes: a node takes at least one byte of the text; a tree, a property and a value at least two each.
-fn node_rows() -> [u32; 327680] {
-    [0u32; 327680]
-}
-
-fn property_rows() -> [u32; 131072] {
-    [0u32; 131072]
-}
-
-// Rows of two cells: those of trees, and of values.
-fn pair_rows() -> [u32; 65536] {
-    [0u32; 65536]
-}
-
-fn out_room() -> [u8; 400000] {
-    [0u8; 400000]
-}
-
-// One byte more than the longest text has.
-fn text_room() -> [u8; 65537] {
-    [0u8; 65537]
-}
-
 fn say_text(text: &[u8]) {
-    let mut trees = pair_rows();
-    let mut nodes = node_rows();
-    let mut properties = property_rows();
-    let mut values = pair_rows();
+    let mut trees = tool::pair_rows();
+    let mut nodes = tool::node_rows();
+    let mut properties = tool::property_rows();
+    let mut values = tool::pair_rows();
     match reader::read(
         text,
         false,
@@ -78,7 +54,7 @@ fn say_text(text: &[u8]) {
         &mut values,
     ) {
         Reading::Accepted(counts) => {
-            let mut out = out_room();
+            let mut out = tool::out_room();
             say_written(text, counts, &trees, &nodes, &properties, &values, &mut out);
         }
         Reading::Refused(reason, place) => {
@@ -88,7 +64,7 @@ fn say_text(text: &[u8]) {
 }
 
 fn main() {
-    let mut input = text_room();
+    let mut input = tool::text_room();
     let n = io::read_full(0, &mut input);
     if 65536 < n {
         say_refused(1, 0);

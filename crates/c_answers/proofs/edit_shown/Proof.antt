@@ -1,6 +1,6 @@
 -- `c_answers::edit_shown` meets its contract. Assumes nothing.
 use Rattle.lists.proofs.Prelude.{ℕ, sym, ap, _∙_, needs}
-use Rattle.c_answers.specs.Shown.{editShown}
+use Rattle.c_answers.specs.Shown.{noRows, editShown}
 use Rattle.c_answers.proofs.edit_shown.Statement.{statement}
 use Rattle.c_answers.proofs.edit_shown.Tie as tie
 
@@ -8,7 +8,7 @@ returns : tie.Need-returns
 returns c = ap (editShown (c .before .before .before .args .c)) (sym (c .before .edited .given .1))
 
 returns-2 : tie.Need-returns-2
-returns-2 c = ap (λ (n : ℕ). record { number = n; reserved = 0; place = c .before .before .edited2 .given .0 .1 .0; used = 0; trees = 0; nodes = 0; properties = 0; values = 0 }) (c .number .ensures) ∙ ap (editShown (c .before .before .before .before .args .c)) (sym (c .before .before .edited2 .given .1))
+returns-2 c = ap (λ (n : ℕ). record { number = n; reserved = 0; place = c .before .before .edited2 .given .0 .1 .0; used = 0; counts = noRows }) (c .number .ensures) ∙ ap (editShown (c .before .before .before .before .args .c)) (sym (c .before .before .edited2 .given .1))
 
 pub edit-shown-spec : {M : Type 1} → statement M
 edit-shown-spec = tie.close (tie.spec (λ c. search needs) (λ c. search needs) (λ c κs. search needs) returns returns-2)
