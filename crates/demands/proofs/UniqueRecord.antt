@@ -4,7 +4,7 @@ use Rattle.lists.proofs.Once.{once-is}
 use Rattle.lists.specs.Once.{Once}
 use Rattle.tables.specs.declared.Counts.{Counts}
 use Rattle.fit_nodes.specs.Nodes.{linksFit}
-use Rattle.fit_spans.specs.Parts.{partsFit}
+use Rattle.fit_spans.specs.LocalsParts.{partsFit}
 use Rattle.tables.specs.Memory.{Memory}
 use Rattle.fit.specs.Fit.{Fit}
 use Rattle.ask_value.specs.Access.{accessed, rawValue}

@@ -2,10 +2,10 @@
 use Rattle.lists.proofs.Prelude.{ℕ, _≡_, sym, _∙_, List, Bool, drop, take, replicate, ap}
 use Rattle.lists.specs.Once.{Once}
 use Rattle.lists.proofs.Once.{once-is}
-use Rattle.store_bytes.specs.Wrote.{Wrote}
+use Rattle.store_bytes.specs.LocalsWrote.{Wrote}
 use Rattle.text_chars.specs.declared.Decoded.{Decoded}
 use Rattle.text_chars.specs.White.{white}
-use Rattle.text_chars.specs.Decode.{decoded}
+use Rattle.text_chars.specs.LocalsDecode.{decoded}
 use Rattle.text_utf8.specs.declared.Trimmed.{Trimmed}
 use Rattle.text_utf8.specs.Trim.{trimmed}
 use Rattle.lexer_close.specs.Close.{closeAt}

@@ -5,7 +5,7 @@ use Rattle.lists.specs.Put.{PutWhole}
 use Rattle.lists.proofs.Put.{put-whole-once}
 use Rattle.lists.proofs.Once.{once-is}
 use Rattle.lexer.specs.declared.Fault.{Fault}
-use Rattle.tables.specs.Links.{NoLink, LinkedFrom, HasRows, LinksIs}
+use Rattle.tables.specs.LocalsLinks.{NoLink, LinkedFrom, HasRows, LinksIs}
 use Rattle.tables.specs.Numbers.{none, numberOf, reasonOf}
 use Rattle.tables.specs.declared.Reason.{Reason}
 use Rattle.tables.specs.Columns.{nodeStride}

@@ -6,7 +6,7 @@ use Rattle.tables.specs.Memory.{Memory}
 use Rattle.tables.proofs.Cases.{and-left, and-right}
 use Rattle.tables.specs.Columns.{nodeStride}
 use Rattle.fit_nodes.specs.Nodes.{nodesFit, linksFit}
-use Rattle.fit_spans.specs.Parts.{partsFit}
+use Rattle.fit_spans.specs.LocalsParts.{partsFit}
 use Rattle.fit_spans.specs.Ranges.{rangesFit}
 use Rattle.fit_spans.specs.Spans.{spansFit}
 use Rattle.fit.specs.Fit.{lentFor, sound, fitText, Fit}

@@ -5,7 +5,7 @@ use Rattle.tables.specs.Each.{each}
 use Rattle.tables.specs.Numbers.{textLimit}
 use Rattle.tables.specs.declared.Counts.{Counts}
 use Rattle.tables.proofs.Cases.{and-left, and-right}
-use Rattle.fit_spans.specs.Parts.{lentParts}
+use Rattle.fit_spans.specs.LocalsParts.{lentParts}
 use Rattle.fit_spans.specs.Ranges.{gapless, hasValue, rangesFit}
 
 -- the text is within the limit, and so many nodes, properties and values are lent

@@ -1,4 +1,4 @@
 pub mod Locals
-pub mod Parts
+pub mod LocalsParts
 pub mod Ranges
 pub mod Spans

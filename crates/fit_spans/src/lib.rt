@@ -8,7 +8,7 @@ ghost use Rattle.tables.specs.Numbers.{textLimit};
 ghost use Rattle.tables.specs.Columns.{nodeStride, propertyStride, valueStride, nameFromAt, nameToAt, firstValAt, valCountAt, valFromAt, valToAt};
 ghost use Rattle.tables.specs.Each.{each, tabulate};
 ghost use Rattle.fit_spans.specs.Locals.{Spanned};
-ghost use Rattle.fit_spans.specs.Parts.{lentParts, partsFit};
+ghost use Rattle.fit_spans.specs.LocalsParts.{lentParts, partsFit};
 ghost use Rattle.fit_spans.specs.Ranges.{gapless, hasValue, rangesFit};
 ghost use Rattle.fit_spans.specs.Spans.{span, valSpan, propSpans, spans, ascending, plainName, nameRight, boxed, valueRight, spansFit};
 

@@ -1,2 +1,2 @@
-pub mod Identifier
+pub mod LocalsIdentifier
 pub mod Shape

@@ -2,7 +2,7 @@
 ghost use mathlib.Core.Path.{_≡_};
 ghost use mathlib.Core.List.{[], _∷_};
 ghost use Rattle.values.specs.Read.{readIdentifier};
-ghost use Rattle.go_shape.specs.Identifier.{Letters};
+ghost use Rattle.go_shape.specs.LocalsIdentifier.{Letters};
 ghost use Rattle.go_shape.specs.Shape.{shapeOf};
 use values::read::Step;
 

@@ -3,7 +3,7 @@ use Rattle.lists.proofs.Prelude.{ℕ, zero, suc, _+_, _≤_, _<_, _≡_, refl, 
 use Rattle.lists.proofs.Tests.{and-both}
 use Rattle.lexer_close.proofs.Steps.{close-here, close-on}
 use Rattle.lexer_close.specs.Close.{closeFrom, closeAt}
-use Rattle.lexer_close.specs.Run.{plain, LeadsTo}
+use Rattle.lexer_close.specs.LocalsRun.{plain, LeadsTo}
 use Rattle.lexer_close.specs.declared.Close.the-variants.{At}
 
 -- one byte

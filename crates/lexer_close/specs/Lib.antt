@@ -1,2 +1,2 @@
 pub mod Close
-pub mod Run
+pub mod LocalsRun

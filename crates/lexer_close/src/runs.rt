@@ -5,7 +5,7 @@ ghost use Prim.Native.Nat.{ℕ, _+_, _≤_, _<_};
 ghost use lib.ListN.{length, getD};
 ghost use Rattle.lexer_close.specs.declared.Close.the-variants.{At};
 ghost use Rattle.lexer_close.specs.Close.{closeAt};
-ghost use Rattle.lexer_close.specs.Run.{plain, LeadsTo};
+ghost use Rattle.lexer_close.specs.LocalsRun.{plain, LeadsTo};
 
 // Neither `]` nor a backslash.
 fn is_plain(b: u8) -> bool

@@ -5,7 +5,7 @@ use Rattle.lexer.specs.Step.{behind, stepOn, SteppedIs}
 use Rattle.lexer_laws.proofs.Join.{lex-next}
 use Rattle.lexer.specs.declared.Step.{Step}
 use Rattle.lexer.specs.declared.Step.the-variants.{Start, End, Node, Property, Refused, Done}
-use Rattle.lexer_walker.specs.Walk.{gives}
+use Rattle.lexer_walker.specs.LocalsWalk.{gives}
 
 -- at the place behind a step's token the definition goes on
 on-behind : (s : List ℕ) (at : ℕ) (t : Step) → stepOn s t ≡ gives s t (behind at t)

@@ -5,7 +5,7 @@ use Rattle.lexer.specs.Token.{Tok, start, end, node, prop}
 use Rattle.tables.specs.Numbers.{depthLimit}
 use Rattle.tables.specs.declared.Reason.the-variants.{UnexpectedGameTreeEnd}
 use Rattle.parser.specs.Split.{Splitting, splitting, over, wrong, split}
-use Rattle.parser.specs.Slice.{sliceFrom, restFrom, cut, Shallow}
+use Rattle.parser.specs.LocalsSlice.{sliceFrom, restFrom, cut, Shallow}
 use Rattle.parser.proofs.Surveys.{wrong-stays, over-stays}
 
 -- the slices of a state, an open one with them (last first)

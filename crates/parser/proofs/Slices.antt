@@ -6,8 +6,8 @@ use Rattle.lexer.specs.Token.{Tok}
 use Rattle.tables.specs.Numbers.{depthLimit}
 use Rattle.tables.specs.declared.Reason.the-variants.{TooDeep}
 use Rattle.parser.specs.Split.{Splitting, splitting, over, wrong, split, no, slices, deep, filled, sliced, slicesOf}
-use Rattle.parser.specs.Slice.{restFrom, cut, Shallow}
-use Rattle.parser.specs.Survey.{foundAs, counted}
+use Rattle.parser.specs.LocalsSlice.{restFrom, cut, Shallow}
+use Rattle.parser.specs.LocalsSurvey.{foundAs, counted}
 use Rattle.parser.specs.declared.Survey.the-variants.{Slices as found}
 use Rattle.parser.proofs.Cuts.{standing, deepest, Right, cut-first, deep-first, split-cut}
 

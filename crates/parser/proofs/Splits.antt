@@ -2,7 +2,7 @@
 use Rattle.lists.proofs.Prelude.{ℕ, zero, suc, _+_, _-_, _≤_, _<_, max, _≡_, refl, sym, ap, _∙_, subst, Bool, List, [], _∷_, reverse, arith, add-one, length, length-reverse}
 use Rattle.lexer.specs.Token.{Prop, Tok, start, end, node, prop, Lexed, lexed}
 use Rattle.parser.specs.Split.{Splitting, splitting, split, ended}
-use Rattle.parser.specs.Survey.{Splits, SplitIs, StopsAt, leftAt}
+use Rattle.parser.specs.LocalsSurvey.{Splits, SplitIs, StopsAt, leftAt}
 use Rattle.parser.specs.declared.Stop.{Stop}
 
 -- the numbers so far are no more than the bytes

@@ -8,7 +8,7 @@ use Rattle.tables.specs.Numbers.{depthLimit, reasonOf}
 use Rattle.tables.specs.declared.Reason.{Reason}
 use Rattle.tables.specs.declared.Reason.the-variants.{UnexpectedGameTreeEnd, UnexpectedEndOfData, NoGameTrees, TooDeep}
 use Rattle.parser.specs.Split.{Splitting, splitting, over, wrong, split, no, slices, deep, filled, sliced, slicesOf}
-use Rattle.parser.specs.Survey.{foundAs, counted, strictly, surveyOf, leftAt, StopsAt, Splits, SplitIs}
+use Rattle.parser.specs.LocalsSurvey.{foundAs, counted, strictly, surveyOf, leftAt, StopsAt, Splits, SplitIs}
 use Rattle.parser.specs.declared.Survey.{Survey}
 use Rattle.parser.specs.declared.Survey.the-variants.{Refused, Slices as found, Empty}
 use Rattle.parser.specs.declared.Stop.{Stop}

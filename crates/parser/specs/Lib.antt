@@ -1,7 +1,7 @@
 pub mod Examples
 pub mod Kind
+pub mod LocalsSlice
+pub mod LocalsSurvey
 pub mod Read
-pub mod Slice
 pub mod Split
-pub mod Survey
 pub mod Walk

@@ -9,7 +9,7 @@ ghost use Rattle.tables.specs.Numbers.{depthLimit};
 ghost use Rattle.tables.specs.declared.Reason.the-variants.{UnexpectedGameTreeEnd, TooDeep};
 ghost use Rattle.parser.specs.declared.Survey.the-variants.{Refused, Slices};
 ghost use Rattle.parser.specs.Split.{no};
-ghost use Rattle.parser.specs.Survey.{SplitIs, strictly, surveyOf};
+ghost use Rattle.parser.specs.LocalsSurvey.{SplitIs, strictly, surveyOf};
 use lexer::Step;
 use tables::Reason;
 

@@ -18,7 +18,7 @@ use Rattle.tables.specs.declared.Reason.the-variants.{InvalidGameType}
 use Rattle.parser.specs.Kind.{is, unkind, numbered, kindOf, kindVals, GM}
 use Rattle.parser_game.specs.declared.GameType.{GameType}
 use Rattle.parser_game.specs.declared.GameType.the-variants.{Is, Refused}
-use Rattle.parser_game.specs.Game.{typeOf}
+use Rattle.parser_game.specs.LocalsGame.{typeOf}
 use Rattle.parser_game.proofs.Variants.{not-value}
 
 -- ---- GM

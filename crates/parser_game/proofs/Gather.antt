@@ -10,10 +10,10 @@ use Rattle.lexer.proofs.Step as step
 use Rattle.lexer_laws.proofs.Join.{lex-next}
 use Rattle.tables.specs.declared.Reason.the-variants.{UnexpectedProperty}
 use Rattle.parser.specs.Kind.{props, named, GM, kindProps, kind}
-use Rattle.parser.specs.Slice.{sliceFrom}
+use Rattle.parser.specs.LocalsSlice.{sliceFrom}
 use Rattle.parser_game.specs.declared.GameType.{GameType}
 use Rattle.parser_game.specs.declared.GameType.the-variants.{Refused}
-use Rattle.parser_game.specs.Game.{typeOf, behindOf, concluded}
+use Rattle.parser_game.specs.LocalsGame.{typeOf, behindOf, concluded}
 use Rattle.parser_game.proofs.Variants.{not-property}
 
 pub past-toks : (s : List ℕ) → lexAt s (length s) .toks ≡ []

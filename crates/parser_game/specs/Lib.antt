@@ -1,1 +1,1 @@
-pub mod Game
+pub mod LocalsGame

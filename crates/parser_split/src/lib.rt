@@ -1,8 +1,8 @@
 // What is read of a text before any tree is: which slices, or why it is refused.
 ghost use mathlib.Core.Path.{_≡_};
 ghost use Rattle.lexer.specs.Token.{lexAt};
-ghost use Rattle.parser.specs.Survey.{surveyOf};
-ghost use Rattle.parser_split.specs.Plans.{planTokens, planText};
+ghost use Rattle.parser.specs.LocalsSurvey.{surveyOf};
+ghost use Rattle.parser_split.specs.LocalsPlans.{planTokens, planText};
 use parser::Survey;
 use tables::Reason;
 use text_utf8::Trimmed;

@@ -6,7 +6,7 @@ use Rattle.lexer.specs.declared.Head.{Head}
 use Rattle.lexer.specs.declared.Head.the-variants.{Start as start, End as end, Name as name}
 use Rattle.tables.specs.declared.Reason.the-variants.{UnexpectedGameTreeStart, UnexpectedGameTreeEnd, UnexpectedProperty}
 use Rattle.parser.specs.Walk.{Gate, takes, skips, uppers}
-use Rattle.parser_step.specs.Asks.{mayStart, gateOf, gateAct, propAct, unclosed, headAct, asks}
+use Rattle.parser_step.specs.LocalsAsks.{mayStart, gateOf, gateAct, propAct, unclosed, headAct, asks}
 use Rattle.parser_step.specs.declared.State.{State}
 use Rattle.parser_step.specs.declared.Act.the-variants.{Start, End, Skip, Stop, Over}
 

@@ -1,7 +1,7 @@
 -- The stack in an array, and the list on top of it. Assumes nothing.
 use Rattle.lists.proofs.Prelude.{ℕ, zero, suc, _+_, _-_, _≤_, _<_, _≡_, refl, sym, ap, _∙_, Bool, true, false, _&&_, List, [], _∷_, arith, getD, ltb, eq-eqb, ne-eqb, le-leb, lt-leb, pick}
 use Rattle.tables.specs.Numbers.{depthLimit, none}
-use Rattle.parser_step.specs.Asks.{stackOf, fuller, mayOpen, mayStart}
+use Rattle.parser_step.specs.LocalsAsks.{stackOf, fuller, mayOpen, mayStart}
 
 pub stack-none : (a : List ℕ) (d : ℕ) → d ≡ 0 → stackOf a d ≡ []
 unfolding stackOf

@@ -9,7 +9,7 @@ ghost use lib.ListN.{length, getD};
 ghost use lib.Seq.{slice};
 ghost use Rattle.lexer_scan.specs.Scan.{valuesAt};
 ghost use Rattle.parser.specs.Walk.{uppers};
-ghost use Rattle.parser_step.specs.Asks.{mayStart, propAct, unclosed, asks};
+ghost use Rattle.parser_step.specs.LocalsAsks.{mayStart, propAct, unclosed, asks};
 
 // Between two tokens: the next place, how many trees are open, the node whose child list is current, the next row of each table, the first property of the last node; may a property follow, and is it dropped.
 pub struct State {

@@ -9,11 +9,11 @@ use Rattle.lexer.specs.declared.Head.the-variants.{Start as start, End as end, 
 use Rattle.tables.specs.Numbers.{depthLimit}
 use Rattle.tables.specs.declared.Reason.the-variants.{UnexpectedGameTreeStart, UnexpectedGameTreeEnd, UnexpectedProperty, InvalidFF4Property}
 use Rattle.parser.specs.Walk.{Gate, shut, takes, skips, uppers}
-use Rattle.parser_step.specs.Asks.{stackOf, mayOpen, mayStart, gateOf, gateAct, propAct, unclosed, endAct, headAct, asks}
+use Rattle.parser_step.specs.LocalsAsks.{stackOf, mayOpen, mayStart, gateOf, gateAct, propAct, unclosed, endAct, headAct, asks}
 use Rattle.parser_step.specs.declared.State.{State}
 use Rattle.parser_step.specs.declared.Act.{Act}
-use Rattle.parser_tree.specs.Turns.{Closes, StopAt, OverAt, ActIs}
-use Rattle.parser_tree.specs.Walks.{opts}
+use Rattle.parser_tree.specs.LocalsTurns.{Closes, StopAt, OverAt, ActIs}
+use Rattle.parser_tree.specs.LocalsWalks.{opts}
 use Rattle.parser_tree.proofs.Walking.{Walking}
 use Rattle.parser_tree.proofs.Faults.{open-found, closes-ahead}
 

@@ -13,10 +13,10 @@ use Rattle.tables.specs.Record.{Node}
 use Rattle.tables.specs.declared.Reason.{Reason}
 use Rattle.tables.specs.declared.Reason.the-variants.{UnexpectedProperty, InvalidFF4Property}
 use Rattle.parser.specs.Walk.{Gate, Walk, walk, stopped, takes, skips, refuse, adds, gated, uppers, walked}
-use Rattle.parser.specs.Slice.{sliceFrom, Shallow}
-use Rattle.parser_tree.specs.Walks.{opts, walkOf, Stored}
-use Rattle.parser_step.specs.Asks.{stackOf, gateOf, gateAct, propAct}
-use Rattle.parser_tree.specs.Turns.{added, dropped, Closes, AddIs, SkippedIs}
+use Rattle.parser.specs.LocalsSlice.{sliceFrom, Shallow}
+use Rattle.parser_tree.specs.LocalsWalks.{opts, walkOf, Stored}
+use Rattle.parser_step.specs.LocalsAsks.{stackOf, gateOf, gateAct, propAct}
+use Rattle.parser_tree.specs.LocalsTurns.{added, dropped, Closes, AddIs, SkippedIs}
 use Rattle.parser_step.specs.declared.State.{State}
 use Rattle.parser_step.specs.declared.Act.the-variants.{Add, Skip, Stop}
 use Rattle.parser_tree.proofs.Stored.{stored-prop}

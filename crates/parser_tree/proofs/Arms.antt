@@ -9,10 +9,10 @@ use Rattle.tables.specs.Record.{Node as Noded}
 use Rattle.tables.specs.declared.Reason.the-variants.{UnexpectedGameTreeStart, UnexpectedGameTreeEnd}
 use Rattle.tables.specs.Columns.{nodeStride}
 use Rattle.parser.specs.Walk.{Opts, Walk, walk, shut, takes, refuse, closes, walked}
-use Rattle.parser.specs.Slice.{sliceFrom, Shallow}
-use Rattle.parser_tree.specs.Walks.{walkOf, Stored}
-use Rattle.parser_step.specs.Asks.{stackOf, mayOpen}
-use Rattle.parser_tree.specs.Turns.{shutAt, ended, noded}
+use Rattle.parser.specs.LocalsSlice.{sliceFrom, Shallow}
+use Rattle.parser_tree.specs.LocalsWalks.{walkOf, Stored}
+use Rattle.parser_step.specs.LocalsAsks.{stackOf, mayOpen}
+use Rattle.parser_tree.specs.LocalsTurns.{shutAt, ended, noded}
 use Rattle.parser_step.specs.declared.State.{State}
 use Rattle.parser_tree.proofs.Stored.{stored-node}
 use Rattle.parser_step.proofs.Stacks.{stack-none, stack-pop}

@@ -1,8 +1,8 @@
 -- The slice that is left, one token a turn: its tokens, those behind it, and how deep it goes. Assumes nothing.
 use Rattle.lists.proofs.Prelude.{ℕ, zero, suc, _+_, _-_, _≤_, _<_, _≡_, refl, sym, ap, _∙_, subst, subst⁻¹, List, [], _∷_, arith, add-one, length}
 use Rattle.lexer.specs.Token.{Prop, Tok, start, end, node, prop, Lexed, lexed, lexAt}
-use Rattle.parser.specs.Slice.{sliceFrom, restFrom, Shallow}
-use Rattle.parser_tree.specs.Turns.{BehindIs}
+use Rattle.parser.specs.LocalsSlice.{sliceFrom, restFrom, Shallow}
+use Rattle.parser_tree.specs.LocalsTurns.{BehindIs}
 
 -- ---- an end
 

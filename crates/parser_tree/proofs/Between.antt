@@ -4,8 +4,8 @@ use Rattle.lists.specs.All.{All}
 use Rattle.lexer.specs.Token.{Tok, done, lexAt}
 use Rattle.tables.specs.Numbers.{textLimit}
 use Rattle.parser.specs.Walk.{Opts}
-use Rattle.parser.specs.Slice.{sliceFrom, restFrom, cut, Shallow}
-use Rattle.parser_tree.specs.Walks.{Ready, TreeIs}
+use Rattle.parser.specs.LocalsSlice.{sliceFrom, restFrom, cut, Shallow}
+use Rattle.parser_tree.specs.LocalsWalks.{Ready, TreeIs}
 
 -- k trees are read and m are to come, from the place `at` on
 pub record Between (op : Opts) (u : List ℕ) (at k n p v m : ℕ) : Type 0 where

@@ -8,8 +8,8 @@ use Rattle.lexer.specs.Step.{headAt}
 use Rattle.lexer.specs.declared.Fault.the-variants.{UnexpectedEndOfPropertyValue}
 use Rattle.lexer.specs.declared.Head.the-variants.{Name}
 use Rattle.lists.proofs.Tests.{never}
-use Rattle.parser_step.specs.Asks.{unclosed}
-use Rattle.parser_tree.specs.Turns.{Closes}
+use Rattle.parser_step.specs.LocalsAsks.{unclosed}
+use Rattle.parser_tree.specs.LocalsTurns.{Closes}
 use Rattle.parser_tree.proofs.Meets.{name-next, step-meets}
 
 -- the tokens end before it

@@ -6,7 +6,7 @@ use Rattle.tables.specs.Record.{Node, allProps, allVals}
 use Rattle.tables.specs.Rows.{propRows, valRows}
 use Rattle.tables.specs.Flat.{flatNodes, flatProps, flatVals}
 use Rattle.tables.specs.Columns.{nodeStride}
-use Rattle.parser_tree.specs.Flat.{bareRows}
+use Rattle.parser_tree.specs.LocalsFlat.{bareRows}
 
 pub val-append : (xs ys : List Val) → flatVals (valRows (xs ++ ys)) ≡ flatVals (valRows xs) ++ flatVals (valRows ys)
 val-append [] ys = refl

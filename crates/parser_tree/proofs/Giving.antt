@@ -11,10 +11,10 @@ use Rattle.tables.specs.declared.Reason.{Reason}
 use Rattle.tables.specs.declared.Reason.the-variants.{UnexpectedEndOfData}
 use Rattle.tables.specs.Columns.{nodeStride}
 use Rattle.parser.specs.Walk.{Opts, Gate, Walk, walk, refuse, walked}
-use Rattle.parser.specs.Slice.{sliceFrom}
+use Rattle.parser.specs.LocalsSlice.{sliceFrom}
 use Rattle.parser.specs.Read.{growing, rooted, grown}
-use Rattle.parser_tree.specs.Walks.{opts, walkOf, Stored, TreeIs, WalkIs}
-use Rattle.parser_tree.specs.Turns.{StopAt, OverAt, BehindIs, RootBy, RootIs, StopIs}
+use Rattle.parser_tree.specs.LocalsWalks.{opts, walkOf, Stored, TreeIs, WalkIs}
+use Rattle.parser_tree.specs.LocalsTurns.{StopAt, OverAt, BehindIs, RootBy, RootIs, StopIs}
 use Rattle.parser_step.specs.declared.State.{State}
 use Rattle.parser_tree.specs.declared.Walked.{Walked}
 use Rattle.parser_tree.specs.declared.Walked.the-variants.{Tree as tree, Refused as refused}

@@ -5,7 +5,7 @@ use Rattle.tables.specs.Numbers.{none}
 use Rattle.tables.specs.Record.{Node}
 use Rattle.tables.specs.declared.Reason.the-variants.{UnexpectedGameTreeStart}
 use Rattle.parser.specs.Walk.{children, walk, shut, refuse, opens}
-use Rattle.parser_step.specs.Asks.{fuller, mayOpen}
+use Rattle.parser_step.specs.LocalsAsks.{fuller, mayOpen}
 
 abbrev In : ℕ → ℕ → Type 0
 In n y = (y ≡ none) ⊎ (y < n)

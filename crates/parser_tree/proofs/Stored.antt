@@ -8,8 +8,8 @@ use Rattle.tables.specs.Record.{Node, allProps, allVals}
 use Rattle.tables.specs.Rows.{propRows, valRows}
 use Rattle.tables.specs.Flat.{flatNodes, flatProps, flatVals}
 use Rattle.tables.specs.Columns.{nodeStride}
-use Rattle.parser_tree.specs.Flat.{bareRows}
-use Rattle.parser_tree.specs.Walks.{Stored}
+use Rattle.parser_tree.specs.LocalsFlat.{bareRows}
+use Rattle.parser_tree.specs.LocalsWalks.{Stored}
 use Rattle.parser_tree.proofs.Flats.{val-append, val-length, vals-append, props-append, prop-append, prop-length, node-append, node-length}
 
 pub stored-none : (base p0 v0 : ℕ) (t q w : List ℕ) → Stored base p0 v0 [] t q w t q w base p0 v0

@@ -11,7 +11,7 @@ use Rattle.lexer_scan.proofs.Values.{values-more, values-none, values-unclosed}
 use Rattle.lexer.proofs.Listed.{vals-more, vals-none}
 use Rattle.tables.specs.Rows.{valRows}
 use Rattle.tables.specs.Flat.{flatVals}
-use Rattle.parser_tree.specs.Turns.{Closes, TakenIs}
+use Rattle.parser_tree.specs.LocalsTurns.{Closes, TakenIs}
 use Rattle.parser_tree.specs.declared.Taken.{Taken}
 use Rattle.parser_tree.proofs.Flats.{val-append, val-length}
 

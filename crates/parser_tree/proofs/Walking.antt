@@ -5,10 +5,10 @@ use Rattle.tables.specs.Numbers.{depthLimit}
 use Rattle.tables.specs.Record.{Node, allProps}
 use Rattle.tables.specs.declared.Reason.{Reason}
 use Rattle.parser.specs.Walk.{Opts, Walk, walk, refuse, walked}
-use Rattle.parser.specs.Slice.{sliceFrom, Shallow}
-use Rattle.parser_tree.specs.Walks.{walkOf, Ready, Stored}
-use Rattle.parser_step.specs.Asks.{stackOf, gateOf}
-use Rattle.parser_tree.specs.Turns.{Small, begun}
+use Rattle.parser.specs.LocalsSlice.{sliceFrom, Shallow}
+use Rattle.parser_tree.specs.LocalsWalks.{walkOf, Ready, Stored}
+use Rattle.parser_step.specs.LocalsAsks.{stackOf, gateOf}
+use Rattle.parser_tree.specs.LocalsTurns.{Small, begun}
 use Rattle.parser_step.specs.declared.State.{State}
 use Rattle.parser_tree.proofs.Flats.{props-append}
 use Rattle.parser_tree.proofs.Stored.{stored-none}

@@ -1,3 +1,3 @@
-pub mod Flat
-pub mod Turns
-pub mod Walks
+pub mod LocalsFlat
+pub mod LocalsTurns
+pub mod LocalsWalks

@@ -16,8 +16,8 @@ ghost use lib.ListN.{length, set};
 ghost use Rattle.lists.specs.Put.{PutIs};
 ghost use Rattle.tables.specs.Numbers.{textLimit, depthLimit, none};
 ghost use Rattle.tables.specs.Columns.{nodeStride};
-ghost use Rattle.parser_tree.specs.Walks.{opts, Ready, WalkIs};
-ghost use Rattle.parser_tree.specs.Turns.{rowLimit, Small, begun, shutAt, ended, noded, Closes, TakenIs, AddIs, SkippedIs, BehindIs, RootIs, StopIs};
+ghost use Rattle.parser_tree.specs.LocalsWalks.{opts, Ready, WalkIs};
+ghost use Rattle.parser_tree.specs.LocalsTurns.{rowLimit, Small, begun, shutAt, ended, noded, Closes, TakenIs, AddIs, SkippedIs, BehindIs, RootIs, StopIs};
 
 // What a walk gives: the place behind the slice and the next row of each table (nodes, properties, values); or why there is no tree.
 pub enum Walked {

@@ -8,9 +8,9 @@ use Rattle.tables.specs.declared.Reason.{Reason}
 use Rattle.parser.specs.Walk.{Opts, walk, shut, walked}
 use Rattle.parser.specs.Kind.{Kind, is, unkind}
 use Rattle.parser.specs.Read.{failing, grown, kinded, growAll}
-use Rattle.parser_tree.specs.Walks.{opts}
-use Rattle.reader.specs.Slices.{leniently}
-use Rattle.parser_game.specs.Game.{typeOf}
+use Rattle.parser_tree.specs.LocalsWalks.{opts}
+use Rattle.reader.specs.LocalsSlices.{leniently}
+use Rattle.parser_game.specs.LocalsGame.{typeOf}
 use Rattle.parser_game.specs.declared.GameType.{GameType}
 use Rattle.parser_game.specs.declared.GameType.the-variants.{Is, Refused}
 

@@ -6,8 +6,8 @@ use Rattle.tables.specs.Record.{Node}
 use Rattle.tables.specs.Rows.{next, parents, nodeRows}
 use Rattle.tables.specs.Flat.{flatNodes}
 use Rattle.tables.specs.Columns.{nodeStride, parentAt, childAt}
-use Rattle.tables.specs.Links.{least, LinkedFrom}
-use Rattle.parser_tree.specs.Flat.{bareRows}
+use Rattle.tables.specs.LocalsLinks.{least, LinkedFrom}
+use Rattle.parser_tree.specs.LocalsFlat.{bareRows}
 use Rattle.reader.proofs.Parents.{Below}
 use Rattle.reader.proofs.Nexts.{next-least, next-skip, cell, five, bare-next, bare-parent}
 use Rattle.tables.proofs.Lengths.{parents-length}

@@ -7,8 +7,8 @@ use Rattle.tables.specs.Record.{Node}
 use Rattle.tables.specs.Rows.{next, parents}
 use Rattle.tables.specs.Flat.{flatNodes}
 use Rattle.tables.specs.Columns.{nodeStride, parentAt, childAt}
-use Rattle.tables.specs.Links.{least}
-use Rattle.parser_tree.specs.Flat.{bareRows}
+use Rattle.tables.specs.LocalsLinks.{least}
+use Rattle.parser_tree.specs.LocalsFlat.{bareRows}
 
 -- ---- the first of the nodes with a parent
 

@@ -10,16 +10,16 @@ use Rattle.tables.specs.Flat.{flatTrees}
 use Rattle.tables.specs.declared.Reason.{Reason}
 use Rattle.parser.specs.Walk.{Opts}
 use Rattle.parser.specs.Kind.{kind}
-use Rattle.parser.specs.Slice.{sliceFrom, restFrom, cut, Shallow}
+use Rattle.parser.specs.LocalsSlice.{sliceFrom, restFrom, cut, Shallow}
 use Rattle.parser.specs.Read.{Growing, growing, failing, grown, kinded, growAll}
-use Rattle.parser_tree.specs.Walks.{opts, walkOf, Ready, Stored, TreeIs, WalkIs}
+use Rattle.parser_tree.specs.LocalsWalks.{opts, walkOf, Ready, Stored, TreeIs, WalkIs}
 use Rattle.parser_tree.specs.declared.Walked.{Walked}
 use Rattle.parser_tree.specs.declared.Walked.the-variants.{Tree as tree, Refused as refusedWalk}
 use Rattle.parser_tree.proofs.Between.{Between, between-ready, between-next}
 use Rattle.parser_tree.proofs.Stored.{stored-none, stored-both}
 use Rattle.reader.specs.Lent.{Lent, lent}
-use Rattle.reader.specs.Slices.{leniently, readOf, SlicesReady, GrownIs}
-use Rattle.parser_game.specs.Game.{typeOf}
+use Rattle.reader.specs.LocalsSlices.{leniently, readOf, SlicesReady, GrownIs}
+use Rattle.parser_game.specs.LocalsGame.{typeOf}
 use Rattle.reader.proofs.Kinded.{fails, kinded-is, kinded-refused}
 use Rattle.parser_game.specs.declared.GameType.{GameType}
 use Rattle.parser_game.specs.declared.GameType.the-variants.{Is, Refused}

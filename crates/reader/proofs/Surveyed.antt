@@ -7,17 +7,17 @@ use Rattle.tables.specs.declared.Reason.{Reason}
 use Rattle.tables.specs.declared.Reading.{Reading}
 use Rattle.parser.specs.Walk.{Opts}
 use Rattle.parser.specs.Split.{Slices as Sliced, no, slices, slicesOf}
-use Rattle.parser.specs.Slice.{sliceFrom, restFrom, cut, Shallow}
-use Rattle.parser.specs.Survey.{counted, strictly, surveyOf}
+use Rattle.parser.specs.LocalsSlice.{sliceFrom, restFrom, cut, Shallow}
+use Rattle.parser.specs.LocalsSurvey.{counted, strictly, surveyOf}
 use Rattle.parser.specs.declared.Survey.{Survey}
 use Rattle.parser.specs.declared.Survey.the-variants.{Refused, Slices as found, Empty}
 use Rattle.parser.specs.Read.{Answer, refused, answer, planted, parsed, lexing}
 use Rattle.parser.proofs.Slices.{slices-cut}
 use Rattle.parser.proofs.Tokens.{tokens-few}
-use Rattle.parser_tree.specs.Walks.{opts}
+use Rattle.parser_tree.specs.LocalsWalks.{opts}
 use Rattle.reader.specs.Lent.{Lent, ReadIs}
-use Rattle.reader.specs.Slices.{readOf, SlicesReady}
-use Rattle.parser_split.specs.Plans.{planFound, planTokens}
+use Rattle.reader.specs.LocalsSlices.{readOf, SlicesReady}
+use Rattle.parser_split.specs.LocalsPlans.{planFound, planTokens}
 use Rattle.parser_split.specs.declared.Plan.{Plan}
 use Rattle.parser_split.specs.declared.Plan.the-variants.{Slices, Refused as refusedPlan}
 

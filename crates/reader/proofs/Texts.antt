@@ -10,9 +10,9 @@ use Rattle.tables.specs.declared.Reason.the-variants.{TextTooLong, NotUtf8 as n
 use Rattle.parser.specs.Walk.{Opts}
 use Rattle.parser.proofs.Texts.{lex-prefix, text-long, onTrimmed, text-trimmed}
 use Rattle.parser.specs.Read.{Answer, refused, answer, read}
-use Rattle.parser_tree.specs.Walks.{opts}
-use Rattle.reader.specs.Slices.{readOf, SlicesReady}
-use Rattle.parser_split.specs.Plans.{planTokens, planKept, planText}
+use Rattle.parser_tree.specs.LocalsWalks.{opts}
+use Rattle.reader.specs.LocalsSlices.{readOf, SlicesReady}
+use Rattle.parser_split.specs.LocalsPlans.{planTokens, planKept, planText}
 use Rattle.parser_split.specs.declared.Plan.{Plan}
 use Rattle.parser_split.specs.declared.Plan.the-variants.{Slices, Refused}
 use Rattle.reader.proofs.Surveyed.{PlanIs, tokensAnswer, tokens-plan}

@@ -10,7 +10,7 @@ use Rattle.tables.specs.declared.Reason.{Reason}
 use Rattle.tables.specs.declared.Reason.the-variants.{NoRoom}
 use Rattle.parser.specs.Walk.{Opts}
 use Rattle.parser.specs.Read.{Answer, refused, accepted, read}
-use Rattle.parser_tree.specs.Walks.{opts}
+use Rattle.parser_tree.specs.LocalsWalks.{opts}
 use Rattle.reader.specs.Lent.{Lent, roomy, answers, ReadIs}
 use Rattle.reader.proofs.Reasons.{refused-with}
 

@@ -8,18 +8,18 @@ use Rattle.tables.specs.Numbers.{none}
 use Rattle.tables.specs.Record.{Node, Tree, allNodes, allProps, allVals}
 use Rattle.tables.specs.Rows.{treeRows, nodeRows, parents, propRows, valRows, tables, countsOf}
 use Rattle.tables.specs.Flat.{flatNodes, over}
-use Rattle.tables.specs.Links.{HasRows, LinkedFrom, LinksIs}
+use Rattle.tables.specs.LocalsLinks.{HasRows, LinkedFrom, LinksIs}
 use Rattle.tables.specs.declared.Counts.{Counts}
 use Rattle.tables.specs.declared.Reading.the-variants.{Accepted, Refused}
 use Rattle.tables.specs.declared.Reason.{Reason}
 use Rattle.tables.specs.declared.Reason.the-variants.{NoRoom}
 use Rattle.parser.specs.Walk.{Opts}
-use Rattle.parser.specs.Slice.{cut}
+use Rattle.parser.specs.LocalsSlice.{cut}
 use Rattle.parser.specs.Read.{Answer, accepted, Growing, growing, failing, answer}
-use Rattle.parser_tree.specs.Flat.{bareRows}
+use Rattle.parser_tree.specs.LocalsFlat.{bareRows}
 use Rattle.parser_tree.proofs.Flats.{val-length, prop-length, node-length}
 use Rattle.reader.specs.Lent.{Lent, lent, roomFor, roomy, stored, ReadIs}
-use Rattle.reader.specs.Slices.{readOf, GrownIs, TreesIs, CountIs}
+use Rattle.reader.specs.LocalsSlices.{readOf, GrownIs, TreesIs, CountIs}
 use Rattle.reader.specs.declared.slices.Total.{Total}
 use Rattle.reader.specs.declared.slices.Total.the-variants.{Rows, Refused as refusedTotal}
 use Rattle.reader.proofs.Parents.{Below, parents-below}

@@ -2,7 +2,7 @@
 mod slices; // slices.rt: the trees of all slices
 
 ghost use Rattle.parser.specs.Read as definition;
-ghost use Rattle.parser_tree.specs.Walks.{opts};
+ghost use Rattle.parser_tree.specs.LocalsWalks.{opts};
 ghost use Rattle.reader.specs.Lent.{lent, ReadIs};
 use parser_split::Plan;
 use tables::Reading;

@@ -10,7 +10,8 @@ use Rattle.text_utf8.proofs.WellFormed.{bad-trimmed, trimmed-bad, well-formed-t
 use Rattle.tables.specs.Rows.{Tables}
 use Rattle.tables.specs.declared.Reason.the-variants.{NotUtf8 as notUtf8}
 use Rattle.fit.specs.Fit.{sound, validUtf8}
-use Rattle.edit_answer.specs.Edit.{refuses, outcome}
+use Rattle.edit_answer.specs.Edit.{refuses}
+use Rattle.edit_answer.specs.Locals.{outcome}
 use Rattle.reader_exactly.specs.Slicing.{Exactly}
 
 whole-not : (k : Ink) (p : ℕ) → shown (whole k) ≡ NotUtf8 p → ⊥

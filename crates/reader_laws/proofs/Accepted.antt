@@ -7,8 +7,8 @@ use Rattle.tables.specs.Record.{Tree}
 use Rattle.tables.specs.declared.Reason.the-variants.{TextTooLong, NotUtf8}
 use Rattle.parser.proofs.Answers.{not-both}
 use Rattle.parser.specs.Split.{Slices, no, slices, slicesOf}
-use Rattle.parser.specs.Slice.{sliceFrom, cut}
-use Rattle.parser.specs.Survey.{foundAs, counted}
+use Rattle.parser.specs.LocalsSlice.{sliceFrom, cut}
+use Rattle.parser.specs.LocalsSurvey.{foundAs, counted}
 use Rattle.parser.specs.declared.Survey.the-variants.{Slices as found}
 use Rattle.parser.specs.Walk.{Opts}
 use Rattle.parser.specs.Read.{refused, accepted, Growing, growing, failing, growAll, answer, planted, parsed, lexing, lex, decoded, read}

@@ -6,7 +6,7 @@ use Rattle.tables.specs.Record.{Node, Tree, allNodes, allProps, allVals}
 use Rattle.tables.specs.Rows.{tables, parents, countsOf}
 use Rattle.tables.specs.declared.Counts.{Counts}
 use Rattle.tables.specs.declared.Reading.the-variants.{Accepted}
-use Rattle.parser.specs.Slice.{cut}
+use Rattle.parser.specs.LocalsSlice.{cut}
 use Rattle.parser.specs.Split.{slices}
 use Rattle.parser.specs.Walk.{Opts}
 use Rattle.parser.specs.Read.{Answer, accepted, lex, read}

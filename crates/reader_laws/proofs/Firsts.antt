@@ -4,7 +4,7 @@ use Rattle.lists.specs.All.{All}
 use Rattle.lexer.specs.Token.{Prop, Tok, start, end, node, prop}
 use Rattle.tables.specs.Numbers.{none}
 use Rattle.tables.specs.Record.{Node, Tree}
-use Rattle.parser.specs.Slice.{sliceFrom}
+use Rattle.parser.specs.LocalsSlice.{sliceFrom}
 use Rattle.parser.specs.Walk.{Opts, shut}
 use Rattle.reader_laws.proofs.Grown.{walkOf, inOrder}
 use Rattle.lists.proofs.Tests.{never}

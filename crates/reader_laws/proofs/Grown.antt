@@ -8,7 +8,7 @@ use Rattle.values.specs.Decimal.{decimalOf}
 use Rattle.lexer.specs.Token.{Val, Prop, Tok}
 use Rattle.tables.specs.Numbers.{none}
 use Rattle.tables.specs.Record.{Node, Tree}
-use Rattle.parser.specs.Slice.{sliceFrom, restFrom, cut}
+use Rattle.parser.specs.LocalsSlice.{sliceFrom, restFrom, cut}
 use Rattle.parser.specs.Kind.{Kind, is, unkind, kind, kindVals, kindProps, named, props, GM, numbered}
 use Rattle.parser.specs.Walk.{Opts, Walk, walk, halted, stopped, shut, walked}
 use Rattle.parser.specs.Read.{Growing, growing, failing, rooted, grown, kinded, growAll}

@@ -13,7 +13,7 @@ use Rattle.tables.proofs.Cases.{below-or}
 use Rattle.lists.proofs.Tests.{same-or}
 use Rattle.tables.proofs.Each.{each-all}
 use Rattle.fit.proofs.Recorded.{Rooted}
-use Rattle.parser.specs.Slice.{sliceFrom}
+use Rattle.parser.specs.LocalsSlice.{sliceFrom}
 use Rattle.parser.specs.Walk.{Opts}
 use Rattle.reader_laws.proofs.Grown.{inOrder, walkOf}
 use Rattle.reader_laws.proofs.Accepted.{Reading}

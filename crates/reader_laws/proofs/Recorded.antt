@@ -5,7 +5,7 @@ use Rattle.tables.specs.Record.{Tree}
 use Rattle.tables.specs.Rows.{tables}
 use Rattle.fit.specs.Record.{recordOf}
 use Rattle.fit.proofs.Recorded.{Rooted, record-of-tables}
-use Rattle.parser.specs.Slice.{restFrom}
+use Rattle.parser.specs.LocalsSlice.{restFrom}
 use Rattle.parser.specs.Walk.{Opts}
 use Rattle.parser.specs.Read.{accepted, read}
 use Rattle.parser.proofs.Denoted.{read-denotes}

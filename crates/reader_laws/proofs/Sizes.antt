@@ -7,7 +7,7 @@ use Rattle.lexer_laws.proofs.Invariant.{OfTok}
 use Rattle.lexer_laws.proofs.Proper.{HasProper, proper-tokens}
 use Rattle.tables.specs.Numbers.{none}
 use Rattle.tables.specs.Record.{Node, Tree, allNodes}
-use Rattle.parser.specs.Slice.{sliceFrom, restFrom}
+use Rattle.parser.specs.LocalsSlice.{sliceFrom, restFrom}
 use Rattle.parser.specs.Walk.{Opts, shut}
 use Rattle.parser.specs.Read.{lex}
 use Rattle.reader_laws.proofs.Grown.{Grew, walkOf, inOrder}

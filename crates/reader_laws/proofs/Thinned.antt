@@ -3,7 +3,7 @@ use Rattle.lists.proofs.Prelude.{_≡_, refl, sym, ap, _∙_, subst, ℕ, zero,
 use Rattle.lexer.specs.Token.{Prop, Tok}
 use Rattle.tables.specs.Numbers.{none}
 use Rattle.tables.specs.Record.{Node, Tree, allNodes, allProps}
-use Rattle.parser.specs.Slice.{sliceFrom, restFrom}
+use Rattle.parser.specs.LocalsSlice.{sliceFrom, restFrom}
 use Rattle.parser.specs.Walk.{Opts, shut}
 use Rattle.parser.specs.Read.{lex}
 use Rattle.parser_tree.proofs.Flats.{props-append as nodes-append}

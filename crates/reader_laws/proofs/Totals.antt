@@ -3,7 +3,7 @@ use Rattle.lists.proofs.Prelude.{_≡_, refl, sym, ap, _∙_, subst, ℕ, zero,
 use Rattle.lists.specs.All.{All}
 use Rattle.lexer.specs.Token.{Tok, start, end, node, prop}
 use Rattle.tables.specs.Record.{Node, Tree, allNodes, allProps}
-use Rattle.parser.specs.Slice.{sliceFrom, restFrom, cut}
+use Rattle.parser.specs.LocalsSlice.{sliceFrom, restFrom, cut}
 use Rattle.parser.specs.Walk.{Opts}
 use Rattle.parser_tree.proofs.Flats.{props-append}
 use Rattle.reader_laws.proofs.Bracketing.{startsIn, endsIn, inner, weight-parts, Complete, Ending}

@@ -12,7 +12,7 @@ use Rattle.tables.specs.Each.{each, tabulate}
 use Rattle.tables.specs.Memory.{Memory}
 use Rattle.fit.specs.Fit.{Fit}
 use Rattle.fit.specs.Record.{propRow, propOf, textIn, recordIn}
-use Rattle.serialize.specs.Walk.{namesGood}
+use Rattle.serialize.specs.LocalsWalk.{namesGood}
 use Rattle.serialize.specs.Branch.{nameless}
 
 -- ---- one name after another, from the first and from the last

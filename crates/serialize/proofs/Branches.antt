@@ -4,7 +4,7 @@ use Rattle.tables.specs.Numbers.{none}
 use Rattle.tables.specs.Record.{Node}
 use Rattle.tables.specs.Rows.{parents}
 use Rattle.serialize.specs.Branch.{Nodes, bare, stand, Hung, under, hung, writeProps, several, enclosed, nodesText}
-use Rattle.serialize.specs.Write.{Open, times, bracketed, shuts, ends, left, opened, writeNodes}
+use Rattle.serialize.specs.LocalsWrite.{Open, times, bracketed, shuts, ends, left, opened, writeNodes}
 
 abbrev pub opening : List ℕ → ℕ → ℕ → Open
 opening ps k p = record { num = k; brk = bracketed ps p }

@@ -1,6 +1,6 @@
 -- Where nodes stand in brackets, and the climb over their ends. Assumes nothing.
 use Rattle.lists.proofs.Prelude.{ℕ, zero, suc, _^_, _≤_, _<_, _-_, Bool, true, not, List, [], _∷_, _++_, append-nil, _≡_, refl, sym, ap, _∙_, subst, arith, eqb, length, eq-eqb, ne-eqb, pick}
-use Rattle.store_bytes.specs.Wrote.{Wrote}
+use Rattle.store_bytes.specs.LocalsWrote.{Wrote}
 use Rattle.tables.specs.Numbers.{none}
 use Rattle.tables.specs.Columns.{parentAt, childAt, siblingAt}
 use Rattle.fit_nodes.specs.Nodes.{onPath}
@@ -8,7 +8,7 @@ use Rattle.lists.proofs.Tests.{same-or}
 use Rattle.fit_nodes.proofs.Path.{has-before, path-down, path-le}
 use Rattle.fit_nodes.proofs.Rule.{rule-before}
 use Rattle.serialize.specs.Locals.{Placed, Above}
-use Rattle.serialize.specs.Walk.{inBrackets, shut, begun, climbs, endsBefore}
+use Rattle.serialize.specs.LocalsWalk.{inBrackets, shut, begun, climbs, endsBefore}
 use Rattle.serialize_values.proofs.Writing.{Writing, writing-first, writing-is, writing-next, writing-last}
 
 module _ (nd : List ℕ) (k : ℕ) where

@@ -1,6 +1,6 @@
 -- Texts one after another, counted from the first: what the walk joins from the last. Assumes nothing.
 use Rattle.lists.proofs.Prelude.{ℕ, zero, suc, _+_, List, [], _++_, append-assoc, append-nil, _≡_, refl, sym, ap, _∙_, arith}
-use Rattle.serialize.specs.Walk.{texts}
+use Rattle.serialize.specs.LocalsWalk.{texts}
 
 -- the texts of the m numbers from k on
 unfoldable pub joined : (ℕ → List ℕ) → (k m : ℕ) → List ℕ

@@ -15,7 +15,7 @@ use Rattle.tables.specs.Memory.{Memory}
 use Rattle.fit.specs.Fit.{Fit}
 use Rattle.fit.specs.Record.{treeRow, nodeRow, nodeOf, treesOf, textIn, recordIn}
 use Rattle.serialize.specs.Form.{formProp, formNode, formTree, writing}
-use Rattle.serialize.specs.Walk.{begun, endsBefore, kindOver, propsText, nodeBy, nodeText, linked}
+use Rattle.serialize.specs.LocalsWalk.{begun, endsBefore, kindOver, propsText, nodeBy, nodeText, linked}
 use Rattle.serialize.specs.Branch.{writeProps, treeText}
 use Rattle.serialize.proofs.Joined.{joined, joined-more, texts-joined}
 use Rattle.serialize.proofs.PropTexts.{node-text}

@@ -6,8 +6,8 @@ use Rattle.lists.proofs.Tests.{same-or}
 use Rattle.fit_nodes.proofs.Path.{has-before, has-none, path-out, path-down}
 use Rattle.tables.specs.Columns.{parentAt}
 use Rattle.fit_nodes.specs.Nodes.{hasParent, onPath}
-use Rattle.serialize.specs.Walk.{inBrackets, shut, climbs, endsBefore}
-use Rattle.serialize.specs.Write.{Open, ends, left, shuts}
+use Rattle.serialize.specs.LocalsWalk.{inBrackets, shut, climbs, endsBefore}
+use Rattle.serialize.specs.LocalsWrite.{Open, ends, left, shuts}
 use Rattle.serialize.proofs.Branches.{On}
 
 module _ (nd : List ℕ) where

@@ -11,8 +11,8 @@ use Rattle.tables.specs.Columns.{firstPropAt, propCountAt, firstValAt, valCount
 use Rattle.tables.specs.Each.{tabulate}
 use Rattle.fit.specs.Record.{nodeRow, propRow, propOf, nodeOf, rawOf}
 use Rattle.serialize.specs.Form.{placeless, formProp, formNode}
-use Rattle.serialize.specs.Walk.{nameAt, valuesText, propText, propsText}
-use Rattle.serialize_values.specs.Boxes.{boxes}
+use Rattle.serialize.specs.LocalsWalk.{nameAt, valuesText, propText, propsText}
+use Rattle.serialize_values.specs.LocalsBoxes.{boxes}
 use Rattle.serialize.specs.Branch.{writeProps, boxed}
 use Rattle.serialize.proofs.Joined.{joined, texts-from}
 

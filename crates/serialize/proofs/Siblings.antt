@@ -10,8 +10,8 @@ use Rattle.tables.specs.Columns.{parentAt, childAt, siblingAt}
 use Rattle.tables.specs.Each.{tabulate}
 use Rattle.fit_nodes.specs.Locals.{Ruled}
 use Rattle.fit_nodes.specs.Nodes.{firstUnder, nextOf, onPath}
-use Rattle.serialize.specs.Walk.{inBrackets}
-use Rattle.serialize.specs.Write.{times}
+use Rattle.serialize.specs.LocalsWalk.{inBrackets}
+use Rattle.serialize.specs.LocalsWrite.{times}
 
 module _ (nd : List ℕ) (p : ℕ) where
   -- those of the m nodes from k on whose parent is p

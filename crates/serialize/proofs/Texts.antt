@@ -1,8 +1,8 @@
 -- Texts written one after another. Assumes nothing.
 use Rattle.lists.proofs.Prelude.{ℕ, _+_, _^_, _≤_, _<_, _≡_, subst, List, _++_, add-one, arith, length}
-use Rattle.store_bytes.specs.Wrote.{Wrote}
+use Rattle.store_bytes.specs.LocalsWrote.{Wrote}
 use Rattle.store_bytes.proofs.Written.{wrote-none, wrote-more, wrote-is}
-use Rattle.serialize.specs.Walk.{texts}
+use Rattle.serialize.specs.LocalsWalk.{texts}
 
 pub texts-none : (f : ℕ → List ℕ) (out : List ℕ) (at : ℕ) → at < 2 ^ 64 → Wrote (texts f 0) out at out at
 unfolding texts

@@ -9,7 +9,7 @@ use Rattle.fit.proofs.RecordRows.{ruled, first-root}
 use Rattle.fit.proofs.RootRows.{root-in, root-rises, orphan-root}
 use Rattle.tables.specs.Columns.{rootAt, kindAt, parentAt, childAt, siblingAt}
 use Rattle.fit_nodes.specs.Nodes.{firstUnder, nextOf, childRight, siblingRight}
-use Rattle.serialize.specs.Walk.{rootsBelow, kindOver}
+use Rattle.serialize.specs.LocalsWalk.{rootsBelow, kindOver}
 use Rattle.serialize.proofs.TreeWalk.{Linking, Stretch}
 
 module _ {nd : List ℕ} {n a b : ℕ} (x : Stretch nd n a b) where

@@ -4,7 +4,7 @@ use Rattle.tables.specs.Numbers.{none}
 use Rattle.tables.specs.Record.{Node, Tree}
 use Rattle.tables.specs.Rows.{parents}
 use Rattle.serialize.specs.Branch.{Nodes, stand, Hung, under, hung, writeProps, several, enclosed, nodesText, treeText}
-use Rattle.serialize.specs.Write.{bracketed, times, opened, shuts, writeNodes, writeTree}
+use Rattle.serialize.specs.LocalsWrite.{bracketed, times, opened, shuts, writeNodes, writeTree}
 use Rattle.serialize.proofs.Branches.{opening, Good, size-none, size-under, several-under, walk-rest}
 
 -- a root and the nodes after it, each under an open node

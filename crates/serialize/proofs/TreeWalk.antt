@@ -12,9 +12,9 @@ use Rattle.tables.specs.Columns.{parentAt, childAt, siblingAt}
 use Rattle.tables.specs.Each.{tabulate}
 use Rattle.fit_nodes.specs.Locals.{Ruled}
 use Rattle.fit_nodes.specs.Nodes.{firstUnder, nextOf, onPath}
-use Rattle.serialize.specs.Walk.{inBrackets, begun, endsBefore}
+use Rattle.serialize.specs.LocalsWalk.{inBrackets, begun, endsBefore}
 use Rattle.serialize.specs.Branch.{treeText, writeProps}
-use Rattle.serialize.specs.Write.{Open, bracketed, left, opened, ends, writeNodes, writeTree}
+use Rattle.serialize.specs.LocalsWrite.{Open, bracketed, left, opened, ends, writeNodes, writeTree}
 use Rattle.serialize.proofs.Branches.{opening, Good}
 use Rattle.serialize.proofs.Joined.{joined}
 use Rattle.serialize.proofs.OpenPath.{PathFrom, left-path, path-on, ends-before, ends-last}

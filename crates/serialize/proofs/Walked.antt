@@ -2,7 +2,7 @@
 use Rattle.lists.proofs.Prelude.{ℕ, zero, suc, _+_, _/_, _^_, _≤_, _<_, _-_, Bool, true, false, _&&_, List, [], _∷_, _++_, _≡_, refl, sym, ap, ap₂, _∙_, subst, add-one, arith, leb, ltb, eqb, length, getD, take, drop, List·getD-eq-default, eq-eqb, ne-eqb, lt-ltb}
 use Rattle.lists.proofs.Pick.{pick-elim}
 use Rattle.values.specs.Read.{readIdentifier}
-use Rattle.store_bytes.specs.Wrote.{Wrote}
+use Rattle.store_bytes.specs.LocalsWrote.{Wrote}
 use Rattle.store_bytes.proofs.Written.{wrote-more}
 use Rattle.tables.specs.Numbers.{none}
 use Rattle.go.specs.Normal.{normal}
@@ -16,8 +16,8 @@ use Rattle.fit_nodes.proofs.Rule.{rule-at, rule-before}
 use Rattle.fit_nodes.specs.Nodes.{parentRight}
 use Rattle.fit_nodes.specs.Locals.{Ruled}
 use Rattle.serialize.specs.Locals.{PropHeld, Placed, Above, NodesHeld}
-use Rattle.serialize.specs.Walk.{texts, rootsBelow, nameAt, valuesText, propText, propsText, begun, endsBefore, nodeBy, nodeText, linked, named}
-use Rattle.serialize_values.specs.Boxes.{boxes}
+use Rattle.serialize.specs.LocalsWalk.{texts, rootsBelow, nameAt, valuesText, propText, propsText, begun, endsBefore, nodeBy, nodeText, linked, named}
+use Rattle.serialize_values.specs.LocalsBoxes.{boxes}
 use Rattle.serialize_values.proofs.Writing.{writing-first, writing-is, writing-next, writing-last}
 
 -- the rule of the parents holds of fewer nodes too

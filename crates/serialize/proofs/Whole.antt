@@ -1,6 +1,6 @@
 -- The writer's answer: 19, 15, 14, then the writing. Assumes nothing.
 use Rattle.lists.proofs.Prelude.{ℕ, _+_, _^_, _≤_, _<_, Bool, true, false, not, List, [], _++_, _≡_, refl, sym, ap, ap₂, _∙_, subst, arith, ltb, length, drop, length-take-le, lt-ltb, le-ltb, not-true, not-false}
-use Rattle.store_bytes.specs.Wrote.{Wrote}
+use Rattle.store_bytes.specs.LocalsWrote.{Wrote}
 use Rattle.store_bytes.proofs.Lists.{sets-out}
 use Rattle.store_bytes.proofs.Written.{wrote-all}
 use Rattle.tables.specs.Record.{Tree, allNodes, allProps}
@@ -14,7 +14,7 @@ use Rattle.fit_spans.proofs.Ranges.{gapless-in}
 use Rattle.fit.proofs.Whole.{fit-lent}
 use Rattle.serialize.specs.Form.{writing, written, WriteIs}
 use Rattle.serialize.specs.Locals.{answer, PropHeld, NodesHeld}
-use Rattle.serialize.specs.Walk.{linked, namesGood}
+use Rattle.serialize.specs.LocalsWalk.{linked, namesGood}
 use Rattle.serialize.specs.Branch.{nameless}
 use Rattle.serialize.specs.declared.Written.the-variants.{Wrote as Done, Refused}
 use Rattle.serialize.proofs.AllNames.{names-are}

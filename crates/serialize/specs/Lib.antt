@@ -1,5 +1,5 @@
 pub mod Branch
 pub mod Form
 pub mod Locals
-pub mod Walk
-pub mod Write
+pub mod LocalsWalk
+pub mod LocalsWrite

@@ -1,8 +1,8 @@
 // The brackets of nodes.
 ghost use mathlib.Core.Path.{_≡_};
-ghost use Rattle.store_bytes.specs.Wrote.{Wrote};
+ghost use Rattle.store_bytes.specs.LocalsWrote.{Wrote};
 ghost use Rattle.serialize.specs.Locals.{Placed, Above};
-ghost use Rattle.serialize.specs.Walk.{inBrackets, shut, begun, endsBefore};
+ghost use Rattle.serialize.specs.LocalsWalk.{inBrackets, shut, begun, endsBefore};
 use store_bytes::put_byte;
 
 // Whether node k stands in brackets.

@@ -4,9 +4,9 @@ ghost use Prim.Native.Nat.{ℕ, _<_};
 ghost use lib.Dec.{ltb};
 ghost use lib.ListN.{length};
 ghost use Rattle.values.specs.Read.{readIdentifier};
-ghost use Rattle.store_bytes.specs.Wrote.{Wrote};
+ghost use Rattle.store_bytes.specs.LocalsWrote.{Wrote};
 ghost use Rattle.serialize.specs.Locals.{PropHeld};
-ghost use Rattle.serialize.specs.Walk.{namesGood};
+ghost use Rattle.serialize.specs.LocalsWalk.{namesGood};
 use store_bytes::put_byte;
 
 // The uppercase letters of an identifier.

@@ -1,7 +1,7 @@
 // The properties of a node.
-ghost use Rattle.store_bytes.specs.Wrote.{Wrote};
+ghost use Rattle.store_bytes.specs.LocalsWrote.{Wrote};
 ghost use Rattle.serialize.specs.Locals.{PropHeld, NodeHeld};
-ghost use Rattle.serialize.specs.Walk.{propText, propsText};
+ghost use Rattle.serialize.specs.LocalsWalk.{propText, propsText};
 
 // Property p of a tree with this game type.
 fn put_property(

@@ -2,10 +2,10 @@
 ghost use mathlib.Core.Path.{_≡_};
 ghost use Prim.Native.Nat.{suc, _-_, _/_, _<_, _≤_};
 ghost use lib.ListN.{length};
-ghost use Rattle.store_bytes.specs.Wrote.{Wrote};
+ghost use Rattle.store_bytes.specs.LocalsWrote.{Wrote};
 ghost use Rattle.tables.specs.Columns.{nodeStride, kindAt};
 ghost use Rattle.serialize.specs.Locals.{NodeHeld, NodesHeld};
-ghost use Rattle.serialize.specs.Walk.{rootsBelow, nodeBy, linked};
+ghost use Rattle.serialize.specs.LocalsWalk.{rootsBelow, nodeBy, linked};
 
 // How many of the first k + 1 nodes have no parent, where `roots` of the first k have none.
 fn roots_with(nodes: &[u32], k: usize, roots: usize) -> usize

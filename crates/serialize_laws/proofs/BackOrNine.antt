@@ -13,7 +13,7 @@ use Rattle.serialize_laws.proofs.Inked.{written-ink}
 use Rattle.serialize_laws.proofs.Resplit.{deepest, filled-any, split-trees}
 use Rattle.serialize_laws.proofs.Written.{lex-written, tokTree, tokTrees}
 use Rattle.serialize.specs.Branch.{treesText}
-use Rattle.serialize.specs.Write.{writeTrees}
+use Rattle.serialize.specs.LocalsWrite.{writeTrees}
 use Rattle.tables.specs.Numbers.{depthLimit, textLimit}
 use Rattle.tables.specs.Record.{Tree}
 use Rattle.tables.specs.declared.Reason.the-variants.{TooDeep}

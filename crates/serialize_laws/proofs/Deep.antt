@@ -9,7 +9,7 @@ use Rattle.serialize_laws.proofs.Resplit.{deepest, split-trees}
 use Rattle.serialize_laws.proofs.Written.{lex-written, tokTree, tokTrees}
 use Rattle.serialize_laws.specs.Back.{zTok, toksOf}
 use Rattle.serialize_laws.specs.Depth.{deepestFrom, depthOf}
-use Rattle.serialize.specs.Write.{writeTrees}
+use Rattle.serialize.specs.LocalsWrite.{writeTrees}
 use Rattle.tables.specs.Record.{Tree}
 use Rattle.text_utf8.specs.Text.{Utf}
 

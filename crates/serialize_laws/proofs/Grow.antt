@@ -8,7 +8,7 @@ use Rattle.parser.specs.Walk.{Gate, Walk, children, takes, walk, walked}
 use Rattle.serialize_laws.proofs.WrittenProps.{Plain}
 use Rattle.serialize_laws.proofs.Written.{PlainNode, tokEnds, tokNodes, tokOpened, tokProps}
 use Rattle.serialize.proofs.Branches.{opening, Good}
-use Rattle.serialize.specs.Write.{Open, bracketed, left}
+use Rattle.serialize.specs.LocalsWrite.{Open, bracketed, left}
 use Rattle.tables.specs.Numbers.{none}
 use Rattle.tables.specs.Record.{Node}
 use Rattle.tables.specs.Rows.{parents}

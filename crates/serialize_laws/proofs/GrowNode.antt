@@ -7,7 +7,7 @@ use Rattle.parser.specs.Walk.{Gate, Opts, Walk, children, opens, shut, takes, w
 use Rattle.serialize_laws.proofs.WrittenProps.{Plain}
 use Rattle.serialize_laws.proofs.Written.{tokEnds, tokOpened, tokProps, tokShuts}
 use Rattle.serialize.proofs.Branches.{On}
-use Rattle.serialize.specs.Write.{Open, bracketed, left, times}
+use Rattle.serialize.specs.LocalsWrite.{Open, bracketed, left, times}
 use Rattle.tables.specs.Numbers.{none}
 use Rattle.tables.specs.Record.{Node}
 use Rattle.tables.specs.Rows.{parents}

@@ -1,7 +1,7 @@
 -- From the nodes, last first, to the nodes in order, as the writer asks it. Assumes nothing.
 use Rattle.lists.proofs.Prelude.{_≡_, refl, sym, ap, _∙_, subst, inl, inr, ℕ, suc, _+_, _<_, arith, Bool, true, false, List, [], _∷_, reverseAux, eqb, length, pick}
 use Rattle.serialize.proofs.Branches.{opening, On, Good}
-use Rattle.serialize.specs.Write.{Open, left}
+use Rattle.serialize.specs.LocalsWrite.{Open, left}
 use Rattle.tables.specs.Record.{Node}
 use Rattle.serialize_laws.proofs.Nested.{OnN, leftN, pathR, GoodR}
 

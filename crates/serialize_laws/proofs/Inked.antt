@@ -7,7 +7,7 @@ use Rattle.parser.specs.Walk.{uppers}
 use Rattle.text_chars.proofs.Tests.{within-true}
 use Rattle.serialize_laws.proofs.WrittenProps.{Plain, letters-same}
 use Rattle.serialize_laws.proofs.Written.{PlainNode, PlainTree}
-use Rattle.serialize.specs.Write.{Open, bracketed, ends, left, opened, shuts, writeNodes, writeTrees}
+use Rattle.serialize.specs.LocalsWrite.{Open, bracketed, ends, left, opened, shuts, writeNodes, writeTrees}
 use Rattle.serialize.specs.Branch.{writeProps, boxed}
 use Rattle.tables.specs.Numbers.{none}
 use Rattle.tables.specs.Record.{Node, Tree}

@@ -11,7 +11,7 @@ use Rattle.serialize_laws.proofs.WrittenProps.{Plain}
 use Rattle.serialize_laws.proofs.Written.{PlainNode, PlainTree}
 use Rattle.serialize.proofs.Branches.{opening, Good}
 use Rattle.serialize.specs.Form.{formProp, formNode, formTree}
-use Rattle.serialize.specs.Write.{Open, bracketed, left}
+use Rattle.serialize.specs.LocalsWrite.{Open, bracketed, left}
 use Rattle.tables.specs.Numbers.{none}
 use Rattle.tables.specs.Record.{Node, Tree}
 use Rattle.tables.specs.Rows.{parents}

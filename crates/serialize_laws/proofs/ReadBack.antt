@@ -16,7 +16,7 @@ use Rattle.serialize_laws.proofs.Regrow.{SoundNodes, SoundTrees, raws-s
 use Rattle.serialize_laws.proofs.Written.{PlainTree, lex-written, tokTrees}
 use Rattle.serialize.proofs.TreeTexts.{tree-text, Alike, alike-tree}
 use Rattle.serialize.specs.Branch.{boxed, writeProps, treeText, treesText}
-use Rattle.serialize.specs.Write.{writeTree, writeTrees}
+use Rattle.serialize.specs.LocalsWrite.{writeTree, writeTrees}
 use Rattle.tables.specs.Numbers.{textLimit}
 use Rattle.tables.specs.Record.{Node, Tree}
 use Rattle.text_utf8.specs.Text.{Utf, blank, utfs, whole}

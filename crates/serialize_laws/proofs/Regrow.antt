@@ -12,7 +12,7 @@ use Rattle.serialize_laws.proofs.Grow.{node-run, walk-nodes}
 use Rattle.serialize_laws.proofs.GrowNode.{stk}
 use Rattle.serialize_laws.proofs.Written.{PlainNode, tokEnds, tokNodes, tokOpened, tokProps, tokShuts, tokTree}
 use Rattle.serialize.proofs.Branches.{opening, Good}
-use Rattle.serialize.specs.Write.{Open, bracketed, left}
+use Rattle.serialize.specs.LocalsWrite.{Open, bracketed, left}
 use Rattle.tables.specs.Numbers.{none}
 use Rattle.tables.specs.Record.{Node, Tree}
 use Rattle.tables.specs.Rows.{parents}

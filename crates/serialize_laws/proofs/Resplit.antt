@@ -7,7 +7,7 @@ use Rattle.parser.specs.Read.{accepted, answer, growAll, growing, planted}
 use Rattle.parser.specs.Split.{Splitting, deep, filled, no, over, sliced, slices, split, splits, splitting, wrong}
 use Rattle.serialize_laws.proofs.Written.{tokEnds, tokNodes, tokOpened, tokProps, tokShuts, tokTree, tokTrees}
 use Rattle.serialize.proofs.Branches.{opening}
-use Rattle.serialize.specs.Write.{Open, bracketed, left}
+use Rattle.serialize.specs.LocalsWrite.{Open, bracketed, left}
 use Rattle.tables.specs.Numbers.{depthLimit, none}
 use Rattle.tables.specs.Record.{Node, Tree}
 use Rattle.tables.specs.Rows.{parents}

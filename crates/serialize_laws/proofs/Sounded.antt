@@ -14,7 +14,7 @@ use Rattle.serialize_laws.proofs.Regrow.{reverse-reverseAux}
 use Rattle.serialize_laws.proofs.RootProps.{RootIs, root-slice, rootProps}
 use Rattle.serialize_laws.proofs.Sizes.{AtMost, most-walked, total}
 use Rattle.serialize.proofs.Branches.{opening, Good}
-use Rattle.serialize.specs.Write.{bracketed, times}
+use Rattle.serialize.specs.LocalsWrite.{bracketed, times}
 use Rattle.tables.specs.Numbers.{none}
 use Rattle.tables.specs.Record.{Node, Tree}
 use Rattle.tables.specs.Rows.{parents}

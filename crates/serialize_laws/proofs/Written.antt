@@ -2,13 +2,13 @@
 use Rattle.lists.proofs.Prelude.{_≡_, refl, ap, _∙_, subst, ℕ, suc, Bool, true, false, List, [], _∷_, _++_, map, append-assoc, map-append, eqb, pick}
 use Rattle.lexer.specs.Token.{Prop, St, Tok, after, between, done, emits, end, ends, fault, finish, ident, lexFrom, node, prop, start, value}
 use Rattle.lists.specs.All.{All}
-use Rattle.serialize.specs.Write.{Open, bracketed, left, opened, writeNodes, writeTree, writeTrees}
+use Rattle.serialize.specs.LocalsWrite.{Open, bracketed, left, opened, writeNodes, writeTree, writeTrees}
 use Rattle.serialize.specs.Branch.{writeProps, boxed}
 use Rattle.tables.specs.Numbers.{none}
 use Rattle.tables.specs.Record.{Node, Tree}
 use Rattle.tables.specs.Rows.{parents}
 use Rattle.values.specs.Read.{readIdentifier}
-use Rattle.serialize.specs.Write as Write
+use Rattle.serialize.specs.LocalsWrite as Write
 use Rattle.serialize_laws.specs.Back.{zProp, zTok}
 use Rattle.serialize_laws.proofs.Pieces.{Ready, pend, Reads, reads-nil, reads-append, reads-open, reads-close, reads-node}
 use Rattle.serialize_laws.proofs.WrittenProps.{Plain, reads-prop}

@@ -1,12 +1,12 @@
 -- Values in their brackets, one after another. Assumes nothing.
 use Rattle.lists.proofs.Prelude.{ℕ, suc, _+_, _^_, _≤_, _<_, _-_, _≡_, refl, sym, ap, _∙_, Bool, true, false, List, [], _∷_, _++_, append-assoc, add-one, length, getD, drop, drop-of-length-le, drop-cons, lt-ltb, le-ltb, pick}
-use Rattle.store_bytes.specs.Wrote.{Wrote}
+use Rattle.store_bytes.specs.LocalsWrote.{Wrote}
 use Rattle.store_bytes.proofs.Written.{wrote-is}
 use Rattle.go_points.specs.Area.{letter}
 use Rattle.go.specs.Normal.{pointText, pointsFrom}
 use Rattle.parts.specs.Rows.{valueAt, valuesAt}
 use Rattle.parts.proofs.Valued.{values-all, values-next, values-end}
-use Rattle.serialize_values.specs.Boxes.{boxes}
+use Rattle.serialize_values.specs.LocalsBoxes.{boxes}
 use Rattle.serialize_values.proofs.Writing.{writing-first, writing-is, writing-next, writing-last}
 
 pub boxes-one : (v : List ℕ) → boxes (v ∷ []) ≡ 0x5b ∷ (v ++ (0x5d ∷ []))

@@ -16,7 +16,7 @@ use Rattle.go_points.specs.declared.Value.the-variants.{Invalid, Pass, Move, Ha
 use Rattle.go_points.proofs.Value as value
 use Rattle.go.proofs.Marked.{marks-all}
 use Rattle.go.proofs.Shapes.{points-valid, points-invalid}
-use Rattle.serialize_values.specs.Boxes.{formBy}
+use Rattle.serialize_values.specs.LocalsBoxes.{formBy}
 use Rattle.serialize_values.proofs.Variants.{single, raw-only}
 
 pub normal-shaped : (kind : ℕ) (identifier : List ℕ) (vs : List (List ℕ)) {q s : Shape} → kind ≡ 0 → q ≡ shapeOf identifier → q ≡ s → formBy s vs ≡ normal kind identifier vs

@@ -1,6 +1,6 @@
 -- A text written piece by piece. Assumes nothing.
 use Rattle.lists.proofs.Prelude.{ℕ, _+_, _^_, _<_, _≡_, refl, sym, _∙_, subst, List, [], _++_, append-assoc, append-nil, length}
-use Rattle.store_bytes.specs.Wrote.{Wrote}
+use Rattle.store_bytes.specs.LocalsWrote.{Wrote}
 use Rattle.store_bytes.proofs.Written.{wrote-none, wrote-more, wrote-is}
 
 -- `rest` of the whole is left to write

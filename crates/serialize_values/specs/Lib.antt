@@ -1,1 +1,1 @@
-pub mod Boxes
+pub mod LocalsBoxes

@@ -1,6 +1,6 @@
 -- Bytes written one after another. Assumes nothing.
 use Rattle.lists.proofs.Prelude.{ℕ, _+_, _-_, _^_, _≤_, _<_, min, _≡_, refl, sym, ap, _∙_, subst, Bool, true, false, List, [], _++_, arith, leb, length, drop, length-append, sets, sets-eq, length-sets, leb-true, leb-false}
-use Rattle.store_bytes.specs.Wrote.{Wrote}
+use Rattle.store_bytes.specs.LocalsWrote.{Wrote}
 use Rattle.store_bytes.proofs.Lists.{sets-append, sets-out}
 
 pub wrote-none : (out : List ℕ) (at : ℕ) → at < 2 ^ 64 → Wrote [] out at out at

@@ -3,7 +3,7 @@ use Rattle.lists.proofs.Prelude.{_≡_, refl, sym, _∙_, subst, List, ℕ, suc
 use Rattle.lists.proofs.Tests.{same-or}
 use Rattle.tables.specs.Numbers.{none}
 use Rattle.tables.specs.Columns.{nodeStride, parentAt, childAt}
-use Rattle.tables.specs.Links.{least, LinkedFrom, HasRows, LinksIs}
+use Rattle.tables.specs.LocalsLinks.{least, LinkedFrom, HasRows, LinksIs}
 
 -- one node more: the definition's own step
 least-step : (t : List ℕ) (p j n : ℕ) → j < n → least t p j (n - j) ≡ pick (eqb (parentAt t j) p) j (least t p (suc j) (n - suc j))

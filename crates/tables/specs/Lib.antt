@@ -1,7 +1,7 @@
 pub mod Columns
 pub mod Each
 pub mod Flat
-pub mod Links
+pub mod LocalsLinks
 pub mod Memory
 pub mod Move
 pub mod Numbers

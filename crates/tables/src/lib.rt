@@ -1,6 +1,6 @@
 // The four lent tables: their rows, the counts and numbers given back, and the links of the nodes.
 ghost use mathlib.Core.Path.{_≡_};
-ghost use Rattle.tables.specs.Links.{LinksIs};
+ghost use Rattle.tables.specs.LocalsLinks.{LinksIs};
 ghost use Rattle.tables.specs.Numbers.{numberOf, reasonOf};
 
 // The longest text, in bytes.

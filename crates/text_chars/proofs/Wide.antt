@@ -3,7 +3,7 @@ use Rattle.lists.proofs.Prelude.{_≡_, refl, ap, _∙_, ℕ, suc, _+_, _-_, _�
 use Rattle.text_chars.specs.declared.Decoded.the-variants.{Character, Bad}
 use Rattle.text_chars.specs.White.{white}
 use Rattle.text_chars.specs.Table.{table, listed, scalar}
-use Rattle.text_chars.specs.Decode.{decoded}
+use Rattle.text_chars.specs.LocalsDecode.{decoded}
 use Rattle.text_chars.proofs.Padded.{bytesAt, take-bytes, listed-bytes}
 use Rattle.text_chars.proofs.Rows.{listed-long}
 use Rattle.text_chars.proofs.Tests.{in-within, above-within}

@@ -1,3 +1,3 @@
-pub mod Decode
+pub mod LocalsDecode
 pub mod Table
 pub mod White

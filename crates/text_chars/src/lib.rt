@@ -6,7 +6,7 @@ ghost use Prim.Native.Nat.{_*_, _+_, _-_, _<_, _≤_};
 ghost use lib.ListN.{length, drop, getD};
 ghost use Rattle.text_chars.specs.White.{within, white};
 ghost use Rattle.text_chars.specs.Table.{listed, scalar};
-ghost use Rattle.text_chars.specs.Decode.{decoded};
+ghost use Rattle.text_chars.specs.LocalsDecode.{decoded};
 
 // The character at a place: how many bytes it has and whether it is white space; or none.
 pub enum Decoded {

@@ -8,7 +8,7 @@ use Rattle.text_chars.specs.White.{white}
 use Rattle.text_utf8.specs.Text.{Ink, mark, whole, utfs}
 use Rattle.text_utf8.specs.Trim.{shown}
 use Rattle.text_chars.specs.Table.{table, listed, scalar}
-use Rattle.text_chars.specs.Decode.{ofWidth, decoded}
+use Rattle.text_chars.specs.LocalsDecode.{ofWidth, decoded}
 use Rattle.text_chars.proofs.Rows.{listed-long}
 use Rattle.text_utf8.proofs.Cut.{unlisted-bad}
 use Rattle.text_utf8.proofs.Taken.{listed-taken}

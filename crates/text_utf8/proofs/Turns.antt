@@ -6,7 +6,7 @@ use Rattle.text_utf8.specs.declared.Seen.{Seen}
 use Rattle.text_chars.specs.White.{white}
 use Rattle.text_utf8.specs.Text.{Ink, blank, inked, mark, whole, utfs}
 use Rattle.text_utf8.specs.Trim.{shown, trimmed}
-use Rattle.text_chars.specs.Decode.{decoded}
+use Rattle.text_chars.specs.LocalsDecode.{decoded}
 use Rattle.text_utf8.specs.Locals.{inkOf, Plain}
 use Rattle.text_utf8.proofs.Blocks.{plain-taken}
 use Rattle.text_utf8.proofs.Decoding.{decoded-taken, decoded-bad}

@@ -8,7 +8,7 @@ use Rattle.text_chars.specs.White.{white}
 use Rattle.text_utf8.specs.Text.{Ink, blank, inked, mark, Utf, whole, utfs}
 use Rattle.text_utf8.specs.Trim.{shown, trimmed}
 use Rattle.text_chars.specs.Table.{listed, scalar, WellFormed, empty, begins, BadFrom}
-use Rattle.text_chars.specs.Decode.{decoded}
+use Rattle.text_chars.specs.LocalsDecode.{decoded}
 use Rattle.lists.proofs.Places.{drop-take}
 use Rattle.text_chars.proofs.Rows.{listed-long, listed-short, listed-take}
 use Rattle.text_utf8.proofs.Steps.{place, place-is, utfs-append}

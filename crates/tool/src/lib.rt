@@ -1,8 +1,8 @@
 // What the programs share: room for a text, its tables and its writing; refusals and spans as bytes; the part of the room that was used.
 ghost use mathlib.Core.Path.{_≡_};
 ghost use lib.ListN.{take, replicate};
-ghost use Rattle.store_bytes.specs.Wrote.{Wrote};
-ghost use Rattle.tool.specs.Said.{counted, refused, spanned};
+ghost use Rattle.store_bytes.specs.LocalsWrote.{Wrote};
+ghost use Rattle.tool.specs.LocalsSaid.{counted, refused, spanned};
 
 // Rows enough for any text of 65,536 bytes: of trees, and of values, two numbers each.
 pub fn pair_rows() -> [u32; 65536]

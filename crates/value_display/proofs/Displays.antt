@@ -2,8 +2,8 @@
 use Rattle.lists.proofs.Prelude.{ℕ, _-_, _^_, _<_, _≡_, refl, sym, ap, _∙_, subst, Bool, true, false, List, [], _∷_, _++_, append-assoc, append-nil, le-refl, arith, leb, length, drop, le-leb, lt-leb, leb-true, leb-false}
 use Rattle.values.specs.Read.{readValue}
 use Rattle.value_display.specs.Display.{formatText, oneLine, shown, displayed, displayedIn}
-use Rattle.value_display.specs.Showing.{Shows}
-use Rattle.store_bytes.specs.Wrote.{Wrote}
+use Rattle.value_display.specs.LocalsShowing.{Shows}
+use Rattle.store_bytes.specs.LocalsWrote.{Wrote}
 use Rattle.value_display.specs.declared.Kind.{Kind}
 use Rattle.value_display.specs.declared.Kind.the-variants.{Text, SimpleText}
 use Rattle.values.specs.declared.read.Step.{Step}

@@ -1,7 +1,7 @@
 -- `format_text`, item by item. Assumes nothing.
 use Rattle.lists.proofs.Prelude.{ℕ, zero, suc, _+_, _≡_, refl, sym, ap, _∙_, Bool, true, false, List, [], _∷_, _++_, arith, eqb, getD, drop, ne-eqb, pick}
 use Rattle.value_display.specs.Display.{blank1, blank2, blank3, item, plain, removed, escaped, itemOf, formatFrom, formatText}
-use Rattle.value_display.specs.Showing.{otherBreak}
+use Rattle.value_display.specs.LocalsShowing.{otherBreak}
 
 -- bytes that were taken are gone
 format-taken : (n : ℕ) (bs : List ℕ) → formatFrom n bs ≡ formatText (drop n bs)

@@ -2,7 +2,7 @@
 use Rattle.lists.proofs.Prelude.{ℕ, _≡_, sym, ap, _∙_, List, _∷_, arith, getD, drop, getD-drop}
 use Rattle.values.specs.Read.{readValue}
 use Rattle.value_display.specs.Display.{formatText, oneLine}
-use Rattle.value_display.specs.Showing.{Shows, Peeks, otherBreak}
+use Rattle.value_display.specs.LocalsShowing.{Shows, Peeks, otherBreak}
 use Rattle.values.specs.declared.read.Step.the-variants.{Byte, End}
 use Rattle.value_display.proofs.OneLine.{line-empty, break-line, line-other, line-cr-lf, line-cr, line-lf, line-lf-cr-lf, line-lf-cr}
 

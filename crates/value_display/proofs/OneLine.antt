@@ -2,7 +2,7 @@
 use Rattle.lists.proofs.Prelude.{ℕ, _≡_, refl, ap, _∙_, Bool, true, false, _&&_, and-false, List, [], _∷_, map, arith, eqb, getD, drop, ne-eqb, eqb-true, pick}
 use Rattle.lists.proofs.Pick.{pick-elim}
 use Rattle.value_display.specs.Display.{replaced, spaced, oneLine}
-use Rattle.value_display.specs.Showing.{otherBreak}
+use Rattle.value_display.specs.LocalsShowing.{otherBreak}
 
 module _ (a b : ℕ) where
   -- a byte that is not the first of a pair, or has not the second behind it

@@ -2,7 +2,7 @@
 use Rattle.lists.proofs.Prelude.{ℕ, _≤_, _≡_, refl, sym, ap, _∙_, Bool, true, false, _||_, List, _∷_, arith, le-refl, ltb, eqb, getD, drop, drop-drop, getD-drop, ltb-true, eq-eqb, ne-eqb}
 use Rattle.values.specs.Read.{readValue}
 use Rattle.value_display.specs.Display.{blank1, blank2, blank3, formatText}
-use Rattle.value_display.specs.Showing.{Shows, Peeks, Begins, Past}
+use Rattle.value_display.specs.LocalsShowing.{Shows, Peeks, Begins, Past}
 use Rattle.values.specs.declared.read.Step.the-variants.{Byte, End}
 use Rattle.value_display.proofs.Formats.{format-blank1, format-blank2, format-blank3, format-plain}
 

@@ -1,2 +1,2 @@
 pub mod Display
-pub mod Showing
+pub mod LocalsShowing

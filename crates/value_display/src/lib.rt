@@ -5,8 +5,8 @@ ghost use lib.Dec.{leb};
 ghost use lib.ListN.{length};
 ghost use Rattle.values.specs.Read.{readValue};
 ghost use Rattle.value_display.specs.Display.{blank1, blank2, blank3, formatText, oneLine, shown, displayed, displayedIn};
-ghost use Rattle.value_display.specs.Showing.{Shows, Peeks, Begins, otherBreak, Past};
-ghost use Rattle.store_bytes.specs.Wrote.{Wrote};
+ghost use Rattle.value_display.specs.LocalsShowing.{Shows, Peeks, Begins, otherBreak, Past};
+ghost use Rattle.store_bytes.specs.LocalsWrote.{Wrote};
 use values::read::Step;
 
 pub enum Kind {

@@ -3,7 +3,7 @@ ghost use mathlib.Core.Path.{_≡_};
 ghost use Prim.Native.Nat.{_≤_};
 ghost use lib.ListN.{length, drop};
 ghost use Rattle.values.specs.Decimal.{decimal};
-ghost use Rattle.store_bytes.specs.Wrote.{Wrote};
+ghost use Rattle.store_bytes.specs.LocalsWrote.{Wrote};
 
 // Digits at the end of an array, from `from` on.
 struct Digits {

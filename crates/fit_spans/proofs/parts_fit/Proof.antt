@@ -2,7 +2,7 @@
 use denote.Ref.{now}
 use Rattle.lists.proofs.Prelude.{needs}
 use Rattle.tables.proofs.Cases.{passed, refused}
-use Rattle.fit_spans.specs.Parts.{partsFit}
+use Rattle.fit_spans.specs.LocalsParts.{partsFit}
 use Rattle.fit_spans.proofs.Lent.{lent-is, ranges-values}
 use Rattle.fit_spans.proofs.parts_fit.Statement.{statement}
 use Rattle.fit_spans.proofs.parts_fit.Tie as tie

@@ -1,6 +1,6 @@
 -- `go_shape::shape_of` meets its contract. Assumes nothing.
 use Rattle.lists.proofs.Prelude.{sym, ap, _∙_, subst, needs}
-use Rattle.go_shape.specs.Identifier.{Letters}
+use Rattle.go_shape.specs.LocalsIdentifier.{Letters}
 use Rattle.go_shape.specs.Shape.{shapeOf}
 use Rattle.go_shape.proofs.Identifiers.{letter-cons}
 use Rattle.go_shape.proofs.shape_of.Statement.{statement}

@@ -6,7 +6,7 @@ use Rattle.parser.specs.declared.Survey.the-variants.{Refused}
 use Rattle.tables.specs.declared.Reason.the-variants.{UnexpectedGameTreeEnd}
 use Rattle.tables.specs.declared.Reason.{Reason}
 use Rattle.parser.specs.Split.{no}
-use Rattle.parser.specs.Survey.{strictly}
+use Rattle.parser.specs.LocalsSurvey.{strictly}
 use Rattle.parser.proofs.Meets.{meets, steps-end, steps-on}
 use Rattle.parser.proofs.fault_or_end.Statement.{statement}
 use Rattle.parser.proofs.fault_or_end.Tie as tie

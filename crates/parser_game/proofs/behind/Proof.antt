@@ -4,7 +4,7 @@ use denote.Ref.{now}
 use Rattle.lexer.specs.Token.{Lexed}
 use Rattle.lexer.proofs.Within.{found-within}
 use Rattle.parser.proofs.Meets.{meets}
-use Rattle.parser_game.specs.Game.{behindOf}
+use Rattle.parser_game.specs.LocalsGame.{behindOf}
 use Rattle.parser_game.proofs.Gather.{past-toks}
 use Rattle.parser_game.proofs.behind.Statement.{statement}
 use Rattle.parser_game.proofs.behind.Tie as tie

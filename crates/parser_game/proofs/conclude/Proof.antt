@@ -2,7 +2,7 @@
 use denote.Ref.{now}
 use Rattle.lists.proofs.Prelude.{sym, ap, _∙_, Bool, needs}
 use Rattle.lexer.specs.Step.{valsAt}
-use Rattle.parser_game.specs.Game.{typeOf, concluded}
+use Rattle.parser_game.specs.LocalsGame.{typeOf, concluded}
 use Rattle.parser_game.proofs.conclude.Statement.{statement}
 use Rattle.parser_game.proofs.conclude.Tie as tie
 

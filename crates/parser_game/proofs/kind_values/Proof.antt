@@ -1,7 +1,7 @@
 -- `parser_game::kind_values` meets its contract. Assumes nothing.
 use denote.Ref.{now}
 use Rattle.lists.proofs.Prelude.{arith, ℕ, sym, ap, _∙_, List, needs}
-use Rattle.parser_game.specs.Game.{typeOf}
+use Rattle.parser_game.specs.LocalsGame.{typeOf}
 use Rattle.values.specs.Read.{readValue}
 use Rattle.parser.specs.Kind.{kindOf}
 use Rattle.lexer_scan.proofs.Bounds.{value-is}

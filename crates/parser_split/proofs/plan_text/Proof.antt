@@ -6,7 +6,7 @@ use Rattle.text_utf8.specs.declared.Trimmed.{Trimmed}
 use Rattle.text_utf8.proofs.Extent.{trim-bounds}
 use Rattle.tables.specs.Numbers.{textLimit}
 use Rattle.tables.specs.declared.Reason.the-variants.{TextTooLong}
-use Rattle.parser_split.specs.Plans.{planKept, planText}
+use Rattle.parser_split.specs.LocalsPlans.{planKept, planText}
 use Rattle.parser_split.specs.declared.Plan.the-variants.{Refused}
 use Rattle.parser_split.proofs.plan_text.Statement.{statement}
 use Rattle.parser_split.proofs.plan_text.Tie as tie

@@ -1,7 +1,7 @@
 -- `parser_split::plan_tokens` meets its contract. Assumes nothing.
 use denote.Ref.{now}
 use Rattle.lists.proofs.Prelude.{sym, ap, _∙_, length, needs}
-use Rattle.parser_split.specs.Plans.{planFound}
+use Rattle.parser_split.specs.LocalsPlans.{planFound}
 use Rattle.parser_split.proofs.plan_tokens.Statement.{statement}
 use Rattle.parser_split.proofs.plan_tokens.Tie as tie
 

@@ -2,7 +2,7 @@
 use denote.Ref.{now}
 use Rattle.lists.proofs.Prelude.{sym, ap, _∙_, Bool, needs}
 use Rattle.lexer.specs.Token.{lexAt}
-use Rattle.parser.specs.Survey.{surveyOf}
+use Rattle.parser.specs.LocalsSurvey.{surveyOf}
 use Rattle.parser_split.proofs.survey.Statement.{statement}
 use Rattle.parser_split.proofs.survey.Tie as tie
 

@@ -3,8 +3,8 @@ use denote.Ref.{now}
 use Rattle.lists.proofs.Prelude.{_-_, length, refl, sym, ap, _∙_, arith, needs}
 use Rattle.parser_step.specs.declared.State.{State}
 use Rattle.parser_step.specs.declared.Act.the-variants.{Start, End, Node, Add, Skip, Stop, Over}
-use Rattle.parser_tree.specs.Walks.{opts}
-use Rattle.parser_tree.specs.Turns.{ActIs}
+use Rattle.parser_tree.specs.LocalsWalks.{opts}
+use Rattle.parser_tree.specs.LocalsTurns.{ActIs}
 use Rattle.parser_tree.proofs.Meets.{head-lies}
 use Rattle.parser_tree.proofs.Acts.{asked}
 use Rattle.parser_tree.proofs.Giving.{gives-stopped, gives-ended}

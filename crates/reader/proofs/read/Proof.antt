@@ -2,7 +2,7 @@
 use denote.Ref.{now}
 use Rattle.lists.proofs.Prelude.{arith, refl, length-take-le, needs}
 use Rattle.parser.specs.Read.{read}
-use Rattle.parser_tree.specs.Walks.{opts}
+use Rattle.parser_tree.specs.LocalsWalks.{opts}
 use Rattle.parser_split.specs.declared.Plan.the-variants.{Slices}
 use Rattle.reader.proofs.Surveyed.{PlanIs, read-as}
 use Rattle.reader.proofs.Texts.{planned}

@@ -4,7 +4,7 @@ use Rattle.store_bytes.proofs.Written.{wrote-is}
 use Rattle.values.specs.Decimal.{decimal}
 use Rattle.parts.specs.Rows.{valuesAt}
 use Rattle.go.proofs.Choosing.{by-alone}
-use Rattle.serialize_values.specs.Boxes.{boxes}
+use Rattle.serialize_values.specs.LocalsBoxes.{boxes}
 use Rattle.serialize_values.proofs.Boxed.{box-wrote}
 use Rattle.serialize_values.proofs.Forms.{one-pass, one-point, one-stones, one-inside, one-raw}
 use Rattle.serialize_values.proofs.put_one.Statement.{statement}

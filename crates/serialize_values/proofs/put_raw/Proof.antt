@@ -2,7 +2,7 @@
 use Rattle.lists.proofs.Prelude.{_+_, _-_, arith, needs}
 use Rattle.store_bytes.proofs.Written.{wrote-length}
 use Rattle.parts.specs.Rows.{valuesAt}
-use Rattle.serialize_values.specs.Boxes.{boxes}
+use Rattle.serialize_values.specs.LocalsBoxes.{boxes}
 use Rattle.serialize_values.proofs.Boxed.{raw-all, raw-next, raw-end}
 use Rattle.serialize_values.proofs.Writing.{Writing, writing-first, writing-is, writing-next, writing-end}
 use Rattle.serialize_values.proofs.put_raw.Statement.{statement}

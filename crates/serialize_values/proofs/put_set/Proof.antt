@@ -2,7 +2,7 @@
 use Rattle.lists.proofs.Prelude.{refl, ap, needs}
 use Rattle.store_bytes.proofs.Written.{wrote-is}
 use Rattle.parts.specs.Rows.{valuesAt}
-use Rattle.serialize_values.specs.Boxes.{boxes}
+use Rattle.serialize_values.specs.LocalsBoxes.{boxes}
 use Rattle.serialize_values.proofs.Forms.{set-raw, set-points}
 use Rattle.serialize_values.proofs.Variants.{not-points}
 use Rattle.serialize_values.proofs.put_set.Statement.{statement}

@@ -5,7 +5,7 @@ use Rattle.values.specs.Read.{readIdentifier}
 use Rattle.go.proofs.Choosing.{not-set}
 use Rattle.go.proofs.ReadBack.{normal-unknown}
 use Rattle.parts.specs.Rows.{valuesAt}
-use Rattle.serialize_values.specs.Boxes.{boxes}
+use Rattle.serialize_values.specs.LocalsBoxes.{boxes}
 use Rattle.serialize_values.proofs.Forms.{normal-shaped}
 use Rattle.serialize_values.proofs.put_values.Statement.{statement}
 use Rattle.serialize_values.proofs.put_values.Tie as tie

@@ -1,6 +1,6 @@
 -- `tables::link_nodes` meets its contract. Assumes nothing.
 use Rattle.lists.proofs.Prelude.{_-_, _*_, _≤_, _<_, refl, length, getD, arith}
-use Rattle.tables.specs.Links.{LinkedFrom, HasRows}
+use Rattle.tables.specs.LocalsLinks.{LinkedFrom, HasRows}
 use Rattle.tables.proofs.Cells.{none-fits, one-less, under, row-number, Table, whole-rows, row-fits, row-bytes, row-there, cell-fits, cell-bytes, cell-there, cell-stays}
 use Rattle.tables.proofs.Links.{linked-none, link-child, link-root, links-all, links-none}
 use Rattle.tables.proofs.link_nodes.Statement.{statement}

@@ -1,7 +1,7 @@
 -- `value_display::next_simple` meets its contract. Assumes nothing.
 use Rattle.lists.proofs.Prelude.{subst, needs}
 use Rattle.value_display.specs.Display.{formatText}
-use Rattle.value_display.specs.Showing.{Shows}
+use Rattle.value_display.specs.LocalsShowing.{Shows}
 use Rattle.value_display.proofs.Lines.{simple-end, simple-other, simple-cr-lf, simple-cr, simple-lf, simple-lf-cr-lf, simple-lf-cr}
 use Rattle.value_display.proofs.next_simple.Statement.{statement}
 use Rattle.value_display.proofs.next_simple.Tie as tie

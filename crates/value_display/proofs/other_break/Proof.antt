@@ -1,6 +1,6 @@
 -- `value_display::other_break` meets its contract. Assumes nothing.
 use Rattle.lists.proofs.Prelude.{eq-eqb, ne-eqb}
-use Rattle.value_display.specs.Showing.{otherBreak}
+use Rattle.value_display.specs.LocalsShowing.{otherBreak}
 use Rattle.value_display.proofs.other_break.Statement.{statement}
 use Rattle.value_display.proofs.other_break.Tie as tie
 

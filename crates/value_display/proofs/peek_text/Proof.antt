@@ -1,7 +1,7 @@
 -- `value_display::peek_text` meets its contract. Assumes nothing.
 use Rattle.lists.proofs.Prelude.{subst, needs}
 use Rattle.value_display.specs.Display.{formatText}
-use Rattle.value_display.specs.Showing.{Shows}
+use Rattle.value_display.specs.LocalsShowing.{Shows}
 use Rattle.value_display.proofs.Shown.{peek-byte, peek-end}
 use Rattle.value_display.proofs.peek_text.Statement.{statement}
 use Rattle.value_display.proofs.peek_text.Tie as tie

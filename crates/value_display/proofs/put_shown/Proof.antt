@@ -1,7 +1,7 @@
 -- `value_display::put_shown` meets its contract. Assumes nothing.
 use Rattle.lists.proofs.Prelude.{_-_, subst, arith, needs, length}
 use Rattle.value_display.specs.Display.{shown}
-use Rattle.value_display.specs.Showing.{Shows}
+use Rattle.value_display.specs.LocalsShowing.{Shows}
 use Rattle.value_display.proofs.Displays.{Displaying, display-first, display-next, display-end}
 use Rattle.store_bytes.proofs.Written.{wrote-length}
 use Rattle.value_display.proofs.put_shown.Statement.{statement}

@@ -3,7 +3,7 @@ use Rattle.lists.proofs.Prelude.{_≡_, sym, _∙_, true, ℕ, _+_, _-_, _≤_,
 use denote.Ref.{now}
 use borrow.Author.Count.{below-more}
 use Rattle.lists.proofs.Tests.{and-both}
-use Rattle.lexer_close.specs.Run.{plain}
+use Rattle.lexer_close.specs.LocalsRun.{plain}
 use Rattle.lexer_close.proofs.runs.all_plain.Statement.{statement}
 use Rattle.lexer_close.proofs.runs.all_plain.Tie as tie
 

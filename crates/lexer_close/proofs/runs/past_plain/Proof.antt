@@ -1,7 +1,7 @@
 -- `lexer_close::runs::past_plain` meets its contract. The loop's invariant: the scan may go on from here. Assumes nothing.
 use Rattle.lists.proofs.Prelude.{_-_, arith, length, needs, not-false}
 use denote.Ref.{now}
-use Rattle.lexer_close.specs.Run.{LeadsTo}
+use Rattle.lexer_close.specs.LocalsRun.{LeadsTo}
 use Rattle.lexer_close.proofs.Leads.{leads-none, leads-on, leads-plain}
 use Rattle.lexer_close.proofs.runs.past_plain.Statement.{statement}
 use Rattle.lexer_close.proofs.runs.past_plain.Tie as tie

@@ -1,7 +1,7 @@
 -- `lexer_close::runs::past_short` meets its contract. The loop's invariant: the scan may go on from here. Assumes nothing.
 use Rattle.lists.proofs.Prelude.{_-_, _≤_, sym, _∙_, ⊎-elim, arith, length, needs, not-false}
 use denote.Ref.{now}
-use Rattle.lexer_close.specs.Run.{LeadsTo}
+use Rattle.lexer_close.specs.LocalsRun.{LeadsTo}
 use Rattle.lexer_close.proofs.Leads.{leads-none, leads-on, leads-one}
 use Rattle.lexer_close.proofs.runs.past_short.Statement.{statement}
 use Rattle.lexer_close.proofs.runs.past_short.Tie as tie

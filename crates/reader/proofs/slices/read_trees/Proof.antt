@@ -1,5 +1,5 @@
 -- `slices::read_trees` meets its contract. Assumes nothing.
-use Rattle.parser_tree.specs.Walks.{opts}
+use Rattle.parser_tree.specs.LocalsWalks.{opts}
 use Rattle.reader.proofs.Plants.{Planting, plant-first, plant-keeps, plant-end, plant-ready, plant-no, plant-stop, plant-more, walk-tree-as, walk-refused-as}
 use Rattle.lists.proofs.Prelude.{_-_, arith, needs}
 use Rattle.lexer.specs.Token.{lexAt}

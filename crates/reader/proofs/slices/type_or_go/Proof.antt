@@ -1,7 +1,7 @@
 -- `slices::type_or_go` meets its contract. Assumes nothing.
 use denote.Ref.{now}
 use Rattle.lexer.specs.Token.{lexAt}
-use Rattle.parser.specs.Slice.{sliceFrom}
+use Rattle.parser.specs.LocalsSlice.{sliceFrom}
 use Rattle.parser.specs.Kind.{kind}
 use Rattle.reader.proofs.Kinded.{type-is, type-go, type-refused}
 use Rattle.lists.proofs.Prelude.{needs}

@@ -3,7 +3,7 @@ use Rattle.lists.proofs.Prelude.{_-_, _≤_, true, _≡_, arith, needs}
 use Rattle.tables.proofs.Cases.{passed, refused}
 use Rattle.tables.proofs.Each.{each-none, each-more, each-end, each-fails}
 use Rattle.tables.specs.Each.{each}
-use Rattle.serialize.specs.Walk.{named, namesGood}
+use Rattle.serialize.specs.LocalsWalk.{named, namesGood}
 use Rattle.serialize.proofs.Walked.{name-tested}
 use Rattle.serialize.proofs.names.names_good.Statement.{statement}
 use Rattle.serialize.proofs.names.names_good.Tie as tie

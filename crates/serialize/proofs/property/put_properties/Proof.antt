@@ -1,8 +1,8 @@
 -- `property::put_properties` meets its contract. Assumes nothing.
 use Rattle.lists.proofs.Prelude.{_+_, _-_, _≤_, arith, needs}
 use Rattle.store_bytes.proofs.Written.{wrote-is, wrote-length}
-use Rattle.store_bytes.specs.Wrote.{Wrote}
-use Rattle.serialize.specs.Walk.{texts, propText}
+use Rattle.store_bytes.specs.LocalsWrote.{Wrote}
+use Rattle.serialize.specs.LocalsWalk.{texts, propText}
 use Rattle.serialize.proofs.Walked.{node-property, properties-are}
 use Rattle.serialize.proofs.Texts.{texts-none, texts-more, texts-end}
 use Rattle.serialize.proofs.property.put_properties.Statement.{statement}

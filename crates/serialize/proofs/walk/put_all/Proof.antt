@@ -1,8 +1,8 @@
 -- `walk::put_all` meets its contract. Assumes nothing.
 use Rattle.lists.proofs.Prelude.{_-_, _≤_, _≡_, refl, arith, needs}
 use Rattle.store_bytes.proofs.Written.{wrote-is, wrote-length}
-use Rattle.store_bytes.specs.Wrote.{Wrote}
-use Rattle.serialize.specs.Walk.{texts, rootsBelow, nodeText}
+use Rattle.store_bytes.specs.LocalsWrote.{Wrote}
+use Rattle.serialize.specs.LocalsWalk.{texts, rootsBelow, nodeText}
 use Rattle.serialize.proofs.Walked.{roots-next, roots-some, nodes-up, nodes-above, node-typed, linked-wrote}
 use Rattle.serialize.proofs.Texts.{texts-none, texts-more, texts-end}
 use Rattle.serialize.proofs.walk.put_all.Statement.{statement}

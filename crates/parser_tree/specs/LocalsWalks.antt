@@ -9,8 +9,8 @@ use Rattle.tables.specs.Rows.{propRows, valRows}
 use Rattle.tables.specs.Flat.{flatNodes, flatProps, flatVals}
 use Rattle.parser.specs.Walk.{Opts, Walk, walk, shut, walked}
 use Rattle.parser.specs.Read.{growing, failing, grown}
-use Rattle.parser.specs.Slice.{sliceFrom, restFrom, Shallow}
-use Rattle.parser_tree.specs.Flat.{bareRows}
+use Rattle.parser.specs.LocalsSlice.{sliceFrom, restFrom, Shallow}
+use Rattle.parser_tree.specs.LocalsFlat.{bareRows}
 use Rattle.parser_tree.specs.declared.Walked.{Walked}
 use Rattle.parser_tree.specs.declared.Walked.the-variants.{Tree as tree, Refused as refused}
 

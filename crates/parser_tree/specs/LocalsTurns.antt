@@ -13,9 +13,9 @@ use Rattle.tables.specs.Rows.{valRows}
 use Rattle.tables.specs.Flat.{flatVals}
 use Rattle.tables.specs.declared.Reason.{Reason}
 use Rattle.tables.specs.declared.Reason.the-variants.{UnexpectedEndOfData, UnexpectedGameTreeStart, UnexpectedGameTreeEnd}
-use Rattle.parser.specs.Slice.{restFrom}
+use Rattle.parser.specs.LocalsSlice.{restFrom}
 use Rattle.parser_tree.specs.declared.Taken.{Taken}
-use Rattle.parser_step.specs.Asks.{stackOf, mayOpen, propAct}
+use Rattle.parser_step.specs.LocalsAsks.{stackOf, mayOpen, propAct}
 use Rattle.parser_step.specs.declared.State.{State}
 use Rattle.parser_step.specs.declared.Act.{Act}
 use Rattle.parser_step.specs.declared.Act.the-variants.{Start, End, Node, Add, Skip, Stop, Over}

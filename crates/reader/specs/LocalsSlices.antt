@@ -9,9 +9,9 @@ use Rattle.tables.specs.Rows.{treeRows}
 use Rattle.tables.specs.Flat.{flatTrees}
 use Rattle.parser.specs.Kind.{Kind, is, unkind}
 use Rattle.parser.specs.Walk.{Opts}
-use Rattle.parser.specs.Slice.{cut, Shallow}
+use Rattle.parser.specs.LocalsSlice.{cut, Shallow}
 use Rattle.parser.specs.Read.{Growing, growing, failing, growAll}
-use Rattle.parser_tree.specs.Walks.{Stored}
+use Rattle.parser_tree.specs.LocalsWalks.{Stored}
 use Rattle.reader.specs.Lent.{Lent}
 use Rattle.reader.specs.declared.slices.Total.{Total}
 use Rattle.reader.specs.declared.slices.Total.the-variants.{Rows, Refused}

@@ -6,7 +6,7 @@ use Rattle.text_utf8.specs.declared.Trimmed.the-variants.{NotUtf8, Blank, Kept}
 use Rattle.lexer.specs.Token.{lexAt}
 use Rattle.tables.specs.Numbers.{textLimit}
 use Rattle.tables.specs.declared.Reason.the-variants.{TextTooLong, NotUtf8 as notUtf8}
-use Rattle.parser.specs.Survey.{surveyOf}
+use Rattle.parser.specs.LocalsSurvey.{surveyOf}
 use Rattle.parser.specs.declared.Survey.{Survey}
 use Rattle.parser.specs.declared.Survey.the-variants.{Refused as refusedBy, Slices as found, Empty}
 use Rattle.parser_split.specs.declared.Plan.{Plan}
