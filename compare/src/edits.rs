@@ -1,4 +1,4 @@
-//! Runs of edits on the record of a text: each beside document 01's words and beside a fresh strict reading.
+//! Runs of edits on the record of a text: each beside the scope's words and beside a fresh strict reading.
 use crate::held::{self, Counts, Edit};
 use crate::plain_edit;
 use crate::report::{count, same};

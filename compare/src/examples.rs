@@ -1,4 +1,4 @@
-//! Document 01's own examples and the points it leaves open, as a table: what each text must give.
+//! The scope's own examples and the points it leaves open, as a table: what each text must give.
 use crate::held;
 use crate::library::{self, KEEP_IDENTIFIERS, LENIENT};
 use crate::plain_reader::NONE;

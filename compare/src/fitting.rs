@@ -1,4 +1,4 @@
-//! Damaged tables: the library's fitting check beside document 01's words, and what every operation answers where they do not fit.
+//! Damaged tables: the library's fitting check beside the scope's words, and what every operation answers where they do not fit.
 use crate::held::{self, Counts, Length, Span, STRIDES};
 use crate::plain_fit;
 use crate::plain_go::{self, shown, Go};

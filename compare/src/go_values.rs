@@ -1,4 +1,4 @@
-//! Go values of every property of a text: the library beside the crate and beside document 01's words.
+//! Go values of every property of a text: the library beside the crate and beside the scope's words.
 use crate::held::{self, GoValue};
 use crate::oracle;
 use crate::plain_fit;

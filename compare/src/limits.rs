@@ -21,7 +21,7 @@ fn nested(depth: usize, before: &str, after: &str) -> Vec<u8> {
     [before, &"(;".repeat(depth), &")".repeat(depth), after].concat().into_bytes()
 }
 
-/// Before, unit and after of long texts; the first few are those that document 01's limits speak of.
+/// Before, unit and after of long texts; the first few are those that the scope's limits speak of.
 const SHAPES: &[(&str, &str, &str)] = &[
     ("(;C[", "x", "])"),
     ("(", ";", ")"),

@@ -1,6 +1,6 @@
-//! Trimming and the token rules in plain Rust, written from document 01 alone: what the library is held against where sgf-parse has no say.
+//! Trimming and the token rules in plain Rust, written from the scope alone: what the library is held against where sgf-parse has no say.
 
-/// A number of document 01 and a place.
+/// A number of the scope and a place.
 #[derive(Debug, Clone, Copy, PartialEq, Eq)]
 pub struct Refusal {
     pub number: u32,

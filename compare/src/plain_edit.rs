@@ -1,4 +1,4 @@
-//! The value edit in plain Rust, written from document 01 alone: the answer, and what text and tables are then.
+//! The value edit in plain Rust, written from the scope alone: the answer, and what text and tables are then.
 use crate::held::Held;
 use crate::plain::Refusal;
 use crate::plain_fit::{fits, identifier, is_closed};

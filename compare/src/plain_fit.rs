@@ -1,4 +1,4 @@
-//! When tables fit a text, in plain Rust, written from document 01 alone: one function a clause, in its order.
+//! When tables fit a text, in plain Rust, written from the scope alone: one function a clause, in its order.
 use crate::held::{Held, STRIDES};
 use crate::plain;
 use crate::plain_reader::{NONE, TEXT_LIMIT};

@@ -1,4 +1,4 @@
-//! Go values in plain Rust, written from document 01 alone.
+//! Go values in plain Rust, written from the scope alone.
 use crate::held::{GoValue, HANDICAP, INVALID, MOVE, OTHER, PASS, POINTS};
 use crate::plain;
 use std::collections::BTreeSet;

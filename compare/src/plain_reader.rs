@@ -1,4 +1,4 @@
-//! The tree reader in plain Rust, written from document 01 alone, over the plain token rules.
+//! The tree reader in plain Rust, written from the scope alone, over the plain token rules.
 use crate::plain::{self, Property, Refusal, Token};
 
 /// No node.

@@ -1,4 +1,4 @@
-//! The writer in plain Rust, written from document 01 alone.
+//! The writer in plain Rust, written from the scope alone.
 use crate::held::Held;
 use crate::plain_fit::{fits, identifier};
 use crate::plain_go::{self, letter, Go};

@@ -1,4 +1,4 @@
-//! Readings of a text with every pair of options: the library beside document 01's words and beside the crate.
+//! Readings of a text with every pair of options: the library beside the scope's words and beside the crate.
 use crate::held::{Counts, STRIDES};
 use crate::library::{self, Reading};
 use crate::oracle;

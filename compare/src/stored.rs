@@ -6,7 +6,7 @@ use crate::{records, texts};
 use std::fmt::Write;
 use std::path::Path;
 
-/// Texts that document 01's token rules and examples name.
+/// Texts that the scope's token rules and examples name.
 const EXAMPLES: &[&str] = &[
     "",
     "(;);",

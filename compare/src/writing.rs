@@ -1,4 +1,4 @@
-//! Writings: the library beside document 01's words on any record, and beside the crate where the two write alike.
+//! Writings: the library beside the scope's words on any record, and beside the crate where the two write alike.
 use crate::go_values::in_order;
 use crate::held::{self, Held, Length};
 use crate::oracle;

@@ -1,4 +1,4 @@
-//! The examples of document 01, as a user of this crate sees them.
+//! The examples of the scope, as a user of this crate sees them.
 use ekimorepa::{GameType, ParseOptions, Record, parse, parse_lenient};
 
 fn number(text: &str) -> u32 {

@@ -1,4 +1,4 @@
--- Demand 2, right: one record has one writing; reading answers as document 01's rules say, accepted tables fit and denote what was read, and a writing is read back.
+-- Demand 2, right: one record has one writing; reading answers as the scope's rules say, accepted tables fit and denote what was read, and a writing is read back.
 -- Assumes nothing.
 use Rattle.lists.proofs.Prelude.{ℕ, _≤_, _<_, Bool, true, false, List, _++_, map, _⊎_, _≡_, length, take, drop}
 use Rattle.lists.specs.All.{All}
@@ -167,7 +167,7 @@ exported-reads = exported.strict-accepted
 pub exported-writes : (m : Memory) (out out′ : List ℕ) (r : SgfWriting) → WriteShown m out out′ r → r .number ≡ 0 → WriteIs m out out′ (Wrote (r .length))
 exported-writes = exported.shown-wrote
 
--- read, write, read, write, under document 01's premises
+-- read, write, read, write, under the scope's premises
 module _ (o o₂ : ℕ) (t : List ℕ) (before after : Lent) (a : SgfReading) (e : optionsOf o .lenient ≡ false) (x : ReadShown (read (optionsOf o) t) before after a) (z : a .number ≡ 0)
     (b : BeginsAll t) (nm : All Named (allProps (allNodes (recordIn (holding t (countsRead a) after))))) (out out′ : List ℕ) (r : SgfWriting)
     (w : WriteShown (holding t (countsRead a) after) out out′ r) (v : r .number ≡ 0) (l : r .length ≤ textLimit)

@@ -95,7 +95,7 @@ module _ (m m′ : Memory) (k : ℕ) (new : List ℕ) (r : Edited) (s : EditIs m
   pub edit-accepted-only : (n : ℕ) → r ≡ Changed n → Allowed m k new × (n ≡ newLength m k (length new))
   edit-accepted-only = edited.edit-accepted-only m m′ k new r s
 
-  -- each of 19, 16, 17, 2, 18, 1, 14 exactly when document 01 says, in this order, with the place
+  -- each of 19, 16, 17, 2, 18, 1, 14 exactly when the scope says, in this order, with the place
   pub edit-refused-exactly : (x : Reason) (p : ℕ) → (r ≡ Refused x p) ↔ Forbidden m k new x p
   edit-refused-exactly = edited.edit-refuses m m′ k new r s
 

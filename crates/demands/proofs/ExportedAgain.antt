@@ -27,7 +27,7 @@ use Rattle.demands.proofs.Exported.{strict-shown, strict-accepted, show
 use Rattle.demands.proofs.Numbers.{number-once}
 use Rattle.demands.proofs.RoundTrip.{deep-nine, nine-deep, writes-again}
 
--- what was read and written by them, under document 01's premises; the writing is within the text limit
+-- what was read and written by them, under the scope's premises; the writing is within the text limit
 module _ (o o₂ : ℕ) (t : List ℕ) (before after : Lent) (a : SgfReading) (e : optionsOf o .lenient ≡ false) (x : ReadShown (read (optionsOf o) t) before after a) (z : a .number ≡ 0)
     (b : BeginsAll t) (nm : All Named (allProps (allNodes (recordIn (holding t (countsRead a) after))))) (out out′ : List ℕ) (r : SgfWriting)
     (w : WriteShown (holding t (countsRead a) after) out out′ r) (v : r .number ≡ 0) (l : r .length ≤ textLimit)

@@ -1,4 +1,4 @@
--- Document 01's useless builds, each held against its contract on one small input: none meets it. Assumes nothing.
+-- The scope's useless builds, each held against its contract on one small input: none meets it. Assumes nothing.
 use Rattle.lists.proofs.Prelude.{ℕ, List, [], _∷_, _++_, _≡_, refl, ap, _∙_, arith, getD}
 use Rattle.lists.proofs.Tests.{never}
 use Rattle.text_chars.specs.White.{white}

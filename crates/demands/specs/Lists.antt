@@ -1,4 +1,4 @@
--- The numbers that each exported function can give, in document 01's order.
+-- The numbers that each exported function can give, in the scope's order.
 use Rattle.lists.specs.Prelude.{ℕ, List, [], _∷_, _⊎_, _≡_}
 
 -- n is one of these numbers

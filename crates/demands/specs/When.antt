@@ -1,4 +1,4 @@
--- When each exported function accepts, and when it gives each number: in document 01's order, each where none before it applies.
+-- When each exported function accepts, and when it gives each number: in the scope's order, each where none before it applies.
 use Rattle.lists.specs.Prelude.{ℕ, _≤_, _<_, true, false, List, _↔_, _≡_, length, slice}
 use Rattle.values.specs.Read.{readValue}
 use Rattle.value_display.specs.Display.{shown}

@@ -1,4 +1,4 @@
--- An edit that nothing forbids is accepted, and leaves what document 01 says: bytes and places. Assumes nothing.
+-- An edit that nothing forbids is accepted, and leaves what the scope says: bytes and places. Assumes nothing.
 use Rattle.lists.proofs.Prelude.{ℕ, List, _≡_, sym, ap, _∙_, subst, subst⁻¹, arith, length}
 use Rattle.tables.specs.Columns.{valFromAt, valToAt}
 use Rattle.tables.specs.Memory.{Memory}

@@ -1,4 +1,4 @@
--- When an edit is accepted and when each number is given: exactly as document 01 says, in its order. Assumes nothing.
+-- When an edit is accepted and when each number is given: exactly as the scope says, in its order. Assumes nothing.
 use Rattle.lists.proofs.Prelude.{ℕ, _<_, Bool, true, false, List, _⊎_, inl, inr, ⊎-elim, _≡_, refl, sym, ap, _∙_, subst₂, ltb, length, lt-ltb, le-ltb}
 use Rattle.lists.specs.Same.{same}
 use Rattle.lists.proofs.Tests.{never}

@@ -1,4 +1,4 @@
--- The value edit in document 01's words: which bytes may stand for a value, why others may not, and what an edit changes.
+-- The value edit in the scope's words: which bytes may stand for a value, why others may not, and what an edit changes.
 use Rattle.lists.specs.Prelude.{ℕ, _+_, _-_, _*_, _≤_, _<_, true, false, List, _⊎_, _≡_, length, take, getD, slice}
 use Rattle.text_chars.specs.Table.{WellFormed, BadFrom}
 use Rattle.lexer.specs.Closed.{closed}
@@ -30,7 +30,7 @@ pub record Allowed (m : Memory) (k : ℕ) (new : List ℕ) : Type 0 where
   pub short : newLength m k (length new) ≤ textLimit
   pub room : newLength m k (length new) ≤ length (m .text)
 
--- what forbids it, and the place: each reason where none before it applies, in document 01's order 19, 16, 17, 2, 18, 1, 14
+-- what forbids it, and the place: each reason where none before it applies, in the scope's order 19, 16, 17, 2, 18, 1, 14
 pub data Forbidden (m : Memory) (k : ℕ) (new : List ℕ) : Reason → ℕ → Type 0 where
   misfit : Fit m ≡ false → Forbidden m k new NotFitting 0
   beyond : Fit m ≡ true → m .counts .values ≤ k → Forbidden m k new NoSuchNumber 0

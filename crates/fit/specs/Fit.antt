@@ -1,4 +1,4 @@
--- Document 01's rule: when tables fit a text.
+-- The scope's rule: when tables fit a text.
 use Rattle.lists.specs.Prelude.{ℕ, _/_, Bool, true, false, _&&_, List, leb, length, take}
 use Rattle.text_utf8.specs.Trim.{trimmed}
 use Rattle.text_utf8.specs.declared.Trimmed.{Trimmed}

@@ -60,7 +60,7 @@ fn is_lent(
         & (counts.values <= values.len() / tables::VALUE_STRIDE)
 }
 
-// Whether the tables fit the first `used` bytes of the text: document 01's rule.
+// Whether the tables fit the first `used` bytes of the text: the scope's rule.
 pub fn fits(
     text: &[u8],
     used: usize,

@@ -1,4 +1,4 @@
--- Where identifiers and values end: each answer is given exactly when document 01 says. Assumes nothing.
+-- Where identifiers and values end: each answer is given exactly when the scope says. Assumes nothing.
 use Rattle.lists.proofs.Prelude.{ℕ, suc, _+_, _≤_, _<_, _≡_, refl, sym, ap, _∙_, subst, Bool, true, false, not, _&&_, false≢true, List, [], _∷_, _++_, append-nil, head-eq-of-cons-eq, tail-eq-of-cons-eq, arith, length, eqb, leb, eqb-true, eqb-false, ne-eqb, leb-true, leb-false, le-leb, lt-leb, pick}
 use Rattle.lists.specs.All.{All}
 use Rattle.lexer_scan.specs.Scan.{identFrom}

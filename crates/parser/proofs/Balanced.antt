@@ -26,7 +26,7 @@ ends (prop p e ∷ ts) = ends ts
 abbrev pub Covered : ℕ → List Tok → Type 0
 Covered d ts = (k : ℕ) → ends (take k ts) ≤ d + starts (take k ts)
 
--- document 01's words
+-- the scope's words
 pub record Balanced (ts : List Tok) : Type 0 where
   pub covered : Covered 0 ts
   pub equal : starts ts ≡ ends ts

@@ -1,4 +1,4 @@
--- Each number that a reading gives, exactly when: document 01's conditions stand in specs/When and specs/Slicing. Of 13 nothing is said. Assumes nothing.
+-- Each number that a reading gives, exactly when: the scope's conditions stand in specs/When and specs/Slicing. Of 13 nothing is said. Assumes nothing.
 use Rattle.lists.proofs.Prelude.{ℕ, _≤_, _<_, _≡_, sym, ap, _∙_, Bool, _⊎_, ⊎-elim, List, length}
 use Rattle.text_chars.specs.Table.{BadFrom}
 use Rattle.lexer.specs.Token.{Tok}

@@ -1,4 +1,4 @@
--- Why a game type is refused: 11 and 12 as document 01 says; and the reasons of a slice. Assumes nothing.
+-- Why a game type is refused: 11 and 12 as the scope says; and the reasons of a slice. Assumes nothing.
 use Rattle.lists.proofs.Prelude.{ℕ, _-_, _^_, _≤_, _≡_, refl, sym, ap, _∙_, subst, Bool, true, false, false≢true, inl, List, [], _∷_, arith, length, pick}
 use Rattle.lists.specs.Same.{same}
 use Rattle.lists.proofs.Tests.{never}

@@ -1,4 +1,4 @@
--- The slices that splitting stands with are those of document 01's words: strict and lenient alike. Assumes nothing.
+-- The slices that splitting stands with are those of the scope's words: strict and lenient alike. Assumes nothing.
 use Rattle.lists.proofs.Prelude.{ℕ, zero, suc, max, _≡_, refl, sym, ap, _∙_, subst, Bool, true, false, List, [], _∷_, _++_, append-assoc, append-nil, reverse, reverse-cons}
 use Rattle.lexer.specs.Token.{Tok, start, end, node, prop}
 use Rattle.tables.specs.declared.Reason.the-variants.{UnexpectedGameTreeEnd}

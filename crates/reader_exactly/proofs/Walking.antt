@@ -1,4 +1,4 @@
--- Why the strict walk of a slice is refused: 10 and 11 as document 01 says, and never 6. Assumes nothing.
+-- Why the strict walk of a slice is refused: 10 and 11 as the scope says, and never 6. Assumes nothing.
 use Rattle.lists.proofs.Prelude.{ℕ, suc, _+_, _<_, _≡_, refl, sym, ap, _∙_, subst, Bool, true, false, _||_, inr, List, [], _∷_, _++_, append-assoc, append-nil, arith, length, pick}
 use Rattle.lexer.specs.Token.{Prop, Tok, start, end, node, prop}
 use Rattle.tables.specs.Numbers.{none}

@@ -1,4 +1,4 @@
--- Slices in document 01's words: no accumulator, no greatest depth.
+-- Slices in the scope's words: no accumulator, no greatest depth.
 use Rattle.lists.specs.Prelude.{ℕ, zero, suc, _+_, _<_, _⊎_, List, [], _∷_, take}
 use Rattle.lexer.specs.Token.{Tok, start, end, node, prop}
 use Rattle.tables.specs.Numbers.{depthLimit}

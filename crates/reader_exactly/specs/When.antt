@@ -1,4 +1,4 @@
--- When a reading gives each number: document 01's conditions.
+-- When a reading gives each number: the scope's conditions.
 use Rattle.lists.specs.Prelude.{ℕ, suc, _-_, _^_, _≤_, _≡_, Bool, true, false, _⊎_, List, [], _∷_, _++_, length, take, drop}
 use Rattle.text_chars.specs.Table.{WellFormed}
 use Rattle.text_utf8.specs.Trim.{trimmed}

@@ -1,1 +1,1 @@
-// When a reading gives each number, in document 01's words (specs/), and that it gives it then and only then (proofs/Exactly). No code.
+// When a reading gives each number, in the scope's words (specs/), and that it gives it then and only then (proofs/Exactly). No code.

@@ -1,4 +1,4 @@
--- Document 01's "Reading back". Assumes nothing.
+-- The scope's "Reading back". Assumes nothing.
 use Rattle.lists.proofs.Prelude.{_≡_, sym, _∙_, _⊎_, inl, inr, ℕ, _≤_, _<_, Bool, List, [], _∷_, map, length}
 use Rattle.edit_laws.specs.Run.{strictly}
 use Rattle.lists.proofs.All.{all-left, all-right}

@@ -1,4 +1,4 @@
--- Document 01's examples P1 to P10: one table, one statement.
+-- The scope's examples P1 to P10: one table, one statement.
 use Rattle.lists.specs.Prelude.{_≡_, refl, ℕ, zero, suc, List, [], _∷_, _++_, length, take}
 use Prim.Native.String.{String}
 use Rattle.text_chars.specs.White.{white}
@@ -142,12 +142,12 @@ abbrev pub answered : List Row → List Says
 answered [] = []
 answered (r ∷ rs) = does (bytes (r .text)) (r .deed) ∷ answered rs
 
--- what document 01 wants, row by row
+-- what the scope wants, row by row
 abbrev pub wanted : List Row → List Says
 wanted [] = []
 wanted (r ∷ rs) = r .says ∷ wanted rs
 
--- each row is answered as document 01 wants
+-- each row is answered as the scope wants
 pub examples : answered table ≡ wanted table
 unfolding white space readFrom readIdentifier decimalOf digitsFrom digitOf normal go.written goValue shapeOf valueBy outcomeOf Fit fitText nodesFit rangesFit spansFit trimmed each sum tabulate orphans upward onPath firstUnder spans ascending plainName
 examples = refl

@@ -83,7 +83,7 @@ pub needed-right : right needed ≡ wanted needed
 unfolding white space readFrom readIdentifier decimalOf digitsFrom digitOf normal written goValue shapeOf valueBy
 needed-right = refl
 
--- the paper's writing program; points by coordinates, not by the byte codes of their letters; one set in another order and spelling; an identifier that reads as empty
+-- the scope's writing program; points by coordinates, not by the byte codes of their letters; one set in another order and spelling; an identifier that reads as empty
 abbrev pub writings : List paper.Row
 writings =
     paper.row "(;AB[bb:cc]TB[ba][aa]C[a:b\\]c])" paper.rewriting (paper.text (bytes "(;AB[bb][bc][cb][cc]TB[aa][ba]C[a:b\\]c])"))
