@@ -3,27 +3,14 @@ use Rattle.lists.proofs.Prelude.{ℕ, zero, suc, _<_, _-_, _≡_, refl, sym, ap
 use Rattle.lexer.specs.Token.{Lexed, done, broken, lexAt}
 use Rattle.lexer.specs.Step.{nextAt, behind, stepOn}
 use Rattle.lists.proofs.Tests.{never}
+use Rattle.lexer_laws.specs.Reach.{IsToken, Reaches, here, on}
 use Rattle.lexer_laws.proofs.Join.{lex-next}
 use Rattle.lexer.proofs.Within.{Within, next-within}
 use Rattle.lexer.specs.declared.Fault.{Fault}
 use Rattle.lexer.specs.declared.Step.{Step}
 use Rattle.lexer.specs.declared.Step.the-variants.{Start, End as endStep, Node, Property, Refused, Done}
 
--- a token, no refusal and not the end
-abbrev pub IsToken : Step → Type 0
-IsToken (Start i) = Unit {0}
-IsToken (endStep i) = Unit {0}
-IsToken (Node i) = Unit {0}
-IsToken (Property i k e) = Unit {0}
-IsToken (Refused f i) = ⊥
-IsToken Done = ⊥
-
 module _ (u : List ℕ) where
-  -- k is reached from i by tokens
-  pub data Reaches : ℕ → ℕ → Type 0 where
-    here : {i : ℕ} → Reaches i i
-    on : {i k : ℕ} → IsToken (nextAt u i) → Reaches (behind i (nextAt u i)) k → Reaches i k
-
   token-end : (i : ℕ) (s : Step) → IsToken s → stepOn u s .end ≡ lexAt u (behind i s) .end
   token-end i (Start j) t = refl
   token-end i (endStep j) t = refl
@@ -41,21 +28,21 @@ module _ (u : List ℕ) where
   token-forward i Done t w = absurd t
 
   -- the tokens end with a fault where a token at fault is reached
-  pub fault-if : (i k : ℕ) → Reaches i k → (f : Fault) (j : ℕ) → nextAt u k ≡ Refused f j → lexAt u i .end ≡ broken f j
+  pub fault-if : (i k : ℕ) → Reaches u i k → (f : Fault) (j : ℕ) → nextAt u k ≡ Refused f j → lexAt u i .end ≡ broken f j
   fault-if i k here f j q = ap (λ (z : Lexed). z .end) (lex-next u i ∙ ap (stepOn u) q)
   fault-if i k (on t r) f j q = ap (λ (z : Lexed). z .end) (lex-next u i) ∙ token-end i (nextAt u i) t ∙ fault-if (behind i (nextAt u i)) k r f j q
 
-  reached : (n i : ℕ) → length u - i < n → (f : Fault) (j : ℕ) → lexAt u i .end ≡ broken f j → (k : ℕ) × Reaches i k × (nextAt u k ≡ Refused f j)
+  reached : (n i : ℕ) → length u - i < n → (f : Fault) (j : ℕ) → lexAt u i .end ≡ broken f j → (k : ℕ) × Reaches u i k × (nextAt u k ≡ Refused f j)
   reached zero i l f j q = absurd (omega arith)
   reached (suc n) i l f j q = go (nextAt u i) refl (reached n)
     where
-      next : (IsToken (nextAt u i)) → ((x : ℕ) → length u - x < n → (g : Fault) (y : ℕ) → lexAt u x .end ≡ broken g y → (k : ℕ) × Reaches x k × (nextAt u k ≡ Refused g y)) → (k : ℕ) × Reaches i k × (nextAt u k ≡ Refused f j)
+      next : (IsToken (nextAt u i)) → ((x : ℕ) → length u - x < n → (g : Fault) (y : ℕ) → lexAt u x .end ≡ broken g y → (k : ℕ) × Reaches u x k × (nextAt u k ≡ Refused g y)) → (k : ℕ) × Reaches u i k × (nextAt u k ≡ Refused f j)
       next t ih =
           let b = token-forward i (nextAt u i) t (next-within u i) in
           let r = ih (behind i (nextAt u i)) (omega arith) f j (sym (ap (λ (z : Lexed). z .end) (lex-next u i) ∙ token-end i (nextAt u i) t) ∙ q) in
           (r .0, on t (r .1), r .2)
 
-      go : (s : Step) → nextAt u i ≡ s → ((x : ℕ) → length u - x < n → (g : Fault) (y : ℕ) → lexAt u x .end ≡ broken g y → (k : ℕ) × Reaches x k × (nextAt u k ≡ Refused g y)) → (k : ℕ) × Reaches i k × (nextAt u k ≡ Refused f j)
+      go : (s : Step) → nextAt u i ≡ s → ((x : ℕ) → length u - x < n → (g : Fault) (y : ℕ) → lexAt u x .end ≡ broken g y → (k : ℕ) × Reaches u x k × (nextAt u k ≡ Refused g y)) → (k : ℕ) × Reaches u i k × (nextAt u k ≡ Refused f j)
       go (Start m) e ih = next (subst IsToken (sym e) tt) ih
       go (endStep m) e ih = next (subst IsToken (sym e) tt) ih
       go (Node m) e ih = next (subst IsToken (sym e) tt) ih
@@ -68,5 +55,5 @@ module _ (u : List ℕ) where
       go Done e ih = let z : done ≡ broken f j = sym (ap (λ (x : Lexed). x .end) (lex-next u i ∙ ap (stepOn u) e)) ∙ q in never (cc)
 
   -- and only there
-  pub fault-only : (i : ℕ) (f : Fault) (j : ℕ) → lexAt u i .end ≡ broken f j → (k : ℕ) × Reaches i k × (nextAt u k ≡ Refused f j)
+  pub fault-only : (i : ℕ) (f : Fault) (j : ℕ) → lexAt u i .end ≡ broken f j → (k : ℕ) × Reaches u i k × (nextAt u k ≡ Refused f j)
   fault-only i f j q = reached (suc (length u)) i (omega arith) f j q

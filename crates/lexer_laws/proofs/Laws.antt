@@ -19,6 +19,7 @@ use Rattle.lexer_laws.proofs.Proper as proper
 use Rattle.lexer_laws.proofs.Replace as replace
 use Rattle.lexer_laws.proofs.Exactly as exactly
 use Rattle.lexer_laws.proofs.Faults as faults
+use Rattle.lexer_laws.specs.Reach.{Reaches}
 use Rattle.lexer.specs.declared.Fault.{Fault}
 use Rattle.lexer_close.specs.declared.Close.{Close}
 use Rattle.lexer_scan.specs.declared.Ident.{Ident}
@@ -63,6 +64,6 @@ value-exactly = exactly.close-exactly false
 
 -- the tokens end with a fault exactly where the first token at fault is reached by tokens, and at its start
 pub fault-exactly : (u : List ℕ) (i : ℕ) (f : Fault) (j : ℕ)
-    → (((k : ℕ) × faults.Reaches u i k × (nextAt u k ≡ Refused f j)) → lexAt u i .end ≡ broken f j)
-    × (lexAt u i .end ≡ broken f j → (k : ℕ) × faults.Reaches u i k × (nextAt u k ≡ Refused f j))
+    → (((k : ℕ) × Reaches u i k × (nextAt u k ≡ Refused f j)) → lexAt u i .end ≡ broken f j)
+    × (lexAt u i .end ≡ broken f j → (k : ℕ) × Reaches u i k × (nextAt u k ≡ Refused f j))
 fault-exactly u i f j = ((λ r. faults.fault-if u i (r .0) (r .1) f j (r .2)), faults.fault-only u i f j)

@@ -1,36 +1,11 @@
 -- Strict splitting accepts exactly when no prefix of the tokens has more ends than starts, starts and ends are equal in number, and an end exists. Assumes nothing.
-use Rattle.lists.proofs.Prelude.{ℕ, zero, suc, _+_, _≤_, _<_, max, _≡_, refl, subst, Bool, true, false, List, [], _∷_, reverse, arith, ltb, length, take, pick}
+use Rattle.lists.proofs.Prelude.{ℕ, zero, suc, _+_, _≤_, _<_, max, _≡_, refl, subst, Bool, true, false, List, [], _∷_, reverse, arith, ltb, length, pick}
 use Rattle.lexer.specs.Token.{Tok, start, end, node, prop}
 use Rattle.tables.specs.Numbers.{depthLimit, numberOf}
 use Rattle.tables.specs.declared.Reason.{Reason}
 use Rattle.tables.specs.declared.Reason.the-variants.{UnexpectedGameTreeEnd, TooDeep}
+use Rattle.parser.specs.Balance.{starts, ends, Covered, Balanced}
 use Rattle.parser.specs.Split.{Splitting, splitting, over, wrong, split, Slices, no, slices, sliced, slicesOf}
-
--- how many of the tokens are starts
-abbrev pub starts : List Tok → ℕ
-starts [] = 0
-starts (start o ∷ ts) = suc (starts ts)
-starts (end o ∷ ts) = starts ts
-starts (node o ∷ ts) = starts ts
-starts (prop p e ∷ ts) = starts ts
-
--- how many are ends
-abbrev pub ends : List Tok → ℕ
-ends [] = 0
-ends (start o ∷ ts) = ends ts
-ends (end o ∷ ts) = suc (ends ts)
-ends (node o ∷ ts) = ends ts
-ends (prop p e ∷ ts) = ends ts
-
--- where d trees are open before them, no prefix has more ends than there are starts
-abbrev pub Covered : ℕ → List Tok → Type 0
-Covered d ts = (k : ℕ) → ends (take k ts) ≤ d + starts (take k ts)
-
--- the scope's words
-pub record Balanced (ts : List Tok) : Type 0 where
-  pub covered : Covered 0 ts
-  pub equal : starts ts ≡ ends ts
-  pub some : 0 < ends ts
 
 -- splitting accepts, though the slices may then be too deep (9)
 abbrev pub Accepts : Slices → Type 0

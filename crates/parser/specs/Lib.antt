@@ -1,3 +1,4 @@
+pub mod Balance
 pub mod Examples
 pub mod Kind
 pub mod LocalsSlice

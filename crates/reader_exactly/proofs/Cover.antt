@@ -4,7 +4,8 @@ use Rattle.lexer.specs.Token.{Tok, start, end, node, prop}
 use Rattle.tables.specs.declared.Reason.the-variants.{UnexpectedGameTreeEnd, UnexpectedEndOfData, NoGameTrees}
 use Rattle.parser.specs.Split.{Splitting, splitting, over, wrong, split, no, deep, sliced, slicesOf}
 use Rattle.parser.proofs.Surveys.{wrong-stays}
-use Rattle.parser.proofs.Balanced.{starts, ends, Covered, Balanced, Comes, comes}
+use Rattle.parser.specs.Balance.{starts, ends, Covered, Balanced}
+use Rattle.parser.proofs.Balanced.{Comes, comes}
 use Rattle.parser.proofs.Cuts.{standing, deepest, Right}
 use Rattle.reader_exactly.specs.Slicing.{Uncovered}
 use Rattle.reader_exactly.specs.When.{Unclosed, Bare}

@@ -7,7 +7,7 @@ use Rattle.tables.specs.Numbers.{textLimit}
 use Rattle.tables.specs.declared.Reason.{Reason}
 use Rattle.tables.specs.declared.Reason.the-variants.{TextTooLong, NotUtf8, MissingPropertyIdentifier, UnexpectedEndOfPropertyIdentifier, UnexpectedEndOfPropertyValue, UnexpectedGameTreeEnd, UnexpectedEndOfData, NoGameTrees, TooDeep, UnexpectedGameTreeStart, UnexpectedProperty, InvalidGameType}
 use Rattle.parser.specs.Read.{Answer, refused, read}
-use Rattle.parser.proofs.Balanced.{Balanced}
+use Rattle.parser.specs.Balance.{Balanced}
 use Rattle.parser.proofs.Texts.{text-long}
 use Rattle.reader_exactly.specs.Slicing.{Exactly, Any, slicesFrom, Uncovered, Deep}
 use Rattle.reader_exactly.specs.When.{strict, lax, Valid, tokensOf, FailsAt, Lexes, Unclosed, Bare, Splits, First, StartsEmpty, Unexpected, WrongGame, Nodeless}

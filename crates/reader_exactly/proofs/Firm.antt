@@ -2,7 +2,7 @@
 use Rattle.lists.proofs.Prelude.{ℕ, zero, suc, List, [], _∷_, arith}
 use Rattle.lists.specs.All.{All}
 use Rattle.lexer.specs.Token.{Prop, Tok, start, end, node, prop}
-use Rattle.parser.proofs.Balanced.{Covered}
+use Rattle.parser.specs.Balance.{Covered}
 use Rattle.reader_exactly.specs.Slicing.{onto, slicesFrom}
 
 -- of slices, the first of which is at depth d

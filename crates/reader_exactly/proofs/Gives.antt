@@ -7,7 +7,7 @@ use Rattle.tables.specs.Record.{Tree}
 use Rattle.tables.specs.declared.Reason.{Reason}
 use Rattle.parser.specs.Split.{Slices, slicesOf}
 use Rattle.parser.specs.Read.{refused, growing, failing, grows, answer, planted, lexing, read}
-use Rattle.parser.proofs.Balanced.{Covered}
+use Rattle.parser.specs.Balance.{Covered}
 use Rattle.reader_exactly.specs.Slicing.{slicesFrom}
 use Rattle.reader_exactly.specs.When.{strict, Valid, tokensOf, FailsAt, Lexes, Splits, First}
 use Rattle.reader_exactly.proofs.Firm.{slices-covered}

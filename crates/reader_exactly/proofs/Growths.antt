@@ -11,7 +11,7 @@ use Rattle.parser.specs.Kind.{Kind, is, unkind, kind}
 use Rattle.parser.specs.Walk.{shut, Walk, walk, halted, stopped, walks, walked}
 use Rattle.parser.specs.Read.{Growing, growing, failing, rooted, grown, kinded, grows, growAll}
 use Rattle.parser.proofs.Runs.{walked-append, stopped-stays, grow-append, failing-stays}
-use Rattle.parser.proofs.Balanced.{Covered}
+use Rattle.parser.specs.Balance.{Covered}
 use Rattle.reader_exactly.specs.When.{strict, First, Comes, StartsEmpty, Unexpected, WrongGame, Nodeless, nodes}
 use Rattle.reader_exactly.proofs.Games.{Refuses, kind-why, two-unkind, wrong-unkind}
 use Rattle.reader_exactly.proofs.Walking.{WalkWhy, walked-why}

@@ -16,7 +16,7 @@ use Rattle.tables.specs.declared.Reason.the-variants.{NotUtf8 as notUtf8, TooDe
 use Rattle.parser.specs.Split.{splitting, split, no as unsplit, slices, slicesOf}
 use Rattle.parser.specs.Walk.{Opts}
 use Rattle.parser.specs.Read.{refused, lexing, read}
-use Rattle.parser.proofs.Balanced.{starts, ends, Balanced}
+use Rattle.parser.specs.Balance.{starts, ends, Balanced}
 use Rattle.parser.proofs.Cuts.{deepest}
 use Rattle.parser.proofs.Texts.{lex-prefix, onTrimmed, text-trimmed}
 use Rattle.reader_exactly.specs.Slicing.{Any, slicesFrom, Uncovered, Deep}

@@ -7,7 +7,7 @@ use Rattle.tables.specs.declared.Reason.the-variants.{UnexpectedGameTreeStart, 
 use Rattle.parser.specs.Kind.{is, kind}
 use Rattle.parser.specs.Walk.{Gate, shut, takes, skips, Walk, walk, halted, stopped, children, uppers, adds, walks, walked}
 use Rattle.parser.proofs.Runs.{walked-append, stopped-stays}
-use Rattle.parser.proofs.Balanced.{Covered}
+use Rattle.parser.specs.Balance.{Covered}
 use Rattle.reader_exactly.specs.When.{strict, nodes}
 use Rattle.reader_exactly.proofs.Games.{Refuses}
 

@@ -9,7 +9,7 @@ use Rattle.tables.specs.declared.Reason.{Reason}
 use Rattle.tables.specs.declared.Reason.the-variants.{TextTooLong, NotUtf8 as notUtf8, MissingPropertyIdentifier, UnexpectedEndOfPropertyIdentifier, UnexpectedEndOfPropertyValue, UnexpectedGameTreeEnd, UnexpectedEndOfData, NoGameTrees, TooDeep, UnexpectedGameTreeStart, UnexpectedProperty, InvalidGameType, InvalidFF4Property, NoRoom, EmptyIdentifier, NoSuchNumber, GameTypeFixed, NotClosed, NotFitting}
 use Rattle.parser.specs.Split.{Slices, slicesOf}
 use Rattle.parser.specs.Read.{Answer, refused, accepted, Growing, growing, failing, growAll, answer, planted, parsed, lexing, read}
-use Rattle.parser.proofs.Balanced.{Balanced}
+use Rattle.parser.specs.Balance.{Balanced}
 use Rattle.parser.proofs.Texts.{text-long}
 use Rattle.reader_exactly.specs.Slicing.{Any, slicesFrom, Uncovered, Deep}
 use Rattle.reader_exactly.specs.When.{strict, Valid, tokensOf, FailsAt, Lexes, Unclosed, Bare, Splits, First, StartsEmpty, Unexpected, WrongGame, Nodeless}

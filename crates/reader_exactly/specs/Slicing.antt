@@ -2,7 +2,7 @@
 use Rattle.lists.specs.Prelude.{ℕ, zero, suc, _+_, _<_, _⊎_, List, [], _∷_, take}
 use Rattle.lexer.specs.Token.{Tok, start, end, node, prop}
 use Rattle.tables.specs.Numbers.{depthLimit}
-use Rattle.parser.proofs.Balanced.{starts, ends}
+use Rattle.parser.specs.Balance.{starts, ends}
 
 -- A exactly when B
 abbrev pub Exactly : Type 0 → Type 0 → Type 0

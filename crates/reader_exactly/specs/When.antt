@@ -10,13 +10,13 @@ use Rattle.lexer.specs.Token.{Val, Prop, Tok, start, end, node, prop, done, Lex
 use Rattle.lexer.specs.Step.{nextAt}
 use Rattle.lexer.specs.declared.Fault.{Fault}
 use Rattle.lexer.specs.declared.Step.the-variants.{Refused}
-use Rattle.lexer_laws.proofs.Faults.{Reaches}
+use Rattle.lexer_laws.specs.Reach.{Reaches}
 use Rattle.tables.specs.Numbers.{textLimit, none}
 use Rattle.tables.specs.Record.{Node, Tree}
 use Rattle.parser.specs.Kind.{GM, props, named, numbered, is, kind}
 use Rattle.parser.specs.Walk.{Opts, Gate, shut, Walk, walk, children, walked}
 use Rattle.parser.specs.Read.{growing, growAll}
-use Rattle.parser.proofs.Balanced.{starts, ends, Covered, Balanced}
+use Rattle.parser.specs.Balance.{starts, ends, Covered, Balanced}
 use Rattle.reader_exactly.specs.Slicing.{Any, slicesFrom, Deep}
 
 -- strict reading, conversion on or off
