@@ -90,7 +90,7 @@ fn alike_nodes<Prop: SgfProp>(h: &Held, game_type: u32, root: &SgfNode<Prop>, p:
     }
 }
 
-/// The paper's domain, and the wider one of docs/DECISIONS.md.
+/// The scope's domain, and the wider one of docs/DECISIONS.md.
 fn alike_property(h: &Held, game_type: u32, p: usize, is_unknown: bool) -> Alike {
     let (name, raw) = (plain_go::read_identifier(identifier(h, p)), raw_values(h, p));
     let plain = !raw.concat().contains(&b'\\');

@@ -32,6 +32,25 @@
 //! # Ok::<(), ekimorepa::Error>(())
 //! ```
 //!
+//! The heart of it, as README has it. A value is edited by its number, so that is looked for first: value 0 of a
+//! record is as a rule that of FF or GM.
+//!
+//! ```
+//! # let text = String::from("(;FF[4]GM[1]SZ[9];B[ee]C[a\\]b];W[cc])");
+//! let mut record = ekimorepa::parse(&text)?;
+//! let root = record.trees().next().unwrap().root();
+//! for (colour, played) in root.main_variation().filter_map(|node| node.get_move()) {
+//!     println!("{colour} {played:?}");
+//! }
+//! let comment = record.properties().find(|property| property.identifier() == "C").map(|property| property.value().number());
+//! if let Some(number) = comment {
+//!     record.set_value(number, ekimorepa::escape("a [new] comment"))?;
+//! }
+//! let written = record.to_sgf()?;
+//! # assert_eq!(written, "(;FF[4]GM[1]SZ[9];B[ee]C[a [new\\] comment];W[cc])");
+//! # Ok::<(), ekimorepa::Error>(())
+//! ```
+//!
 //! A refusal says what is wrong, and where:
 //!
 //! ```

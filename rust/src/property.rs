@@ -131,7 +131,14 @@ impl<'r> Value<'r> {
 
     /// It displayed as Text, as `sgf-parse` displays it: white space is spaces, line breaks stay, soft ones go.
     ///
+    /// Escapes are resolved twice, as `sgf-parse` does, so a literal backslash is lost: for editing start from
+    /// [`Value::read`] or [`Value::as_str`], not from a display.
+    ///
     /// ```
+    /// let record = ekimorepa::parse(r"(;C[a\\b])")?;
+    /// let value = record.value(0).unwrap();
+    /// assert_eq!((value.as_str(), &*value.read(), &*value.text()), (r"a\\b", r"a\b", "ab"));
+    ///
     /// let record = ekimorepa::parse("(;C[tab\there\nand there])")?;
     /// assert_eq!(record.value(0).unwrap().text(), "tab here\nand there");
     /// assert_eq!(record.value(0).unwrap().simple_text(), "tab here and there");
@@ -141,7 +148,7 @@ impl<'r> Value<'r> {
         self.display(TEXT)
     }
 
-    /// It displayed as SimpleText: line breaks are spaces too.
+    /// It displayed as SimpleText: line breaks are spaces too. What [`Value::text`] says of editing holds here too.
     pub fn simple_text(self) -> String {
         self.display(SIMPLE_TEXT)
     }
@@ -161,7 +168,7 @@ fn part<'r>(record: &'r Record<'r>, from: u32, to: u32) -> &'r str {
     std::str::from_utf8(&record.text[from as usize..to as usize]).expect("a record's identifiers and values are UTF-8")
 }
 
-/// Plain text as a raw value: `\` and `]` escaped.
+/// Plain text, as [`Value::read`] gives it, as a raw value: `\` and `]` escaped.
 ///
 /// ```
 /// assert_eq!(ekimorepa::escape(r"[\]"), r"[\\\]");

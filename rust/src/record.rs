@@ -45,11 +45,13 @@ pub fn parse<T: AsRef<[u8]> + ?Sized>(text: &T) -> Result<Record<'_>, Error> {
     parse_with_options(text, &ParseOptions::default())
 }
 
-/// Reads a text as far as possible. Refused are only texts that are too long, too deep or not UTF-8.
+/// Reads a text as far as possible; of nothing gives one tree of one empty node. Refused are only texts that are too
+/// long, too deep or not UTF-8.
 ///
 /// ```
 /// let record = ekimorepa::parse_lenient("(;B[aa];W[bb")?;
 /// assert_eq!(record.to_sgf()?, "(;B[aa];)");
+/// assert_eq!(ekimorepa::parse_lenient("")?.to_sgf()?, "(;)");
 /// # Ok::<(), ekimorepa::Error>(())
 /// ```
 pub fn parse_lenient<T: AsRef<[u8]> + ?Sized>(text: &T) -> Result<Record<'_>, Error> {
