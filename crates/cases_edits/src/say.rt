@@ -2,17 +2,16 @@
 use crate::Used;
 
 pub fn say_refused(number: u32, place: usize) {
-    io::write_all(1, b"refused ");
-    io::print_decimal(1, number as u64);
-    io::write_all(1, b" at ");
-    io::print_decimal(1, place as u64);
+    let mut line = io::buffer();
+    let n = tool::put_refused(&mut line, 0, number, place);
+    io::write_all(1, tool::first(&line, n));
 }
 
 fn say_span(from: u32, to: u32) {
+    let mut line = io::buffer();
+    let n = tool::put_span(&mut line, 0, from as usize, to as usize);
     io::write_all(1, b" ");
-    io::print_decimal(1, from as u64);
-    io::write_all(1, b"..");
-    io::print_decimal(1, to as u64);
+    io::write_all(1, tool::first(&line, n));
 }
 
 // The spans that the first two numbers of each row are.

@@ -63,9 +63,9 @@ fn decode(line: &[u8], bytes: &mut [u8]) -> usize
 }
 
 fn say_span(from: usize, to: usize) {
-    io::print_decimal(1, from as u64);
-    io::write_all(1, b"..");
-    io::print_decimal(1, to as u64);
+    let mut line = io::buffer();
+    let n = tool::put_span(&mut line, 0, from, to);
+    io::write_all(1, tool::first(&line, n));
 }
 
 fn say_byte(b: u8) {
@@ -123,10 +123,9 @@ fn say_property(text: &[u8], from: usize, opens: usize, end: usize)
 }
 
 fn say_refused(number: u32, place: usize) {
-    io::write_all(1, b"refused ");
-    io::print_decimal(1, number as u64);
-    io::write_all(1, b" at ");
-    io::print_decimal(1, place as u64);
+    let mut line = io::buffer();
+    let n = tool::put_refused(&mut line, 0, number, place);
+    io::write_all(1, tool::first(&line, n));
 }
 
 fn say_single(name: &[u8], from: usize, end: usize) {

@@ -11,10 +11,10 @@ enum Outcome {
 
 fn say_refused(name: &[u8], number: u32, place: usize) -> Outcome {
     io::write_all(1, name);
-    io::write_all(1, b": refused ");
-    io::print_decimal(1, number as u64);
-    io::write_all(1, b" at ");
-    io::print_decimal(1, place as u64);
+    io::write_all(1, b": ");
+    let mut line = io::buffer();
+    let n = tool::put_refused(&mut line, 0, number, place);
+    io::write_all(1, tool::first(&line, n));
     io::write_all(1, b"\n");
     Outcome::Said
 }
@@ -51,25 +51,11 @@ fn write_record(
     }
 }
 
-// Rows enough for any text of 65,536 bytes.
-fn node_rows() -> [u32; 327680] {
-    [0u32; 327680]
-}
-
-fn property_rows() -> [u32; 87384] {
-    [0u32; 87384]
-}
-
-// Rows of two cells: those of trees, and of values.
-fn pair_rows() -> [u32; 65536] {
-    [0u32; 65536]
-}
-
 fn write_text(name: &[u8], text: &[u8], out: &mut [u8]) -> Outcome {
-    let mut trees = pair_rows();
-    let mut nodes = node_rows();
-    let mut properties = property_rows();
-    let mut values = pair_rows();
+    let mut trees = tool::pair_rows();
+    let mut nodes = tool::node_rows();
+    let mut properties = tool::property_rows();
+    let mut values = tool::pair_rows();
     match reader::read(
         text,
         false,
@@ -93,14 +79,9 @@ fn write_text(name: &[u8], text: &[u8], out: &mut [u8]) -> Outcome {
     }
 }
 
-// One byte more than the longest text has.
-fn text_room() -> [u8; 65537] {
-    [0u8; 65537]
-}
-
 // The writing of an open file.
 fn write_open(name: &[u8], file: i32, out: &mut [u8]) -> Outcome {
-    let mut text = text_room();
+    let mut text = tool::text_room();
     let n = io::read_full(file, &mut text);
     if 65536 < n {
         return say_refused(name, 1, 0);
@@ -174,17 +155,13 @@ fn compare(left_name: &[u8], right_name: &[u8], left: &mut [u8], right: &mut [u8
     say_compared(left, n, right, m);
 }
 
-fn out_room() -> [u8; 400000] {
-    [0u8; 400000]
-}
-
 fn compare_arguments() {
     let mut left_name = io::buffer();
     let mut right_name = io::buffer();
     let n = os::arg(1, &mut left_name);
     let m = os::arg(2, &mut right_name);
-    let mut left = out_room();
-    let mut right = out_room();
+    let mut left = tool::out_room();
+    let mut right = tool::out_room();
     compare(&left_name[..n], &right_name[..m], &mut left, &mut right);
 }
 
