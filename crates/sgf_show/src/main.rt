@@ -9,8 +9,9 @@ use tables::Reading;
 use tables::Reason;
 
 pub fn say_count(words: &[u8], n: usize) {
-    io::write_all(1, words);
-    io::print_decimal(1, n as u64);
+    let mut line = io::buffer();
+    let k = tool::put_count(&mut line, 0, words, n as u64);
+    io::write_all(1, tool::first(&line, k));
 }
 
 // A Go tree: its nodes from `root` to `end`, its moves, those of its main line.
@@ -98,25 +99,11 @@ fn say_record(
     }
 }
 
-// Rows enough for any text of 65,536 bytes.
-fn node_rows() -> [u32; 327680] {
-    [0u32; 327680]
-}
-
-fn property_rows() -> [u32; 87384] {
-    [0u32; 87384]
-}
-
-// Rows of two cells: those of trees, and of values.
-fn pair_rows() -> [u32; 65536] {
-    [0u32; 65536]
-}
-
 fn show(text: &[u8]) {
-    let mut trees = pair_rows();
-    let mut nodes = node_rows();
-    let mut properties = property_rows();
-    let mut values = pair_rows();
+    let mut trees = tool::pair_rows();
+    let mut nodes = tool::node_rows();
+    let mut properties = tool::property_rows();
+    let mut values = tool::pair_rows();
     match reader::read(
         text,
         false,
@@ -135,13 +122,8 @@ fn show(text: &[u8]) {
     }
 }
 
-// One byte more than the longest text has.
-fn text_room() -> [u8; 65537] {
-    [0u8; 65537]
-}
-
 fn main() {
-    let mut text = text_room();
+    let mut text = tool::text_room();
     let n = io::read_full(0, &mut text);
     if 65536 < n {
         words::say_refused(&text[..n], Reason::TextTooLong, 0);

@@ -94,11 +94,16 @@ fn say_spot(text: &[u8], place: usize)
     io::write_all(1, b")");
 }
 
+fn say_number(number: u32, place: usize) {
+    let mut line = io::buffer();
+    let n = tool::put_refused(&mut line, 0, number, place);
+    io::write_all(1, tool::first(&line, n));
+}
+
 // Numbers 2 to 5 have a place.
 pub fn say_refused(text: &[u8], reason: Reason, place: usize) {
     let number = tables::number(reason);
-    say_count(b"refused ", number as usize);
-    say_count(b" at ", place);
+    say_number(number, place);
     io::write_all(1, b": ");
     say_meaning(reason);
     if (2 <= number) & (number <= 5) {
