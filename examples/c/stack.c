@@ -124,7 +124,7 @@ static void load(const char *source) {
     used = strlen(source);
     memcpy(text, source, used);
     reading = sgf_read(text, used, SGF_STRICT, TABLES);
-    counts = (SgfCounts){reading.trees, reading.nodes, reading.properties, reading.values};
+    counts = reading.counts;
 }
 
 int main(void) {
