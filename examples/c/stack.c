@@ -50,6 +50,8 @@ NOTE(SgfReading, note_read, const uint8_t *t, size_t n, uint32_t o, TABLE_TYPES)
 NOTE(uint32_t, note_fits, SGF_RECORD)
 NOTE(SgfSpan, note_value, SGF_RECORD, size_t k)
 NOTE(SgfDisplay, note_display, SGF_RECORD, size_t k, uint32_t kind, uint8_t *to, size_t to_len)
+NOTE(SgfDisplay, note_display_value, uint32_t kind, const uint8_t *raw, size_t raw_len, uint8_t *to, size_t to_len)
+NOTE(uint32_t, note_version, void)
 NOTE(SgfGoValue, note_go_value, SGF_RECORD, size_t p)
 NOTE(SgfGoValue, note_go_property, uint32_t type, const uint8_t *i, size_t n, const uint8_t *t, size_t m, const uint32_t *v, size_t l, size_t first, size_t count)
 NOTE(SgfWriting, note_write, SGF_RECORD, uint8_t *to, size_t to_len)
@@ -64,6 +66,8 @@ static void call_read(void) { reading = EITHER(read)(text, used, options, TABLES
 static void call_fits(void) { number = EITHER(fits)(RECORD); }
 static void call_value(void) { span = EITHER(value)(RECORD, asked); }
 static void call_display(void) { display = EITHER(display)(RECORD, asked, options, out, room); }
+static void call_display_value(void) { display = EITHER(display_value)(options, text, used, out, room); }
+static void call_version(void) { number = EITHER(version)(); }
 static void call_go_value(void) { go = EITHER(go_value)(RECORD, asked); }
 static void call_go_property(void) {
     const uint32_t *row = properties + asked * SGF_PROPERTY_STRIDE;
@@ -84,6 +88,8 @@ static struct function {
     {"sgf_fits", call_fits, 0, 1024},
     {"sgf_value", call_value, 0, 1024},
     {"sgf_display", call_display, 0, 1024},
+    {"sgf_display_value", call_display_value, 0, 1024},
+    {"sgf_version", call_version, 0, 512},
     {"sgf_go_value", call_go_value, 0, 12288},
     {"sgf_go_property", call_go_property, 0, 9216},
     {"sgf_write", call_write, 0, 10240},
