@@ -8,7 +8,7 @@ use Rattle.edit_laws.specs.Run.{Order}
 
 -- the counts given back
 abbrev pub countsIn : SgfEdit → Counts
-countsIn r = record { trees = r .trees; nodes = r .nodes; properties = r .properties; values = r .values }
+countsIn r = r .counts
 
 -- what a caller goes on with: after number 0 the used length and the counts given back, after a refusal those from before it
 abbrev pub goesOn : Memory → SgfEdit → Memory

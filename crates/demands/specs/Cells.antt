@@ -23,7 +23,7 @@ pub record SameCells (c : Counts) (a b : Lent) : Type 0 where
 
 -- the counts that an exported reading gives back
 abbrev pub countsRead : SgfReading → Counts
-countsRead r = record { trees = r .trees; nodes = r .nodes; properties = r .properties; values = r .values }
+countsRead r = r .counts
 
 -- all counts 0
 abbrev pub noCounts : Counts
