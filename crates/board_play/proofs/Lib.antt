@@ -1,0 +1,5 @@
+pub mod Acts
+pub mod Playing
+pub mod StepsOnce
+pub mod Sums
+pub mod Unique

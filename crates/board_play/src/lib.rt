@@ -1,0 +1,87 @@
+// A stone set, and a stone played: whatever stood there, then the stones of the other colour that have no liberty go, then those of its own.
+ghost use mathlib.Core.Path.{_≡_};
+ghost use Rattle.board_play.specs.Play.{SetIs, playable, Plays, PlaysNear, PlayIs};
+
+// What stood at the point, how many stones of the other colour went, and how many of the mover's.
+pub struct Played {
+    pub stood: u8,
+    pub taken: usize,
+    pub lost: usize,
+}
+
+// Sets what stands at a place, and gives what stood there.
+pub fn set_stone(stones: &mut [u8; 2704], p: usize, colour: u8) -> u8
+    ensures { λ r. ⌜ SetIs colour p (now (stones .entry)) (now (stones .exit)) r ⌝ }
+{
+    if 2704 <= p {
+        return 0;
+    }
+    let stood = stones[p];
+    stones[p] = colour;
+    stood
+}
+
+// A stone can be played at the place.
+fn can_play(columns: usize, rows: usize, p: usize, colour: u8) -> bool
+    ensures { λ r. ⌜ r ≡ playable columns rows colour p ⌝ }
+{
+    ((colour == 1) | (colour == 2)) & (((p / 52 < columns) & (p % 52 < rows)) & (p < 2704))
+}
+
+// Plays a stone, and looks for captures on the whole board.
+pub fn play_stone(
+    stones: &mut [u8; 2704],
+    columns: usize,
+    rows: usize,
+    p: usize,
+    colour: u8,
+) -> Played
+    ensures { λ r. ⌜ PlayIs (Plays columns rows colour p (now (stones .entry)) (now (stones .exit)) (r .taken) (r .lost)) columns rows colour p
+        (now (stones .entry)) (now (stones .exit)) (r .stood) (r .taken) (r .lost) ⌝ }
+{
+    if !can_play(columns, rows, p, colour) {
+        return Played {
+            stood: 0,
+            taken: 0,
+            lost: 0,
+        };
+    }
+    let other = 3 - colour;
+    let stood = set_stone(stones, p, colour);
+    let taken = board_take::take_all(stones, columns, rows, other);
+    let lost = board_take::take_all(stones, columns, rows, colour);
+    Played {
+        stood: stood,
+        taken: taken,
+        lost: lost,
+    }
+}
+
+// Plays a stone, and looks for captures beside it and in its own group: on a settled board that is all (proofs/Acts).
+pub fn play_near(
+    stones: &mut [u8; 2704],
+    columns: usize,
+    rows: usize,
+    p: usize,
+    colour: u8,
+) -> Played
+    ensures { λ r. ⌜ PlayIs (PlaysNear columns rows colour p (now (stones .entry)) (now (stones .exit)) (r .taken) (r .lost)) columns rows colour p
+        (now (stones .entry)) (now (stones .exit)) (r .stood) (r .taken) (r .lost) ⌝ }
+{
+    if !can_play(columns, rows, p, colour) {
+        return Played {
+            stood: 0,
+            taken: 0,
+            lost: 0,
+        };
+    }
+    let other = 3 - colour;
+    let stood = set_stone(stones, p, colour);
+    let taken = board_take::take_beside(stones, columns, rows, p, other);
+    let lost = board_take::take_group(stones, columns, rows, p, colour);
+    Played {
+        stood: stood,
+        taken: taken,
+        lost: lost,
+    }
+}

@@ -1,0 +1,9 @@
+pub mod Besides
+pub mod Empties
+pub mod Growing
+pub mod Queue
+pub mod Sides
+pub mod Sweeping
+pub mod Taking
+pub mod Unique
+pub mod Visiting

@@ -1,0 +1,368 @@
+// Stones taken off: all groups of a colour that have no liberty, or one group. A flood marks places; specs/Flood is for private functions alone.
+ghost use mathlib.Core.Path.{_≡_};
+ghost use mathlib.Core.Bool.{true, false, not, _&&_};
+ghost use Prim.Native.Nat.{ℕ, _≤_, _<_};
+ghost use lib.ListN.{length, getD};
+ghost use Rattle.board_groups.specs.Board.{at, onBoard};
+ghost use Rattle.board_groups.specs.Groups.{Stone};
+ghost use Rattle.board_take.specs.Sides.{rightOf, leftOf, downOf, upOf, emptyAt, standsAt, FreeIs, StopIs};
+ghost use Rattle.board_take.specs.Flood.{Marked, Found, Held, Went, Here, Around, Seed, SeedAt, Unmarked, Coloured, GrowIs, Swept};
+ghost use Rattle.board_take.specs.Take.{TakesAll, TakesOne, TakesNear};
+
+// The place in the next column, or 2704.
+fn right(p: usize, columns: usize) -> usize
+    requires { ⌜ p < 2704 ⌝ }
+    ensures { λ r. ⌜ r ≡ rightOf columns p ⌝ }
+{
+    if (p / 52 + 1 < columns) & (p + 52 < 2704) {
+        return p + 52;
+    }
+    2704
+}
+
+// The place in the column before, or 2704.
+fn left(p: usize) -> usize
+    ensures { λ r. ⌜ r ≡ leftOf p ⌝ }
+{
+    if 52 <= p {
+        return p - 52;
+    }
+    2704
+}
+
+// The place in the next row, or 2704.
+fn down(p: usize, rows: usize) -> usize
+    requires { ⌜ p < 2704 ⌝ }
+    ensures { λ r. ⌜ r ≡ downOf rows p ⌝ }
+{
+    if (p % 52 + 1 < rows) & (p % 52 + 1 < 52) {
+        return p + 1;
+    }
+    2704
+}
+
+// The place in the row before, or 2704.
+fn up(p: usize) -> usize
+    ensures { λ r. ⌜ r ≡ upOf p ⌝ }
+{
+    if 0 < p % 52 {
+        return p - 1;
+    }
+    2704
+}
+
+// The place is on the board.
+fn on_board(p: usize, columns: usize, rows: usize) -> bool
+    ensures { λ r. ⌜ r ≡ onBoard columns rows p ⌝ }
+{
+    ((p / 52 < columns) & (p % 52 < rows)) & (p < 2704)
+}
+
+// The place is one, and empty.
+fn empty_at(stones: &[u8; 2704], q: usize) -> bool
+    ensures { λ r. ⌜ r ≡ emptyAt (now (stones .entry)) q ⌝ }
+{
+    if q < 2704 {
+        return stones[q] == 0;
+    }
+    false
+}
+
+// A point beside p is empty.
+fn free(stones: &[u8; 2704], p: usize, columns: usize, rows: usize) -> bool
+    requires { ⌜ onBoard columns rows p ≡ true ⌝ }
+    ensures { λ r. ⌜ FreeIs columns rows (now (stones .entry)) p r ⌝ }
+{
+    if empty_at(stones, right(p, columns)) {
+        return true;
+    }
+    if empty_at(stones, left(p)) {
+        return true;
+    }
+    if empty_at(stones, down(p, rows)) {
+        return true;
+    }
+    empty_at(stones, up(p))
+}
+
+// Puts a place on the queue where a stone of the colour stands there and it is not marked.
+fn push(
+    stones: &[u8; 2704],
+    marks: &mut [bool; 2704],
+    queue: &mut [u16; 2704],
+    n: usize,
+    q: usize,
+    colour: u8,
+) -> usize
+    requires { ⌜ Held (now marks) (now queue) n ⌝ }
+    ensures { λ r. ⌜ Went (Here (now (stones .entry)) colour q) (now (marks .entry)) (now (queue .entry)) n (now (marks .exit)) (now (queue .exit)) r ⌝ }
+{
+    if 2704 <= q {
+        return n;
+    }
+    if stones[q] != colour {
+        return n;
+    }
+    if marks[q] {
+        return n;
+    }
+    marks[q] = true;
+    queue[n] = q as u16;
+    n + 1
+}
+
+// Puts the stones of the colour beside p on the queue.
+fn visit(
+    stones: &[u8; 2704],
+    marks: &mut [bool; 2704],
+    queue: &mut [u16; 2704],
+    n: usize,
+    p: usize,
+    columns: usize,
+    rows: usize,
+    colour: u8,
+) -> usize
+    requires { ⌜ Held (now marks) (now queue) n × (onBoard columns rows p ≡ true) ⌝ }
+    ensures { λ r. ⌜ Went (Around columns rows (now (stones .entry)) colour p)
+        (now (marks .entry)) (now (queue .entry)) n (now (marks .exit)) (now (queue .exit)) r ⌝ }
+{
+    let a = push(stones, marks, queue, n, right(p, columns), colour);
+    let b = push(stones, marks, queue, a, left(p), colour);
+    let c = push(stones, marks, queue, b, down(p, rows), colour);
+    push(stones, marks, queue, c, up(p), colour)
+}
+
+// A point beside p is empty, where that is asked.
+fn stops(stones: &[u8; 2704], p: usize, columns: usize, rows: usize, stop: bool) -> bool
+    requires { ⌜ onBoard columns rows p ≡ true ⌝ }
+    ensures { λ r. ⌜ StopIs columns rows (now (stones .entry)) p stop r ⌝ }
+{
+    if stop {
+        return free(stones, p, columns, rows);
+    }
+    false
+}
+
+// Marks all stones of the colour joined with those of the queue, and gives their number; 2705 where it stopped at one beside an empty point.
+fn grow(
+    stones: &[u8; 2704],
+    marks: &mut [bool; 2704],
+    queue: &mut [u16; 2704],
+    from: usize,
+    columns: usize,
+    rows: usize,
+    colour: u8,
+    stop: bool,
+) -> usize
+    requires { ⌜ Held (now marks) (now queue) from × ((p : ℕ) → Marked (now marks) p → Stone columns rows (now stones) colour p) ⌝ }
+    ensures { λ r. ⌜ GrowIs columns rows (now (stones .entry)) colour stop (now (marks .entry)) (now (marks .exit)) (now (queue .exit)) r ⌝ }
+{
+    let mut n = from;
+    let mut i: usize = 0;
+    while i < n {
+        let p = queue[i] as usize;
+        if stops(stones, p, columns, rows, stop) {
+            return 2705;
+        }
+        i += 1;
+        n = visit(stones, marks, queue, n, p, columns, rows, colour);
+    }
+    n
+}
+
+// Puts the place p on the queue where it is a stone of the colour beside an empty point.
+fn push_free(
+    stones: &[u8; 2704],
+    marks: &mut [bool; 2704],
+    queue: &mut [u16; 2704],
+    n: usize,
+    p: usize,
+    columns: usize,
+    rows: usize,
+    colour: u8,
+) -> usize
+    requires { ⌜ Held (now marks) (now queue) n ⌝ }
+    ensures { λ r. ⌜ Went (SeedAt columns rows (now (stones .entry)) colour p)
+        (now (marks .entry)) (now (queue .entry)) n (now (marks .exit)) (now (queue .exit)) r ⌝ }
+{
+    if !stands(stones, p, columns, rows, colour) {
+        return n;
+    }
+    if !free(stones, p, columns, rows) {
+        return n;
+    }
+    push(stones, marks, queue, n, p, colour)
+}
+
+// Puts all stones of the colour beside an empty point on the queue.
+fn seed(
+    stones: &[u8; 2704],
+    marks: &mut [bool; 2704],
+    queue: &mut [u16; 2704],
+    columns: usize,
+    rows: usize,
+    colour: u8,
+) -> usize
+    requires { ⌜ Held (now marks) (now queue) 0 ⌝ }
+    ensures { λ r. ⌜ Went (Seed columns rows (now (stones .entry)) colour 2704)
+        (now (marks .entry)) (now (queue .entry)) 0 (now (marks .exit)) (now (queue .exit)) r ⌝ }
+{
+    let mut n: usize = 0;
+    let mut p: usize = 0;
+    while p < 2704 {
+        n = push_free(stones, marks, queue, n, p, columns, rows, colour);
+        p += 1;
+    }
+    n
+}
+
+// A stone of the colour stands at p.
+fn stands(stones: &[u8; 2704], p: usize, columns: usize, rows: usize, colour: u8) -> bool
+    ensures { λ r. ⌜ r ≡ standsAt columns rows (now (stones .entry)) colour p ⌝ }
+{
+    if on_board(p, columns, rows) {
+        return stones[p] == colour;
+    }
+    false
+}
+
+// A stone of the colour stands at p and is not marked.
+fn goes(
+    stones: &[u8; 2704],
+    marks: &[bool; 2704],
+    p: usize,
+    columns: usize,
+    rows: usize,
+    colour: u8,
+) -> bool
+    requires { ⌜ p < 2704 ⌝ }
+    ensures { λ r. ⌜ r ≡ standsAt columns rows (now (stones .entry)) colour p && not (getD (now (marks .entry)) p false) ⌝ }
+{
+    stands(stones, p, columns, rows, colour) & !marks[p]
+}
+
+// Takes off the stones of the colour that are not marked, and gives their number.
+fn sweep(
+    stones: &mut [u8; 2704],
+    marks: &[bool; 2704],
+    columns: usize,
+    rows: usize,
+    colour: u8,
+) -> usize
+    requires { ⌜ (colour ≡ 0 → ⊥) ⌝ }
+    ensures { λ r. ⌜ Swept (Unmarked columns rows (now (stones .entry)) colour (now (marks .entry))) colour (now (stones .entry)) (now (stones .exit)) r ⌝ }
+{
+    let mut n: usize = 0;
+    let mut i: usize = 0;
+    while i < 2704 {
+        let p = i;
+        i += 1;
+        if goes(stones, marks, p, columns, rows, colour) {
+            stones[p] = 0;
+            n += 1;
+        }
+    }
+    n
+}
+
+// Takes off the stones of the colour at the first n places of the queue, and gives their number.
+fn clear(stones: &mut [u8; 2704], queue: &[u16; 2704], n: usize, colour: u8) -> usize
+    requires { ⌜ (colour ≡ 0 → ⊥) × (n ≤ 2704) × Coloured (now stones) (now queue) n colour ⌝ }
+    ensures { λ r. ⌜ Swept (Found (now (queue .entry)) n) colour (now (stones .entry)) (now (stones .exit)) r × (r ≤ 2704) ⌝ }
+{
+    let mut taken: usize = 0;
+    let mut i: usize = 0;
+    while i < n {
+        let p = queue[i] as usize;
+        i += 1;
+        if stones[p] == colour {
+            stones[p] = 0;
+            taken += 1;
+        }
+    }
+    taken
+}
+
+// Takes off all stones of the colour whose groups have no liberty, and gives their number.
+pub fn take_all(stones: &mut [u8; 2704], columns: usize, rows: usize, colour: u8) -> usize
+    ensures { λ r. ⌜ TakesAll columns rows colour (now (stones .entry)) (now (stones .exit)) r ⌝ }
+{
+    if colour == 0 {
+        return 0;
+    }
+    let mut marks = [false; 2704];
+    let mut queue = [0u16; 2704];
+    let n = seed(stones, &mut marks, &mut queue, columns, rows, colour);
+    let r = grow(
+        stones,
+        &mut marks,
+        &mut queue,
+        n,
+        columns,
+        rows,
+        colour,
+        false,
+    );
+    sweep(stones, &marks, columns, rows, colour)
+}
+
+// Takes off the group of p where it is of the colour and has no liberty, and gives the number of its stones, else 0.
+pub fn take_group(
+    stones: &mut [u8; 2704],
+    columns: usize,
+    rows: usize,
+    p: usize,
+    colour: u8,
+) -> usize
+    ensures { λ r. ⌜ TakesOne columns rows colour p (now (stones .entry)) (now (stones .exit)) r × (r ≤ 2704) ⌝ }
+{
+    if colour == 0 {
+        return 0;
+    }
+    if !stands(stones, p, columns, rows, colour) {
+        return 0;
+    }
+    if free(stones, p, columns, rows) {
+        return 0;
+    }
+    let mut marks = [false; 2704];
+    let mut queue = [0u16; 2704];
+    let n = push(stones, &mut marks, &mut queue, 0, p, colour);
+    let r = grow(
+        stones,
+        &mut marks,
+        &mut queue,
+        n,
+        columns,
+        rows,
+        colour,
+        true,
+    );
+    if 2704 < r {
+        return 0;
+    }
+    clear(stones, &queue, r, colour)
+}
+
+// Takes off the groups of the colour beside p that have no liberty, and gives the number of their stones.
+pub fn take_beside(
+    stones: &mut [u8; 2704],
+    columns: usize,
+    rows: usize,
+    p: usize,
+    colour: u8,
+) -> usize
+    ensures { λ r. ⌜ TakesNear columns rows colour p (now (stones .entry)) (now (stones .exit)) r ⌝ }
+{
+    if colour == 0 {
+        return 0;
+    }
+    if !on_board(p, columns, rows) {
+        return 0;
+    }
+    let a = take_group(stones, columns, rows, right(p, columns), colour);
+    let b = take_group(stones, columns, rows, left(p), colour);
+    let c = take_group(stones, columns, rows, down(p, rows), colour);
+    let d = take_group(stones, columns, rows, up(p), colour);
+    a + b + c + d
+}
