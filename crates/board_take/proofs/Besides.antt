@@ -5,7 +5,7 @@ use Rattle.board_groups.specs.Groups.{Joined, TakesGroup, TakesBeside, Touches}
 use Rattle.board_groups.proofs.Beside.{On, board-on, on-board, beside-sym, beside-step}
 use Rattle.board_groups.proofs.Others.{joined-last, joined-sym, joined-trans}
 use Rattle.board_groups.proofs.Partly.{takes-of-none, takes-of-as, takes-of-more}
-use Rattle.board_take.specs.Sides.{rightOf, leftOf, downOf, upOf}
+use Rattle.board_take.specs.LocalsSides.{rightOf, leftOf, downOf, upOf}
 use Rattle.board_take.proofs.Sides.{Side, right-side, left-side, down-side, up-side, Four, is-right, is-left, is-down, is-up, four}
 
 module _ (w h c p : ℕ) (b : List ℕ) where

@@ -4,7 +4,7 @@ use Rattle.lists.proofs.Tests.{and-both}
 use Rattle.board_groups.specs.Board.{at, beside}
 use Rattle.board_groups.specs.Groups.{Stone}
 use Rattle.board_groups.proofs.Beside.{board-on, beside-step}
-use Rattle.board_take.specs.Sides.{rightOf, leftOf, downOf, upOf, emptyAt, Free}
+use Rattle.board_take.specs.LocalsSides.{rightOf, leftOf, downOf, upOf, emptyAt, Free}
 use Rattle.board_take.proofs.Sides.{Side, Four, is-right, is-left, is-down, is-up, four}
 
 module _ (w h : ℕ) (b : List ℕ) (p : ℕ) where

@@ -4,8 +4,8 @@ use Rattle.lists.proofs.Tests.{same-or}
 use Rattle.board_groups.specs.Board.{at, onBoard, beside}
 use Rattle.board_groups.specs.Groups.{Stone, Joined, self, more}
 use Rattle.board_groups.proofs.Others.{joined-last}
-use Rattle.board_take.specs.Sides.{Free}
-use Rattle.board_take.specs.Flood.{Marked, Held, Went, Around, Reached, Grown, Lives}
+use Rattle.board_take.specs.LocalsSides.{Free}
+use Rattle.board_take.specs.LocalsFlood.{Marked, Held, Went, Around, Reached, Grown, Lives}
 use Rattle.board_take.proofs.Queue.{held-most}
 
 -- marked places are joined with the ones at the start, and those before i in the queue have all their neighbours marked

@@ -1,7 +1,7 @@
 -- Marks and queue: a place put, and one part of a flood after another. Assumes nothing.
 use Rattle.lists.proofs.Prelude.{ℕ, zero, suc, _+_, _<_, _≤_, Bool, true, false, true≢false, false≢true, _⊎_, inl, inr, ⊎-elim, _≡_, refl, sym, ap, _∙_, List, [], _∷_, length, getD, pick, replicate, set, arith, add-one, not-suc-le-zero, le-of-suc-le-suc, length-set, length-replicate, getD-set-same, getD-set-other}
 use Rattle.lists.proofs.Tests.{same-or}
-use Rattle.board_take.specs.Flood.{Marked, marked, Found, Held, Went}
+use Rattle.board_take.specs.LocalsFlood.{Marked, marked, Found, Held, Went}
 
 counted : (x : Bool) (n : ℕ) → pick x (suc n) n ≡ pick x 1 0 + n
 counted true n = omega arith

@@ -4,7 +4,7 @@ use Rattle.lists.proofs.Tests.{and-both}
 use Rattle.lists.proofs.Pick.{pick-elim}
 use Rattle.board_groups.specs.Board.{onBoard, beside}
 use Rattle.board_groups.proofs.Beside.{On, on-board, Step, up, down, left, right, step-beside}
-use Rattle.board_take.specs.Sides.{rightOf, leftOf, downOf, upOf}
+use Rattle.board_take.specs.LocalsSides.{rightOf, leftOf, downOf, upOf}
 
 -- q is no place, or a point of the board beside p
 pub record Side (w h p q : ℕ) : Type 0 where

@@ -4,8 +4,8 @@ use Rattle.lists.proofs.Tests.{and-both, same-or}
 use Rattle.board_groups.specs.Board.{at, onBoard}
 use Rattle.board_groups.proofs.Beside.{board-on}
 use Rattle.board_groups.proofs.Count.{at-below, standing-off}
-use Rattle.board_take.specs.Sides.{standsAt}
-use Rattle.board_take.specs.Flood.{Found, Unmarked, Swept}
+use Rattle.board_take.specs.LocalsSides.{standsAt}
+use Rattle.board_take.specs.LocalsFlood.{Found, Unmarked, Swept}
 
 pub swept-none : (P : ℕ → Type 0) (c : ℕ) (b : List ℕ) → ((r : ℕ) → P r → ⊥) → Swept P c b b 0
 swept-none P c b f = record { as-long = refl; each = λ r. inr (f r, refl); many = omega arith }

@@ -3,8 +3,8 @@ use Rattle.lists.proofs.Prelude.{ℕ, _<_, _≤_, Bool, true, false, inl, inr, 
 use Rattle.board_groups.specs.Groups.{Stone, Joined, self, Liberty, Dead, Takes, TakesGroup}
 use Rattle.board_groups.proofs.Beside.{board-on}
 use Rattle.board_groups.proofs.Others.{joined-last, joined-sym, liberty-shared}
-use Rattle.board_take.specs.Sides.{Free}
-use Rattle.board_take.specs.Flood.{Marked, Found, Held, Went, Here, Seed, Unmarked, Coloured, Reached, Grown, Lives, Swept}
+use Rattle.board_take.specs.LocalsSides.{Free}
+use Rattle.board_take.specs.LocalsFlood.{Marked, Found, Held, Went, Here, Seed, Unmarked, Coloured, Reached, Grown, Lives, Swept}
 
 pub not-above : (r : ℕ) → (2704 < r → ⊥) → r ≤ 2704
 not-above r f = lt-or (leb r 2704) refl

@@ -4,8 +4,8 @@ use Rattle.lists.proofs.Tests.{and-both, same-or}
 use Rattle.board_groups.specs.Board.{at, onBoard}
 use Rattle.board_groups.specs.Groups.{Stone}
 use Rattle.board_groups.proofs.Beside.{On, board-on, beside-step}
-use Rattle.board_take.specs.Sides.{rightOf, leftOf, downOf, upOf, standsAt, Free}
-use Rattle.board_take.specs.Flood.{Held, Went, Here, Around, Seed, SeedAt}
+use Rattle.board_take.specs.LocalsSides.{rightOf, leftOf, downOf, upOf, standsAt, Free}
+use Rattle.board_take.specs.LocalsFlood.{Held, Went, Here, Around, Seed, SeedAt}
 use Rattle.board_take.proofs.Sides.{Side, right-side, left-side, down-side, up-side, Four, is-right, is-left, is-down, is-up, four}
 use Rattle.board_take.proofs.Queue.{went-none, went-as, went-on}
 

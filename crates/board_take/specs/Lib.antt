@@ -1,3 +1,3 @@
-pub mod Flood
-pub mod Sides
+pub mod LocalsFlood
+pub mod LocalsSides
 pub mod Take

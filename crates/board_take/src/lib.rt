@@ -1,12 +1,12 @@
-// Stones taken off: all groups of a colour that have no liberty, or one group. A flood marks places; specs/Flood is for private functions alone.
+// Stones taken off: all groups of a colour that have no liberty, or one group. A flood marks places; specs/LocalsFlood is for private functions alone.
 ghost use mathlib.Core.Path.{_≡_};
 ghost use mathlib.Core.Bool.{true, false, not, _&&_};
 ghost use Prim.Native.Nat.{ℕ, _≤_, _<_};
 ghost use lib.ListN.{length, getD};
 ghost use Rattle.board_groups.specs.Board.{at, onBoard};
 ghost use Rattle.board_groups.specs.Groups.{Stone};
-ghost use Rattle.board_take.specs.Sides.{rightOf, leftOf, downOf, upOf, emptyAt, standsAt, FreeIs, StopIs};
-ghost use Rattle.board_take.specs.Flood.{Marked, Found, Held, Went, Here, Around, Seed, SeedAt, Unmarked, Coloured, GrowIs, Swept};
+ghost use Rattle.board_take.specs.LocalsSides.{rightOf, leftOf, downOf, upOf, emptyAt, standsAt, FreeIs, StopIs};
+ghost use Rattle.board_take.specs.LocalsFlood.{Marked, Found, Held, Went, Here, Around, Seed, SeedAt, Unmarked, Coloured, GrowIs, Swept};
 ghost use Rattle.board_take.specs.Take.{TakesAll, TakesOne, TakesNear};
 
 // The place in the next column, or 2704.

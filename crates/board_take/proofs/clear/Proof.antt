@@ -1,6 +1,6 @@
 -- `board_take::clear` meets its contract. Assumes nothing.
 use Rattle.lists.proofs.Prelude.{_-_, _≡_, _≤_, arith, not-suc-le-zero, subst, ℕ}
-use Rattle.board_take.specs.Flood.{Found, Swept}
+use Rattle.board_take.specs.LocalsFlood.{Found, Swept}
 use Rattle.board_take.proofs.Sweeping.{swept-none, clear-go, clear-stay}
 use Rattle.board_take.proofs.clear.Statement.{statement}
 use Rattle.board_take.proofs.clear.Tie as tie

@@ -1,6 +1,6 @@
 -- `board_take::down` meets its contract. Assumes nothing.
 use Rattle.lists.proofs.Prelude.{needs}
-use Rattle.board_take.specs.Sides.{downOf}
+use Rattle.board_take.specs.LocalsSides.{downOf}
 use Rattle.board_take.proofs.down.Statement.{statement}
 use Rattle.board_take.proofs.down.Tie as tie
 

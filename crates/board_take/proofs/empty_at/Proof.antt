@@ -1,6 +1,6 @@
 -- `board_take::empty_at` meets its contract. Assumes nothing.
 use Rattle.lists.proofs.Prelude.{le-ltb, lt-ltb, needs}
-use Rattle.board_take.specs.Sides.{emptyAt}
+use Rattle.board_take.specs.LocalsSides.{emptyAt}
 use Rattle.board_take.proofs.empty_at.Statement.{statement}
 use Rattle.board_take.proofs.empty_at.Tie as tie
 

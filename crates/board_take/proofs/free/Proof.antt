@@ -1,7 +1,7 @@
 -- `board_take::free` meets its contract. Assumes nothing.
 use Rattle.lists.proofs.Prelude.{_∙_, ap, needs, subst, sym, true≢false, ℕ}
 use Rattle.board_groups.proofs.Beside.{board-on}
-use Rattle.board_take.specs.Sides.{emptyAt}
+use Rattle.board_take.specs.LocalsSides.{emptyAt}
 use Rattle.board_take.proofs.Empties.{side-free, none-free}
 use Rattle.board_take.proofs.Sides.{Side, right-side, left-side, down-side, up-side}
 use Rattle.board_take.proofs.free.Statement.{statement}

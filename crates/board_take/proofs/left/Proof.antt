@@ -1,6 +1,6 @@
 -- `board_take::left` meets its contract. Assumes nothing.
 use Rattle.lists.proofs.Prelude.{le-leb, lt-leb}
-use Rattle.board_take.specs.Sides.{leftOf}
+use Rattle.board_take.specs.LocalsSides.{leftOf}
 use Rattle.board_take.proofs.left.Statement.{statement}
 use Rattle.board_take.proofs.left.Tie as tie
 

@@ -1,6 +1,6 @@
 -- `board_take::push` meets its contract. Assumes nothing.
 use Rattle.lists.proofs.Prelude.{_∙_, ap, arith, false, getD, needs, ℕ}
-use Rattle.board_take.specs.Flood.{Here}
+use Rattle.board_take.specs.LocalsFlood.{Here}
 use Rattle.board_take.proofs.Queue.{held-room, went-none, went-put, went-as}
 use Rattle.board_take.proofs.push.Statement.{statement}
 use Rattle.board_take.proofs.push.Tie as tie

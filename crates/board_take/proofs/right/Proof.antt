@@ -1,6 +1,6 @@
 -- `board_take::right` meets its contract. Assumes nothing.
 use Rattle.lists.proofs.Prelude.{needs}
-use Rattle.board_take.specs.Sides.{rightOf}
+use Rattle.board_take.specs.LocalsSides.{rightOf}
 use Rattle.board_take.proofs.right.Statement.{statement}
 use Rattle.board_take.proofs.right.Tie as tie
 

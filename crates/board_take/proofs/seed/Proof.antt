@@ -1,6 +1,6 @@
 -- `board_take::seed` meets its contract. Assumes nothing.
 use Rattle.lists.proofs.Prelude.{_-_, _≡_, _≤_, arith, not-suc-le-zero, subst, ℕ}
-use Rattle.board_take.specs.Flood.{Went, Seed}
+use Rattle.board_take.specs.LocalsFlood.{Went, Seed}
 use Rattle.board_take.proofs.Queue.{went-none}
 use Rattle.board_take.proofs.Visiting.{seed-more}
 use Rattle.board_take.proofs.seed.Statement.{statement}

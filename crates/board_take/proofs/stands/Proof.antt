@@ -1,7 +1,7 @@
 -- `board_take::stands` meets its contract. Assumes nothing.
 use Rattle.lists.proofs.Prelude.{_∙_, arith, needs, sym}
 use Rattle.board_groups.proofs.Beside.{board-on}
-use Rattle.board_take.specs.Sides.{standsAt}
+use Rattle.board_take.specs.LocalsSides.{standsAt}
 use Rattle.board_take.proofs.stands.Statement.{statement}
 use Rattle.board_take.proofs.stands.Tie as tie
 

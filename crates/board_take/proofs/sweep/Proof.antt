@@ -1,6 +1,6 @@
 -- `board_take::sweep` meets its contract. Assumes nothing.
 use Rattle.lists.proofs.Prelude.{_-_, _<_, _∙_, _≤_, arith, not-suc-le-zero, sym}
-use Rattle.board_take.specs.Flood.{Unmarked, Swept}
+use Rattle.board_take.specs.LocalsFlood.{Unmarked, Swept}
 use Rattle.board_take.proofs.Sweeping.{swept-none, sweep-go, sweep-stay, sweep-end}
 use Rattle.board_take.proofs.sweep.Statement.{statement}
 use Rattle.board_take.proofs.sweep.Tie as tie

@@ -1,6 +1,6 @@
 -- `board_take::up` meets its contract. Assumes nothing.
 use Rattle.lists.proofs.Prelude.{_%_, le-ltb, lt-ltb, needs}
-use Rattle.board_take.specs.Sides.{upOf}
+use Rattle.board_take.specs.LocalsSides.{upOf}
 use Rattle.board_take.proofs.up.Statement.{statement}
 use Rattle.board_take.proofs.up.Tie as tie
 

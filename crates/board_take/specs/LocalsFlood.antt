@@ -3,7 +3,7 @@ use mathlib.Core.Logic.{_⊎_}
 use Rattle.lists.specs.Prelude.{ℕ, suc, _+_, _<_, _≤_, Bool, true, false, _≡_, List, [], _∷_, length, getD, pick}
 use Rattle.board_groups.specs.Board.{at, beside, standing}
 use Rattle.board_groups.specs.Groups.{Stone, Joined}
-use Rattle.board_take.specs.Sides.{Free}
+use Rattle.board_take.specs.LocalsSides.{Free}
 
 -- the place is marked
 abbrev pub Marked : List Bool → ℕ → Type 0
