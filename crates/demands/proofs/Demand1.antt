@@ -51,6 +51,10 @@ use Rattle.demands.proofs.Written as writing
 pub use Rattle.reader_exactly.proofs.Exactly.{strict-1, strict-2, strict-3, strict-4, strict-5, strict-6}
 pub use Rattle.reader_exactly.proofs.Exactly.{strict-7, strict-8, strict-9, strict-10, strict-11, strict-12}
 pub use Rattle.reader_exactly.proofs.Exactly.{lenient-1, lenient-2, lenient-9}
+-- when it accepts: strict with conversion, and lenient; no reason above 13, none above 12 with conversion, so never 14 itself: 14 is too few rows alone
+pub use Rattle.demands.proofs.Accepts.{strict-0, lenient-0, upto-13, upto-12, never-room}
+-- sgf_trim, sgf_token, sgf_display_value
+pub use Rattle.demands.proofs.Demand1Texts.{trim-kept, trim-keeps, token-exactly, raw-exactly, raw-stays, raw-numbers}
 
 -- no reason has the number of acceptance
 pub number-some : (r : Reason) → 0 < numberOf r

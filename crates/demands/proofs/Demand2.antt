@@ -43,12 +43,14 @@ use Rattle.c_answers.specs.declared.SgfReading.{SgfReading}
 use Rattle.c_answers.specs.declared.SgfWriting.{SgfWriting}
 use Rattle.sgf.specs.Shown.{optionsOf, ReadShown}
 use Rattle.sgf.specs.Changed.{WriteShown}
-use Rattle.demands.specs.Cells.{countsRead}
+use Rattle.demands.specs.Cells.{hasRoom, countsRead}
 use Rattle.demands.specs.Holding.{holding}
 use Rattle.demands.proofs.Exported as exported
 use Rattle.demands.proofs.ExportedAgain as again
 use Rattle.demands.proofs.RoundTrip as trip
 use Rattle.demands.proofs.Writings as writings
+-- the numbers of sgf_write and of the second sgf_read, by room
+pub use Rattle.demands.proofs.Demand2Exported.{exported-full, exported-first, exported-second}
 
 -- ---- the viewer's question: one record, one writing
 
@@ -138,6 +140,11 @@ module _ (c d : Bool) (t : List ℕ) (before after : Lent) (k : Counts) (x : Rea
       -- within the depth it is accepted where the tables have room, which tables for n bytes have
       pub read-again : (before₂ after₂ : Lent) (r : Reading) → ReadIs (read (strictly d) (take n out′)) before₂ after₂ r → Lends (strictRows n) before₂ → (k₂ : Counts) × (r ≡ Accepted k₂)
       read-again before₂ after₂ r y h = (_, trip.room-enough c d t before after k x b nm out out′ n w l s before₂ after₂ r y h)
+
+      -- it reads as a record, and is accepted, with its counts, where tables have room for these, else 14
+      pub read-room : (ts : List Tree) × (read (strictly d) (take n out′) ≡ accepted ts) × ((before₂ after₂ : Lent) (r : Reading) → ReadIs (read (strictly d) (take n out′)) before₂ after₂ r
+          → (hasRoom (countsOf (tables ts)) before₂ ≡ true → r ≡ Accepted (countsOf (tables ts))) × (hasRoom (countsOf (tables ts)) before₂ ≡ false → r ≡ Refused NoRoom 0))
+      read-room = (_, trip.reads-again c d t before after k x b nm out out′ n w l s, trip.room-exactly c d t before after k x b nm out out′ n w l s)
 
       module _ (before₂ after₂ : Lent) (k₂ : Counts) (y : ReadIs (read (strictly d) (take n out′)) before₂ after₂ (Accepted k₂)) where
         -- with the same trees, game types, parents, identifiers and Go values, and other values as they were raw

@@ -1,12 +1,16 @@
+pub mod Accepts
 pub mod Asked
 pub mod CallsShown
 pub mod Demand1
+pub mod Demand1Texts
 pub mod Demand2
+pub mod Demand2Exported
 pub mod Demand3
 pub mod Edited
 pub mod Editing
 pub mod Exported
 pub mod ExportedAgain
+pub mod ExportedRoom
 pub mod Listed
 pub mod Numbers
 pub mod Readings
@@ -21,5 +25,6 @@ pub mod UniqueStructs
 pub mod UniqueText
 pub mod UniqueValues
 pub mod Useless
+pub mod UselessShown
 pub mod Writings
 pub mod Written

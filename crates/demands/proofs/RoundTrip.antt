@@ -102,6 +102,17 @@ module _ (c d : Bool) (t : List ℕ) (before after : Lent) (k : Counts) (x : Rea
       pub reads-again : read (strictly d) (take n out′) ≡ accepted (back .again)
       reads-again = ap (read (strictly d)) is ∙ back .accepts
 
+      -- the rows of what is read are lent, or not
+      pub room-exactly : (before₂ after₂ : Lent) (r : Reading) → ReadIs (read (strictly d) (take n out′)) before₂ after₂ r
+          → (roomy (tables (back .again)) before₂ ≡ true → r ≡ Accepted (countsOf (tables (back .again)))) × (roomy (tables (back .again)) before₂ ≡ false → r ≡ Refused NoRoom 0)
+      room-exactly before₂ after₂ r y = (so true, so false)
+        where
+          so : (f : Bool) → roomy (tables (back .again)) before₂ ≡ f → r ≡ pick f (Accepted (countsOf (tables (back .again)))) (Refused NoRoom 0)
+          so f h =
+              y .answer
+              ∙ ap (λ (a : Answer). answers a before₂) reads-again
+              ∙ ap (λ (g : Bool). pick g (Accepted (countsOf (tables (back .again)))) (Refused NoRoom 0)) h
+
       -- tables for n bytes have room
       pub room-enough : (before₂ after₂ : Lent) (r : Reading) → ReadIs (read (strictly d) (take n out′)) before₂ after₂ r → Lends (strictRows n) before₂
           → r ≡ Accepted (countsOf (tables (back .again)))

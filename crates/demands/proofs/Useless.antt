@@ -1,4 +1,4 @@
--- The scope's useless builds, each held against its contract on one small input: none meets it. Assumes nothing.
+-- The scope's useless builds, each held on one small input against the contract of the function below the exported one: none meets it; the exported ones: UselessShown. Assumes nothing.
 use Rattle.lists.proofs.Prelude.{ℕ, List, [], _∷_, _++_, _≡_, refl, ap, _∙_, arith, getD}
 use Rattle.lists.proofs.Tests.{never}
 use Rattle.text_chars.specs.White.{white}
@@ -23,14 +23,14 @@ use Rattle.edit_answer.specs.declared.Edited.the-variants as edited
 use Rattle.edit.specs.Lent.{memoryAfter, EditIs}
 
 -- so many rows
-abbrev rows : (trees nodes properties values : ℕ) → Counts
+abbrev pub rows : (trees nodes properties values : ℕ) → Counts
 rows t n p v = record { trees = t; nodes = n; properties = p; values = v }
 
 -- tables with room for one tree of two nodes
-abbrev room : Lent
+abbrev pub room : Lent
 room = lent (0 ∷ 0 ∷ []) (0 ∷ 0 ∷ 0 ∷ 0 ∷ 0 ∷ 0 ∷ 0 ∷ 0 ∷ 0 ∷ 0 ∷ []) [] []
 
-two-nodes : answers (read strict (bytes "(;;)")) room ≡ Accepted (rows 1 2 0 0)
+pub two-nodes : answers (read strict (bytes "(;;)")) room ≡ Accepted (rows 1 2 0 0)
 unfolding white space
 two-nodes = refl
 
@@ -43,10 +43,10 @@ pub inventing-reader : (after : Lent) (c : Counts) → ReadIs (read strict (byte
 inventing-reader after c x = let e = x .answer ∙ two-nodes in cc
 
 -- no rows at all
-abbrev nothing : Lent
+abbrev pub nothing : Lent
 nothing = lent [] [] [] []
 
-ten-first : answers (read strict (bytes "((;))")) nothing ≡ Refused UnexpectedGameTreeStart 0
+pub ten-first : answers (read strict (bytes "((;))")) nothing ≡ Refused UnexpectedGameTreeStart 0
 unfolding white space
 ten-first = refl
 
@@ -59,20 +59,20 @@ abbrev held : (text : List ℕ) (used : ℕ) (properties values : List ℕ) → 
 held t used pr vl = memory t used (rows 1 2 2 2) (0 ∷ 0 ∷ []) (none ∷ 1 ∷ none ∷ 0 ∷ 1 ∷ 0 ∷ none ∷ none ∷ 1 ∷ 1 ∷ []) pr vl
 
 -- the text of P10, its value 0 becoming `x`, and then its value 1 `y`; the used length is the caller's
-abbrev first : Memory
+abbrev pub first : Memory
 first = held (bytes "(;C[ab];B[cd])") 14 (2 ∷ 3 ∷ 0 ∷ 1 ∷ 8 ∷ 9 ∷ 1 ∷ 1 ∷ []) (4 ∷ 6 ∷ 10 ∷ 12 ∷ [])
 
-abbrev second : (used : ℕ) → Memory
+abbrev pub second : (used : ℕ) → Memory
 second used = held (bytes "(;C[x];B[cd])" ++ (0 ∷ [])) used (2 ∷ 3 ∷ 0 ∷ 1 ∷ 7 ∷ 8 ∷ 1 ∷ 1 ∷ []) (4 ∷ 5 ∷ 9 ∷ 11 ∷ [])
 
 abbrev third : Memory
 third = held (bytes "(;C[x];B[y])" ++ (0 ∷ 0 ∷ [])) 13 (2 ∷ 3 ∷ 0 ∷ 1 ∷ 7 ∷ 8 ∷ 1 ∷ 1 ∷ []) (4 ∷ 5 ∷ 9 ∷ 10 ∷ [])
 
-first-edit : (editedFor (outcomeOf first 0 (bytes "x")) ≡ edited.Changed 13) × (memoryAfter (outcomeOf first 0 (bytes "x")) first ≡ second 14)
+pub first-edit : (editedFor (outcomeOf first 0 (bytes "x")) ≡ edited.Changed 13) × (memoryAfter (outcomeOf first 0 (bytes "x")) first ≡ second 14)
 unfolding outcomeOf Fit fitText nodesFit rangesFit spansFit trimmed white each sum tabulate orphans upward onPath firstUnder spans ascending plainName
 first-edit = (refl, refl)
 
-second-edit : memoryAfter (outcomeOf (second 13) 1 (bytes "y")) (second 13) ≡ third
+pub second-edit : memoryAfter (outcomeOf (second 13) 1 (bytes "y")) (second 13) ≡ third
 unfolding outcomeOf Fit fitText nodesFit rangesFit spansFit trimmed white each sum tabulate orphans upward onPath firstUnder spans ascending plainName
 second-edit = refl
 

@@ -30,6 +30,10 @@ askedNumbers = 0 ∷ 19 ∷ 16 ∷ []
 abbrev pub displayNumbers : List ℕ
 displayNumbers = 0 ∷ 19 ∷ 16 ∷ 14 ∷ []
 
+-- the display of a value that is lent by itself
+abbrev pub rawNumbers : List ℕ
+rawNumbers = 0 ∷ 14 ∷ []
+
 -- whether tables fit
 abbrev pub fitsNumbers : List ℕ
 fitsNumbers = 0 ∷ 19 ∷ []

@@ -17,11 +17,25 @@ use Rattle.parser.specs.Walk.{Opts}
 use Rattle.reader.specs.Lent.{Lent, roomy}
 use Rattle.serialize.specs.Form.{writing}
 use Rattle.serialize.specs.Branch.{nameless}
+use Rattle.reader_exactly.specs.Slicing.{slicesFrom}
+use Rattle.reader_exactly.specs.When.{tokensOf, Splits, First, StartsEmpty, Unexpected, WrongGame, Nodeless}
 
 -- number 0 exactly on acceptance, and the number of each reason exactly where that reason holds
 pub record Exactly (number : ℕ) (Accepts : Type 0) (Because : Reason → Type 0) : Type 0 where
   pub zero : (number ≡ 0) ↔ Accepts
   pub each : (x : Reason) → (number ≡ numberOf x) ↔ Because x
+
+-- the definition reads the text as a record
+abbrev pub Recorded : Opts → List ℕ → Type 0
+Recorded op t = (ts : List Tree) × (read op t ≡ accepted ts)
+
+-- none of 1 to 9 applies, and no slice is the first that is refused: with 7, 10, 11 or 12
+pub record Sound (op : Opts) (t : List ℕ) : Type 0 where
+  pub splits : Splits t
+  pub noded : First op (Nodeless op) (slicesFrom 0 (tokensOf t .toks)) → ⊥
+  pub started : First op (StartsEmpty op) (slicesFrom 0 (tokensOf t .toks)) → ⊥
+  pub expected : First op (Unexpected op) (slicesFrom 0 (tokensOf t .toks)) → ⊥
+  pub typed : First op (λ _ s. WrongGame s) (slicesFrom 0 (tokensOf t .toks)) → ⊥
 
 -- a reading is accepted: the text reads as a record, whose rows are lent
 pub record Reads (op : Opts) (t : List ℕ) (before : Lent) : Type 0 where
