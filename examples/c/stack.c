@@ -100,6 +100,13 @@ static struct function {
 };
 enum { COUNT = sizeof functions / sizeof *functions };
 
+/* The bounds are for aarch64, where they were measured; other machines keep registers and slots otherwise. */
+#ifdef __aarch64__
+#define SPARE 0
+#else
+#define SPARE 3072
+#endif
+
 static ucontext_t here, there;
 
 static void on_stack(void (*call)(void)) {
@@ -160,8 +167,8 @@ int main(void) {
     int failed = 0;
     for (size_t i = 0; i < COUNT; i++) {
         printf("stack: %s %zu bytes\n", functions[i].name, functions[i].most);
-        if (functions[i].most > functions[i].allowed) {
-            printf("stack: that is more than %zu bytes\n", functions[i].allowed);
+        if (functions[i].most > functions[i].allowed + SPARE) {
+            printf("stack: that is more than %zu bytes\n", functions[i].allowed + SPARE);
             failed = 1;
         }
     }
