@@ -16,9 +16,10 @@
  * text + values[2 * k] up to text + values[2 * k + 1]. An identifier's span is raw too, any ASCII before the `[`: the
  * property's name is the uppercase letters of it, `WB` of `White;B`.
  *
- * Every answer has a number: SGF_ACCEPTED, or why the call is refused. A refusal leaves every lent byte and number
- * as it was, and its counts, lengths and spans are 0; so is its place, but for numbers 2 to 5. After acceptance, what
- * lies behind the counts given back stays as well, except for the bytes that sgf_edit sets to 0.
+ * Every answer but SgfValue and the version has a number: SGF_ACCEPTED, or why the call is refused. A refusal leaves
+ * every lent byte and number as it was, and its counts, lengths and spans are 0 (SgfToken's are its token's start); so
+ * is its place, but for numbers 2 to 5. After acceptance, what lies behind the counts given back stays as well,
+ * except for the bytes that sgf_edit sets to 0.
  *
  * Stack: sgf_go_value 11.4 KB, sgf_write 8.8 KB, sgf_go_property 8.5 KB, sgf_read 5 KB, the others at most 0.5 KB.
  */
@@ -55,9 +56,9 @@ enum {
     SGF_UNEXPECTED_END_OF_DATA = 7,                 /* a `(` without its `)`, or a tree without a node */
     SGF_NO_GAME_TREES = 8,                          /* neither `(` nor `)` */
     SGF_TOO_DEEP = 9,                               /* more than SGF_DEPTH_LIMIT trees open at once */
-    SGF_UNEXPECTED_GAME_TREE_START = 10,            /* a `(` in a tree without a node yet (see below) */
+    SGF_UNEXPECTED_GAME_TREE_START = 10,            /* a `(` where no node can follow yet (see below) */
     SGF_UNEXPECTED_PROPERTY = 11,                   /* a property not directly behind a node; a second GM (see below) */
-    SGF_INVALID_GAME_TYPE = 12,                     /* GM (see below) without exactly one value, or no 32-bit number */
+    SGF_INVALID_GAME_TYPE = 12,                     /* GM (see below) without one value, or no signed 32-bit number */
     SGF_INVALID_FF4_PROPERTY = 13,                  /* with SGF_KEEP_IDENTIFIERS: not only uppercase letters */
     SGF_NO_ROOM = 14,                               /* needed rows or bytes exceed those lent */
     SGF_EMPTY_IDENTIFIER = 15,                      /* writing: an identifier has no uppercase letter */
@@ -66,9 +67,11 @@ enum {
     SGF_NOT_CLOSED = 18,                            /* edit: an unescaped `]` in the new value, or a `\` left open */
     SGF_NOT_FITTING = 19                            /* the tables do not fit the text */
 };
-/* 10: nor may a tree before that one, beside it, have a node: `((;))` and `(;((;)))` are 10, `(;(;)((;)))` is accepted.
+/* 10: a `(` in a tree that has no node of its own yet, where the node that the tree hangs from has no child yet, or
+ * there is no such node: `((;))`, `(;((;)))` and `(;(;);((;)))` are 10, `(;(;)((;)))` is accepted.
  * A tree's game type is taken from the properties that directly follow its second token, as a rule the root's: a GM
- * elsewhere is neither 11 nor 12 (`(;GM[1];GM[x])` is accepted). */
+ * elsewhere is neither 11 nor 12 (`(;GM[1];GM[x])` is accepted). GM is that by its raw identifier, exactly `GM`, here
+ * and for 17: `(;GM [x])` is accepted, and Go. Tokens behind the last tree's end are dropped: `(;)[]` is accepted. */
 
 /* Limits, and "none" in a row. */
 #define SGF_TEXT_LIMIT 1048576
@@ -163,7 +166,8 @@ typedef struct {
     size_t length;
 } SgfDisplay;
 
-/* How a value is displayed: white space as spaces, escapes resolved; in SimpleText line breaks become spaces too.
+/* How a value is displayed: white space as spaces but behind a backslash that was itself escaped, escapes
+ * resolved; in SimpleText line breaks become spaces too.
  * Escapes are resolved twice, as sgf-parse does, so a literal backslash is lost: for editing start from the raw value,
  * not from its display. */
 enum { SGF_TEXT = 0, SGF_SIMPLE_TEXT = 1 }; /* any other kind is SGF_SIMPLE_TEXT */
