@@ -1,14 +1,16 @@
 -- What the layers above may cite of the tokens: each law is stated here and proved elsewhere in this crate. Assumes nothing.
-use Rattle.lists.proofs.Prelude.{_≡_, ℕ, _≤_, true, false, List, [], _∷_, _++_, length, take, drop}
+use Rattle.lists.proofs.Prelude.{_≡_, ℕ, _≤_, _<_, true, false, List, [], _∷_, _++_, length, take, drop}
 use Rattle.lists.specs.All.{All}
+use Rattle.text_chars.specs.White.{white}
 use Rattle.text_utf8.specs.Text.{Ink, blank, whole, utfs}
 use Rattle.text_utf8.proofs.Steps.{place}
 use Rattle.lexer.specs.Token.{Val, St, between, value, emits, ends, lexFrom, lexAt, broken}
 use Rattle.lexer.specs.Closed.{closedFrom}
 use Rattle.lexer.specs.Move.{startsAt, endsAt, newRaw}
-use Rattle.lexer_scan.specs.Scan.{identFrom}
+use Rattle.lexer_scan.specs.Scan.{space, identFrom}
 use Rattle.lexer_close.specs.Close.{closeFrom}
 use Rattle.lexer.specs.Step.{nextAt, stepOn}
+use Rattle.lexer_laws.proofs.Blank as blanks
 use Rattle.lexer_laws.proofs.Machine as machine
 use Rattle.lexer_laws.proofs.Join as join
 use Rattle.lexer.proofs.Within as within
@@ -53,6 +55,10 @@ pub value-replaced : (f l : ℕ) (pre body new post : List ℕ) (s i : ℕ) (w :
     ≡ moveLexed (startsAt (place f pre) (place (place f pre) body) (length new)) (endsAt (place f pre) (place (place f pre) body) (length new)) (newRaw (place f pre) new)
     (lexFrom f l (pre ++ (body ++ (0x5d ∷ post))))
 value-replaced = replace.replaced
+
+-- what is skipped between tokens is exactly the ASCII part of what trimming drops
+pub space-exactly : (b : ℕ) → (b < 0x80 → space b ≡ white b) × (space b ≡ true → b < 0x80)
+space-exactly b = (blanks.space-white b, blanks.space-ascii b)
 
 -- an identifier ends where, and is refused when, its bytes say so, and in no other way
 pub identifier-exactly : (i : ℕ) (bs : List ℕ) (x : Ident) → exactly.IdentIs i bs x → identFrom i bs ≡ x

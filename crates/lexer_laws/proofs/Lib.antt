@@ -1,3 +1,4 @@
+pub mod Blank
 pub mod Contents
 pub mod Exactly
 pub mod Faults

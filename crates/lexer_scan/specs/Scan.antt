@@ -9,9 +9,9 @@ use Rattle.lexer_scan.specs.declared.Ident.the-variants.{Opens, Missing,
 use Rattle.lexer_scan.specs.declared.ValueStep.{ValueStep}
 use Rattle.lexer_scan.specs.declared.ValueStep.the-variants.{Value, NoMore, Unclosed}
 
--- white space between tokens: space, tab, LF, FF, CR
+-- white space between tokens: space, tab, LF, VT, FF, CR
 unfoldable pub space : ℕ → Bool
-space b = eqb b 0x20 || eqb b 0x9 || eqb b 0xa || eqb b 0xc || eqb b 0xd
+space b = eqb b 0x20 || eqb b 0x9 || eqb b 0xa || eqb b 0xb || eqb b 0xc || eqb b 0xd
 
 -- of the bytes that stand from place i on: the first that is no white space
 unfoldable pub skipFrom : ℕ → List ℕ → ℕ

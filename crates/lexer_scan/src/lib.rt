@@ -10,11 +10,11 @@ pub enum Ident {
     Foreign,
 }
 
-// Space, tab, LF, FF or CR.
+// Space, tab, LF, VT, FF or CR.
 pub fn is_space(b: u8) -> bool
     ensures { λ r. ⌜ r ≡ space b ⌝ }
 {
-    (b == 32) | (b == 9) | (b == 10) | (b == 12) | (b == 13)
+    (b == 32) | (b == 9) | (b == 10) | (b == 11) | (b == 12) | (b == 13)
 }
 
 // The first place at or after `from` that is no white space.

@@ -22,6 +22,7 @@ pub mod RootProps
 pub mod Sizes
 pub mod Sounded
 pub mod Sounding
+pub mod Tabs
 pub mod Theorem
 pub mod Written
 pub mod WrittenProps

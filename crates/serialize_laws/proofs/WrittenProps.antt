@@ -37,6 +37,7 @@ upper b h =
         ne-eqb b 0x20 (λ e. omega (arith, r .0, r .1)),
         ne-eqb b 0x9 (λ e. omega (arith, r .0, r .1)),
         ne-eqb b 0xa (λ e. omega (arith, r .0, r .1)),
+        ne-eqb b 0xb (λ e. omega (arith, r .0, r .1)),
         ne-eqb b 0xc (λ e. omega (arith, r .0, r .1)),
         ne-eqb b 0xd (λ e. omega (arith, r .0, r .1)),
       );
