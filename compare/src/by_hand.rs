@@ -55,7 +55,7 @@ fn wide(s: &[u8], mut i: usize) -> usize {
 
 #[inline(always)]
 fn skip(s: &[u8], mut i: usize) -> usize {
-    while i < s.len() && s[i] <= 32 && matches!(s[i], b' ' | b'\t' | b'\n' | 12 | b'\r') {
+    while i < s.len() && s[i] <= 32 && matches!(s[i], b' ' | b'\t' | b'\n' | 11 | 12 | b'\r') {
         i += 1;
     }
     i

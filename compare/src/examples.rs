@@ -1,8 +1,10 @@
 //! The scope's own examples and the points it leaves open, as a table: what each text must give.
 use crate::held;
 use crate::library::{self, KEEP_IDENTIFIERS, LENIENT};
-use crate::plain_reader::NONE;
+use crate::oracle;
+use crate::plain_reader::{Options, NONE};
 use crate::whole::Whole;
+use sgf_parse::GameTree;
 
 /// A text read with some options: number and place, and if it is accepted the game types and the parents.
 struct Example {
@@ -75,7 +77,14 @@ const EXAMPLES: &[Example] = &[
     refused("(;B\u{3000}x", 0, 4, 2),
     accepted("(;[x])", KEEP_IDENTIFIERS, GO, ONE),
     refused("(;B\x0B)", 0, 3, 2),
-    refused("(\x0B;B[aa])", 0, 11, 0),
+    accepted("(\x0B;B[aa])", 0, GO, ONE),
+    accepted("(;\x0BB[aa])", 0, GO, ONE),
+    accepted("(;\x0BGM[2])", 0, UNKNOWN, ONE),
+    accepted("(;GM\x0B[2])", 0, GO, ONE),
+    accepted("(;B[aa]\x0B;)", 0, GO, &[NONE, 0]),
+    accepted("(;B[aa]\x0B[bb])", 0, GO, ONE),
+    refused("(;)\x0BB", 0, 3, 4),
+    accepted("(;)\x0B;", 0, GO, ONE),
 ];
 
 /// Texts, and what is written of their strict reading, or the number of the refusal.
@@ -89,6 +98,7 @@ const WRITTEN: &[(&str, Result<&str, u32>)] = &[
     ("(;B[AA])", Ok("(;B[AA])")),
     ("(;AB[Aa][aA][aa])", Ok("(;AB[aa][aA][Aa])")),
     ("(;HA[+009]B[]Black[\\tt]KM[6.50])", Ok("(;HA[9]B[]B[tt]KM[6.50])")),
+    ("(;\x0BB[aa]\x0BC[\x0B]\x0B[x]\x0B)", Ok("(;B[aa]C[\x0B][x])")),
 ];
 
 /// Texts, a value and its new bytes, and the new text with the span of the value behind it, or number and place of the refusal.
@@ -98,18 +108,36 @@ const EDITED: &[Edited] = &[
     ("(;C[];B[cd])", 0, b"\\]", Ok(("(;C[\\]];B[cd])", [10, 12]))),
     ("(;C[ab];B[cd])", 2, b"]", Err((16, 0))),
     ("(;C[ab];GM[cd])", 1, b"\xFF", Err((17, 0))),
+    ("(;\x0BGM[2])", 0, b"1", Err((17, 0))),
+    ("(;GM\x0B[2]B[aa])", 0, b"10", Ok(("(;GM\x0B[10]B[aa])", [11, 13]))),
     ("(;C[ab];B[cd])", 0, b"]\xFF", Err((2, 1))),
     ("(;C[ab];B[cd])", 0, b"\\", Err((18, 0))),
     ("(;C[ab];B[cd])", 0, b"a longer one than the room", Err((14, 0))),
 ];
 
+/// Texts that the library reads otherwise than the crate (docs/DIFFERENCES.md), and what the crate itself says: the game types, or its number.
+const READ_OTHERWISE: &[(&str, Result<&[u32], u32>)] =
+    &[("(\x0B;B[aa])", Err(11)), ("(;\x0BGM[2])", Ok(GO)), ("(;B[aa]\x0B;)", Err(3)), ("(;)\x0B;", Err(3))];
+
 /// Runs the tables; true if every row holds.
 pub fn hold() -> bool {
     let wrong = EXAMPLES.iter().filter(|example| !holds(example)).count()
         + WRITTEN.iter().filter(|(text, expected)| !is_written(text, *expected)).count()
-        + EDITED.iter().filter(|row| !is_edited(row)).count();
-    println!("examples: {} texts compared, {wrong} differences", EXAMPLES.len() + WRITTEN.len() + EDITED.len());
+        + EDITED.iter().filter(|row| !is_edited(row)).count()
+        + READ_OTHERWISE.iter().filter(|(text, expected)| !is_read_otherwise(text, *expected)).count();
+    let texts = EXAMPLES.len() + WRITTEN.len() + EDITED.len() + READ_OTHERWISE.len();
+    println!("examples: {texts} texts compared, {wrong} differences");
     wrong == 0
+}
+
+fn is_read_otherwise(text: &str, expected: Result<&[u32], u32>) -> bool {
+    let trees = oracle::read_as_it_is(text, Options { lenient: false, convert: true });
+    let kinds: Result<Vec<u32>, u32> = trees.map(|trees| trees.iter().map(|tree| matches!(tree, GameTree::Unknown(_)) as u32).collect());
+    let good = kinds.as_deref().map_err(|number| *number) == expected;
+    if !good {
+        println!("  {text:?} by the crate: {kinds:?}");
+    }
+    good
 }
 
 fn is_written(text: &str, expected: Result<&str, u32>) -> bool {

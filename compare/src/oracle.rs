@@ -1,6 +1,7 @@
 //! The crate sgf-parse: its tokens, by its private lexer, and its readings, by its public functions.
 use crate::plain_reader::Options;
 use sgf_parse::{GameTree, ParseOptions, SgfParseError};
+use std::borrow::Cow;
 
 #[allow(dead_code)]
 mod lexer {
@@ -8,6 +9,43 @@ mod lexer {
 }
 
 pub use lexer::{tokenize, LexerError, Token};
+
+/// A vertical tab.
+const TAB: u8 = 0x0B;
+
+/// What the crate is asked for in a text's place: each vertical tab outside values, which the crate does not skip, is a space. No place moves.
+pub fn asked(text: &str) -> Cow<'_, str> {
+    if !text.as_bytes().contains(&TAB) {
+        return text.into();
+    }
+    let (mut inside, mut escaped) = (false, false);
+    let spaced = text.chars().map(|c| {
+        let outside = !inside;
+        match c {
+            _ if escaped => escaped = false,
+            '\\' if inside => escaped = true,
+            '[' => inside = true,
+            ']' => inside = false,
+            _ => {}
+        }
+        if outside && c == TAB as char {
+            ' '
+        } else {
+            c
+        }
+    });
+    spaced.collect::<String>().into()
+}
+
+/// Whether that is another text.
+pub fn is_asked_otherwise(text: &[u8]) -> bool {
+    std::str::from_utf8(text).is_ok_and(|text| asked(text) != text)
+}
+
+/// The bytes of an identifier in that text.
+pub fn asked_name(name: &[u8]) -> Vec<u8> {
+    name.iter().map(|b| if *b == TAB { b' ' } else { *b }).collect()
+}
 
 /// The number of a lexer fault.
 pub fn fault(error: LexerError) -> u32 {
@@ -19,8 +57,13 @@ pub fn fault(error: LexerError) -> u32 {
     }
 }
 
-/// The trees of a text, or the number of the crate's error.
+/// The trees of a text, as it is asked, or the number of the crate's error.
 pub fn read(text: &str, options: Options) -> Result<Vec<GameTree>, u32> {
+    read_as_it_is(&asked(text), options)
+}
+
+/// The trees of this very text.
+pub fn read_as_it_is(text: &str, options: Options) -> Result<Vec<GameTree>, u32> {
     let options = ParseOptions { convert_mixed_case_identifiers: options.convert, lenient: options.lenient };
     sgf_parse::parse_with_options(text, &options).map_err(number)
 }

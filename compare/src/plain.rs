@@ -24,7 +24,7 @@ fn is_white(c: char) -> bool {
 
 /// Skipped between tokens.
 fn is_space(b: u8) -> bool {
-    [b' ', b'\t', b'\n', 0x0C, b'\r'].contains(&b)
+    [b' ', b'\t', b'\n', 0x0B, 0x0C, b'\r'].contains(&b)
 }
 
 /// A token by what follows in the text.

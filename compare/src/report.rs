@@ -1,4 +1,5 @@
 //! Counts of texts compared, and the smallest text on which a comparison differs.
+use crate::oracle;
 use std::fmt::Debug;
 use std::sync::atomic::{AtomicU64, Ordering};
 use std::time::{Duration, Instant};
@@ -24,6 +25,7 @@ pub struct Report {
     subject: &'static str,
     compare: Comparison,
     texts: u64,
+    asked_otherwise: u64,
     differences: u64,
     smallest: Option<Vec<u8>>,
     begun: Instant,
@@ -32,12 +34,13 @@ pub struct Report {
 impl Report {
     pub fn new(subject: &'static str, compare: Comparison) -> Self {
         CASES.store(0, Ordering::Relaxed);
-        Report { subject, compare, texts: 0, differences: 0, smallest: None, begun: Instant::now() }
+        Report { subject, compare, texts: 0, asked_otherwise: 0, differences: 0, smallest: None, begun: Instant::now() }
     }
 
     /// Compares a text.
     pub fn text(&mut self, text: &[u8]) {
         self.texts += 1;
+        self.asked_otherwise += u64::from(oracle::is_asked_otherwise(text));
         if (self.compare)(text).is_ok() {
             return;
         }
@@ -62,8 +65,12 @@ impl Report {
             0 => String::new(),
             cases => format!("{cases} cases in "),
         };
+        let tabs = match self.asked_otherwise {
+            0 => String::new(),
+            texts => format!("{texts} with a vertical tab outside values, "),
+        };
         let spent = self.begun.elapsed().as_secs_f32();
-        println!("{}: {cases}{} texts compared, {} differences ({spent:.1} s)", self.subject, self.texts, self.differences);
+        println!("{}: {cases}{} texts compared, {tabs}{} differences ({spent:.1} s)", self.subject, self.texts, self.differences);
         if let Some(text) = &self.smallest {
             println!("  smallest text ({} bytes): {:.200}", text.len(), text.escape_ascii().to_string());
             println!("  {:.1000}", (self.compare)(text).unwrap_err());

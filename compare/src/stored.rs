@@ -1,4 +1,5 @@
-//! Answers of the crate's lexer for the program `cases_tokens`: texts in hex, and what it must print for each.
+//! Answers of the crate's lexer for the program `cases_tokens`: texts in hex, and what it must print for each. The crate is asked
+//! with a space for each vertical tab outside values, which it does not skip; identifiers are shown as they stand in the text.
 use crate::oracle::{self, tokenize, Token};
 use crate::plain;
 use crate::rng::Rng;
@@ -44,6 +45,13 @@ const EXAMPLES: &[&str] = &[
     "(;B[aa]\x0B)",
     "(\x0B;)",
     "\x0B(;)\x0B",
+    "(;\x0BGM[2])",
+    "(;GM\x0B[2])",
+    "(;B[aa]\x0B;)",
+    "(;B[aa]\x0B[bb])",
+    "(;C[\x0B]\x0BN[\\]\x0B]\x0B)",
+    "(;)\x0BB",
+    "(;)\x0B;",
     "(;B\u{3000}",
     "(;B\u{3000}x",
     "\u{FEFF}(;)",
@@ -132,11 +140,11 @@ fn answer(text: &[u8]) -> String {
     let first = kept.as_ptr() as usize - read.as_ptr() as usize;
     let mut line = format!("kept {}..{}", first, first + kept.len());
     let mut behind = 0;
-    for item in tokenize(kept) {
+    for item in tokenize(&oracle::asked(kept)) {
         match item {
             Ok((token, span)) => {
                 behind = span.end;
-                write!(line, " {}", token_words(&token, first + span.start, first + span.end)).unwrap();
+                write!(line, " {}", token_words(read, &token, first + span.start, first + span.end)).unwrap();
             }
             Err(error) => {
                 let place = first + plain::skip(kept.as_bytes(), behind);
@@ -147,23 +155,27 @@ fn answer(text: &[u8]) -> String {
     line + " done"
 }
 
-fn token_words(token: &Token, from: usize, to: usize) -> String {
+/// A token of `text` in words.
+fn token_words(text: &str, token: &Token, from: usize, to: usize) -> String {
     match token {
         Token::StartGameTree => format!("start {from}..{to}"),
         Token::EndGameTree => format!("end {from}..{to}"),
         Token::StartNode => format!("node {from}..{to}"),
         Token::Property((name, values)) => {
             let values: String = values.iter().map(|value| format!(" [{}]", hex(value.as_bytes()))).collect();
-            format!("property {from}..{to} {}{values}", hex(name.as_bytes()))
+            format!("property {from}..{to} {}{values}", hex(&text.as_bytes()[from..][..name.len()]))
         }
     }
 }
 
+/// The first line of the texts, which spells none, so that its answer is that to an empty text.
+const HEAD: &str = "# Texts in hex; the answers are sgf-parse's, asked with a space for each vertical tab outside values.\n";
+
 /// Writes `stdin` and `stdout` into a folder; true if that went well.
 pub fn write(folder: &Path) -> bool {
     let chosen = chosen();
-    let stdin: String = chosen.iter().map(|text| hex(text) + "\n").collect();
-    let stdout: String = chosen.iter().map(|text| answer(text) + "\n").collect();
+    let stdin: String = HEAD.to_string() + &chosen.iter().map(|text| hex(text) + "\n").collect::<String>();
+    let stdout: String = answer(b"") + "\n" + &chosen.iter().map(|text| answer(text) + "\n").collect::<String>();
     println!("{} texts, {} bytes of hex", chosen.len(), stdin.len());
     let written = std::fs::write(folder.join("stdin"), stdin).and_then(|()| std::fs::write(folder.join("stdout"), stdout));
     written.inspect_err(|e| eprintln!("{}: {e}", folder.display())).is_ok()

@@ -117,6 +117,8 @@ fn compare_reader(scale: &Scale) -> bool {
     report.group("all short strings");
     texts::sequences(texts::WORDS, scale.words, &mut |text| report.text(text));
     report.group("all short sequences of words");
+    texts::sequences(texts::TAB_WORDS, scale.words + 1, &mut |text| report.text(text));
+    report.group("words and vertical tabs");
     compare_shared(&mut report, scale, scale.tree_records, scale.edges_step);
     for text in limits::texts(scale.limits) {
         report.text(&text);
@@ -130,6 +132,8 @@ fn compare_by_hand(scale: &Scale) -> bool {
     let mut report = Report::new("reader by hand", by_hand::compare);
     texts::sequences(texts::WORDS, scale.words, &mut |text| report.text(text));
     report.group("all short sequences of words");
+    texts::sequences(texts::TAB_WORDS, scale.words + 1, &mut |text| report.text(text));
+    report.group("words and vertical tabs");
     texts::made(6, scale.tree_records, scale.copies, &mut |text| report.text(text));
     texts::corpus().iter().for_each(|text| report.text(text));
     report.close()
@@ -177,6 +181,8 @@ fn compare_writing(scale: &Scale) -> bool {
     let mut report = Report::new("writing", writing::compare);
     texts::sequences(texts::WORDS, scale.words, &mut |text| report.text(text));
     report.group("all short sequences of words");
+    texts::sequences(texts::TAB_WORDS, scale.words + 1, &mut |text| report.text(text));
+    report.group("words and vertical tabs");
     value_texts::alike(9, scale.written_records, &mut |text| report.text(text));
     report.group("records that the crate writes alike");
     value_texts::lists(6, scale.lists / 2, &mut |text| report.text(text));
@@ -190,6 +196,8 @@ fn compare_writing(scale: &Scale) -> bool {
 
 fn compare_edits(scale: &Scale) -> bool {
     let mut report = Report::new("edits", edits::compare);
+    texts::sequences(texts::TAB_WORDS, scale.words + 1, &mut |text| report.text(text));
+    report.group("words and vertical tabs");
     texts::made(8, scale.edited_records, 1, &mut |text| report.text(text));
     report.group("made records");
     texts::corpus().iter().for_each(|text| report.text(text));

@@ -4,7 +4,7 @@ use crate::oracle::{self, tokenize};
 use crate::plain::{self, Refusal};
 use crate::report::same;
 
-/// Compares trimming, tokens, spans, identifiers, read values and the first fault.
+/// Compares trimming, tokens, spans, identifiers, read values and the first fault; the crate's are those of the text as it is asked.
 pub fn compare(text: &[u8]) -> Result<(), String> {
     let trimmed = library::trim(text);
     let read = match std::str::from_utf8(text) {
@@ -21,7 +21,7 @@ pub fn compare(text: &[u8]) -> Result<(), String> {
 /// `kept` is the crate's text, which starts at `first` in ours.
 fn compare_tokens(text: &[u8], first: usize, kept: &str) -> Result<(), String> {
     let mut at = first;
-    for item in tokenize(kept) {
+    for item in tokenize(&oracle::asked(kept)) {
         let ours = library::token(text, at);
         match item {
             Ok((token, span)) => compare_token(text, ours, &token, first + span.start, first + span.end)?,
@@ -50,7 +50,8 @@ fn compare_token(text: &[u8], ours: Token, token: &oracle::Token, from: usize, t
 }
 
 fn compare_property(text: &[u8], ours: Token, name: &str, values: &[String]) -> Result<(), String> {
-    same("identifier", text.get(ours.from..ours.opens), Some(name.as_bytes()))?;
+    let identifier = text.get(ours.from..ours.opens).ok_or("an identifier lies outside the text")?;
+    same("identifier", &oracle::asked_name(identifier)[..], name.as_bytes())?;
     let mut at = ours.opens;
     for value in values {
         let span = library::next_value(text, at);
