@@ -256,7 +256,8 @@ enum { SGF_DONE = 0, SGF_START = 1, SGF_END = 2, SGF_NODE = 3, SGF_PROPERTY = 4,
 
 /* A token and its span, whose end is the next place; `opens` is a property's first `[`, else the start. The number
  * is 3, 4 or 5 for a fault, else 0. After a fault there is no next place: `from`, `opens` and `to` are the start of the
- * token that fails; at the end of the text (SGF_DONE) they are the place asked for. */
+ * token that fails; at the end of the text (SGF_DONE) they are the place asked for. White space before a token, and
+ * after each value of a property, is skipped: space, tab, LF, VT, FF, CR. */
 typedef struct {
     uint32_t kind, number;
     size_t from, opens, to;

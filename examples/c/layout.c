@@ -69,6 +69,12 @@ static void check_tokens(void) {
     SgfValue value = sgf_next_value(source, 11, 5);
     CHECK(value.kind == SGF_VALUE && value.from == 6 && value.to == 7 && value.next == 8);
     CHECK(sgf_next_value(source, 11, 8).kind == SGF_NO_VALUE && sgf_next_value(source, 7, 5).kind == SGF_UNCLOSED);
+    /* A vertical tab is white space between tokens and after values. */
+    source = (const uint8_t *)"(;\vB[aa]\v[bb]\v;)";
+    token = sgf_token(source, 16, 2);
+    CHECK(token.kind == SGF_PROPERTY && token.from == 3 && token.opens == 4 && token.to == 14);
+    value = sgf_next_value(source, 16, 4);
+    CHECK(value.kind == SGF_VALUE && value.from == 5 && value.to == 7 && value.next == 9);
 }
 
 static void check_reading(void) {
@@ -86,6 +92,9 @@ static void check_reading(void) {
     CHECK(property[SGF_PROPERTY_FIRST_VALUE] == 2 && property[SGF_PROPERTY_VALUE_COUNT] == 1);
     CHECK(values[SGF_VALUE_STRIDE + SGF_VALUE_START] == 7 && values[SGF_VALUE_STRIDE + SGF_VALUE_END] == 8);
     CHECK(read_text("(;a[])", SGF_KEEP_IDENTIFIERS | SGF_LENIENT).counts.properties == 0);
+    r = read_text("(;\vGM[2]\v;)", SGF_STRICT);
+    CHECK(has(r.counts, 1, 2, 1, 1) && trees[SGF_TREE_GAME_TYPE] == SGF_UNKNOWN_GAME && properties[SGF_PROPERTY_IDENTIFIER_START] == 3);
+    CHECK(edit(0, "1").number == SGF_GAME_TYPE_FIXED);
     CHECK(read_text("", SGF_LENIENT).counts.nodes == SGF_NODES_FOR(0) && SGF_TREES_FOR(0) == 1);
     CHECK(sgf_read(NULL, 0, SGF_LENIENT, NULL, 0, NULL, 0, NULL, 0, NULL, 0).number == SGF_NO_ROOM);
 }

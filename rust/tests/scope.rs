@@ -55,6 +55,17 @@ fn edits() {
 }
 
 #[test]
+fn a_vertical_tab_is_white_space() {
+    let mut record = parse("(;\x0BGM[2]\x0B;B[aa]\x0B[bb]\x0B)").unwrap();
+    assert_eq!(record.trees().next().unwrap().game_type(), GameType::Unknown);
+    assert_eq!(parents(&record), [None, Some(0)]);
+    assert_eq!(record.to_sgf().unwrap(), "(;GM[2];B[aa][bb])");
+    assert_eq!(record.set_value(0, "1").unwrap_err().number(), 17);
+    assert_eq!(parse("(;GM\x0B[2])").unwrap().trees().next().unwrap().game_type(), GameType::Go);
+    assert_eq!((number("(;)\x0B;"), number("(;)\x0BB")), (0, 3));
+}
+
+#[test]
 fn the_text_may_be_kept_or_borrowed() {
     let kept = Record::from_owned("(;B[aa])", &ParseOptions::default()).unwrap();
     assert_eq!(kept, parse("(;B[aa])").unwrap().into_owned());
