@@ -148,6 +148,19 @@ static size_t make_text(uint8_t *to) {
     return length;
 }
 
+/* Whether every identifier of the record is made of uppercase letters alone. */
+static bool are_plain(void) {
+    for (size_t p = 0; p < counts.properties; p++) {
+        const uint32_t *row = TABLE(PROPERTIES) + SGF_PROPERTY_STRIDE * p;
+        for (uint32_t at = row[SGF_PROPERTY_IDENTIFIER_START]; at < row[SGF_PROPERTY_IDENTIFIER_END]; at++) {
+            if (lent[TEXTS].at[at] < 'A' || lent[TEXTS].at[at] > 'Z') {
+                return false;
+            }
+        }
+    }
+    return true;
+}
+
 static void read_text(void) {
     uint8_t made[TEXT];
     used = given_text != NULL ? given_text_len : make_text(made);
@@ -162,7 +175,8 @@ static void read_text(void) {
     uint32_t options = draw(8);
     remember_all();
     SgfReading r = sgf_read(lent[TEXTS].at, used, options, LENT_TABLES);
-    uint32_t may = options & 1 ? MAY(2) | MAY(9) | MAY(14) : 0x7FFCu;
+    REQUIRE(r.ignored == (options & 2));
+    uint32_t may = options & 1 ? MAY(2) | MAY(9) | MAY(14) : 0x5FFCu;
     bool good = answered(READ, r.number, is_short ? may : may & ~MAY(14), MAY(TREES) | MAY(NODES) | MAY(PROPERTIES) | MAY(VALUES));
     size_t found[TABLES] = {r.counts.trees, r.counts.nodes, r.counts.properties, r.counts.values};
     for (int t = 0; t < TABLES; t++) {
@@ -175,7 +189,7 @@ static void read_text(void) {
     counts = r.counts;
     REQUIRE(!good || sgf_fits(RECORD) == 0);
     is_strict = good && (options & 1) == 0;
-    is_plain = is_strict && (options & 2) != 0;
+    is_plain = is_strict && are_plain();
 }
 
 static void damage(void) {

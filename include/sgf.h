@@ -44,7 +44,7 @@ extern "C" {
 /* The version of the archive: major * 65536 + minor * 256 + patch. */
 uint32_t sgf_version(void);
 
-/* Numbers given back. The names of 3 to 8 and 10 to 13 are those of the Rust crate sgf-parse. */
+/* Numbers given back. The names of 3 to 8 and 10 to 13 are those of the Rust crate sgf-parse. 13 is given no more. */
 enum {
     SGF_ACCEPTED = 0,
     SGF_TEXT_TOO_LONG = 1,                          /* more than SGF_TEXT_LIMIT bytes */
@@ -59,7 +59,7 @@ enum {
     SGF_UNEXPECTED_GAME_TREE_START = 10,            /* a `(` where no node can follow yet (see below) */
     SGF_UNEXPECTED_PROPERTY = 11,                   /* a property not directly behind a node; a second GM (see below) */
     SGF_INVALID_GAME_TYPE = 12,                     /* GM (see below) without one value, or no signed 32-bit number */
-    SGF_INVALID_FF4_PROPERTY = 13,                  /* with SGF_KEEP_IDENTIFIERS: not only uppercase letters */
+    SGF_INVALID_FF4_PROPERTY = 13,                  /* retired: no longer given */
     SGF_NO_ROOM = 14,                               /* needed rows or bytes exceed those lent */
     SGF_EMPTY_IDENTIFIER = 15,                      /* writing: an identifier has no uppercase letter */
     SGF_NO_SUCH_NUMBER = 16,                        /* value or property number not below the count */
@@ -104,7 +104,7 @@ enum { SGF_GO = 0, SGF_UNKNOWN_GAME = 1 };
 enum {
     SGF_STRICT = 0,
     SGF_LENIENT = 1,         /* reads as far as it can; refuses only with 1, 2, 9, 14; of "" gives one tree, one empty node */
-    SGF_KEEP_IDENTIFIERS = 2 /* identifiers with anything but uppercase letters are not converted but refused */
+    SGF_KEEP_IDENTIFIERS = 2 /* retired: read as if not set; the answer's `ignored` is then 2 */
 };
 
 /* Rows that suffice for the reading of any text of n bytes, strict or lenient: times the stride, numbers to lend.
@@ -122,15 +122,16 @@ typedef struct {
     size_t trees, nodes, properties, values;
 } SgfCounts;
 
-/* Number 0 and the used rows of each table; or the number of a refusal and its place. `reserved` is always 0. */
+/* Number 0 and the used rows of each table; or the number of a refusal and its place. `ignored`, on refusals too, is
+ * SGF_KEEP_IDENTIFIERS where the options have it, for it is ignored, else 0. */
 typedef struct {
-    uint32_t number, reserved;
+    uint32_t number, ignored;
     size_t place;
     SgfCounts counts;
 } SgfReading;
 
 /* Reads a text into the lent tables. Numbers, in this order: 1; 2; 3 to 5, the first in the text; 6; 7; 8; 9; then
- * tree by tree 11 and 12 for its game type, 10, 11, 13 and 7 for the tree; 14. */
+ * tree by tree 11 and 12 for its game type, 10, 11 and 7 for the tree; 14. */
 SgfReading sgf_read(const uint8_t *text, size_t text_len, uint32_t options,
                     uint32_t *trees, size_t trees_len, uint32_t *nodes, size_t nodes_len,
                     uint32_t *properties, size_t properties_len, uint32_t *values, size_t values_len);

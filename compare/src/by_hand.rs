@@ -10,7 +10,7 @@ const DEEPEST: usize = 1024;
 const ONES: u64 = 0x0101_0101_0101_0101;
 
 fn refused(number: u32, place: usize) -> Reading {
-    Reading { number, reserved: 0, place, counts: Counts::default() }
+    Reading { number, ignored: 0, place, counts: Counts::default() }
 }
 
 #[inline(always)]

@@ -52,6 +52,9 @@ const EXAMPLES: &[Example] = &[
     refused("(;GM[x])()", 0, 12, 0),
     refused("()(", 0, 7, 0),
     refused("(;a[]GM[x])", KEEP_IDENTIFIERS, 12, 0),
+    accepted("(;a[])", KEEP_IDENTIFIERS, GO, ONE),
+    accepted("(;a[]B[aa])", KEEP_IDENTIFIERS | LENIENT, GO, ONE),
+    refused("(", KEEP_IDENTIFIERS, 7, 0),
     refused("((GM[x]))", 0, 12, 0),
     refused("(;GM[x]GM[y])", 0, 11, 0),
     accepted(";GM[2](;)", 0, GO, &[NONE, 0]),
@@ -131,7 +134,7 @@ pub fn hold() -> bool {
 }
 
 fn is_read_otherwise(text: &str, expected: Result<&[u32], u32>) -> bool {
-    let trees = oracle::read_as_it_is(text, Options { lenient: false, convert: true });
+    let trees = oracle::read_as_it_is(text, Options { lenient: false });
     let kinds: Result<Vec<u32>, u32> = trees.map(|trees| trees.iter().map(|tree| matches!(tree, GameTree::Unknown(_)) as u32).collect());
     let good = kinds.as_deref().map_err(|number| *number) == expected;
     if !good {
@@ -173,7 +176,8 @@ fn holds(example: &Example) -> bool {
     let reading = library::read(example.text.as_bytes(), example.bits, tables);
     let kinds: Vec<u32> = trees.chunks(2).take(reading.counts.trees).map(|row| row[1]).collect();
     let parents: Vec<u32> = nodes.chunks(5).take(reading.counts.nodes).map(|row| row[0]).collect();
-    let good = (reading.number, reading.place, &kinds[..], &parents[..]) == (example.number, example.place, example.kinds, example.parents);
+    let good = reading.ignored == example.bits & KEEP_IDENTIFIERS
+        && (reading.number, reading.place, &kinds[..], &parents[..]) == (example.number, example.place, example.kinds, example.parents);
     if !good {
         println!("  {:?} with options {}: {reading:?}, game types {kinds:?}, parents {parents:?}", example.text, example.bits);
     }

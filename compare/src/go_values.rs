@@ -19,7 +19,7 @@ pub fn compare(text: &[u8]) -> Result<(), String> {
     let Some(whole) = Whole::read(text, 0, 0)? else { return Ok(()) };
     let h = whole.held();
     let read = std::str::from_utf8(text).expect("an accepted text is UTF-8");
-    let trees = oracle::read(read, Options { lenient: false, convert: true }).map_err(|number| format!("crate refused {number}"))?;
+    let trees = oracle::read(read, Options { lenient: false }).map_err(|number| format!("crate refused {number}"))?;
     let theirs: Vec<Go> = trees.iter().flat_map(of_tree).collect();
     same("properties", h.counts.properties, theirs.len())?;
     count(theirs.len());

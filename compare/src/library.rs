@@ -14,7 +14,7 @@ pub const UNCLOSED: u32 = 2;
 
 /// Bit 0 of a reading's options.
 pub const LENIENT: u32 = 1;
-/// Bit 1 of a reading's options: conversion off.
+/// Bit 1 of a reading's options: the retired conversion switch, which is ignored.
 pub const KEEP_IDENTIFIERS: u32 = 2;
 
 #[cfg(not(stand_in))]

@@ -57,14 +57,14 @@ pub fn fault(error: LexerError) -> u32 {
     }
 }
 
-/// The trees of a text, as it is asked, or the number of the crate's error.
+/// The trees of a text, as it is asked, conversion on, or the number of the crate's error.
 pub fn read(text: &str, options: Options) -> Result<Vec<GameTree>, u32> {
     read_as_it_is(&asked(text), options)
 }
 
 /// The trees of this very text.
 pub fn read_as_it_is(text: &str, options: Options) -> Result<Vec<GameTree>, u32> {
-    let options = ParseOptions { convert_mixed_case_identifiers: options.convert, lenient: options.lenient };
+    let options = ParseOptions { convert_mixed_case_identifiers: true, lenient: options.lenient };
     sgf_parse::parse_with_options(text, &options).map_err(number)
 }
 
@@ -79,7 +79,6 @@ fn number(error: SgfParseError) -> u32 {
         SgfParseError::UnexpectedGameTreeStart => 10,
         SgfParseError::UnexpectedProperty => 11,
         SgfParseError::InvalidGameType => 12,
-        SgfParseError::InvalidFF4Property => 13,
         other => unreachable!("reading never gives {other:?}"),
     }
 }

@@ -16,7 +16,6 @@ fn refused(number: u32) -> Refusal {
 #[derive(Debug, Clone, Copy, PartialEq, Eq)]
 pub struct Options {
     pub lenient: bool,
-    pub convert: bool,
 }
 
 /// The four tables.
@@ -168,7 +167,6 @@ struct Tree<'a> {
 enum Stop {
     Start,
     Property,
-    Identifier,
 }
 
 impl Tree<'_> {
@@ -180,10 +178,9 @@ impl Tree<'_> {
         };
         let first = record.nodes.len();
         let mut tree = Tree { record, first, lists: vec![0], current: 0, stack: vec![] };
-        match tree.walk(text, slice, options) {
+        match tree.walk(slice) {
             Err(Stop::Start) if !options.lenient => return Err(refused(10)),
             Err(Stop::Property) if !options.lenient => return Err(refused(11)),
-            Err(Stop::Identifier) => return Err(refused(13)),
             _ => {}
         }
         if tree.lists[0] == 0 {
@@ -196,7 +193,7 @@ impl Tree<'_> {
         Ok(())
     }
 
-    fn walk(&mut self, text: &[u8], slice: &[Token], options: Options) -> Result<(), Stop> {
+    fn walk(&mut self, slice: &[Token]) -> Result<(), Stop> {
         let mut rest = slice;
         while let [token, behind @ ..] = rest {
             rest = behind;
@@ -207,7 +204,7 @@ impl Tree<'_> {
                 Token::Property(_) => return Err(Stop::Property),
                 Token::Node => {
                     self.node();
-                    rest = self.properties(text, rest, options)?;
+                    rest = self.properties(rest);
                 }
             }
         }
@@ -223,20 +220,14 @@ impl Tree<'_> {
         self.record.nodes.push([parent, NONE, NONE, self.record.properties.len() as u32, 0]);
     }
 
-    /// The properties that follow join the last node, as far as their identifiers are taken; gives the tokens behind them all.
-    fn properties<'t>(&mut self, text: &[u8], rest: &'t [Token], options: Options) -> Result<&'t [Token], Stop> {
-        let (mut behind, mut taken) = (rest, true);
+    /// The properties that follow join the last node; gives the tokens behind them all.
+    fn properties<'t>(&mut self, rest: &'t [Token]) -> &'t [Token] {
+        let mut behind = rest;
         while let [Token::Property(property), next @ ..] = behind {
             behind = next;
-            let name = &text[property.from..property.opens];
-            taken &= options.convert || name.iter().all(u8::is_ascii_uppercase);
-            if taken {
-                self.property(property);
-            } else if !options.lenient {
-                return Err(Stop::Identifier);
-            }
+            self.property(property);
         }
-        Ok(behind)
+        behind
     }
 
     fn property(&mut self, property: &Property) {

@@ -1,4 +1,4 @@
-//! Readings of a text with every pair of options: the library beside the scope's words and beside the crate.
+//! Readings of a text, strict and lenient, with the retired switch set and not: the library beside the scope's words and beside the crate.
 use crate::held::{Counts, STRIDES};
 use crate::library::{self, Reading};
 use crate::oracle;
@@ -11,7 +11,7 @@ use sgf_parse::{GameTree, SgfNode, SgfProp};
 /// Numbers that stand behind each lent table and must stay.
 const GUARD: usize = 8;
 
-/// Compares the reading of a text with every pair of options and several lengths of tables.
+/// Compares the reading of a text, strict and lenient, with each of its settings and several lengths of tables.
 pub fn compare(text: &[u8]) -> Result<(), String> {
     for bits in 0..4 {
         compare_with(text, bits).map_err(|e| format!("options {bits}, {e}"))?;
@@ -20,7 +20,7 @@ pub fn compare(text: &[u8]) -> Result<(), String> {
 }
 
 fn options(bits: u32) -> Options {
-    Options { lenient: bits & library::LENIENT != 0, convert: bits & library::KEEP_IDENTIFIERS == 0 }
+    Options { lenient: bits & library::LENIENT != 0 }
 }
 
 fn compare_with(text: &[u8], bits: u32) -> Result<(), String> {
@@ -28,7 +28,7 @@ fn compare_with(text: &[u8], bits: u32) -> Result<(), String> {
     let need = expected.as_ref().map_or([0; 4], |columns| columns.each_ref().map(Vec::len));
     same("published sizes suffice", (0..4).all(|k| need[k] <= sufficient(text.len(), bits)[k] * STRIDES[k]), true)?;
     for lent in lengths(need, text.len()) {
-        compare_lent(&call(text, bits, lent), lent, &expected).map_err(|e| format!("tables of {lent:?}, {e}"))?;
+        compare_lent(&call(text, bits, lent), lent, bits & library::KEEP_IDENTIFIERS, &expected).map_err(|e| format!("tables of {lent:?}, {e}"))?;
     }
     match std::str::from_utf8(text) {
         Ok(read) => compare_crate(read, options(bits), &record_of(&call(text, bits, need))),
@@ -71,7 +71,7 @@ struct Answer {
     cells: Columns,
 }
 
-/// A call with the two bits of the options; the further bits mean nothing, and vary with the text.
+/// A call with the bits of leniency and of the retired switch; the further bits mean nothing, and vary with the text.
 fn call(text: &[u8], bits: u32, lent: [usize; 4]) -> Answer {
     let mut cells = lent.map(|length| (0..length + GUARD).map(canary).collect::<Vec<u32>>());
     let [trees, nodes, properties, values] = &mut cells;
@@ -80,7 +80,7 @@ fn call(text: &[u8], bits: u32, lent: [usize; 4]) -> Answer {
     Answer { reading, cells }
 }
 
-fn compare_lent(answer: &Answer, lent: [usize; 4], expected: &Result<Columns, Refusal>) -> Result<(), String> {
+fn compare_lent(answer: &Answer, lent: [usize; 4], ignored: u32, expected: &Result<Columns, Refusal>) -> Result<(), String> {
     let expected = match expected {
         Ok(columns) if (0..4).any(|k| columns[k].len() > lent[k]) => &Err(Refusal { number: 14, place: 0 }),
         expected => expected,
@@ -91,7 +91,7 @@ fn compare_lent(answer: &Answer, lent: [usize; 4], expected: &Result<Columns, Re
         Err(refusal) => (*refusal, &nothing),
     };
     let counts = Counts::of([0, 1, 2, 3].map(|k| columns[k].len() / STRIDES[k]));
-    same("reading", answer.reading, Reading { number: refusal.number, reserved: 0, place: refusal.place, counts })?;
+    same("reading", answer.reading, Reading { number: refusal.number, ignored, place: refusal.place, counts })?;
     for k in 0..4 {
         compare_cells(&answer.cells[k], &columns[k]).map_err(|e| format!("table {k}, {e}"))?;
     }

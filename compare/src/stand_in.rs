@@ -36,12 +36,11 @@ pub fn next_value(text: &[u8], at: usize) -> Value {
     }
 }
 
-fn refusal(number: u32, place: usize) -> Reading {
-    Reading { number, reserved: 0, place, counts: Counts::default() }
-}
 
 pub fn read(text: &[u8], options: u32, tables: [&mut [u32]; 4]) -> Reading {
-    let options = plain_reader::Options { lenient: options & LENIENT != 0, convert: options & KEEP_IDENTIFIERS == 0 };
+    let ignored = options & KEEP_IDENTIFIERS;
+    let refusal = |number, place| Reading { number, ignored, place, counts: Counts::default() };
+    let options = plain_reader::Options { lenient: options & LENIENT != 0 };
     let record = match plain_reader::read(text, options) {
         Ok(record) => record,
         Err(refused) => return refusal(refused.number, refused.place),
@@ -54,5 +53,5 @@ pub fn read(text: &[u8], options: u32, tables: [&mut [u32]; 4]) -> Reading {
         table[..column.len()].copy_from_slice(column);
     }
     let counts = Counts::of([record.trees.len(), record.nodes.len(), record.properties.len(), record.values.len()]);
-    Reading { number: 0, reserved: 0, place: 0, counts }
+    Reading { number: 0, ignored, place: 0, counts }
 }

@@ -55,7 +55,7 @@ fn compare_plain(whole: &Whole) -> Result<(), String> {
 
 fn compare_crate(text: &[u8], h: &Held, written: &[u8]) -> Result<(), String> {
     let read = std::str::from_utf8(text).expect("an accepted text is UTF-8");
-    let trees = oracle::read(read, Options { lenient: false, convert: true }).map_err(|number| format!("crate refused {number}"))?;
+    let trees = oracle::read(read, Options { lenient: false }).map_err(|number| format!("crate refused {number}"))?;
     let mut p = 0;
     let mut alike = Alike::Bytes;
     for (t, tree) in trees.iter().enumerate() {

@@ -79,7 +79,7 @@ static void check_tokens(void) {
 
 static void check_reading(void) {
     SgfReading r = read_text("(;A[a][b]B[c](;)(;C[d]))(;GM[2])", SGF_STRICT);
-    CHECK(r.number == SGF_ACCEPTED && r.reserved == 0 && r.place == 0);
+    CHECK(r.number == SGF_ACCEPTED && r.ignored == 0 && r.place == 0);
     CHECK(has(r.counts, 2, 4, 4, 5));
     CHECK(trees[SGF_TREE_ROOT] == 0 && trees[SGF_TREE_GAME_TYPE] == SGF_GO);
     CHECK(trees[SGF_TREE_STRIDE + SGF_TREE_ROOT] == 3 && trees[SGF_TREE_STRIDE + SGF_TREE_GAME_TYPE] == SGF_UNKNOWN_GAME);
@@ -91,10 +91,14 @@ static void check_reading(void) {
     CHECK(property[SGF_PROPERTY_IDENTIFIER_START] == 9 && property[SGF_PROPERTY_IDENTIFIER_END] == 10);
     CHECK(property[SGF_PROPERTY_FIRST_VALUE] == 2 && property[SGF_PROPERTY_VALUE_COUNT] == 1);
     CHECK(values[SGF_VALUE_STRIDE + SGF_VALUE_START] == 7 && values[SGF_VALUE_STRIDE + SGF_VALUE_END] == 8);
-    CHECK(read_text("(;a[])", SGF_KEEP_IDENTIFIERS | SGF_LENIENT).counts.properties == 0);
     r = read_text("(;\vGM[2]\v;)", SGF_STRICT);
     CHECK(has(r.counts, 1, 2, 1, 1) && trees[SGF_TREE_GAME_TYPE] == SGF_UNKNOWN_GAME && properties[SGF_PROPERTY_IDENTIFIER_START] == 3);
     CHECK(edit(0, "1").number == SGF_GAME_TYPE_FIXED);
+    r = read_text("(;a[])", SGF_KEEP_IDENTIFIERS);
+    CHECK(r.number == SGF_ACCEPTED && r.ignored == SGF_KEEP_IDENTIFIERS && r.counts.properties == 1);
+    r = read_text("(;a[]B[aa])", SGF_KEEP_IDENTIFIERS | SGF_LENIENT);
+    CHECK(r.ignored == SGF_KEEP_IDENTIFIERS && r.counts.properties == 2);
+    CHECK(read_text("(", SGF_KEEP_IDENTIFIERS).ignored == SGF_KEEP_IDENTIFIERS && read_text("(", 4).ignored == 0);
     CHECK(read_text("", SGF_LENIENT).counts.nodes == SGF_NODES_FOR(0) && SGF_TREES_FOR(0) == 1);
     CHECK(sgf_read(NULL, 0, SGF_LENIENT, NULL, 0, NULL, 0, NULL, 0, NULL, 0).number == SGF_NO_ROOM);
 }
@@ -115,7 +119,7 @@ static void check_refused_readings(void) {
         {"((;))", SGF_STRICT, SGF_UNEXPECTED_GAME_TREE_START, 0},
         {"(B[aa])", SGF_STRICT, SGF_UNEXPECTED_PROPERTY, 0},
         {"(;GM[x])", SGF_STRICT, SGF_INVALID_GAME_TYPE, 0},
-        {"(;a[])", SGF_KEEP_IDENTIFIERS, SGF_INVALID_FF4_PROPERTY, 0},
+        {"(", SGF_KEEP_IDENTIFIERS, SGF_UNEXPECTED_END_OF_DATA, 0},
     };
     for (size_t i = 0; i < sizeof cases / sizeof *cases; i++) {
         SgfReading r = read_text(cases[i].source, cases[i].options);

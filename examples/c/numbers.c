@@ -45,10 +45,9 @@ static const Row rows[] = {
     {11, 0, READ, "(B[aa])", 0, FIT, 0, "", 0},
     {11, 0, READ, "(;GM[1]GM[x])", 0, FIT, 0, "", 0},
     {12, 0, READ, "(;GM[x])", 0, FIT, 0, "", 0},
-    {13, 0, READ, "(;Black[aa])", 2, FIT, 0, "", 0},
+    {0, 0, READ, "(;Black[aa])", 0, FIT, 0, "", 0},
     {14, 0, READ, "(;B[aa])", 4, FIT, 0, "", 0},
     {14, 0, READ, "(;B[aa])", 5, FIT, 0, "", 0},
-    {13, 0, READ, "(;Black[aa])", 6, FIT, 0, "", 0},
     {0, 0, FITS, "(;C[ab])", 0, FIT, 0, "", 0},
     {19, 0, FITS, "(;C[ab])", 0, DAMAGED, 0, "", 0},
     {0, 0, VALUE, "(;C[ab])", 0, FIT, 0, "", 0},
@@ -122,7 +121,8 @@ static uint32_t answer(const Row *r, uint32_t options, size_t *place, bool *is_z
         SgfReading a = reading(length, options, options & 4 ? 0 : ROWS);
         *place = a.place;
         *is_zero = none(a.counts);
-        return a.number;
+        /* The retired switch is ignored, and every answer says so. */
+        return a.ignored == (options & SGF_KEEP_IDENTIFIERS) ? a.number : SGF_INVALID_FF4_PROPERTY;
     }
     case FITS: return sgf_fits(RECORD);
     case VALUE: {
@@ -205,14 +205,18 @@ int main(void) {
     for (const Row *r = rows; r < rows + sizeof rows / sizeof *rows; r++) {
         check(r, r->options, r->number, r->place);
         seen |= 1u << r->number;
+        if (r->call == READ) {
+            check(r, r->options | SGF_KEEP_IDENTIFIERS, r->number, r->place);
+        }
         /* Lenient reading gives only 0, 1, 2, 9 and 14. */
         if (r->call == READ && (r->options & 4) == 0 && r->number > 2 && r->number != 9) {
             check(r, r->options | SGF_LENIENT, 0, 0);
         }
     }
     for (int n = 0; n < 20; n++) {
-        if (!(seen >> n & 1)) {
-            printf("no row gives %d\n", n);
+        /* 13 is given no more. */
+        if ((seen >> n & 1) == (n == SGF_INVALID_FF4_PROPERTY)) {
+            printf("%s row gives %d\n", n == SGF_INVALID_FF4_PROPERTY ? "a" : "no", n);
             failures++;
         }
     }

@@ -19,6 +19,7 @@ pub enum ErrorKind {
     UnexpectedGameTreeStart = 10,
     UnexpectedProperty = 11,
     InvalidGameType = 12,
+    #[deprecated = "no longer given: reading always converts identifiers"]
     InvalidFF4Property = 13,
     NoRoom = 14,
     EmptyIdentifier = 15,
@@ -31,6 +32,7 @@ pub enum ErrorKind {
 use ErrorKind::*;
 
 /// Each kind, and what it tells a user.
+#[allow(deprecated)]
 const KINDS: [(ErrorKind, &str); 19] = [
     (TextTooLong, "the text is longer than 1,048,576 bytes"),
     (NotUtf8, "these bytes are not UTF-8"),
@@ -44,7 +46,7 @@ const KINDS: [(ErrorKind, &str); 19] = [
     (UnexpectedGameTreeStart, "a tree begins with a tree instead of a node"),
     (UnexpectedProperty, "a property stands outside a node, or a second GM in the root"),
     (InvalidGameType, "the game type GM is not one number"),
-    (InvalidFF4Property, "a property identifier is not made of uppercase letters only"),
+    (InvalidFF4Property, "no longer given"),
     (NoRoom, "more memory is needed than was lent"),
     (EmptyIdentifier, "a property identifier has no uppercase letter, so it cannot be written"),
     (NoSuchNumber, "there is no value of this number"),
@@ -58,13 +60,19 @@ const KINDS: [(ErrorKind, &str); 19] = [
 pub struct Error {
     kind: ErrorKind,
     place: usize,
+    ignored: bool,
 }
 
 impl Error {
-    /// The refusal with this number, 1 to 19; the library gives no other.
+    /// The refusal with this number, 1 to 19 but 13; the library gives no other.
     pub(crate) fn new(number: u32, place: usize) -> Self {
         let known = KINDS.iter().find(|(kind, _)| *kind as u32 == number);
-        Error { kind: known.expect("a number of the library").0, place }
+        Error { kind: known.expect("a number of the library").0, place, ignored: false }
+    }
+
+    /// The same, of a reading that ignored settings, or not.
+    pub(crate) fn ignoring(self, ignored: bool) -> Self {
+        Error { ignored, ..self }
     }
 
     /// Why.
@@ -90,6 +98,19 @@ impl Error {
     /// The byte at which it lies: of kinds 2 to 5, in the text, or in the new value of an edit; else 0.
     pub fn place(&self) -> usize {
         self.place
+    }
+
+    /// Whether the reading that is refused was given a setting that is ignored: see
+    /// [`Record::ignored_settings`](crate::Record::ignored_settings).
+    ///
+    /// ```
+    /// use ekimorepa::{ParseOptions, parse_with_options};
+    ///
+    /// let stored = ParseOptions { convert_mixed_case_identifiers: false, ..ParseOptions::default() };
+    /// assert!(parse_with_options("(;", &stored).unwrap_err().ignored_settings());
+    /// ```
+    pub fn ignored_settings(&self) -> bool {
+        self.ignored
     }
 
     /// The place as line and column in characters, from 1, of the text that was refused; none where the kind has no place.

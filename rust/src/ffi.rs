@@ -17,7 +17,7 @@ pub struct Counts {
 #[derive(Debug, Clone, Copy, PartialEq, Eq)]
 pub struct Reading {
     pub number: u32,
-    pub reserved: u32,
+    pub ignored: u32,
     pub place: usize,
     pub counts: Counts,
 }

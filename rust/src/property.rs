@@ -72,7 +72,7 @@ impl<'r> Property<'r> {
             GameType::Go => 0,
             GameType::Unknown => 1,
         };
-        let Record { text, tables } = self.record();
+        let Record { text, tables, .. } = self.record();
         let name = self.raw_identifier().as_bytes();
         ffi::go_property(game, name, text, tables.values.as_flattened(), first as usize, count as usize).into()
     }

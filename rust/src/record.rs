@@ -6,7 +6,8 @@ use std::borrow::Cow;
 /// How to read.
 #[derive(Debug, Clone, Copy, PartialEq, Eq)]
 pub struct ParseOptions {
-    /// Whether an identifier with anything but uppercase letters is read as its uppercase letters; if not, it is refused.
+    /// Ignored, and kept for profiles that store it: an identifier is always read as its uppercase letters. Where it is
+    /// false, the answer says that it was ignored.
     pub convert_mixed_case_identifiers: bool,
     /// Whether to read as far as possible instead of refusing.
     pub lenient: bool,
@@ -31,6 +32,7 @@ impl ParseOptions {
 pub struct Record<'t> {
     pub(crate) text: Cow<'t, [u8]>,
     pub(crate) tables: Tables,
+    pub(crate) ignored: bool,
 }
 
 /// Reads a text strictly.
@@ -61,11 +63,13 @@ pub fn parse_lenient<T: AsRef<[u8]> + ?Sized>(text: &T) -> Result<Record<'_>, Er
 /// Reads a text.
 ///
 /// ```
-/// use ekimorepa::{ErrorKind, ParseOptions, parse_with_options};
+/// use ekimorepa::{ParseOptions, parse_with_options};
 ///
-/// let options = ParseOptions { convert_mixed_case_identifiers: false, ..ParseOptions::default() };
-/// let error = parse_with_options("(;Black[aa])", &options).unwrap_err();
-/// assert_eq!(error.kind(), ErrorKind::InvalidFF4Property);
+/// let stored = ParseOptions { convert_mixed_case_identifiers: false, ..ParseOptions::default() };
+/// let record = parse_with_options("(;Black[aa])", &stored)?;
+/// assert!(record.ignored_settings());
+/// assert_eq!(record.to_sgf()?, "(;B[aa])");
+/// # Ok::<(), ekimorepa::Error>(())
 /// ```
 pub fn parse_with_options<'t, T: AsRef<[u8]> + ?Sized>(text: &'t T, options: &ParseOptions) -> Result<Record<'t>, Error> {
     Record::read(Cow::Borrowed(text.as_ref()), *options)
@@ -81,10 +85,10 @@ impl<'t> Record<'t> {
         let mut tables = if text.len() <= TEXT_LIMIT { Tables::sufficient(&text) } else { Tables::default() };
         let reading = ffi::read(&text, options.bits(), tables.lent());
         if reading.number != 0 {
-            return Err(Error::new(reading.number, reading.place));
+            return Err(Error::new(reading.number, reading.place).ignoring(reading.ignored != 0));
         }
         tables.keep(reading.counts);
-        Ok(Record { text, tables })
+        Ok(Record { text, tables, ignored: reading.ignored != 0 })
     }
 
     /// Reads a text and keeps it.
@@ -112,14 +116,19 @@ impl<'t> Record<'t> {
     /// ```
     pub fn from_tables<T: AsRef<[u8]> + ?Sized>(text: &'t T, tables: Tables) -> Result<Self, Error> {
         match ffi::fits(&tables.held(text.as_ref())) {
-            0 => Ok(Record { text: Cow::Borrowed(text.as_ref()), tables }),
+            0 => Ok(Record { text: Cow::Borrowed(text.as_ref()), tables, ignored: false }),
             number => Err(Error::new(number, 0)),
         }
     }
 
     /// The record with a text of its own.
     pub fn into_owned(self) -> Record<'static> {
-        Record { text: Cow::Owned(self.text.into_owned()), tables: self.tables }
+        Record { text: Cow::Owned(self.text.into_owned()), tables: self.tables, ignored: self.ignored }
+    }
+
+    /// Whether the reading was given a setting that is ignored: the retired conversion switch, off.
+    pub fn ignored_settings(&self) -> bool {
+        self.ignored
     }
 
     /// The text.

@@ -54,7 +54,8 @@ fn every_number() {
         (10, 0, read("((;))")),
         (11, 0, read("(B[aa])")),
         (12, 0, read("(;GM[x])")),
-        (13, 0, parse_with_options("(;Black[aa])", &keep).map(drop)),
+        (0, 0, parse_with_options("(;Black[aa])", &keep).map(drop)),
+        (7, 0, parse_with_options("(", &keep).map(drop)),
         (15, 0, write("(;[x])")),
         (16, 0, edit("(;GM[1])", 1, "]")),
         (17, 0, edit("(;GM[1])", 0, "]")),
@@ -65,7 +66,19 @@ fn every_number() {
         assert_eq!(answer.map_or_else(|error| (error.number(), error.place()), |()| (0, 0)), (*number, *place));
     }
     let given = |number: &u32| rows.iter().any(|row| row.0 == *number);
-    assert_eq!((0..20).filter(|number| !given(number)).collect::<Vec<_>>(), [ErrorKind::NoRoom as u32]);
+    assert_eq!((0..20).filter(|number| !given(number)).collect::<Vec<_>>(), [13, ErrorKind::NoRoom as u32]);
+}
+
+#[test]
+fn the_retired_switch_is_ignored_and_said() {
+    let on = ParseOptions::default();
+    let keep = ParseOptions { convert_mixed_case_identifiers: false, ..on };
+    for text in ["(;a[])", "(;Black[aa]b[])", "(;)", "(", "", "(;GM[x])", "(a[])"] {
+        let (with, without) = (parse_with_options(text, &keep), parse_with_options(text, &on));
+        assert_eq!(with.as_ref().map_err(Error::number).map(Record::tables), without.as_ref().map_err(Error::number).map(Record::tables));
+        let said = |answer: &Result<Record, Error>| answer.as_ref().map_or_else(Error::ignored_settings, Record::ignored_settings);
+        assert_eq!((said(&with), said(&without)), (true, false), "{text}");
+    }
 }
 
 #[test]

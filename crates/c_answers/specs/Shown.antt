@@ -27,10 +27,10 @@ use Rattle.c_answers.specs.declared.SgfWriting.{SgfWriting}
 abbrev pub noRows : Counts
 noRows = record { trees = 0; nodes = 0; properties = 0; values = 0 }
 
--- number, place, and the used rows of each table
-abbrev pub readingShown : Reading → SgfReading
-readingShown (Accepted c) = record { number = 0; reserved = 0; place = 0; counts = c }
-readingShown (NotRead r s) = record { number = numberOf r; reserved = 0; place = s; counts = noRows }
+-- number, the settings that were ignored, place, and the used rows of each table
+abbrev pub readingShown : (ignored : ℕ) → Reading → SgfReading
+readingShown i (Accepted c) = record { number = 0; ignored = i; place = 0; counts = c }
+readingShown i (NotRead r s) = record { number = numberOf r; ignored = i; place = s; counts = noRows }
 
 -- the span of a value that is accessed; a refusal's number and an empty span
 abbrev pub spanShown : Accessed → SgfSpan

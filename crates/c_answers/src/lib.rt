@@ -12,29 +12,29 @@ ghost use mathlib.Core.Path.{_≡_};
 ghost use Rattle.ask.specs.Ask.{shownFor};
 ghost use Rattle.c_answers.specs.Shown.{readingShown, spanShown, displayShown, figuresShown, goShown, writingShown, editShown};
 
-// Number 0 and the counts of used rows; or the number of a refusal and its place, the counts 0.
+// Number 0 and the counts of used rows; or the number of a refusal and its place, the counts 0. In both cases the settings that were ignored.
 #[repr(C)]
 pub struct SgfReading {
     pub number: u32,
-    pub reserved: u32,
+    pub ignored: u32,
     pub place: usize,
     pub counts: Counts,
 }
 
-// A reading.
-pub fn reading_shown(reading: Reading) -> SgfReading
-    ensures { λ r. ⌜ r ≡ readingShown reading ⌝ }
+// A reading, and the settings that were ignored.
+pub fn reading_shown(ignored: u32, reading: Reading) -> SgfReading
+    ensures { λ r. ⌜ r ≡ readingShown ignored reading ⌝ }
 {
     match reading {
         Reading::Accepted(c) => SgfReading {
             number: 0,
-            reserved: 0,
+            ignored: ignored,
             place: 0,
             counts: c,
         },
         Reading::Refused(reason, place) => SgfReading {
             number: tables::number(reason),
-            reserved: 0,
+            ignored: ignored,
             place: place,
             counts: Counts {
                 trees: 0,

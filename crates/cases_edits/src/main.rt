@@ -36,7 +36,7 @@ fn nothing() -> Used {
     }
 }
 
-// A text read strictly, conversion on.
+// A text read strictly.
 fn on_text(
     line: &[u8],
     text: &mut [u8],
@@ -46,7 +46,7 @@ fn on_text(
     values: &mut [u32],
 ) -> Used {
     let n = load(line, 2, text);
-    match reader::read(&text[..n], false, true, trees, nodes, properties, values) {
+    match reader::read(&text[..n], false, trees, nodes, properties, values) {
         Reading::Refused(reason, place) => {
             say_refused(tables::number(reason), place);
             nothing()

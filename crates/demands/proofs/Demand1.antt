@@ -1,7 +1,7 @@
 -- Demand 1, total: any bytes, options and lent tables get an answer; each refusal is given exactly when the scope says; a refusal changes no lent byte or row. Assumes nothing.
 -- That every input has an answer, and one only, is each contract itself, which has no premise (demands/proofs/UniqueExported). Said here of the exported functions, by their numbers;
 -- what a refusal leaves is said of the functions below them as well. When the reader's definition refuses, and with which number, is said of `read`.
-use Rattle.lists.proofs.Prelude.{ℕ, _<_, true, false, List, _≡_, ap, length}
+use Rattle.lists.proofs.Prelude.{ℕ, _<_, true, false, List, _≡_, ap, length, Bool}
 use Rattle.text_chars.specs.Table.{WellFormed, BadFrom}
 use Rattle.text_utf8.specs.Trim.{trimmed}
 use Rattle.lexer.specs.declared.Step.{Step}
@@ -16,7 +16,6 @@ use Rattle.tables.specs.declared.Reason.the-variants.{NotUtf8, NotFitting}
 use Rattle.fit.specs.Fit.{Fit}
 use Rattle.ask_value.specs.Access.{accessed}
 use Rattle.parser.specs.Read.{read}
-use Rattle.parser.specs.Walk.{Opts}
 use Rattle.reader.specs.Lent.{Lent, ReadIs}
 use Rattle.ask.specs.Ask.{DisplayIs, goAnswer}
 use Rattle.ask.specs.declared.Shown.the-variants.{NotShown}
@@ -47,12 +46,13 @@ use Rattle.demands.proofs.Readings as reading
 use Rattle.demands.proofs.Refusals.{reading-leaves, edit-leaves, display-leaves}
 use Rattle.demands.proofs.Texts as texts
 use Rattle.demands.proofs.Written as writing
--- when the definition refuses, number by number, in the scope's words: strict 1 to 12 (of 13 nothing is said), lenient 1, 2, 9
+-- when the definition refuses, number by number, in the scope's words: strict 1 to 12, lenient 1, 2, 9; no reason has the number 13
 pub use Rattle.reader_exactly.proofs.Exactly.{strict-1, strict-2, strict-3, strict-4, strict-5, strict-6}
 pub use Rattle.reader_exactly.proofs.Exactly.{strict-7, strict-8, strict-9, strict-10, strict-11, strict-12}
 pub use Rattle.reader_exactly.proofs.Exactly.{lenient-1, lenient-2, lenient-9}
--- when it accepts: strict with conversion, and lenient; no reason above 13, none above 12 with conversion, so never 14 itself: 14 is too few rows alone
-pub use Rattle.demands.proofs.Accepts.{strict-0, lenient-0, upto-13, upto-12, never-room}
+pub use Rattle.reader.proofs.Theorems.{no-thirteen}
+-- when it accepts: strict, and lenient; no reason above 12, so never 14 itself: 14 is too few rows alone
+pub use Rattle.demands.proofs.Accepts.{strict-0, lenient-0, upto-12, never-room}
 -- sgf_trim, sgf_token, sgf_display_value
 pub use Rattle.demands.proofs.Demand1Texts.{trim-kept, trim-keeps, token-exactly, raw-exactly, raw-stays, raw-numbers}
 
@@ -64,26 +64,30 @@ number-some = numbers.number-some
 pub number-once : (r s : Reason) → numberOf r ≡ numberOf s → r ≡ s
 number-once = numbers.number-once
 
-module _ (op : Opts) (t : List ℕ) (before after : Lent) (r : SgfReading) (s : ReadShown (read op t) before after r) where
+module _ {i : ℕ} (len : Bool) (t : List ℕ) (before after : Lent) (r : SgfReading) (s : ReadShown i (read len t) before after r) where
   -- sgf_read: 0 exactly where the text reads as a record whose rows are lent; each number, with its place, exactly where the definition refuses so, or, 14, rows are too few
-  pub reading-exactly : Exactly (r .number) (Reads op t before) (λ x. (p : ℕ) × Unread op t before x p × (r .place ≡ p))
-  reading-exactly = reading.reading-exactly op t before after r s
+  pub reading-exactly : Exactly (r .number) (Reads len t before) (λ x. (p : ℕ) × Unread len t before x p × (r .place ≡ p))
+  reading-exactly = reading.reading-exactly len t before after r s
 
   -- any other number than 0 leaves every number of the four tables
   pub reading-stays : 0 < r .number → after ≡ before
-  reading-stays = reading.reading-stays op t before after r s
+  reading-stays = reading.reading-stays len t before after r s
 
   -- and gives no counts
   pub reading-zeros : 0 < r .number → countsRead r ≡ noCounts
-  reading-zeros = reading.reading-zeros op t before after r s
+  reading-zeros = reading.reading-zeros len t before after r s
 
-  -- 0 to 14 are its numbers
+  -- the settings that were ignored are said, on refusals too
+  pub reading-ignored : r .ignored ≡ i
+  reading-ignored = reading.reading-ignored len t before after r s
+
+  -- 0 to 12 and 14 are its numbers
   pub reading-numbers : OneOf strictNumbers (r .number)
-  reading-numbers = reading.strict-listed op t before after r s
+  reading-numbers = reading.strict-listed len t before after r s
 
   -- lenient: 0, 1, 2, 9, 14
-  pub lenient-numbers : op .lenient ≡ true → OneOf lenientNumbers (r .number)
-  lenient-numbers = reading.lenient-listed op t before after r s
+  pub lenient-numbers : len ≡ true → OneOf lenientNumbers (r .number)
+  lenient-numbers = reading.lenient-listed len t before after r s
 
 module _ (m : Memory) (out out′ : List ℕ) (r : SgfWriting) (s : WriteShown m out out′ r) where
   -- sgf_write: 19, 15, 14
@@ -164,8 +168,8 @@ property-numbers g r e = ap (λ (z : SgfGoValue). z .number) e
 -- ---- what a refusal leaves, of the functions below these
 
 -- a refused reading leaves every number of the four tables
-pub reading-refused : (op : Opts) (t : List ℕ) (before after : Lent) (r : Reason) (p : ℕ) → ReadIs (read op t) before after (Refused r p) → after ≡ before
-reading-refused op t before after r p x = reading-leaves (read op t) before after r p (x .answer) (x .tables)
+pub reading-refused : (len : Bool) (t : List ℕ) (before after : Lent) (r : Reason) (p : ℕ) → ReadIs (read len t) before after (Refused r p) → after ≡ before
+reading-refused len t before after r p x = reading-leaves (read len t) before after r p (x .answer) (x .tables)
 
 -- a refused edit leaves every byte of the buffer and every number of the tables
 pub edit-refused : (m m′ : Memory) (k : ℕ) (new : List ℕ) (r : Reason) (p : ℕ) → EditIs m m′ k new (edited.Refused r p) → m′ ≡ m

@@ -13,29 +13,29 @@ use Rattle.serialize_laws.specs.Back.{Named, BeginsAll}
 use Rattle.serialize_laws.specs.Depth.{depthOf}
 use Rattle.c_answers.specs.declared.SgfReading.{SgfReading}
 use Rattle.c_answers.specs.declared.SgfWriting.{SgfWriting}
-use Rattle.sgf.specs.Shown.{optionsOf, ReadShown}
+use Rattle.sgf.specs.Shown.{ReadShown}
 use Rattle.sgf.specs.Changed.{WriteShown}
 use Rattle.demands.specs.Cells.{hasRoom, countsRead}
 use Rattle.demands.specs.Holding.{holding}
 use Rattle.demands.proofs.ExportedRoom as room
 
 -- the first reading is strict and 0; trees begin with `(`, and raw identifiers are uppercase, not empty; its tables are written
-module _ (o : ℕ) (t : List ℕ) (before after : Lent) (a : SgfReading) (e : optionsOf o .lenient ≡ false) (x : ReadShown (read (optionsOf o) t) before after a) (z : a .number ≡ 0)
+module _ {i : ℕ} (t : List ℕ) (before after : Lent) (a : SgfReading) (x : ReadShown i (read false t) before after a) (z : a .number ≡ 0)
     (b : BeginsAll t) (nm : All Named (allProps (allNodes (recordIn (holding t (countsRead a) after))))) (out out′ : List ℕ) (r : SgfWriting)
     (w : WriteShown (holding t (countsRead a) after) out out′ r) where
   -- 14 where the output is too short, and it stays
   pub exported-full : length out < length (writing (recordIn (holding t (countsRead a) after))) → (r .number ≡ 14) × (out′ ≡ out)
-  exported-full = room.first-full o t before after a e x z b nm out out′ r w
+  exported-full = room.first-full t before after a x z b nm out out′ r w
 
   module _ (h : length (writing (recordIn (holding t (countsRead a) after))) ≤ length out) where
     -- else 0, with the writing and its length
     pub exported-first : (r .number ≡ 0) × (r .length ≡ length (writing (recordIn (holding t (countsRead a) after))))
         × (take (r .length) out′ ≡ writing (recordIn (holding t (countsRead a) after)))
-    exported-first = room.first-written o t before after a e x z b nm out out′ r w h
+    exported-first = room.first-written t before after a x z b nm out out′ r w h
 
     -- within the text limit and the depth the bytes read as a record: a strict reading of them is 0, with its counts, where tables have room for these, else 14
     pub exported-second : length (writing (recordIn (holding t (countsRead a) after))) ≤ textLimit → depthOf (writing (recordIn (holding t (countsRead a) after))) ≤ depthLimit
-        → (o₂ : ℕ) → optionsOf o₂ .lenient ≡ false → (ts : List Tree) × (read (optionsOf o₂) (take (r .length) out′) ≡ accepted ts)
-        × ((before₂ after₂ : Lent) (a₂ : SgfReading) → ReadShown (read (optionsOf o₂) (take (r .length) out′)) before₂ after₂ a₂
+        → (ts : List Tree) × (read false (take (r .length) out′) ≡ accepted ts)
+        × ((i₂ : ℕ) (before₂ after₂ : Lent) (a₂ : SgfReading) → ReadShown i₂ (read false (take (r .length) out′)) before₂ after₂ a₂
         → (hasRoom (countsOf (tables ts)) before₂ ≡ true → (a₂ .number ≡ 0) × (countsRead a₂ ≡ countsOf (tables ts))) × (hasRoom (countsOf (tables ts)) before₂ ≡ false → a₂ .number ≡ 14))
-    exported-second = room.second o t before after a e x z b nm out out′ r w h
+    exported-second = room.second t before after a x z b nm out out′ r w h

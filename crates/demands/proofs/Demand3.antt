@@ -1,7 +1,7 @@
 -- Demand 3, editable. "Take a record accepted by the strict reader, with its tables. Replace one value, not a GM value, by closed UTF-8 text that fits.
 -- The edited text and tables are then exactly what a strict reading of the new bytes, under the same options, gives; bytes before the value stay, later
 -- places move by the change in length. This holds after any run of edits, refused ones between them changing nothing." Assumes nothing.
-use Rattle.lists.proofs.Prelude.{ℕ, _+_, _-_, _≤_, _<_, Bool, true, List, _↔_, _≡_, length}
+use Rattle.lists.proofs.Prelude.{ℕ, _+_, _-_, _≤_, _<_, true, List, _↔_, _≡_, length, false}
 use Rattle.text_chars.specs.Table.{WellFormed}
 use Rattle.lexer.specs.Closed.{closed}
 use Rattle.tables.specs.Memory.{Memory}
@@ -26,7 +26,7 @@ use Rattle.sgf.specs.Shown.{ReadShown}
 use Rattle.edit_laws.specs.Calls as edit
 use Rattle.edit_laws.specs.Edits.{owner, newLength, Allowed, Forbidden, Moves, Edits}
 use Rattle.edit_laws.specs.Fresh.{Fresh}
-use Rattle.edit_laws.specs.Run.{strictly, Order, Reads, run}
+use Rattle.edit_laws.specs.Run.{Order, Reads, run}
 use Rattle.edit_laws.proofs.Bare as bare
 use Rattle.edit_laws.proofs.CallsRun as fitting
 use Rattle.edit_laws.proofs.OnCode as code
@@ -37,50 +37,50 @@ use Rattle.demands.proofs.Edited as edited
 use Rattle.demands.proofs.Editing as editing
 use Rattle.demands.proofs.Rereadings as again
 
-module _ (c : Bool) (m : Memory) where
+module _ (m : Memory) where
   -- memory as an accepted strict reading of the used text leaves it: the tables fit, and their rows are the record's
   pub reading-fresh : (before : Lent) → m .used ≤ length (m .text)
-      → ReadIs (read (strictly c) (textIn m)) before (tablesIn m) (Accepted (m .counts)) → Fresh (strictly c) m
-  reading-fresh = again.read-fresh c m
+      → ReadIs (read false (textIn m)) before (tablesIn m) (Accepted (m .counts)) → Fresh m
+  reading-fresh = again.read-fresh m
 
   -- the same of sgf_read: number 0, and the counts that it gives back
-  pub shown-fresh : (before : Lent) (r : SgfReading) → m .used ≤ length (m .text) → ReadShown (read (strictly c) (textIn m)) before (tablesIn m) r
-      → r .number ≡ 0 → countsRead r ≡ m .counts → Fresh (strictly c) m
-  shown-fresh = again.shown-fresh c m
+  pub shown-fresh : {i : ℕ} (before : Lent) (r : SgfReading) → m .used ≤ length (m .text) → ReadShown i (read false (textIn m)) before (tablesIn m) r
+      → r .number ≡ 0 → countsRead r ≡ m .counts → Fresh m
+  shown-fresh = again.shown-fresh m
 
-  module _ (f : Fresh (strictly c) m) where
+  module _ (f : Fresh m) where
     -- the sentence, of sgf_edit: accepted; what it leaves, byte by byte and place by place; and that is what a strict reading gives
     pub edit-fresh : (m′ : Memory) (k : ℕ) (new : List ℕ) (r : SgfEdit) → EditShown m m′ k new r
         → k < m .counts .values → (owner m k ≡ GM → ⊥) → WellFormed new → closed new ≡ true
         → newLength m k (length new) ≤ textLimit → newLength m k (length new) ≤ length (m .text)
-        → (r .number ≡ 0) × (r .used ≡ newLength m k (length new)) × (countsIn r ≡ m .counts) × Edits m k new m′ × Fresh (strictly c) (goesOn m′ r)
-    edit-fresh = editing.edit-fresh c m f
+        → (r .number ≡ 0) × (r .used ≡ newLength m k (length new)) × (countsIn r ≡ m .counts) × Edits m k new m′ × Fresh (goesOn m′ r)
+    edit-fresh = editing.edit-fresh m f
 
     -- after any run of calls of sgf_edit, refused ones between them
-    pub calls-fresh : (xs : List Order) (m′ : Memory) → Calls m xs m′ → Fresh (strictly c) m′
-    calls-fresh xs m′ k = again.calls-fresh c m m′ xs f (calls-shown k)
+    pub calls-fresh : (xs : List Order) (m′ : Memory) → Calls m xs m′ → Fresh m′
+    calls-fresh xs m′ k = again.calls-fresh m m′ xs f (calls-shown k)
 
     -- or of the edit itself
-    pub edits-fresh : (xs : List Order) (m′ : Memory) → edit.Calls m xs m′ → Fresh (strictly c) m′
-    edits-fresh xs m′ = again.calls-fresh c m m′ xs f
+    pub edits-fresh : (xs : List Order) (m′ : Memory) → edit.Calls m xs m′ → Fresh m′
+    edits-fresh xs m′ = again.calls-fresh m m′ xs f
 
     -- a strict reading of the used bytes into tables with room is accepted, with the same counts, and leaves the same cells
-    pub fresh-reading : (before after : Lent) (r : Reading) → hasRoom (m .counts) before ≡ true → ReadIs (read (strictly c) (textIn m)) before after r
+    pub fresh-reading : (before after : Lent) (r : Reading) → hasRoom (m .counts) before ≡ true → ReadIs (read false (textIn m)) before after r
         → (r ≡ Accepted (m .counts)) × SameCells (m .counts) after (tablesIn m)
-    fresh-reading = again.reread c m f
+    fresh-reading = again.reread m f
 
     -- the same of sgf_read
-    pub shown-reading : (before after : Lent) (r : SgfReading) → hasRoom (m .counts) before ≡ true → ReadShown (read (strictly c) (textIn m)) before after r
+    pub shown-reading : {i : ℕ} (before after : Lent) (r : SgfReading) → hasRoom (m .counts) before ≡ true → ReadShown i (read false (textIn m)) before after r
         → (r .number ≡ 0) × (countsRead r ≡ m .counts) × SameCells (m .counts) after (tablesIn m)
-    shown-reading = again.reread-shown c m f
+    shown-reading = again.reread-shown m f
 
     -- the caller's own tables have room, and a reading into them leaves every number
-    pub own-reading : (after : Lent) (r : Reading) → ReadIs (read (strictly c) (textIn m)) (tablesIn m) after r
+    pub own-reading : (after : Lent) (r : Reading) → ReadIs (read false (textIn m)) (tablesIn m) after r
         → (r ≡ Accepted (m .counts)) × (after ≡ tablesIn m)
-    own-reading = again.reread-own c m f
+    own-reading = again.reread-own m f
 
 -- memory without tables holds no reading, whatever its cells would read as
-pub bare-not-fresh : Fresh (strictly true) bare.bare → ⊥
+pub bare-not-fresh : Fresh bare.bare → ⊥
 bare-not-fresh = bare.bare-not-fresh
 
 -- ---- of any memory that fits, whatever reading it is of
@@ -120,21 +120,21 @@ shown-run m m′ xs f k = calls-run m m′ xs f (calls-shown k)
 
 -- ---- of rows that read as the used text, whether the tables are lent or not
 
-module _ (c : Bool) (m : Memory) where
+module _ (m : Memory) where
   -- an accepted strict reading leaves such rows
-  pub reading-reads : (before : Lent) → ReadIs (read (strictly c) (textIn m)) before (tablesIn m) (Accepted (m .counts)) → Reads (strictly c) (edit.textRows m)
-  reading-reads = again.read-reads c m
+  pub reading-reads : (before : Lent) → ReadIs (read false (textIn m)) before (tablesIn m) (Accepted (m .counts)) → Reads (edit.textRows m)
+  reading-reads = again.read-reads m
 
-  module _ (f : Reads (strictly c) (edit.textRows m)) where
+  module _ (f : Reads (edit.textRows m)) where
     -- they stay such under any calls
-    pub calls-reads : (xs : List Order) (m′ : Memory) → edit.Calls m xs m′ → Reads (strictly c) (edit.textRows m′)
-    calls-reads xs m′ = code.calls-reads c m m′ xs f
+    pub calls-reads : (xs : List Order) (m′ : Memory) → edit.Calls m xs m′ → Reads (edit.textRows m′)
+    calls-reads xs m′ = code.calls-reads m m′ xs f
 
     -- the counts that the caller keeps are the lengths of the definition's tables
     pub counts-reads : m .counts ≡ countsOf (tables (f .trees))
-    counts-reads = code.counts-reads c m f
+    counts-reads = code.counts-reads m f
 
     -- whatever tables it is read into, an accepted reading has these rows
-    pub reads-rows : (before after : Lent) (k : Counts) → ReadIs (read (strictly c) (textIn m)) before after (Accepted k)
+    pub reads-rows : (before after : Lent) (k : Counts) → ReadIs (read false (textIn m)) before after (Accepted k)
         → rowsOf k (after .trees) (after .nodes) (after .props) (after .vals) ≡ rowsIn m
-    reads-rows = again.reread-rows c m f
+    reads-rows = again.reread-rows m f

@@ -6,7 +6,6 @@ use Rattle.tables.specs.declared.Reading.{Reading}
 use Rattle.tables.specs.declared.Reading.the-variants as reading
 use Rattle.fit.specs.Record.{recordIn}
 use Rattle.parser.specs.Read.{Answer, accepted, read}
-use Rattle.edit_laws.specs.Run.{strictly}
 use Rattle.serialize_laws.specs.Alike.{Alike}
 use Rattle.reader.specs.Lent.{Lent, answers, ReadIs}
 use Rattle.serialize.specs.Form.{writing, written, output, WriteIs}
@@ -15,7 +14,7 @@ use Rattle.serialize.specs.declared.Written.the-variants.{Wrote, Refused}
 use Rattle.c_answers.specs.Shown.{readingShown, writingShown}
 use Rattle.c_answers.specs.declared.SgfReading.{SgfReading}
 use Rattle.c_answers.specs.declared.SgfWriting.{SgfWriting}
-use Rattle.sgf.specs.Shown.{optionsOf, ReadShown}
+use Rattle.sgf.specs.Shown.{lenientOf, ignoredOf, ReadShown}
 use Rattle.sgf.specs.Changed.{WriteShown}
 use Rattle.demands.specs.Cells.{countsRead}
 use Rattle.demands.specs.Holding.{holding}
@@ -23,10 +22,10 @@ use Rattle.demands.proofs.Numbers.{number-some}
 use Rattle.demands.proofs.Writings.{readings-written}
 
 -- an exported reading with number 0 is one that is accepted, with the counts that it shows
-pub shown-accepted : (a : Answer) (before after : Lent) (r : SgfReading) → ReadShown a before after r → r .number ≡ 0 → ReadIs a before after (reading.Accepted (countsRead r))
-shown-accepted a before after r x z = go (answers a before) refl (x .shown)
+pub shown-accepted : {i : ℕ} (a : Answer) (before after : Lent) (r : SgfReading) → ReadShown i a before after r → r .number ≡ 0 → ReadIs a before after (reading.Accepted (countsRead r))
+shown-accepted {i} a before after r x z = go (answers a before) refl (x .shown)
   where
-    go : (v : Reading) → answers a before ≡ v → r ≡ readingShown v → ReadIs a before after (reading.Accepted (countsRead r))
+    go : (v : Reading) → answers a before ≡ v → r ≡ readingShown i v → ReadIs a before after (reading.Accepted (countsRead r))
     go (reading.Accepted c) e h = record { answer = ap (λ (y : SgfReading). reading.Accepted (countsRead y)) h ∙ sym e; tables = x .tables }
     go (reading.Refused q p) e h = absurd (omega (arith, number-some q, ap (λ (y : SgfReading). y .number) h, z))
 
@@ -41,21 +40,17 @@ shown-wrote m out out′ r x z = go (written m (length out)) refl (x .is)
     go (Refused q) e h = absurd (omega (arith, number-some q, ap (λ (y : SgfWriting). y .number) h, z))
 
 -- options whose lowest bit is not set ask for a strict reading
-pub strict-shown : (o : ℕ) (t : List ℕ) (before after : Lent) (a : SgfReading) → optionsOf o .lenient ≡ false → ReadShown (read (optionsOf o) t) before after a
-    → ReadShown (read (strictly (optionsOf o .convert)) t) before after a
-strict-shown o t before after a e x = subst (λ (l : Bool). ReadShown (read (record { lenient = l; convert = optionsOf o .convert }) t) before after a) e x
-
-pub strict-accepted : (o : ℕ) (t : List ℕ) (before after : Lent) (a : SgfReading) → optionsOf o .lenient ≡ false → ReadShown (read (optionsOf o) t) before after a → a .number ≡ 0
-    → ReadIs (read (strictly (optionsOf o .convert)) t) before after (reading.Accepted (countsRead a))
-strict-accepted o t before after a e x z = shown-accepted (read (strictly (optionsOf o .convert)) t) before after a (strict-shown o t before after a e x) z
+pub strict-shown : (o : ℕ) (t : List ℕ) (before after : Lent) (a : SgfReading) → lenientOf o ≡ false → ReadShown (ignoredOf o) (read (lenientOf o) t) before after a
+    → ReadShown (ignoredOf o) (read false t) before after a
+strict-shown o t before after a e x = subst (λ (l : Bool). ReadShown (ignoredOf o) (read l t) before after a) e x
 
 -- one record, one writing
-pub one-writing : (o o′ : ℕ) (t u : List ℕ) (before after before′ after′ : Lent) (a a′ : SgfReading)
-    → ReadShown (read (optionsOf o) t) before after a → a .number ≡ 0 → ReadShown (read (optionsOf o′) u) before′ after′ a′ → a′ .number ≡ 0
-    → (ts us : List Tree) → read (optionsOf o) t ≡ accepted ts → read (optionsOf o′) u ≡ accepted us → Alike ts us → (out out₁ out′ out₁′ : List ℕ) (r r′ : SgfWriting)
+pub one-writing : {i i′ : ℕ} (len len′ : Bool) (t u : List ℕ) (before after before′ after′ : Lent) (a a′ : SgfReading)
+    → ReadShown i (read len t) before after a → a .number ≡ 0 → ReadShown i′ (read len′ u) before′ after′ a′ → a′ .number ≡ 0
+    → (ts us : List Tree) → read len t ≡ accepted ts → read len′ u ≡ accepted us → Alike ts us → (out out₁ out′ out₁′ : List ℕ) (r r′ : SgfWriting)
     → WriteShown (holding t (countsRead a) after) out out₁ r → r .number ≡ 0 → WriteShown (holding u (countsRead a′) after′) out′ out₁′ r′ → r′ .number ≡ 0
     → (r .length ≡ r′ .length) × (take (r .length) out₁ ≡ take (r′ .length) out₁′)
-one-writing o o′ t u before after before′ after′ a a′ x z x′ z′ ts us e e′ al out out₁ out′ out₁′ r r′ w v w′ v′ =
-    readings-written (optionsOf o) t before after (countsRead a) (shown-accepted (read (optionsOf o) t) before after a x z)
-    (optionsOf o′) u before′ after′ (countsRead a′) (shown-accepted (read (optionsOf o′) u) before′ after′ a′ x′ z′) ts us e e′ al out out₁ out′ out₁′ (r .length) (r′ .length)
+one-writing len len′ t u before after before′ after′ a a′ x z x′ z′ ts us e e′ al out out₁ out′ out₁′ r r′ w v w′ v′ =
+    readings-written len t before after (countsRead a) (shown-accepted (read len t) before after a x z)
+    len′ u before′ after′ (countsRead a′) (shown-accepted (read len′ u) before′ after′ a′ x′ z′) ts us e e′ al out out₁ out′ out₁′ (r .length) (r′ .length)
     (shown-wrote (holding t (countsRead a) after) out out₁ r w v) (shown-wrote (holding u (countsRead a′) after′) out′ out₁′ r′ w′ v′)

@@ -11,7 +11,6 @@ use Rattle.tables.specs.declared.Reason.the-variants.{TooDeep}
 use Rattle.fit.specs.Record.{recordIn}
 use Rattle.parser.specs.Read.{read}
 use Rattle.reader.specs.Lent.{Lent, answers, ReadIs}
-use Rattle.edit_laws.specs.Run.{strictly}
 use Rattle.serialize.specs.Form.{written}
 use Rattle.serialize.specs.declared.Written.the-variants.{Wrote}
 use Rattle.serialize_laws.specs.Back.{Named, BeginsAll}
@@ -19,44 +18,41 @@ use Rattle.serialize_laws.specs.Depth.{depthOf}
 use Rattle.c_answers.specs.Shown.{readingShown, writingShown}
 use Rattle.c_answers.specs.declared.SgfReading.{SgfReading}
 use Rattle.c_answers.specs.declared.SgfWriting.{SgfWriting}
-use Rattle.sgf.specs.Shown.{optionsOf, ReadShown}
+use Rattle.sgf.specs.Shown.{ReadShown}
 use Rattle.sgf.specs.Changed.{WriteShown}
 use Rattle.demands.specs.Cells.{countsRead}
 use Rattle.demands.specs.Holding.{holding}
-use Rattle.demands.proofs.Exported.{strict-shown, strict-accepted, shown-wrote}
+use Rattle.demands.proofs.Exported.{shown-accepted, shown-wrote}
 use Rattle.demands.proofs.Numbers.{number-once}
 use Rattle.demands.proofs.RoundTrip.{deep-nine, nine-deep, writes-again}
 
 -- what was read and written by them, under the scope's premises; the writing is within the text limit
-module _ (o o₂ : ℕ) (t : List ℕ) (before after : Lent) (a : SgfReading) (e : optionsOf o .lenient ≡ false) (x : ReadShown (read (optionsOf o) t) before after a) (z : a .number ≡ 0)
+module _ {i i₂ : ℕ} (t : List ℕ) (before after : Lent) (a : SgfReading) (x : ReadShown i (read false t) before after a) (z : a .number ≡ 0)
     (b : BeginsAll t) (nm : All Named (allProps (allNodes (recordIn (holding t (countsRead a) after))))) (out out′ : List ℕ) (r : SgfWriting)
     (w : WriteShown (holding t (countsRead a) after) out out′ r) (v : r .number ≡ 0) (l : r .length ≤ textLimit)
-    (before₂ after₂ : Lent) (a₂ : SgfReading) (e₂ : optionsOf o₂ .lenient ≡ false) (x₂ : ReadShown (read (optionsOf o₂) (take (r .length) out′)) before₂ after₂ a₂) where
+    (before₂ after₂ : Lent) (a₂ : SgfReading) (x₂ : ReadShown i₂ (read false (take (r .length) out′)) before₂ after₂ a₂) where
   -- the second reading's number is 9 where the writing is too deep, and nowhere else
   pub nine : (depthLimit < depthOf (take (r .length) out′) → a₂ .number ≡ 9) × (a₂ .number ≡ 9 → depthLimit < depthOf (take (r .length) out′))
-  nine = (λ d. shows ∙ ap (λ (y : Reading). readingShown y .number) (deep d), λ n. go (answers (read (strictly (optionsOf o₂ .convert)) (take (r .length) out′)) before₂) refl n)
+  nine = (λ d. shows ∙ ap (λ (y : Reading). readingShown i₂ y .number) (deep d), λ n. go (answers (read false (take (r .length) out′)) before₂) refl n)
     where
-      s₂ : ReadShown (read (strictly (optionsOf o₂ .convert)) (take (r .length) out′)) before₂ after₂ a₂
-      s₂ = strict-shown o₂ (take (r .length) out′) before₂ after₂ a₂ e₂ x₂
+      shows : a₂ .number ≡ readingShown i₂ (answers (read false (take (r .length) out′)) before₂) .number
+      shows = ap (λ (y : SgfReading). y .number) (x₂ .shown)
 
-      shows : a₂ .number ≡ readingShown (answers (read (strictly (optionsOf o₂ .convert)) (take (r .length) out′)) before₂) .number
-      shows = ap (λ (y : SgfReading). y .number) (s₂ .shown)
+      is : (y : Reading) → answers (read false (take (r .length) out′)) before₂ ≡ y
+          → ReadIs (read false (take (r .length) out′)) before₂ after₂ y
+      is y h = record { answer = sym h; tables = x₂ .tables }
 
-      is : (y : Reading) → answers (read (strictly (optionsOf o₂ .convert)) (take (r .length) out′)) before₂ ≡ y
-          → ReadIs (read (strictly (optionsOf o₂ .convert)) (take (r .length) out′)) before₂ after₂ y
-      is y h = record { answer = sym h; tables = s₂ .tables }
-
-      deep : depthLimit < depthOf (take (r .length) out′) → answers (read (strictly (optionsOf o₂ .convert)) (take (r .length) out′)) before₂ ≡ reading.Refused TooDeep 0
+      deep : depthLimit < depthOf (take (r .length) out′) → answers (read false (take (r .length) out′)) before₂ ≡ reading.Refused TooDeep 0
       deep d =
-          deep-nine (optionsOf o .convert) (optionsOf o₂ .convert) t before after (countsRead a) (strict-accepted o t before after a e x z) b nm
+          deep-nine t before after (countsRead a) (shown-accepted (read false t) before after a x z) b nm
           out out′ (r .length) (shown-wrote (holding t (countsRead a) after) out out′ r w v) l d before₂ after₂
-          (answers (read (strictly (optionsOf o₂ .convert)) (take (r .length) out′)) before₂) (is (answers (read (strictly (optionsOf o₂ .convert)) (take (r .length) out′)) before₂) refl)
+          (answers (read false (take (r .length) out′)) before₂) (is (answers (read false (take (r .length) out′)) before₂) refl)
 
-      go : (y : Reading) → answers (read (strictly (optionsOf o₂ .convert)) (take (r .length) out′)) before₂ ≡ y → a₂ .number ≡ 9 → depthLimit < depthOf (take (r .length) out′)
-      go (reading.Accepted c) h n = absurd (omega (arith, n, shows, ap (λ (y : Reading). readingShown y .number) h))
+      go : (y : Reading) → answers (read false (take (r .length) out′)) before₂ ≡ y → a₂ .number ≡ 9 → depthLimit < depthOf (take (r .length) out′)
+      go (reading.Accepted c) h n = absurd (omega (arith, n, shows, ap (λ (y : Reading). readingShown i₂ y .number) h))
       go (reading.Refused q p) h n =
-          let m : numberOf q ≡ 9 = sym (ap (λ (y : Reading). readingShown y .number) h) ∙ sym shows ∙ n in
-          nine-deep (optionsOf o .convert) (optionsOf o₂ .convert) t before after (countsRead a) (strict-accepted o t before after a e x z) b nm
+          let m : numberOf q ≡ 9 = sym (ap (λ (y : Reading). readingShown i₂ y .number) h) ∙ sym shows ∙ n in
+          nine-deep t before after (countsRead a) (shown-accepted (read false t) before after a x z) b nm
           out out′ (r .length) (shown-wrote (holding t (countsRead a) after) out out′ r w v) l before₂ after₂ p
           (is (reading.Refused TooDeep p) (h ∙ ap (λ (k : Reason). reading.Refused k p) (number-once q TooDeep m)))
 
@@ -66,9 +62,9 @@ module _ (o o₂ : ℕ) (t : List ℕ) (before after : Lent) (a : SgfReading) (e
       → (r₂ .number ≡ 0) × (r₂ .length ≡ r .length) × (take (r .length) out₂′ ≡ take (r .length) out′)
   again s z₂ out₂ out₂′ r₂ w₂ m =
       let M₂ : Memory = holding (take (r .length) out′) (countsRead a₂) after₂ in
-      let q = writes-again (optionsOf o .convert) (optionsOf o₂ .convert) t before after (countsRead a) (strict-accepted o t before after a e x z) b nm
+      let q = writes-again t before after (countsRead a) (shown-accepted (read false t) before after a x z) b nm
       out out′ (r .length) (shown-wrote (holding t (countsRead a) after) out out′ r w v) l s
-      before₂ after₂ (countsRead a₂) (strict-accepted o₂ (take (r .length) out′) before₂ after₂ a₂ e₂ x₂ z₂)
+      before₂ after₂ (countsRead a₂) (shown-accepted (read false (take (r .length) out′)) before₂ after₂ a₂ x₂ z₂)
       out₂ out₂′ (written M₂ (length out₂)) (record { is = refl; bytes = w₂ .bytes }) m in
       let f : r₂ ≡ writingShown (Wrote (r .length)) = w₂ .is ∙ ap writingShown (q .0) in
       (ap (λ (y : SgfWriting). y .number) f, ap (λ (y : SgfWriting). y .length) f, q .1)

@@ -1,5 +1,5 @@
 -- Read, write and read of the exported functions: which numbers the writing and the second reading give. Assumes nothing.
-use Rattle.lists.proofs.Prelude.{ℕ, _≤_, _<_, Bool, true, false, List, _≡_, refl, ap, _∙_, subst⁻¹, arith, length, take}
+use Rattle.lists.proofs.Prelude.{ℕ, _≤_, _<_, true, false, List, _≡_, refl, ap, _∙_, subst⁻¹, arith, length, take}
 use Rattle.lists.specs.All.{All}
 use Rattle.tables.specs.Memory.{Memory}
 use Rattle.tables.specs.Numbers.{depthLimit, textLimit}
@@ -10,7 +10,6 @@ use Rattle.tables.specs.declared.Reason.the-variants.{NoRoom}
 use Rattle.fit.specs.Record.{recordIn}
 use Rattle.parser.specs.Read.{accepted, read}
 use Rattle.reader.specs.Lent.{Lent, answers, ReadIs}
-use Rattle.edit_laws.specs.Run.{strictly}
 use Rattle.serialize.specs.Form.{writing, written, WriteIs}
 use Rattle.serialize.specs.declared.Written.the-variants.{Wrote}
 use Rattle.serialize_laws.specs.Back.{Named, BeginsAll}
@@ -18,15 +17,15 @@ use Rattle.serialize_laws.specs.Depth.{depthOf}
 use Rattle.c_answers.specs.Shown.{readingShown, writingShown}
 use Rattle.c_answers.specs.declared.SgfReading.{SgfReading}
 use Rattle.c_answers.specs.declared.SgfWriting.{SgfWriting}
-use Rattle.sgf.specs.Shown.{optionsOf, ReadShown}
+use Rattle.sgf.specs.Shown.{ReadShown}
 use Rattle.sgf.specs.Changed.{WriteShown}
 use Rattle.demands.specs.Cells.{hasRoom, countsRead}
 use Rattle.demands.specs.Holding.{holding}
-use Rattle.demands.proofs.Exported.{shown-wrote, strict-shown, strict-accepted}
+use Rattle.demands.proofs.Exported.{shown-accepted, shown-wrote}
 use Rattle.demands.proofs.RoundTrip.{named-writes, back, reads-again, room-exactly}
 use Rattle.demands.proofs.Writings.{wrote-bytes}
 
-module _ (o : ℕ) (t : List ℕ) (before after : Lent) (a : SgfReading) (e : optionsOf o .lenient ≡ false) (x : ReadShown (read (optionsOf o) t) before after a) (z : a .number ≡ 0)
+module _ {i : ℕ} (t : List ℕ) (before after : Lent) (a : SgfReading) (x : ReadShown i (read false t) before after a) (z : a .number ≡ 0)
     (b : BeginsAll t) (nm : All Named (allProps (allNodes (recordIn (holding t (countsRead a) after))))) (out out′ : List ℕ) (r : SgfWriting)
     (w : WriteShown (holding t (countsRead a) after) out out′ r) where
   abbrev M : Memory
@@ -35,18 +34,18 @@ module _ (o : ℕ) (t : List ℕ) (before after : Lent) (a : SgfReading) (e : op
   abbrev W : List ℕ
   W = writing (recordIn (holding t (countsRead a) after))
 
-  reads : ReadIs (read (strictly (optionsOf o .convert)) t) before after (reading.Accepted (countsRead a))
-  reads = strict-accepted o t before after a e x z
+  reads : ReadIs (read false t) before after (reading.Accepted (countsRead a))
+  reads = shown-accepted (read false t) before after a x z
 
   pub first-full : length out < length W → (r .number ≡ 14) × (out′ ≡ out)
   first-full h =
-      let q = named-writes (optionsOf o .convert) true t before after (countsRead a) reads b nm out out′ (written M (length out)) (record { is = refl; bytes = w .bytes }) .1 h in
+      let q = named-writes t before after (countsRead a) reads b nm out out′ (written M (length out)) (record { is = refl; bytes = w .bytes }) .1 h in
       (ap (λ (y : SgfWriting). y .number) (w .is ∙ ap writingShown (q .0)), q .1)
 
   module _ (h : length W ≤ length out) where
     first-zero : r .number ≡ 0
     first-zero =
-        let q = named-writes (optionsOf o .convert) true t before after (countsRead a) reads b nm out out′ (written M (length out)) (record { is = refl; bytes = w .bytes }) .0 h in
+        let q = named-writes t before after (countsRead a) reads b nm out out′ (written M (length out)) (record { is = refl; bytes = w .bytes }) .0 h in
         ap (λ (y : SgfWriting). y .number) (w .is ∙ ap writingShown (q .0))
 
     wrote : WriteIs (holding t (countsRead a) after) out out′ (Wrote (r .length))
@@ -55,7 +54,7 @@ module _ (o : ℕ) (t : List ℕ) (before after : Lent) (a : SgfReading) (e : op
     pub first-written : (r .number ≡ 0) × (r .length ≡ length W) × (take (r .length) out′ ≡ W)
     first-written = (first-zero, wrote-bytes M out out′ (r .length) wrote .0, wrote-bytes M out out′ (r .length) wrote .1)
 
-    module _ (l : length W ≤ textLimit) (s : depthOf W ≤ depthLimit) (o₂ : ℕ) (e₂ : optionsOf o₂ .lenient ≡ false) where
+    module _ (l : length W ≤ textLimit) (s : depthOf W ≤ depthLimit) where
       abbrev U : List ℕ
       U = take (r .length) out′
 
@@ -66,30 +65,24 @@ module _ (o : ℕ) (t : List ℕ) (before after : Lent) (a : SgfReading) (e : op
       low = subst⁻¹ (λ (y : List ℕ). depthOf y ≤ depthLimit) (first-written .2) s
 
       abbrev again : List Tree
-      again = back (optionsOf o .convert) (optionsOf o₂ .convert) t before after (countsRead a) reads b nm out out′ (r .length) wrote short low .again
+      again = back t before after (countsRead a) reads b nm out out′ (r .length) wrote short low .again
 
-      reads-so : read (strictly (optionsOf o₂ .convert)) U ≡ accepted again
-      reads-so = reads-again (optionsOf o .convert) (optionsOf o₂ .convert) t before after (countsRead a) reads b nm out out′ (r .length) wrote short low
+      reads-so : read false U ≡ accepted again
+      reads-so = reads-again t before after (countsRead a) reads b nm out out′ (r .length) wrote short low
 
-      second-is : read (optionsOf o₂) U ≡ accepted again
-      second-is = subst⁻¹ (λ (f : Bool). read (record { lenient = f; convert = optionsOf o₂ .convert }) U ≡ accepted again) e₂ reads-so
-
-      module _ (before₂ after₂ : Lent) (a₂ : SgfReading) (x₂ : ReadShown (read (optionsOf o₂) U) before₂ after₂ a₂) where
-        s₂ : ReadShown (read (strictly (optionsOf o₂ .convert)) U) before₂ after₂ a₂
-        s₂ = strict-shown o₂ U before₂ after₂ a₂ e₂ x₂
-
-        is : (hasRoom (countsOf (tables again)) before₂ ≡ true → answers (read (strictly (optionsOf o₂ .convert)) U) before₂ ≡ reading.Accepted (countsOf (tables again)))
-            × (hasRoom (countsOf (tables again)) before₂ ≡ false → answers (read (strictly (optionsOf o₂ .convert)) U) before₂ ≡ reading.Refused NoRoom 0)
+      module _ {i₂ : ℕ} (before₂ after₂ : Lent) (a₂ : SgfReading) (x₂ : ReadShown i₂ (read false U) before₂ after₂ a₂) where
+        is : (hasRoom (countsOf (tables again)) before₂ ≡ true → answers (read false U) before₂ ≡ reading.Accepted (countsOf (tables again)))
+            × (hasRoom (countsOf (tables again)) before₂ ≡ false → answers (read false U) before₂ ≡ reading.Refused NoRoom 0)
         is =
-            room-exactly (optionsOf o .convert) (optionsOf o₂ .convert) t before after (countsRead a) reads b nm out out′ (r .length) wrote short low
-            before₂ after₂ (answers (read (strictly (optionsOf o₂ .convert)) U) before₂) (record { answer = refl; tables = s₂ .tables })
+            room-exactly t before after (countsRead a) reads b nm out out′ (r .length) wrote short low
+            before₂ after₂ (answers (read false U) before₂) (record { answer = refl; tables = x₂ .tables })
 
         second-zero : hasRoom (countsOf (tables again)) before₂ ≡ true → (a₂ .number ≡ 0) × (countsRead a₂ ≡ countsOf (tables again))
-        second-zero q = let f : a₂ ≡ readingShown (reading.Accepted (countsOf (tables again))) = s₂ .shown ∙ ap readingShown (is .0 q) in (ap (λ (y : SgfReading). y .number) f, ap countsRead f)
+        second-zero q = let f : a₂ ≡ readingShown i₂ (reading.Accepted (countsOf (tables again))) = x₂ .shown ∙ ap (readingShown i₂) (is .0 q) in (ap (λ (y : SgfReading). y .number) f, ap countsRead f)
 
         second-full : hasRoom (countsOf (tables again)) before₂ ≡ false → a₂ .number ≡ 14
-        second-full q = ap (λ (y : SgfReading). y .number) (s₂ .shown ∙ ap readingShown (is .1 q))
+        second-full q = ap (λ (y : SgfReading). y .number) (x₂ .shown ∙ ap (readingShown i₂) (is .1 q))
 
-      pub second : (ts : List Tree) × (read (optionsOf o₂) U ≡ accepted ts) × ((before₂ after₂ : Lent) (a₂ : SgfReading) → ReadShown (read (optionsOf o₂) U) before₂ after₂ a₂
+      pub second : (ts : List Tree) × (read false U ≡ accepted ts) × ((i₂ : ℕ) (before₂ after₂ : Lent) (a₂ : SgfReading) → ReadShown i₂ (read false U) before₂ after₂ a₂
           → (hasRoom (countsOf (tables ts)) before₂ ≡ true → (a₂ .number ≡ 0) × (countsRead a₂ ≡ countsOf (tables ts))) × (hasRoom (countsOf (tables ts)) before₂ ≡ false → a₂ .number ≡ 14))
-      second = (again, second-is, λ before₂ after₂ a₂ x₂. (second-zero before₂ after₂ a₂ x₂, second-full before₂ after₂ a₂ x₂))
+      second = (again, reads-so, λ i₂ before₂ after₂ a₂ x₂. (second-zero before₂ after₂ a₂ x₂, second-full before₂ after₂ a₂ x₂))

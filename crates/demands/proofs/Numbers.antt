@@ -2,15 +2,15 @@
 use Rattle.lists.proofs.Prelude.{ℕ, _<_, List, [], _∷_, _⊎_, ⊎-elim, _≡_, refl, sym, ap, _∙_, subst, arith, getD}
 use Rattle.tables.specs.Numbers.{numberOf}
 use Rattle.tables.specs.declared.Reason.{Reason}
-use Rattle.tables.specs.declared.Reason.the-variants.{TextTooLong, NotUtf8, MissingPropertyIdentifier, UnexpectedEndOfPropertyIdentifier, UnexpectedEndOfPropertyValue, UnexpectedGameTreeEnd, UnexpectedEndOfData, NoGameTrees, TooDeep, UnexpectedGameTreeStart, UnexpectedProperty, InvalidGameType, InvalidFF4Property, NoRoom, EmptyIdentifier, NoSuchNumber, GameTypeFixed, NotClosed, NotFitting}
+use Rattle.tables.specs.declared.Reason.the-variants.{TextTooLong, NotUtf8, MissingPropertyIdentifier, UnexpectedEndOfPropertyIdentifier, UnexpectedEndOfPropertyValue, UnexpectedGameTreeEnd, UnexpectedEndOfData, NoGameTrees, TooDeep, UnexpectedGameTreeStart, UnexpectedProperty, InvalidGameType, NoRoom, EmptyIdentifier, NoSuchNumber, GameTypeFixed, NotClosed, NotFitting}
 use Rattle.tables.proofs.Cases.{below-or}
 use Rattle.demands.specs.When.{Exactly}
 
--- the reasons by their numbers; any for 0
+-- the reasons by their numbers; any for 0 and 13
 abbrev reasons : List Reason
 reasons =
     TextTooLong ∷ TextTooLong ∷ NotUtf8 ∷ MissingPropertyIdentifier ∷ UnexpectedEndOfPropertyIdentifier ∷ UnexpectedEndOfPropertyValue ∷ UnexpectedGameTreeEnd
-    ∷ UnexpectedEndOfData ∷ NoGameTrees ∷ TooDeep ∷ UnexpectedGameTreeStart ∷ UnexpectedProperty ∷ InvalidGameType ∷ InvalidFF4Property ∷ NoRoom
+    ∷ UnexpectedEndOfData ∷ NoGameTrees ∷ TooDeep ∷ UnexpectedGameTreeStart ∷ UnexpectedProperty ∷ InvalidGameType ∷ NoRoom ∷ NoRoom
     ∷ EmptyIdentifier ∷ NoSuchNumber ∷ GameTypeFixed ∷ NotClosed ∷ NotFitting ∷ []
 
 abbrev reasonAt : ℕ → Reason
@@ -29,7 +29,6 @@ reason-back TooDeep = refl
 reason-back UnexpectedGameTreeStart = refl
 reason-back UnexpectedProperty = refl
 reason-back InvalidGameType = refl
-reason-back InvalidFF4Property = refl
 reason-back NoRoom = refl
 reason-back EmptyIdentifier = refl
 reason-back NoSuchNumber = refl

@@ -7,7 +7,6 @@ use Rattle.tables.specs.declared.Reason.{Reason}
 use Rattle.tables.specs.declared.Reason.the-variants.{NoRoom}
 use Rattle.tables.proofs.Cases.{either-bool, true-false}
 use Rattle.parser.specs.Read.{Answer, refused, accepted, read}
-use Rattle.parser.specs.Walk.{Opts}
 use Rattle.reader.specs.Lent.{Lent, roomy, answers}
 use Rattle.reader.proofs.Reasons.{refused-with}
 use Rattle.c_answers.specs.Shown.{readingShown}
@@ -20,52 +19,55 @@ use Rattle.demands.proofs.Listed.{one-of}
 use Rattle.demands.proofs.Numbers.{exactly}
 use Rattle.demands.proofs.Refusals.{reading-leaves}
 
-module _ (op : Opts) (t : List ℕ) (before : Lent) where
-  read-decided : Reads op t before ⊎ ((x : Reason) × (p : ℕ) × Unread op t before x p)
-  read-decided = go (read op t) refl
+module _ (len : Bool) (t : List ℕ) (before : Lent) where
+  read-decided : Reads len t before ⊎ ((x : Reason) × (p : ℕ) × Unread len t before x p)
+  read-decided = go (read len t) refl
     where
-      go : (a : Answer) → read op t ≡ a → Reads op t before ⊎ ((x : Reason) × (p : ℕ) × Unread op t before x p)
+      go : (a : Answer) → read len t ≡ a → Reads len t before ⊎ ((x : Reason) × (p : ℕ) × Unread len t before x p)
       go (refused x p) e = inr (x, p, unread e)
       go (accepted ts) e = either-bool (roomy (tables ts) before) (λ f. inl (record { trees = ts; is = e; room = f })) (λ f. inr (NoRoom, 0, few ts e f))
 
-  pub reads-answer : (x : Reads op t before) → answers (read op t) before ≡ Accepted (countsOf (tables (x .trees)))
+  pub reads-answer : (x : Reads len t before) → answers (read len t) before ≡ Accepted (countsOf (tables (x .trees)))
   reads-answer x = ap (λ (a : Answer). answers a before) (x .is) ∙ ap (λ (b : Bool). pick b (Accepted (countsOf (tables (x .trees)))) (Refused NoRoom 0)) (x .room)
 
-  unread-answer : {x : Reason} {p : ℕ} → Unread op t before x p → answers (read op t) before ≡ Refused x p
+  unread-answer : {x : Reason} {p : ℕ} → Unread len t before x p → answers (read len t) before ≡ Refused x p
   unread-answer (unread e) = ap (λ (a : Answer). answers a before) e
   unread-answer (few ts e f) = ap (λ (a : Answer). answers a before) e ∙ ap (λ (b : Bool). pick b (Accepted (countsOf (tables ts))) (Refused NoRoom 0)) f
 
-  module _ (after : Lent) (r : SgfReading) (s : ReadShown (read op t) before after r) where
+  module _ {i : ℕ} (after : Lent) (r : SgfReading) (s : ReadShown i (read len t) before after r) where
     abbrev Because : Reason → Type 0
-    Because x = (p : ℕ) × Unread op t before x p × (r .place ≡ p)
+    Because x = (p : ℕ) × Unread len t before x p × (r .place ≡ p)
 
-    shown-read : (x : Reads op t before) → r ≡ readingShown (Accepted (countsOf (tables (x .trees))))
-    shown-read x = s .shown ∙ ap readingShown (reads-answer x)
+    shown-read : (x : Reads len t before) → r ≡ readingShown i (Accepted (countsOf (tables (x .trees))))
+    shown-read x = s .shown ∙ ap (readingShown i) (reads-answer x)
 
-    shown-unread : {x : Reason} {p : ℕ} → Unread op t before x p → r ≡ readingShown (Refused x p)
-    shown-unread u = s .shown ∙ ap readingShown (unread-answer u)
+    shown-unread : {x : Reason} {p : ℕ} → Unread len t before x p → r ≡ readingShown i (Refused x p)
+    shown-unread u = s .shown ∙ ap (readingShown i) (unread-answer u)
 
-    pub reading-exactly : Exactly (r .number) (Reads op t before) Because
+    pub reading-exactly : Exactly (r .number) (Reads len t before) Because
     reading-exactly =
-        exactly (r .number) (Reads op t before) Because
+        exactly (r .number) (Reads len t before) Because
         (⊎-elim (λ a. inl a) (λ u. inr (u .0, (u .1, u .2, ap (λ (z : SgfReading). z .place) (shown-unread (u .2))))) read-decided)
         (λ a. ap (λ (z : SgfReading). z .number) (shown-read a)) (λ x u. ap (λ (z : SgfReading). z .number) (shown-unread (u .1)))
 
     pub reading-stays : 0 < r .number → after ≡ before
     reading-stays l =
         ⊎-elim (λ a. absurd (omega (arith, ap (λ (z : SgfReading). z .number) (shown-read a))))
-        (λ u. reading-leaves (read op t) before after (u .0) (u .1) (sym (unread-answer (u .2))) (s .tables)) read-decided
+        (λ u. reading-leaves (read len t) before after (u .0) (u .1) (sym (unread-answer (u .2))) (s .tables)) read-decided
 
     pub reading-zeros : 0 < r .number → countsRead r ≡ noCounts
     reading-zeros l = ⊎-elim (λ a. absurd (omega (arith, ap (λ (z : SgfReading). z .number) (shown-read a)))) (λ u. ap countsRead (shown-unread (u .2))) read-decided
 
+    pub reading-ignored : r .ignored ≡ i
+    reading-ignored = ⊎-elim (λ a. ap (λ (z : SgfReading). z .ignored) (shown-read a)) (λ u. ap (λ (z : SgfReading). z .ignored) (shown-unread (u .2))) read-decided
+
     -- a list that has 0, 14 and the numbers of the definition's reasons has every number given
-    numbers-in : (xs : List ℕ) → OneOf xs 0 → OneOf xs 14 → ((x : Reason) (p : ℕ) → read op t ≡ refused x p → OneOf xs (numberOf x)) → OneOf xs (r .number)
+    numbers-in : (xs : List ℕ) → OneOf xs 0 → OneOf xs 14 → ((x : Reason) (p : ℕ) → read len t ≡ refused x p → OneOf xs (numberOf x)) → OneOf xs (r .number)
     numbers-in xs zero room each =
         ⊎-elim (λ a. subst⁻¹ (OneOf xs) (ap (λ (z : SgfReading). z .number) (shown-read a)) zero)
         (λ u. subst⁻¹ (OneOf xs) (ap (λ (z : SgfReading). z .number) (shown-unread (u .2))) (of (u .2))) read-decided
       where
-        of : {x : Reason} {p : ℕ} → Unread op t before x p → OneOf xs (numberOf x)
+        of : {x : Reason} {p : ℕ} → Unread len t before x p → OneOf xs (numberOf x)
         of (unread {x = x} {p = p} e) = each x p e
         of (few ts e f) = room
 
@@ -73,7 +75,7 @@ module _ (op : Opts) (t : List ℕ) (before : Lent) where
     strict-listed =
         numbers-in strictNumbers (one-of strictNumbers 0 refl) (one-of strictNumbers 14 refl)
         (λ x p e.
-        refused-with op (λ (z : Reason). OneOf strictNumbers (numberOf z)) (one-of strictNumbers 1 refl) (one-of strictNumbers 2 refl) (one-of strictNumbers 9 refl)
+        refused-with len (λ (z : Reason). OneOf strictNumbers (numberOf z)) (one-of strictNumbers 1 refl) (one-of strictNumbers 2 refl) (one-of strictNumbers 9 refl)
         (λ _. record {
           no3 = one-of strictNumbers 3 refl;
           no4 = one-of strictNumbers 4 refl;
@@ -84,12 +86,11 @@ module _ (op : Opts) (t : List ℕ) (before : Lent) where
           no10 = one-of strictNumbers 10 refl;
           no11 = one-of strictNumbers 11 refl;
           no12 = one-of strictNumbers 12 refl;
-        })
-        (λ _ _. one-of strictNumbers 13 refl) t e)
+        }) t e)
 
-    pub lenient-listed : op .lenient ≡ true → OneOf lenientNumbers (r .number)
+    pub lenient-listed : len ≡ true → OneOf lenientNumbers (r .number)
     lenient-listed h =
         numbers-in lenientNumbers (one-of lenientNumbers 0 refl) (one-of lenientNumbers 14 refl)
         (λ x p e.
-        refused-with op (λ (z : Reason). OneOf lenientNumbers (numberOf z)) (one-of lenientNumbers 1 refl) (one-of lenientNumbers 2 refl) (one-of lenientNumbers 9 refl)
-        (λ f. true-false (op .lenient) h f) (λ f _. true-false (op .lenient) h f) t e)
+        refused-with len (λ (z : Reason). OneOf lenientNumbers (numberOf z)) (one-of lenientNumbers 1 refl) (one-of lenientNumbers 2 refl) (one-of lenientNumbers 9 refl)
+        (λ f. true-false len h f) t e)

@@ -1,5 +1,5 @@
 -- Memory that a reading left, calls on it, and a second reading of it. Assumes nothing.
-use Rattle.lists.proofs.Prelude.{ℕ, _*_, _≤_, Bool, true, _&&_, List, _++_, _≡_, refl, sym, ap, ap₂, _∙_, subst, arith, length, take, drop, take-append-drop, take-at, length-take-le, le-leb, pick}
+use Rattle.lists.proofs.Prelude.{ℕ, _*_, _≤_, Bool, true, _&&_, List, _++_, _≡_, refl, sym, ap, ap₂, _∙_, subst, arith, length, take, drop, take-append-drop, take-at, length-take-le, le-leb, pick, false}
 use Rattle.tables.specs.Flat.{over}
 use Rattle.tables.specs.Memory.{Memory}
 use Rattle.tables.specs.Record.{Tree}
@@ -20,7 +20,7 @@ use Rattle.sgf.specs.Shown.{ReadShown}
 use Rattle.edit_laws.specs.Calls.{textRows}
 use Rattle.edit_laws.specs.Calls as edit
 use Rattle.edit_laws.specs.Fresh.{Fresh}
-use Rattle.edit_laws.specs.Run.{strictly, Order}
+use Rattle.edit_laws.specs.Run.{Order}
 use Rattle.edit_laws.specs.Run as rows
 use Rattle.edit_laws.proofs.CallsRun.{calls-fit}
 use Rattle.edit_laws.proofs.Cells.{tree-cells, node-cells, property-cells, value-cells}
@@ -29,34 +29,34 @@ use Rattle.demands.specs.Cells.{tablesIn, hasRoom, countsRead, SameCells
 use Rattle.demands.specs.When.{Reads}
 use Rattle.demands.proofs.Readings.{reading-exactly, reads-answer}
 
-pub read-reads : (c : Bool) (m : Memory) (before : Lent) → ReadIs (read (strictly c) (textIn m)) before (tablesIn m) (Accepted (m .counts)) → rows.Reads (strictly c) (textRows m)
-read-reads c m before x = let r = read-rows (strictly c) (textIn m) before (tablesIn m) (m .counts) x in record { trees = r .0; reads = r .1; same-rows = r .2 }
+pub read-reads : (m : Memory) (before : Lent) → ReadIs (read false (textIn m)) before (tablesIn m) (Accepted (m .counts)) → rows.Reads (textRows m)
+read-reads m before x = let r = read-rows false (textIn m) before (tablesIn m) (m .counts) x in record { trees = r .0; reads = r .1; same-rows = r .2 }
 
-pub read-fresh : (c : Bool) (m : Memory) (before : Lent) → m .used ≤ length (m .text)
-    → ReadIs (read (strictly c) (textIn m)) before (tablesIn m) (Accepted (m .counts)) → Fresh (strictly c) m
-read-fresh c m before l x =
-    record { fits = read-buffer-fits (strictly c) (m .text) (m .used) before (tablesIn m) (m .counts) l x; reads = read-reads c m before x }
+pub read-fresh : (m : Memory) (before : Lent) → m .used ≤ length (m .text)
+    → ReadIs (read false (textIn m)) before (tablesIn m) (Accepted (m .counts)) → Fresh m
+read-fresh m before l x =
+    record { fits = read-buffer-fits false (m .text) (m .used) before (tablesIn m) (m .counts) l x; reads = read-reads m before x }
 
-pub shown-fresh : (c : Bool) (m : Memory) (before : Lent) (r : SgfReading) → m .used ≤ length (m .text)
-    → ReadShown (read (strictly c) (textIn m)) before (tablesIn m) r → r .number ≡ 0 → countsRead r ≡ m .counts → Fresh (strictly c) m
-shown-fresh c m before r l s z k =
-    let x : Reads (strictly c) (textIn m) before = reading-exactly (strictly c) (textIn m) before (tablesIn m) r s .zero .0 z in
-    let a = reads-answer (strictly c) (textIn m) before x in
-    let e : countsOf (tables (x .trees)) ≡ m .counts = sym (ap countsRead (s .shown ∙ ap readingShown a)) ∙ k in
-    read-fresh c m before l (record { answer = ap Accepted (sym e) ∙ sym a; tables = s .tables })
+pub shown-fresh : {i : ℕ} (m : Memory) (before : Lent) (r : SgfReading) → m .used ≤ length (m .text)
+    → ReadShown i (read false (textIn m)) before (tablesIn m) r → r .number ≡ 0 → countsRead r ≡ m .counts → Fresh m
+shown-fresh {i} m before r l s z k =
+    let x : Reads false (textIn m) before = reading-exactly false (textIn m) before (tablesIn m) r s .zero .0 z in
+    let a = reads-answer false (textIn m) before x in
+    let e : countsOf (tables (x .trees)) ≡ m .counts = sym (ap countsRead (s .shown ∙ ap (readingShown i) a)) ∙ k in
+    read-fresh m before l (record { answer = ap Accepted (sym e) ∙ sym a; tables = s .tables })
 
-pub calls-fresh : (c : Bool) (m m′ : Memory) (xs : List Order) → Fresh (strictly c) m → edit.Calls m xs m′ → Fresh (strictly c) m′
-calls-fresh c m m′ xs f k = record { fits = calls-fit m m′ xs (f .fits) k; reads = calls-reads c m m′ xs (f .reads) k }
+pub calls-fresh : (m m′ : Memory) (xs : List Order) → Fresh m → edit.Calls m xs m′ → Fresh m′
+calls-fresh m m′ xs f k = record { fits = calls-fit m m′ xs (f .fits) k; reads = calls-reads m m′ xs (f .reads) k }
 
 -- ---- a second reading
 
 pub trees-once : {ts us : List Tree} → accepted ts ≡ accepted us → ts ≡ us
 trees-once e = cc
 
-pub reread-rows : (c : Bool) (m : Memory) → rows.Reads (strictly c) (textRows m) → (before after : Lent) (k : Counts) → ReadIs (read (strictly c) (textIn m)) before after (Accepted k)
+pub reread-rows : (m : Memory) → rows.Reads (textRows m) → (before after : Lent) (k : Counts) → ReadIs (read false (textIn m)) before after (Accepted k)
     → rowsOf k (after .trees) (after .nodes) (after .props) (after .vals) ≡ rowsIn m
-reread-rows c m f before after k x =
-    let r = read-rows (strictly c) (textIn m) before after k x in
+reread-rows m f before after k x =
+    let r = read-rows false (textIn m) before after k x in
     r .2 ∙ ap tables (trees-once (sym (r .1) ∙ f .reads)) ∙ sym (f .same-rows)
 
 take-over : (xs ys t : List ℕ) (n : ℕ) → xs ≡ take n t → n ≤ length t → take n (over xs ys) ≡ take n t
@@ -68,7 +68,7 @@ over-own xs t n e h = ap (λ (z : List ℕ). over z t) e ∙ ap (λ (k : ℕ). t
 all-four : {a b c d : Bool} → a ≡ true → b ≡ true → c ≡ true → d ≡ true → (a && b && c && d) ≡ true
 all-four ea eb ec ed = rw (ea, eb, ec, ed)
 
-module _ (c : Bool) (m : Memory) (f : Fresh (strictly c) m) where
+module _ (m : Memory) (f : Fresh m) where
   abbrev T : Tables
   T = tables (f .reads .trees)
 
@@ -76,7 +76,7 @@ module _ (c : Bool) (m : Memory) (f : Fresh (strictly c) m) where
   held = fit-lent m (f .fits) .1
 
   fresh-counts : m .counts ≡ countsOf T
-  fresh-counts = counts-reads c m (f .reads)
+  fresh-counts = counts-reads m (f .reads)
 
   pub own-room : hasRoom (m .counts) (tablesIn m) ≡ true
   own-room = all-four (le-leb _ _ (held .trees)) (le-leb _ _ (held .nodes)) (le-leb _ _ (held .properties)) (le-leb _ _ (held .values))
@@ -85,13 +85,13 @@ module _ (c : Bool) (m : Memory) (f : Fresh (strictly c) m) where
     roomy-again : roomy T before ≡ true
     roomy-again = subst (λ (k : Counts). hasRoom k before ≡ true) fresh-counts h
 
-    answer-again : answers (read (strictly c) (textIn m)) before ≡ Accepted (m .counts)
+    answer-again : answers (read false (textIn m)) before ≡ Accepted (m .counts)
     answer-again =
         ap (λ (a : Answer). answers a before) (f .reads .reads)
         ∙ ap (λ (b : Bool). pick b (Accepted (countsOf T)) (Refused NoRoom 0)) roomy-again
         ∙ ap Accepted (sym fresh-counts)
 
-    leaves-again : leaves (read (strictly c) (textIn m)) before ≡ stored (rowsIn m) before
+    leaves-again : leaves (read false (textIn m)) before ≡ stored (rowsIn m) before
     leaves-again =
         ap (λ (a : Answer). leaves a before) (f .reads .reads)
         ∙ ap (λ (b : Bool). pick b (stored T before) before) roomy-again
@@ -127,19 +127,19 @@ module _ (c : Bool) (m : Memory) (f : Fresh (strictly c) m) where
       (over-own _ (m .values) _ (value-cells (m .values) (m .counts .values) n-values) n-values)
 
   -- into tables with room: accepted with the same counts, and the same cells
-  pub reread : (before after : Lent) (r : Reading) → hasRoom (m .counts) before ≡ true → ReadIs (read (strictly c) (textIn m)) before after r
+  pub reread : (before after : Lent) (r : Reading) → hasRoom (m .counts) before ≡ true → ReadIs (read false (textIn m)) before after r
       → (r ≡ Accepted (m .counts)) × SameCells (m .counts) after (tablesIn m)
   reread before after r h x =
       (x .answer ∙ answer-again before h, subst (λ (l : Lent). SameCells (m .counts) l (tablesIn m)) (sym (x .tables ∙ leaves-again before h)) (stored-cells before))
 
   -- into its own tables: every number stays
-  pub reread-own : (after : Lent) (r : Reading) → ReadIs (read (strictly c) (textIn m)) (tablesIn m) after r → (r ≡ Accepted (m .counts)) × (after ≡ tablesIn m)
+  pub reread-own : (after : Lent) (r : Reading) → ReadIs (read false (textIn m)) (tablesIn m) after r → (r ≡ Accepted (m .counts)) × (after ≡ tablesIn m)
   reread-own after r x = (x .answer ∙ answer-again (tablesIn m) own-room, x .tables ∙ leaves-again (tablesIn m) own-room ∙ stored-own)
 
   -- as sgf_read says it
-  pub reread-shown : (before after : Lent) (r : SgfReading) → hasRoom (m .counts) before ≡ true → ReadShown (read (strictly c) (textIn m)) before after r
+  pub reread-shown : {i : ℕ} (before after : Lent) (r : SgfReading) → hasRoom (m .counts) before ≡ true → ReadShown i (read false (textIn m)) before after r
       → (r .number ≡ 0) × (countsRead r ≡ m .counts) × SameCells (m .counts) after (tablesIn m)
-  reread-shown before after r h s =
-      let e : r ≡ readingShown (Accepted (m .counts)) = s .shown ∙ ap readingShown (answer-again before h) in
-      let x = reread before after (answers (read (strictly c) (textIn m)) before) h (record { answer = refl; tables = s .tables }) in
+  reread-shown {i} before after r h s =
+      let e : r ≡ readingShown i (Accepted (m .counts)) = s .shown ∙ ap (readingShown i) (answer-again before h) in
+      let x = reread before after (answers (read false (textIn m)) before) h (record { answer = refl; tables = s .tables }) in
       (ap (λ (z : SgfReading). z .number) e, ap countsRead e, x .1)

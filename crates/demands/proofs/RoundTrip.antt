@@ -16,7 +16,6 @@ use Rattle.tables.specs.declared.Reason.the-variants.{TextTooLong, TooDeep, NoR
 use Rattle.fit.specs.Fit.{Fit}
 use Rattle.fit.specs.Record.{rowsIn, recordIn}
 use Rattle.parser.specs.Read.{Answer, refused, accepted, decoded, read}
-use Rattle.parser.specs.Walk.{Opts}
 use Rattle.reader.specs.Lent.{Lent, roomy, answers, ReadIs}
 use Rattle.reader.proofs.Theorems.{counts-are-lengths}
 use Rattle.reader_laws.specs.Enough.{strictRows, Lends}
@@ -29,7 +28,6 @@ use Rattle.serialize.specs.Branch.{nameless}
 use Rattle.serialize.specs.declared.Written.{Written}
 use Rattle.serialize.specs.declared.Written.the-variants as written
 use Rattle.serialize.specs.declared.Written.the-variants.{Wrote}
-use Rattle.edit_laws.specs.Run.{strictly}
 use Rattle.serialize_laws.specs.Alike.{Alike}
 use Rattle.serialize_laws.specs.Back.{Named, BeginsAll}
 use Rattle.serialize_laws.specs.Depth.{depthOf}
@@ -42,11 +40,11 @@ use Rattle.demands.proofs.Rereadings.{trees-once}
 use Rattle.demands.proofs.Writings.{wrote-bytes, fit-writes, left-rows, left-reads, left-fits}
 
 -- as many properties are counted as the record has
-properties-read : (c : Bool) (t : List ℕ) (before after : Lent) (k : Counts) → ReadIs (read (strictly c) t) before after (Accepted k)
+properties-read : (t : List ℕ) (before after : Lent) (k : Counts) → ReadIs (read false t) before after (Accepted k)
     → k .properties ≡ length (allProps (allNodes (recordIn (holding t k after))))
-properties-read c t before after k x =
-    let n = counts-are-lengths (strictly c) t before after k x in
-    let e : n .0 ≡ recordIn (holding t k after) = trees-once (sym (n .1) ∙ left-reads (strictly c) t before after k x) in
+properties-read t before after k x =
+    let n = counts-are-lengths false t before after k x in
+    let e : n .0 ≡ recordIn (holding t k after) = trees-once (sym (n .1) ∙ left-reads false t before after k x) in
     ap (λ (z : Counts). z .properties) (n .2) ∙ prop-rows-length 0 (allProps (allNodes (n .0))) ∙ ap (λ (ts : List Tree). length (allProps (allNodes ts))) e
 
 -- the Go value of a property by its number, where tables fit and hold one record
@@ -57,18 +55,18 @@ go-same m m′ f g n a p =
     ∙ ap₂ (λ (k : ℕ) (v : GoValue). pick (Fit m) (pick (ltb p k) (given v) (refuses reason.NoSuchNumber)) (refuses reason.NotFitting)) n (alike-go (recordIn m) (recordIn m′) a p)
 
 -- a text beyond the limit
-pub long-one : (op : Opts) (t : List ℕ) (before after : Lent) (r : Reading) → textLimit < length t → ReadIs (read op t) before after r → r ≡ Refused TextTooLong 0
-long-one op t before after r h y =
+pub long-one : (len : Bool) (t : List ℕ) (before after : Lent) (r : Reading) → textLimit < length t → ReadIs (read len t) before after r → r ≡ Refused TextTooLong 0
+long-one len t before after r h y =
     y .answer
-    ∙ ap (λ (b : Bool). answers (pick b (refused TextTooLong 0) (decoded op (utfs (whole blank) 0 t) t)) before) (lt-ltb textLimit (length t) h)
+    ∙ ap (λ (b : Bool). answers (pick b (refused TextTooLong 0) (decoded len (utfs (whole blank) 0 t) t)) before) (lt-ltb textLimit (length t) h)
 
-module _ (c d : Bool) (t : List ℕ) (before after : Lent) (k : Counts) (x : ReadIs (read (strictly c) t) before after (Accepted k))
+module _ (t : List ℕ) (before after : Lent) (k : Counts) (x : ReadIs (read false t) before after (Accepted k))
     (b : BeginsAll t) (nm : All Named (allProps (allNodes (recordIn (holding t k after))))) where
   abbrev M : Memory
   M = holding t k after
 
-  reads : read (strictly c) t ≡ accepted (recordIn (holding t k after))
-  reads = left-reads (strictly c) t before after k x
+  reads : read false t ≡ accepted (recordIn (holding t k after))
+  reads = left-reads false t before after k x
 
   names : nameless (allProps (allNodes (recordIn (holding t k after)))) ≡ false
   names = named-all (allProps (allNodes (recordIn (holding t k after)))) nm
@@ -77,7 +75,7 @@ module _ (c d : Bool) (t : List ℕ) (before after : Lent) (k : Counts) (x : Rea
       → (length (writing (recordIn (holding t k after))) ≤ length out
       → (r ≡ Wrote (length (writing (recordIn (holding t k after))))) × (out′ ≡ writing (recordIn (holding t k after)) ++ drop (length (writing (recordIn (holding t k after)))) out))
       × (length out < length (writing (recordIn (holding t k after))) → (r ≡ written.Refused NoRoom) × (out′ ≡ out))
-  named-writes = fit-writes (holding t k after) (left-fits (strictly c) t before after k x) names
+  named-writes = fit-writes (holding t k after) (left-fits false t before after k x) names
 
   module _ (out out′ : List ℕ) (n : ℕ) (w : WriteIs (holding t k after) out out′ (Wrote n)) (l : n ≤ textLimit) where
     long : n ≡ length (writing (recordIn (holding t k after)))
@@ -89,21 +87,21 @@ module _ (c d : Bool) (t : List ℕ) (before after : Lent) (k : Counts) (x : Rea
     short : length (writing (recordIn (holding t k after))) ≤ textLimit
     short = omega (arith, l, long)
 
-    pub deep-nine : depthLimit < depthOf (take n out′) → (before₂ after₂ : Lent) (r : Reading) → ReadIs (read (strictly d) (take n out′)) before₂ after₂ r → r ≡ Refused TooDeep 0
+    pub deep-nine : depthLimit < depthOf (take n out′) → (before₂ after₂ : Lent) (r : Reading) → ReadIs (read false (take n out′)) before₂ after₂ r → r ≡ Refused TooDeep 0
     deep-nine h before₂ after₂ r y =
         y .answer
         ∙ ap (λ (a : Answer). answers a before₂)
-        (ap (read (strictly d)) is ∙ too-deep c d t (recordIn (holding t k after)) reads b nm short (subst (λ (z : List ℕ). depthLimit < depthOf z) is h))
+        (ap (read false) is ∙ too-deep t (recordIn (holding t k after)) reads b nm short (subst (λ (z : List ℕ). depthLimit < depthOf z) is h))
 
     module _ (s : depthOf (take n out′) ≤ depthLimit) where
-      pub back : ReadsBack d (recordIn (holding t k after))
-      back = reads-back-within c d t (recordIn (holding t k after)) reads b nm short (subst (λ (z : List ℕ). depthOf z ≤ depthLimit) is s)
+      pub back : ReadsBack (recordIn (holding t k after))
+      back = reads-back-within t (recordIn (holding t k after)) reads b nm short (subst (λ (z : List ℕ). depthOf z ≤ depthLimit) is s)
 
-      pub reads-again : read (strictly d) (take n out′) ≡ accepted (back .again)
-      reads-again = ap (read (strictly d)) is ∙ back .accepts
+      pub reads-again : read false (take n out′) ≡ accepted (back .again)
+      reads-again = ap (read false) is ∙ back .accepts
 
       -- the rows of what is read are lent, or not
-      pub room-exactly : (before₂ after₂ : Lent) (r : Reading) → ReadIs (read (strictly d) (take n out′)) before₂ after₂ r
+      pub room-exactly : (before₂ after₂ : Lent) (r : Reading) → ReadIs (read false (take n out′)) before₂ after₂ r
           → (roomy (tables (back .again)) before₂ ≡ true → r ≡ Accepted (countsOf (tables (back .again)))) × (roomy (tables (back .again)) before₂ ≡ false → r ≡ Refused NoRoom 0)
       room-exactly before₂ after₂ r y = (so true, so false)
         where
@@ -114,15 +112,15 @@ module _ (c d : Bool) (t : List ℕ) (before after : Lent) (k : Counts) (x : Rea
               ∙ ap (λ (g : Bool). pick g (Accepted (countsOf (tables (back .again)))) (Refused NoRoom 0)) h
 
       -- tables for n bytes have room
-      pub room-enough : (before₂ after₂ : Lent) (r : Reading) → ReadIs (read (strictly d) (take n out′)) before₂ after₂ r → Lends (strictRows n) before₂
+      pub room-enough : (before₂ after₂ : Lent) (r : Reading) → ReadIs (read false (take n out′)) before₂ after₂ r → Lends (strictRows n) before₂
           → r ≡ Accepted (countsOf (tables (back .again)))
       room-enough before₂ after₂ r y h =
           y .answer
-          ∙ strict-accepts (strictly d) (take n out′) (back .again) reads-again refl before₂ (subst (λ (z : ℕ). Lends (strictRows z) before₂) (long ∙ sym (ap length is)) h)
+          ∙ strict-accepts false (take n out′) (back .again) reads-again refl before₂ (subst (λ (z : ℕ). Lends (strictRows z) before₂) (long ∙ sym (ap length is)) h)
 
-      module _ (before₂ after₂ : Lent) (k₂ : Counts) (y : ReadIs (read (strictly d) (take n out′)) before₂ after₂ (Accepted k₂)) where
+      module _ (before₂ after₂ : Lent) (k₂ : Counts) (y : ReadIs (read false (take n out′)) before₂ after₂ (Accepted k₂)) where
         again-is : back .again ≡ recordIn (holding (take n out′) k₂ after₂)
-        again-is = trees-once (sym reads-again ∙ left-reads (strictly d) (take n out′) before₂ after₂ k₂ y)
+        again-is = trees-once (sym reads-again ∙ left-reads false (take n out′) before₂ after₂ k₂ y)
 
         pub same-record : Pairs SameTree (recordIn (holding t k after)) (recordIn (holding (take n out′) k₂ after₂))
         same-record = subst (Pairs SameTree (recordIn (holding t k after))) again-is (back .same)
@@ -132,35 +130,35 @@ module _ (c d : Bool) (t : List ℕ) (before after : Lent) (k : Counts) (x : Rea
 
         pub same-tree-rows : rowsIn (holding (take n out′) k₂ after₂) .trees ≡ rowsIn (holding t k after) .trees
         same-tree-rows =
-            ap (λ (T : Tables). T .trees) (left-rows (strictly d) (take n out′) before₂ after₂ k₂ y)
+            ap (λ (T : Tables). T .trees) (left-rows false (take n out′) before₂ after₂ k₂ y)
             ∙ ap (λ (us : List Tree). tables us .trees) (sym again-is) ∙ back .tree-rows
-            ∙ sym (ap (λ (T : Tables). T .trees) (left-rows (strictly c) t before after k x))
+            ∙ sym (ap (λ (T : Tables). T .trees) (left-rows false t before after k x))
 
         pub same-node-rows : rowsIn (holding (take n out′) k₂ after₂) .nodes ≡ rowsIn (holding t k after) .nodes
         same-node-rows =
-            ap (λ (T : Tables). T .nodes) (left-rows (strictly d) (take n out′) before₂ after₂ k₂ y)
+            ap (λ (T : Tables). T .nodes) (left-rows false (take n out′) before₂ after₂ k₂ y)
             ∙ ap (λ (us : List Tree). tables us .nodes) (sym again-is) ∙ back .node-rows
-            ∙ sym (ap (λ (T : Tables). T .nodes) (left-rows (strictly c) t before after k x))
+            ∙ sym (ap (λ (T : Tables). T .nodes) (left-rows false t before after k x))
 
         pub same-go : (p : ℕ) → goAnswer (holding (take n out′) k₂ after₂) p ≡ goAnswer (holding t k after) p
         same-go =
-            go-same (holding t k after) (holding (take n out′) k₂ after₂) (left-fits (strictly c) t before after k x) (left-fits (strictly d) (take n out′) before₂ after₂ k₂ y)
-            (properties-read d (take n out′) before₂ after₂ k₂ y
+            go-same (holding t k after) (holding (take n out′) k₂ after₂) (left-fits false t before after k x) (left-fits false (take n out′) before₂ after₂ k₂ y)
+            (properties-read (take n out′) before₂ after₂ k₂ y
             ∙ alike-properties (recordIn (holding t k after)) (recordIn (holding (take n out′) k₂ after₂)) alike
-            ∙ sym (properties-read c t before after k x)) alike
+            ∙ sym (properties-read t before after k x)) alike
 
         pub writes-again : (out₂ out₂′ : List ℕ) (r : Written) → WriteIs (holding (take n out′) k₂ after₂) out₂ out₂′ r → n ≤ length out₂ → (r ≡ Wrote n) × (take n out₂′ ≡ take n out′)
         writes-again out₂ out₂′ r v m =
             let M₂ : Memory = holding (take n out′) k₂ after₂ in
             let e : writing (recordIn M) ≡ writing (recordIn M₂) = same-written (recordIn M) (recordIn M₂) alike in
             let o : n ≡ length (writing (recordIn M₂)) = long ∙ ap length e in
-            let f = fit-writes M₂ (left-fits (strictly d) (take n out′) before₂ after₂ k₂ y)
+            let f = fit-writes M₂ (left-fits false (take n out′) before₂ after₂ k₂ y)
             (alike-names (recordIn M) (recordIn M₂) alike ∙ names) out₂ out₂′ r v .0 (omega (arith, m, o)) in
             let q : r ≡ Wrote n = f .0 ∙ ap Wrote (sym o) in
             (q, wrote-bytes M₂ out₂ out₂′ n (subst (WriteIs M₂ out₂ out₂′) q v) .1 ∙ sym e ∙ sym is)
 
     -- 9, and 9 only, where it is too deep
-    pub nine-deep : (before₂ after₂ : Lent) (p : ℕ) → ReadIs (read (strictly d) (take n out′)) before₂ after₂ (Refused TooDeep p) → depthLimit < depthOf (take n out′)
+    pub nine-deep : (before₂ after₂ : Lent) (p : ℕ) → ReadIs (read false (take n out′)) before₂ after₂ (Refused TooDeep p) → depthLimit < depthOf (take n out′)
     nine-deep before₂ after₂ p y =
         below-or depthLimit (depthOf (take n out′)) (λ h. h)
         (λ h. go (roomy (tables (back h .again)) before₂) (countsOf (tables (back h .again))) (y .answer ∙ ap (λ (a : Answer). answers a before₂) (reads-again h)))

@@ -22,8 +22,8 @@ version-once = once-is version
 -- sgf
 
 -- all of the answer, and all lent tables
-pub read-once : (a : Answer) (before x y : Lent) (r s : SgfReading) → ReadShown a before x r → ReadShown a before y s → (r ≡ s) × (x ≡ y)
-read-once a before x y r s p q = (p .shown ∙ sym (q .shown), p .tables ∙ sym (q .tables))
+pub read-once : (i : ℕ) (a : Answer) (before x y : Lent) (r s : SgfReading) → ReadShown i a before x r → ReadShown i a before y s → (r ≡ s) × (x ≡ y)
+read-once i a before x y r s p q = (p .shown ∙ sym (q .shown), p .tables ∙ sym (q .tables))
 
 -- said by one equation
 pub fits-once : (x : Bool) → Once (λ (n : ℕ). n ≡ fitsShown x)

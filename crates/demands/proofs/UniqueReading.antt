@@ -36,8 +36,8 @@ game-type-once s from = once-is (typeOf (kind (sliceFrom 0 (lexAt s from .toks))
 
 -- parser_step
 
-pub look-once : (len con : Bool) (u : List ℕ) (base : ℕ) (st : State) (a : List ℕ) → Once (λ (r : Act). r ≡ asks len con u base st a)
-look-once len con u base st a = once-is (asks len con u base st a)
+pub look-once : (len : Bool) (u : List ℕ) (base : ℕ) (st : State) (a : List ℕ) → Once (λ (r : Act). r ≡ asks len u base st a)
+look-once len u base st a = once-is (asks len u base st a)
 
 -- reader
 

@@ -55,8 +55,8 @@ value-once at Unclosed p q = four p q
 
 -- c_answers
 
-pub reading-once : (a : Reading) → Once (λ (r : SgfReading). r ≡ readingShown a)
-reading-once a = once-is (readingShown a)
+pub reading-once : (i : ℕ) (a : Reading) → Once (λ (r : SgfReading). r ≡ readingShown i a)
+reading-once i a = once-is (readingShown i a)
 
 pub span-once : (a : Accessed) → Once (λ (r : SgfSpan). r ≡ spanShown a)
 span-once a = once-is (spanShown a)

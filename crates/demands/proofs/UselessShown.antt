@@ -41,9 +41,9 @@ use Rattle.demands.proofs.Useless.{rows, room, two-nodes, nothing, ten-
 
 -- ---- sgf_read
 
-module _ (after : Lent) (r : SgfReading) (x : ReadShown (read strict (bytes "(;;)")) room after r) where
-  is : r ≡ readingShown (Accepted (rows 1 2 0 0))
-  is = x .shown ∙ ap readingShown two-nodes
+module _ {i : ℕ} (after : Lent) (r : SgfReading) (x : ReadShown i (read strict (bytes "(;;)")) room after r) where
+  is : r ≡ readingShown i (Accepted (rows 1 2 0 0))
+  is = x .shown ∙ ap (readingShown i) two-nodes
 
   -- a reader that refuses everything
   pub refusing-reader : 0 < r .number → ⊥
@@ -54,8 +54,8 @@ module _ (after : Lent) (r : SgfReading) (x : ReadShown (read strict (bytes "(;;
   inventing-reader = ap countsRead is
 
 -- one that looks for room before it looks at the trees
-pub hasty-reader : (after : Lent) (r : SgfReading) → ReadShown (read strict (bytes "((;))")) nothing after r → r .number ≡ 14 → ⊥
-hasty-reader after r x e = omega (arith, e, ap (λ (y : SgfReading). y .number) (x .shown ∙ ap readingShown ten-first))
+pub hasty-reader : {i : ℕ} (after : Lent) (r : SgfReading) → ReadShown i (read strict (bytes "((;))")) nothing after r → r .number ≡ 14 → ⊥
+hasty-reader {i} after r x e = omega (arith, e, ap (λ (y : SgfReading). y .number) (x .shown ∙ ap (readingShown i) ten-first))
 
 -- ---- sgf_edit
 

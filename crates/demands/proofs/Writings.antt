@@ -9,7 +9,6 @@ use Rattle.tables.specs.declared.Reason.the-variants.{NoRoom}
 use Rattle.fit.specs.Fit.{Fit}
 use Rattle.fit.specs.Record.{rowsOf, recordOf, rowsIn, recordIn}
 use Rattle.parser.specs.Read.{accepted, read}
-use Rattle.parser.specs.Walk.{Opts}
 use Rattle.reader.specs.Lent.{Lent, ReadIs}
 use Rattle.reader_laws.proofs.Lent.{read-fits, read-rows}
 use Rattle.serialize.specs.Form.{writing, written, output, WriteIs}
@@ -67,37 +66,37 @@ module _ (m m′ : Memory) (a : Alike (recordIn m) (recordIn m′)) where
       ap₂ (λ (x y : Bool). answer x y (ltb room (length (writing (recordIn m)))) (writing (recordIn m))) (f ∙ sym g) (sym (alike-names (recordIn m) (recordIn m′) a))
       ∙ ap (λ (w : List ℕ). answer (Fit m′) (nameless (allProps (allNodes (recordIn m′)))) (ltb room (length w)) w) (one.same-written (recordIn m) (recordIn m′) a)
 
-module _ (op : Opts) (t : List ℕ) (before after : Lent) (c : Counts) (x : ReadIs (read op t) before after (Accepted c)) where
+module _ (len : Bool) (t : List ℕ) (before after : Lent) (c : Counts) (x : ReadIs (read len t) before after (Accepted c)) where
   -- what memory holds after a reading is the record that was read
-  pub left-record : (ts : List Tree) × (read op t ≡ accepted ts) × (rowsIn (holding t c after) ≡ tables ts) × (recordIn (holding t c after) ≡ ts)
+  pub left-record : (ts : List Tree) × (read len t ≡ accepted ts) × (rowsIn (holding t c after) ≡ tables ts) × (recordIn (holding t c after) ≡ ts)
   left-record =
-      let r = read-rows op t before after c x in
+      let r = read-rows len t before after c x in
       (r .0, r .1, r .2, ap (λ (z : List ℕ). recordOf z (rowsOf c (after .trees) (after .nodes) (after .props) (after .vals))) (take-length t) ∙ r .3)
 
   pub left-rows : rowsIn (holding t c after) ≡ tables (recordIn (holding t c after))
   left-rows = left-record .2 ∙ ap tables (sym (left-record .3))
 
-  pub left-reads : read op t ≡ accepted (recordIn (holding t c after))
+  pub left-reads : read len t ≡ accepted (recordIn (holding t c after))
   left-reads = left-record .1 ∙ ap accepted (sym (left-record .3))
 
   pub left-fits : Fit (holding t c after) ≡ true
-  left-fits = read-fits op t before after c x
+  left-fits = read-fits len t before after c x
 
-  pub bytes-written : (out out′ : List ℕ) (n : ℕ) → WriteIs (holding t c after) out out′ (Wrote n) → (ts : List Tree) × (read op t ≡ accepted ts) × (take n out′ ≡ writing ts)
+  pub bytes-written : (out out′ : List ℕ) (n : ℕ) → WriteIs (holding t c after) out out′ (Wrote n) → (ts : List Tree) × (read len t ≡ accepted ts) × (take n out′ ≡ writing ts)
   bytes-written out out′ n w = (left-record .0, left-record .1, wrote-bytes (holding t c after) out out′ n w .1 ∙ ap writing (left-record .3))
 
 -- two readings of texts that are read as records that are alike
-module _ (op : Opts) (t : List ℕ) (before after : Lent) (c : Counts) (x : ReadIs (read op t) before after (Accepted c))
-    (op′ : Opts) (u : List ℕ) (before′ after′ : Lent) (c′ : Counts) (y : ReadIs (read op′ u) before′ after′ (Accepted c′))
-    (ts us : List Tree) (e : read op t ≡ accepted ts) (e′ : read op′ u ≡ accepted us) (a : Alike ts us) where
+module _ (len : Bool) (t : List ℕ) (before after : Lent) (c : Counts) (x : ReadIs (read len t) before after (Accepted c))
+    (len′ : Bool) (u : List ℕ) (before′ after′ : Lent) (c′ : Counts) (y : ReadIs (read len′ u) before′ after′ (Accepted c′))
+    (ts us : List Tree) (e : read len t ≡ accepted ts) (e′ : read len′ u ≡ accepted us) (a : Alike ts us) where
   left-alike : Alike (recordIn (holding t c after)) (recordIn (holding u c′ after′))
   left-alike =
-      subst (Alike (recordIn (holding t c after))) (trees-once (sym e′ ∙ left-reads op′ u before′ after′ c′ y))
-      (subst (λ (z : List Tree). Alike z us) (trees-once (sym e ∙ left-reads op t before after c x)) a)
+      subst (Alike (recordIn (holding t c after))) (trees-once (sym e′ ∙ left-reads len′ u before′ after′ c′ y))
+      (subst (λ (z : List Tree). Alike z us) (trees-once (sym e ∙ left-reads len t before after c x)) a)
 
   pub readings-written : (out out₁ out′ out₁′ : List ℕ) (n n′ : ℕ) → WriteIs (holding t c after) out out₁ (Wrote n) → WriteIs (holding u c′ after′) out′ out₁′ (Wrote n′)
       → (n ≡ n′) × (take n out₁ ≡ take n′ out₁′)
   readings-written = one-writing (holding t c after) (holding u c′ after′) left-alike
 
   pub readings-answer : (room : ℕ) → written (holding t c after) room ≡ written (holding u c′ after′) room
-  readings-answer = one-answer (holding t c after) (holding u c′ after′) left-alike (left-fits op t before after c x) (left-fits op′ u before′ after′ c′ y)
+  readings-answer = one-answer (holding t c after) (holding u c′ after′) left-alike (left-fits len t before after c x) (left-fits len′ u before′ after′ c′ y)

@@ -8,7 +8,7 @@ OneOf (x ∷ xs) n = (n ≡ x) ⊎ OneOf xs n
 
 -- strict reading
 abbrev pub strictNumbers : List ℕ
-strictNumbers = 0 ∷ 1 ∷ 2 ∷ 3 ∷ 4 ∷ 5 ∷ 6 ∷ 7 ∷ 8 ∷ 9 ∷ 10 ∷ 11 ∷ 12 ∷ 13 ∷ 14 ∷ []
+strictNumbers = 0 ∷ 1 ∷ 2 ∷ 3 ∷ 4 ∷ 5 ∷ 6 ∷ 7 ∷ 8 ∷ 9 ∷ 10 ∷ 11 ∷ 12 ∷ 14 ∷ []
 
 -- lenient reading
 abbrev pub lenientNumbers : List ℕ

@@ -1,5 +1,5 @@
 -- When each exported function accepts, and when it gives each number: in the scope's order, each where none before it applies.
-use Rattle.lists.specs.Prelude.{ℕ, _≤_, _<_, true, false, List, _↔_, _≡_, length, slice}
+use Rattle.lists.specs.Prelude.{ℕ, _≤_, _<_, true, false, List, _↔_, _≡_, length, slice, Bool}
 use Rattle.values.specs.Read.{readValue}
 use Rattle.value_display.specs.Display.{shown}
 use Rattle.value_display.specs.declared.Kind.{Kind}
@@ -13,7 +13,6 @@ use Rattle.tables.specs.declared.Reason.the-variants.{NoRoom, EmptyIdentifier, 
 use Rattle.fit.specs.Fit.{Fit}
 use Rattle.fit.specs.Record.{recordIn}
 use Rattle.parser.specs.Read.{refused, accepted, read}
-use Rattle.parser.specs.Walk.{Opts}
 use Rattle.reader.specs.Lent.{Lent, roomy}
 use Rattle.serialize.specs.Form.{writing}
 use Rattle.serialize.specs.Branch.{nameless}
@@ -26,27 +25,27 @@ pub record Exactly (number : ℕ) (Accepts : Type 0) (Because : Reason → Type 
   pub each : (x : Reason) → (number ≡ numberOf x) ↔ Because x
 
 -- the definition reads the text as a record
-abbrev pub Recorded : Opts → List ℕ → Type 0
-Recorded op t = (ts : List Tree) × (read op t ≡ accepted ts)
+abbrev pub Recorded : Bool → List ℕ → Type 0
+Recorded len t = (ts : List Tree) × (read len t ≡ accepted ts)
 
 -- none of 1 to 9 applies, and no slice is the first that is refused: with 7, 10, 11 or 12
-pub record Sound (op : Opts) (t : List ℕ) : Type 0 where
+pub record Sound (t : List ℕ) : Type 0 where
   pub splits : Splits t
-  pub noded : First op (Nodeless op) (slicesFrom 0 (tokensOf t .toks)) → ⊥
-  pub started : First op (StartsEmpty op) (slicesFrom 0 (tokensOf t .toks)) → ⊥
-  pub expected : First op (Unexpected op) (slicesFrom 0 (tokensOf t .toks)) → ⊥
-  pub typed : First op (λ _ s. WrongGame s) (slicesFrom 0 (tokensOf t .toks)) → ⊥
+  pub noded : First Nodeless (slicesFrom 0 (tokensOf t .toks)) → ⊥
+  pub started : First StartsEmpty (slicesFrom 0 (tokensOf t .toks)) → ⊥
+  pub expected : First Unexpected (slicesFrom 0 (tokensOf t .toks)) → ⊥
+  pub typed : First (λ _ s. WrongGame s) (slicesFrom 0 (tokensOf t .toks)) → ⊥
 
 -- a reading is accepted: the text reads as a record, whose rows are lent
-pub record Reads (op : Opts) (t : List ℕ) (before : Lent) : Type 0 where
+pub record Reads (len : Bool) (t : List ℕ) (before : Lent) : Type 0 where
   pub trees : List Tree
-  pub is : read op t ≡ accepted trees
+  pub is : read len t ≡ accepted trees
   pub room : roomy (tables trees) before ≡ true
 
 -- or refused, with the place: for the definition's reason; or, 14 last, too few rows are lent
-pub data Unread (op : Opts) (t : List ℕ) (before : Lent) : Reason → ℕ → Type 0 where
-  unread : {x : Reason} {p : ℕ} → read op t ≡ refused x p → Unread op t before x p
-  few : (ts : List Tree) → read op t ≡ accepted ts → roomy (tables ts) before ≡ false → Unread op t before NoRoom 0
+pub data Unread (len : Bool) (t : List ℕ) (before : Lent) : Reason → ℕ → Type 0 where
+  unread : {x : Reason} {p : ℕ} → read len t ≡ refused x p → Unread len t before x p
+  few : (ts : List Tree) → read len t ≡ accepted ts → roomy (tables ts) before ≡ false → Unread len t before NoRoom 0
 
 -- a writing into `room` bytes is accepted: the tables fit, no identifier reads as empty, the writing has room
 pub record Writes (m : Memory) (room : ℕ) : Type 0 where

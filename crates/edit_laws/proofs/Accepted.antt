@@ -1,17 +1,15 @@
 -- What an acceptance says: the text is valid, the tokens end with it, and what holds of each value of the tokens holds of each value of the trees. Assumes nothing.
 use Rattle.lists.proofs.Prelude.{_≡_, refl, subst, ℕ, _-_, _≤_, _<_, arith, Bool, true, false, List, List·Memᴰ, ltb, length, take, drop, pick}
-use Rattle.edit_laws.specs.Run.{strictly}
 use Rattle.lexer_laws.proofs.Inside.{OfVals}
 use Rattle.lexer_laws.proofs.Invariant.{keep-rest}
 use Rattle.lexer_laws.proofs.Starting.{Each, each-from, each-value}
-use Rattle.lexer.specs.Token.{End, Prop, Tok, Val, between, broken, done, end, lexFrom}
+use Rattle.lexer.specs.Token.{End, Prop, Tok, Val, between, broken, done, lexFrom}
 use Rattle.lists.proofs.All.{all-mem}
 use Rattle.lists.specs.All.{All}
 use Rattle.parser.proofs.Answers.{not-both}
 use Rattle.parser.proofs.Lift.{OfAnswer, of-tokens, of-trees}
 use Rattle.parser.specs.Read.{Answer, accepted, decoded, lexing, parsed, read, refused}
 use Rattle.parser.specs.Split.{ended}
-use Rattle.parser.specs.Walk.{Opts}
 use Rattle.tables.specs.Numbers.{reasonOf, textLimit}
 use Rattle.tables.specs.Record.{Tree, allNodes, allProps}
 use Rattle.tables.specs.declared.Reason.the-variants.{NoGameTrees, NotUtf8, TextTooLong}
@@ -24,35 +22,35 @@ short : (b : Bool) (a : Answer) (ts : List Tree) → pick b (refused TextTooLong
 short true a ts e = not-both TextTooLong 0 ts e
 short false a ts e = e
 
-pub record Accepted (c : Bool) (t : List ℕ) (ts : List Tree) : Type 0 where
+pub record Accepted (t : List ℕ) (ts : List Tree) : Type 0 where
   pub f0 : ℕ
   pub l : ℕ
   pub valid : utfs (whole blank) 0 t ≡ whole (inked f0 l)
   pub ended : lexFrom f0 l (drop f0 (take l t)) .end ≡ done
-  pub trees : parsed (strictly c) (lexFrom f0 l (drop f0 (take l t)) .toks) ≡ accepted ts
+  pub trees : parsed false (lexFrom f0 l (drop f0 (take l t)) .toks) ≡ accepted ts
 
-lexing-done : (op : Opts) (e : End) (l : List Tok) (ts : List Tree) → lexing op false e l ≡ accepted ts → (e ≡ done) × (parsed op l ≡ accepted ts)
-lexing-done op done l ts h = (refl, h)
-lexing-done op (broken f s) l ts h = not-both (reasonOf f) s ts h
+lexing-done : (e : End) (l : List Tok) (ts : List Tree) → lexing false e l ≡ accepted ts → (e ≡ done) × (parsed false l ≡ accepted ts)
+lexing-done done l ts h = (refl, h)
+lexing-done (broken f s) l ts h = not-both (reasonOf f) s ts h
 
-pub accepted-is : (c : Bool) (t : List ℕ) (ts : List Tree) → read (strictly c) t ≡ accepted ts → Accepted c t ts
-accepted-is c t ts h = go (utfs (whole blank) 0 t) refl (short (ltb textLimit (length t)) (decoded (strictly c) (utfs (whole blank) 0 t) t) ts h)
+pub accepted-is : (t : List ℕ) (ts : List Tree) → read false t ≡ accepted ts → Accepted t ts
+accepted-is t ts h = go (utfs (whole blank) 0 t) refl (short (ltb textLimit (length t)) (decoded false (utfs (whole blank) 0 t) t) ts h)
   where
-    go : (u : Utf) → utfs (whole blank) 0 t ≡ u → decoded (strictly c) u t ≡ accepted ts → Accepted c t ts
+    go : (u : Utf) → utfs (whole blank) 0 t ≡ u → decoded false u t ≡ accepted ts → Accepted t ts
     go (whole blank) e k = not-both NoGameTrees 0 ts k
     go (whole (inked f0 l)) e k =
-        let z = lexing-done (strictly c) (lexFrom f0 l (drop f0 (take l t)) .end) (lexFrom f0 l (drop f0 (take l t)) .toks) ts k in
+        let z = lexing-done (lexFrom f0 l (drop f0 (take l t)) .end) (lexFrom f0 l (drop f0 (take l t)) .toks) ts k in
         record { f0 = f0; l = l; valid = e; ended = z .0; trees = z .1 }
     go (part k′ s n r x) e k = not-both NotUtf8 s ts k
     go (bad p) e k = not-both NotUtf8 p ts k
 
 -- a fact of each value of the tokens is one of each value of the trees
-pub on-trees : (c : Bool) (P : List ℕ → Val → Type 0) (x : List Tok) (ts : List Tree) (p : Prop) (v : Val) → parsed (strictly c) x ≡ accepted ts
+pub on-trees : (P : List ℕ → Val → Type 0) (x : List Tok) (ts : List Tree) (p : Prop) (v : Val) → parsed false x ≡ accepted ts
     → All (OfVals P) x → List·Memᴰ p (allProps (allNodes ts)) → List·Memᴰ v (p .vals) → P (p .name) v
-on-trees c P x ts p v e h mp mv =
+on-trees P x ts p v e h mp mv =
     all-mem (P (p .name)) (p .vals) mv
     (all-mem (Each P) (allProps (allNodes ts)) mp
-    (of-trees (Each P) ts (subst (OfAnswer (Each P)) e (of-tokens (Each P) (strictly c) x h))))
+    (of-trees (Each P) ts (subst (OfAnswer (Each P)) e (of-tokens (Each P) false x h))))
 
 -- ---- where the value lies in the trimmed-parts text
 

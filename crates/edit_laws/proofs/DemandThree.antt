@@ -18,7 +18,7 @@ use Rattle.parser.proofs.Denoted.{read-denotes}
 use Rattle.edit_splice.specs.Splice.{pasted}
 use Rattle.edit_answer.specs.Edit.{ownerRow, ownerName, spanAt, shifted, Outcome, edit}
 use Rattle.edit_answer.specs.Locals.{outcome}
-use Rattle.edit_laws.specs.Run.{strictly, TextRows, Order, after, run, Reads}
+use Rattle.edit_laws.specs.Run.{TextRows, Order, after, run, Reads}
 use Rattle.edit_laws.proofs.Numbered.{noVal, ownerOf, valueOf, newText, newTrees, edit-number}
 
 -- ---- rows and trees
@@ -53,7 +53,7 @@ name-of t (p ∷ ps) h f k = go (ltb k (length (p .vals))) refl (name-of t ps (h
 
 -- ---- the edit over rows is the edit over trees
 
-module _ (c : Bool) (room : ℕ) (t : List ℕ) (ts : List Tree) (k : ℕ) (new : List ℕ) (h : read (strictly c) t ≡ accepted ts) where
+module _ (room : ℕ) (t : List ℕ) (ts : List Tree) (k : ℕ) (new : List ℕ) (h : read false t ≡ accepted ts) where
   abbrev pub v : Val
   v = valueOf ts k
 
@@ -78,7 +78,7 @@ module _ (c : Bool) (room : ℕ) (t : List ℕ) (ts : List Tree) (k : ℕ) (new 
   name-is : ownerName t (tables ts .props) k ≡ ownerOf (allProps (allNodes ts)) k
   name-is =
       subst (λ (z : ℕ). slice (ownerRow (tables ts .props) z .from) (ownerRow (tables ts .props) z .to) t ≡ ownerOf (allProps (allNodes ts)) k) zero-plus
-      (name-of t (allProps (allNodes ts)) (read-denotes (strictly c) t ts h) 0 k)
+      (name-of t (allProps (allNodes ts)) (read-denotes false t ts h) 0 k)
 
   -- the same tests, over trees
   pub edit-is : edit room t (tables ts) k new
@@ -93,18 +93,18 @@ module _ (c : Bool) (room : ℕ) (t : List ℕ) (ts : List Tree) (k : ℕ) (new 
       (ltb textLimit (length U)) (ltb room (length U)) U T) name-is (sym rows-is)
 
   -- one edit: what it leaves is what a strict reading gives
-  reads-after : Reads (strictly c) (after (record { text = t; rows = tables ts }) (edit room t (tables ts) k new))
+  reads-after : Reads (after (record { text = t; rows = tables ts }) (edit room t (tables ts) k new))
   reads-after =
-      subst (λ (z : Outcome). Reads (strictly c) (after (record { text = t; rows = tables ts }) z)) (sym edit-is)
+      subst (λ (z : Outcome). Reads (after (record { text = t; rows = tables ts }) z)) (sym edit-is)
       (go (ltb k (length (allVals (allProps (allNodes ts))))) (same (ownerOf (allProps (allNodes ts)) k) GM) (utfs (whole blank) 0 new) (closed new)
       (ltb textLimit (length U)) (ltb room (length U)) refl refl refl refl refl)
     where
-      still : Reads (strictly c) (record { text = t; rows = tables ts })
+      still : Reads (record { text = t; rows = tables ts })
       still = record { trees = ts; reads = h; same-rows = refl }
 
       go : (b g : Bool) (w : Utf) (d l m : Bool) → ltb k (length (allVals (allProps (allNodes ts)))) ≡ b → same (ownerOf (allProps (allNodes ts)) k) GM ≡ g
           → utfs (whole blank) 0 new ≡ w → closed new ≡ d → ltb textLimit (length U) ≡ l
-          → Reads (strictly c) (after (record { text = t; rows = tables ts }) (outcome b g w d l m U (tables US)))
+          → Reads (after (record { text = t; rows = tables ts }) (outcome b g w d l m U (tables US)))
       go false g w d l m eb eg ew ed el = still
       go true true w d l m eb eg ew ed el = still
       go true false (part i s n r y) d l m eb eg ew ed el = still
@@ -115,14 +115,14 @@ module _ (c : Bool) (room : ℕ) (t : List ℕ) (ts : List Tree) (k : ℕ) (new 
       go true false (whole i) true false false eb eg ew ed el =
           record {
             trees = US;
-            reads = edit-number c t new ts k h (ltb-true k (length (allVals (allProps (allNodes ts)))) eb) eg ed i ew (ltb-false textLimit (length U) el);
+            reads = edit-number t new ts k h (ltb-true k (length (allVals (allProps (allNodes ts)))) eb) eg ed i ew (ltb-false textLimit (length U) el);
             same-rows = refl;
           }
 
 -- a record that strict reading gives stays one under any run of edits, refused ones of whatever number between them
-pub demand-three : (c : Bool) (room : ℕ) (s : TextRows) (xs : List Order) → Reads (strictly c) s → Reads (strictly c) (run room s xs)
-demand-three c room s [] f = f
-demand-three c room s (x ∷ xs) f =
-    demand-three c room (after s (edit room (s .text) (s .rows) (x .value) (x .bytes))) xs
-    (subst (λ (T : Tables). Reads (strictly c) (after (record { text = s .text; rows = T }) (edit room (s .text) T (x .value) (x .bytes)))) (sym (f .same-rows))
-    (reads-after c room (s .text) (f .trees) (x .value) (x .bytes) (f .reads)))
+pub demand-three : (room : ℕ) (s : TextRows) (xs : List Order) → Reads s → Reads (run room s xs)
+demand-three room s [] f = f
+demand-three room s (x ∷ xs) f =
+    demand-three room (after s (edit room (s .text) (s .rows) (x .value) (x .bytes))) xs
+    (subst (λ (T : Tables). Reads (after (record { text = s .text; rows = T }) (edit room (s .text) T (x .value) (x .bytes)))) (sym (f .same-rows))
+    (reads-after room (s .text) (f .trees) (x .value) (x .bytes) (f .reads)))

@@ -1,7 +1,6 @@
 -- The value that starts at the end of what stands before it: where it lies in the trimmed-parts text, and the state of the tokens there. Assumes nothing.
-use Rattle.lists.proofs.Prelude.{_≡_, refl, sym, ap, ap₂, _∙_, subst, _⊎_, inl, inr, ℕ, suc, _+_, _-_, _≤_, _<_, arith, Bool, true, false, List, [], _∷_, _++_, List·Memᴰ, tail-eq-of-cons-eq, head-eq-of-cons-eq, length, take, drop, length-take, length-drop, take-append-add, drop-append-le}
+use Rattle.lists.proofs.Prelude.{_≡_, refl, sym, ap, ap₂, _∙_, subst, _⊎_, inl, inr, ℕ, suc, _+_, _-_, _≤_, _<_, arith, true, false, List, [], _∷_, _++_, List·Memᴰ, tail-eq-of-cons-eq, head-eq-of-cons-eq, length, take, drop, length-take, length-drop, take-append-add, drop-append-le}
 use Rattle.edit_laws.proofs.Accepted.{Between, all-between, on-trees}
-use Rattle.edit_laws.specs.Run.{strictly}
 use Rattle.lexer_laws.proofs.Inside.{Inside, NotAt, OfVals, Only, inside, vals-map}
 use Rattle.lexer_laws.proofs.Starting.{last}
 use Rattle.lexer.specs.Closed.{closedFrom}
@@ -57,12 +56,12 @@ pub record Found (f0 l : ℕ) (pre old post : List ℕ) (name : List ℕ) (ts : 
 pub at-pre : (f0 : ℕ) (pre : List ℕ) → f0 ≤ length pre → place f0 (drop f0 pre) ≡ length pre
 at-pre f0 pre h = omega (arith, place-is f0 (drop f0 pre), length-drop f0 pre)
 
-found-in : (c : Bool) (f0 l m : ℕ) (pre old post : List ℕ) (ts : List Tree) (p : Prop) (v : Val)
-    → parsed (strictly c) (lexFrom f0 l (drop f0 pre ++ (old ++ take m post)) .toks) ≡ accepted ts
+found-in : (f0 l m : ℕ) (pre old post : List ℕ) (ts : List Tree) (p : Prop) (v : Val)
+    → parsed false (lexFrom f0 l (drop f0 pre ++ (old ++ take m post)) .toks) ≡ accepted ts
     → List·Memᴰ p (allProps (allNodes ts)) → List·Memᴰ v (p .vals) → v .from ≡ length pre → v .to ≡ length pre + length old
     → f0 ≤ length pre → l ≡ length pre + (length old + m)
     → Found f0 l pre old post (p .name) (lexFrom f0 l (drop f0 pre ++ (old ++ take m post)) .toks)
-found-in c f0 l m pre old post ts p v trees mp mv from to low long = go (inside f0 l (drop f0 pre) (old ++ take m post))
+found-in f0 l m pre old post ts p v trees mp mv from to low long = go (inside f0 l (drop f0 pre) (old ++ take m post))
   where
     X : List Tok
     X = lexFrom f0 l (drop f0 pre ++ (old ++ take m post)) .toks
@@ -94,24 +93,24 @@ found-in c f0 l m pre old post ts p v trees mp mv from to low long = go (inside 
         }
 
     go : All (OfVals (NotAt (place f0 (drop f0 pre)))) X ⊎ Inside f0 (drop f0 pre) (old ++ take m post) X → Found f0 l pre old post (p .name) X
-    go (inl n) = absurd (on-trees c (NotAt (place f0 (drop f0 pre))) X ts p v trees n mp mv (from ∙ sym q))
+    go (inl n) = absurd (on-trees (NotAt (place f0 (drop f0 pre))) X ts p v trees n mp mv (from ∙ sym q))
     go (inr I) =
-        let o = on-trees c (Only (place f0 (drop f0 pre)) (place (place f0 (drop f0 pre)) (I .body)) (I .w)) X ts p v trees (I .only) mp mv (from ∙ sym q) in
+        let o = on-trees (Only (place f0 (drop f0 pre)) (place (place f0 (drop f0 pre)) (I .body)) (I .w)) X ts p v trees (I .only) mp mv (from ∙ sym q) in
         build I o (append-parts old (take m post) (I .body) (0x5d ∷ I .post) (I .rest-is) (omega (arith, q, o .0, place-is (place f0 (drop f0 pre)) (I .body))))
 
-module _ (c : Bool) (f0 l : ℕ) (pre old post : List ℕ) (ts : List Tree) (p : Prop) (v : Val)
-    (trees : parsed (strictly c) (lexFrom f0 l (drop f0 (take l (pre ++ (old ++ post)))) .toks) ≡ accepted ts)
+module _ (f0 l : ℕ) (pre old post : List ℕ) (ts : List Tree) (p : Prop) (v : Val)
+    (trees : parsed false (lexFrom f0 l (drop f0 (take l (pre ++ (old ++ post)))) .toks) ≡ accepted ts)
     (mp : List·Memᴰ p (allProps (allNodes ts))) (mv : List·Memᴰ v (p .vals))
     (from : v .from ≡ length pre) (to : v .to ≡ length pre + length old) where
   pub bounds : (f0 < length pre) × (length pre + length old < l)
   unfolding Between
   bounds =
       let t : List ℕ = pre ++ (old ++ post) in
-      let b = on-trees c (Between f0 (place f0 (drop f0 (take l t)))) (lexFrom f0 l (drop f0 (take l t)) .toks) ts p v trees (all-between f0 l (drop f0 (take l t))) mp mv in
+      let b = on-trees (Between f0 (place f0 (drop f0 (take l t)))) (lexFrom f0 l (drop f0 (take l t)) .toks) ts p v trees (all-between f0 l (drop f0 (take l t))) mp mv in
       (omega (arith, b .0), omega (arith, b .0, b .1, b .2, place-is f0 (drop f0 (take l t)), length-drop f0 (take l t), length-take l t))
 
   pub found : (m : ℕ) → l ≡ length pre + (length old + m) → Found f0 l pre old post (p .name) (lexFrom f0 l (drop f0 (take l (pre ++ (old ++ post)))) .toks)
   found m e =
       let tr = trimmed-parts f0 m l pre old post (omega (arith, bounds .0)) e in
       subst (λ (z : List ℕ). Found f0 l pre old post (p .name) (lexFrom f0 l z .toks)) (sym tr)
-      (found-in c f0 l m pre old post ts p v (subst (λ (z : List ℕ). parsed (strictly c) (lexFrom f0 l z .toks) ≡ accepted ts) tr trees) mp mv from to (omega (arith, bounds .0)) e)
+      (found-in f0 l m pre old post ts p v (subst (λ (z : List ℕ). parsed false (lexFrom f0 l z .toks) ≡ accepted ts) tr trees) mp mv from to (omega (arith, bounds .0)) e)

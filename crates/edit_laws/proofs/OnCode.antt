@@ -14,7 +14,7 @@ use Rattle.edit.proofs.Given.{given}
 use Rattle.fit.proofs.RecordFits.{counts-of-rows}
 use Rattle.edit_laws.proofs.Left.{text-left, rows-left}
 use Rattle.edit_laws.specs.Calls.{textRows, asked, next, Calls, none, call}
-use Rattle.edit_laws.specs.Run.{strictly, Order, after, Reads}
+use Rattle.edit_laws.specs.Run.{Order, after, Reads}
 use Rattle.edit_laws.proofs.DemandThree.{demand-three}
 
 module _ (s : Memory) (x : Order) where
@@ -48,24 +48,24 @@ module _ (s : Memory) (x : Order) where
   pub held-next : (r : Edited) (l : Memory) → EditIs s l (x .value) (x .bytes) r → textRows (next l r) ≡ after (textRows s) (asked s x)
   held-next r l h = ap₂ (λ (q : Edited) (m : Memory). textRows (next m q)) (h .answer) (h .memory) ∙ held-after (asked s x) refl
 
-  reads-asked : (c : Bool) → Reads (strictly c) (textRows s) → Reads (strictly c) (after (textRows s) (asked s x))
+  reads-asked : Reads (textRows s) → Reads (after (textRows s) (asked s x))
   unfolding outcomeOf
-  reads-asked c f = go (Fit s) (demand-three c (length B) (textRows s) (x ∷ []) f)
+  reads-asked f = go (Fit s) (demand-three (length B) (textRows s) (x ∷ []) f)
     where
-      go : (b : Bool) → Reads (strictly c) (after (textRows s) (edit (length B) (textRows s .text) (textRows s .rows) (x .value) (x .bytes)))
-          → Reads (strictly c) (after (textRows s) (pick b (edit (length B) (textRows s .text) (textRows s .rows) (x .value) (x .bytes)) (refuses NotFitting 0)))
+      go : (b : Bool) → Reads (after (textRows s) (edit (length B) (textRows s .text) (textRows s .rows) (x .value) (x .bytes)))
+          → Reads (after (textRows s) (pick b (edit (length B) (textRows s .text) (textRows s .rows) (x .value) (x .bytes)) (refuses NotFitting 0)))
       go true h = h
       go false h = f
 
 -- one call
-pub call-reads : (c : Bool) (s : Memory) (x : Order) (r : Edited) (l : Memory) → Reads (strictly c) (textRows s) → EditIs s l (x .value) (x .bytes) r → Reads (strictly c) (textRows (next l r))
-call-reads c s x r l f h = subst⁻¹ (Reads (strictly c)) (held-next s x r l h) (reads-asked s x c f)
+pub call-reads : (s : Memory) (x : Order) (r : Edited) (l : Memory) → Reads (textRows s) → EditIs s l (x .value) (x .bytes) r → Reads (textRows (next l r))
+call-reads s x r l f h = subst⁻¹ Reads (held-next s x r l h) (reads-asked s x f)
 
 -- any run of calls, refused ones of whatever number between them
-pub calls-reads : (c : Bool) (s s′ : Memory) (xs : List Order) → Reads (strictly c) (textRows s) → Calls s xs s′ → Reads (strictly c) (textRows s′)
-calls-reads c s s′ xs f none = f
-calls-reads c s s′ xs f (call {x = x} {xs = ys} r l h k) = calls-reads c (next l r) s′ ys (call-reads c s x r l f h) k
+pub calls-reads : (s s′ : Memory) (xs : List Order) → Reads (textRows s) → Calls s xs s′ → Reads (textRows s′)
+calls-reads s s′ xs f none = f
+calls-reads s s′ xs f (call {x = x} {xs = ys} r l h k) = calls-reads (next l r) s′ ys (call-reads s x r l f h) k
 
 -- the counts that the caller has are those of the reading
-pub counts-reads : (c : Bool) (s : Memory) (f : Reads (strictly c) (textRows s)) → s .counts ≡ countsOf (tables (f .trees))
-counts-reads c s f = sym (counts-of-rows (s .counts) (s .trees) (s .nodes) (s .properties) (s .values)) ∙ ap countsOf (f .same-rows)
+pub counts-reads : (s : Memory) (f : Reads (textRows s)) → s .counts ≡ countsOf (tables (f .trees))
+counts-reads s f = sym (counts-of-rows (s .counts) (s .trees) (s .nodes) (s .properties) (s .values)) ∙ ap countsOf (f .same-rows)

@@ -2,7 +2,6 @@
 use Rattle.lists.proofs.Prelude.{_≡_, refl, sym, ap, ap₂, _∙_, subst₂, ℕ, suc, _+_, _-_, _≤_, arith, Bool, true, false, false≢true, true≢false, List, [], _∷_, _++_, map, append-assoc, List·Memᴰ, ltb, length, take, drop, length-append, take-append-drop, le-ltb, pick}
 use Rattle.edit_laws.proofs.Accepted.{Accepted, accepted-is}
 use Rattle.edit_laws.proofs.Found.{Found, at-pre, bounds, ends-in, found, trimmed-parts}
-use Rattle.edit_laws.specs.Run.{strictly}
 use Rattle.lexer_laws.proofs.Inside.{OfVals, Only}
 use Rattle.lexer_laws.proofs.Invariant.{OfTok}
 use Rattle.lexer_laws.proofs.Kept.{Kept, kept}
@@ -96,15 +95,15 @@ pub in-textLimit : (b : Bool) (a : Answer) → b ≡ false → pick b (refused T
 in-textLimit true a e = absurd (true≢false e)
 in-textLimit false a e = refl
 
-reread : (c : Bool) (f g : ℕ → ℕ) (h : ℕ → List ℕ → List ℕ) (X Y : Lexed) (ts : List Tree) → Y ≡ moveLexed f g h X → X .end ≡ done
-    → parsed (strictly c) (X .toks) ≡ accepted ts → All (OfTok (GmStays f g h)) (X .toks) → lexing (strictly c) false (Y .end) (Y .toks) ≡ accepted (map (moveTree f g h) ts)
-reread c f g h X Y ts e d k gm =
-    ap (λ (z : Lexed). lexing (strictly c) false (z .end) (z .toks)) e
-    ∙ ap (λ (z : End). lexing (strictly c) false (moveEnd f z) (moveLexed f g h X .toks)) d
-    ∙ move-tokens f g h (strictly c) (X .toks) gm
+reread : (f g : ℕ → ℕ) (h : ℕ → List ℕ → List ℕ) (X Y : Lexed) (ts : List Tree) → Y ≡ moveLexed f g h X → X .end ≡ done
+    → parsed false (X .toks) ≡ accepted ts → All (OfTok (GmStays f g h)) (X .toks) → lexing false (Y .end) (Y .toks) ≡ accepted (map (moveTree f g h) ts)
+reread f g h X Y ts e d k gm =
+    ap (λ (z : Lexed). lexing false (z .end) (z .toks)) e
+    ∙ ap (λ (z : End). lexing false (moveEnd f z) (moveLexed f g h X .toks)) d
+    ∙ move-tokens f g h false (X .toks) gm
     ∙ ap (moveAnswer f g h) k
 
-module _ (c : Bool) (pre old new post : List ℕ) (ts : List Tree) (p : Prop) (v : Val) where
+module _ (pre old new post : List ℕ) (ts : List Tree) (p : Prop) (v : Val) where
   abbrev q : ℕ
   q = length pre
 
@@ -113,16 +112,16 @@ module _ (c : Bool) (pre old new post : List ℕ) (ts : List Tree) (p : Prop) (v
 
   assemble : (f0 l m : ℕ) → utfs (whole blank) 0 (pre ++ (old ++ post)) ≡ whole (inked f0 l)
       → lexFrom f0 l (drop f0 (take l (pre ++ (old ++ post)))) .end ≡ done
-      → parsed (strictly c) (lexFrom f0 l (drop f0 (take l (pre ++ (old ++ post)))) .toks) ≡ accepted ts
+      → parsed false (lexFrom f0 l (drop f0 (take l (pre ++ (old ++ post)))) .toks) ≡ accepted ts
       → Found f0 l pre old post (p .name) (lexFrom f0 l (drop f0 (take l (pre ++ (old ++ post)))) .toks)
       → same (p .name) GM ≡ false → closed new ≡ true → (kn : Ink) → utfs (whole blank) 0 new ≡ whole kn → length (pre ++ (new ++ post)) ≤ textLimit
-      → read (strictly c) (pre ++ (new ++ post)) ≡ accepted (map (moveTree (startsAt q e (length new)) (endsAt q e (length new)) (newRaw q new)) ts)
+      → read false (pre ++ (new ++ post)) ≡ accepted (map (moveTree (startsAt q e (length new)) (endsAt q e (length new)) (newRaw q new)) ts)
   assemble f0 l m valid ended trees F hg cn kn hn fits =
-      in-textLimit (ltb textLimit (length (pre ++ (new ++ post)))) (decoded (strictly c) (utfs (whole blank) 0 (pre ++ (new ++ post))) (pre ++ (new ++ post)))
+      in-textLimit (ltb textLimit (length (pre ++ (new ++ post)))) (decoded false (utfs (whole blank) 0 (pre ++ (new ++ post))) (pre ++ (new ++ post)))
       (le-ltb textLimit (length (pre ++ (new ++ post))) fits)
-      ∙ ap (λ (u : Utf). decoded (strictly c) u (pre ++ (new ++ post)))
+      ∙ ap (λ (u : Utf). decoded false u (pre ++ (new ++ post)))
       (new-valid f0 l (F .m) pre old new post (F .post2) kn valid hn (F .before) (F .next))
-      ∙ reread c (startsAt q e (length new)) (endsAt q e (length new)) (newRaw q new)
+      ∙ reread (startsAt q e (length new)) (endsAt q e (length new)) (newRaw q new)
       (lexFrom f0 l (drop f0 (take l (pre ++ (old ++ post)))))
       (lexFrom f0 (endsAt q e (length new) l) (drop f0 (take (endsAt q e (length new) l) (pre ++ (new ++ post)))))
       ts moved ended trees
@@ -145,19 +144,19 @@ module _ (c : Bool) (pre old new post : List ℕ) (ts : List Tree) (p : Prop) (v
           (sym (trimmed-parts f0 (F .m) l pre old post (F .low) (F .long) ∙ ap (λ (z : List ℕ). drop f0 pre ++ (old ++ z)) (F .next)))
 
 -- the value edit, read again
-pub edit-reads : (c : Bool) (pre old new post : List ℕ) (ts : List Tree) (p : Prop) (v : Val)
-    → read (strictly c) (pre ++ (old ++ post)) ≡ accepted ts
+pub edit-reads : (pre old new post : List ℕ) (ts : List Tree) (p : Prop) (v : Val)
+    → read false (pre ++ (old ++ post)) ≡ accepted ts
     → List·Memᴰ p (allProps (allNodes ts)) → List·Memᴰ v (p .vals) → v .from ≡ length pre → v .to ≡ length pre + length old
     → same (p .name) GM ≡ false
     → closed new ≡ true → (kn : Ink) → utfs (whole blank) 0 new ≡ whole kn → length (pre ++ (new ++ post)) ≤ textLimit
-    → read (strictly c) (pre ++ (new ++ post))
+    → read false (pre ++ (new ++ post))
     ≡ accepted (map (moveTree (startsAt (length pre) (length pre + length old) (length new)) (endsAt (length pre) (length pre + length old) (length new)) (newRaw (length pre) new)) ts)
-edit-reads c pre old new post ts p v h mp mv from to hg cn kn hn fits = go (accepted-is c (pre ++ (old ++ post)) ts h)
+edit-reads pre old new post ts p v h mp mv from to hg cn kn hn fits = go (accepted-is (pre ++ (old ++ post)) ts h)
   where
-    go : Accepted c (pre ++ (old ++ post)) ts → read (strictly c) (pre ++ (new ++ post))
+    go : Accepted (pre ++ (old ++ post)) ts → read false (pre ++ (new ++ post))
         ≡ accepted (map (moveTree (startsAt (length pre) (length pre + length old) (length new)) (endsAt (length pre) (length pre + length old) (length new)) (newRaw (length pre) new)) ts)
     go A =
-        let b = bounds c (A .f0) (A .l) pre old post ts p v (A .trees) mp mv from to in
+        let b = bounds (A .f0) (A .l) pre old post ts p v (A .trees) mp mv from to in
         let m : ℕ = A .l - (length pre + length old) in
-        assemble c pre old new post ts p v (A .f0) (A .l) m (A .valid) (A .ended) (A .trees)
-        (found c (A .f0) (A .l) pre old post ts p v (A .trees) mp mv from to m (omega (arith, b .1))) hg cn kn hn fits
+        assemble pre old new post ts p v (A .f0) (A .l) m (A .valid) (A .ended) (A .trees)
+        (found (A .f0) (A .l) pre old post ts p v (A .trees) mp mv from to m (omega (arith, b .1))) hg cn kn hn fits

@@ -22,7 +22,6 @@ use Rattle.parser.proofs.Lift.{OfAnswer, of-tokens, of-trees}
 use Rattle.tables.specs.declared.Reason.the-variants.{TextTooLong}
 use Rattle.edit_answer.specs.Edit.{gives, edit}
 use Rattle.edit_answer.specs.Locals.{outcome}
-use Rattle.edit_laws.specs.Run.{strictly}
 use Rattle.edit_laws.proofs.Accepted.{Accepted, accepted-is}
 use Rattle.edit_laws.proofs.Numbered.{noVal, ownerOf, valueOf, newText, newTrees, Owned, owned, cut-text, inside-text, edit-number}
 use Rattle.edit_laws.proofs.DemandThree.{edit-is}
@@ -86,7 +85,7 @@ back t new q e qe et =
     ∙ ap (λ (z : List ℕ). take q t ++ (drop q (take e t) ++ z)) b
     ∙ cut-text q e t qe
 
-module _ (c : Bool) (room : ℕ) (t : List ℕ) (ts : List Tree) (k : ℕ) (new : List ℕ) (h : read (strictly c) t ≡ accepted ts) (roomy : length t ≤ room) where
+module _ (room : ℕ) (t : List ℕ) (ts : List Tree) (k : ℕ) (new : List ℕ) (h : read false t ≡ accepted ts) (roomy : length t ≤ room) where
   abbrev v : Val
   v = valueOf ts k
 
@@ -106,23 +105,23 @@ module _ (c : Bool) (room : ℕ) (t : List ℕ) (ts : List Tree) (k : ℕ) (new 
     o : Owned ps k
     o = owned ps k lk
 
-    A : Accepted c t ts
-    A = accepted-is c t ts h
+    A : Accepted t ts
+    A = accepted-is t ts h
 
     bounds : (v .from ≤ v .to) × (v .to ≤ length t)
-    bounds = inside-text c t ts (o .p) v A (o .mp) (o .mv)
+    bounds = inside-text t ts (o .p) v A (o .mp) (o .mv)
 
     proper : Proper v
     proper =
         let toks = lexFrom (A .f0) (A .l) (drop (A .f0) (take (A .l) t)) .toks in
-        let a = of-trees HasProper ts (subst (OfAnswer HasProper) (A .trees) (of-tokens HasProper (strictly c) toks (proper-tokens t (inked (A .f0) (A .l)) (A .valid) (A .f0) (A .l)))) in
+        let a = of-trees HasProper ts (subst (OfAnswer HasProper) (A .trees) (of-tokens HasProper false toks (proper-tokens t (inked (A .f0) (A .l)) (A .valid) (A .f0) (A .l)))) in
         all-mem Proper (o .p .vals) (o .mv) (all-mem HasProper ps (o .mp) a .1)
 
     raw : v .raw ≡ old
-    raw = all-mem (Stands t) (o .p .vals) (o .mv) (all-mem (Denotes t) ps (o .mp) (read-denotes (strictly c) t ts h) .1)
+    raw = all-mem (Stands t) (o .p .vals) (o .mv) (all-mem (Denotes t) ps (o .mp) (read-denotes false t ts h) .1)
 
-    rereads : read (strictly c) U ≡ accepted US
-    rereads = edit-number c t new ts k h lk hg cn kn hn fits
+    rereads : read false U ≡ accepted US
+    rereads = edit-number t new ts k h lk hg cn kn hn fits
 
     f : ℕ → ℕ
     f = startsAt (v .from) (v .to) (length new)
@@ -168,24 +167,24 @@ module _ (c : Bool) (room : ℕ) (t : List ℕ) (ts : List Tree) (k : ℕ) (new 
     old-valid = ap (utfs (whole blank) 0) (sym raw) ∙ proper .1 .1
 
     short : ltb textLimit (length t) ≡ false
-    short = in-limit t (ltb textLimit (length t)) (decoded (strictly c) (utfs (whole blank) 0 t) t) ts h
+    short = in-limit t (ltb textLimit (length t)) (decoded false (utfs (whole blank) 0 t) t) ts h
 
     trees-back : newTrees US (valueOf US k) old ≡ ts
     trees-back =
-        let r = edit-number c U old US k rereads (rw count-same lk) (ap (λ (z : List ℕ). same z GM) name-same ∙ hg) old-closed (proper .1 .0) old-valid
+        let r = edit-number U old US k rereads (rw count-same lk) (ap (λ (z : List ℕ). same z GM) name-same ∙ hg) old-closed (proper .1 .0) old-valid
         (rw text-back (ltb-false textLimit (length t) short)) in
-        let e : accepted (newTrees US (valueOf US k) old) ≡ accepted ts = sym r ∙ ap (read (strictly c)) text-back ∙ h in
+        let e : accepted (newTrees US (valueOf US k) old) ≡ accepted ts = sym r ∙ ap (read false) text-back ∙ h in
         cc
 
     undone : edit room U (tables US) k old ≡ gives t (tables ts)
     undone =
-        edit-is c room U US k old rereads
+        edit-is room U US k old rereads
         ∙ accepts (proper .1 .0) (ap (ltb k) count-same ∙ lt-ltb k (length (allVals ps)) lk) (ap (λ (z : List ℕ). same z GM) name-same ∙ hg) old-valid old-closed
         (ap (λ (z : List ℕ). ltb textLimit (length z)) text-back ∙ short) (ap (λ (z : List ℕ). ltb room (length z)) text-back ∙ le-ltb room (length t) roomy) text-back (ap tables trees-back)
 
   -- the edit undone by the old bytes: text and rows are as before
   pub edit-undone : (u : List ℕ) (T : Tables) → edit room t (tables ts) k new ≡ gives u T → edit room u T k old ≡ gives t (tables ts)
   edit-undone u T e =
-      let x = gave (ltb k (length (allVals ps))) (same (ownerOf ps k) GM) (utfs (whole blank) 0 new) (closed new) (ltb textLimit (length U)) (ltb room (length U)) U u (tables US) T (sym (edit-is c room t ts k new h) ∙ e) in
+      let x = gave (ltb k (length (allVals ps))) (same (ownerOf ps k) GM) (utfs (whole blank) 0 new) (closed new) (ltb textLimit (length U)) (ltb room (length U)) U u (tables US) T (sym (edit-is room t ts k new h) ∙ e) in
       let d = undone (ltb-true k (length (allVals ps)) (x .below)) (x .free) (x .shut) (x .ink) (x .valid) (ltb-false textLimit (length U) (x .short)) in
       ap (λ (z : List ℕ). edit room z T k old) (sym (x .text)) ∙ ap (λ (z : Tables). edit room U z k old) (sym (x .rows)) ∙ d

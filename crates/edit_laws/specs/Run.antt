@@ -1,14 +1,9 @@
--- Runs of edits, and records that a reading gives.
-use Rattle.lists.specs.Prelude.{_≡_, Bool, false, ℕ, List, [], _∷_}
+-- Runs of edits, and records that a strict reading gives.
+use Rattle.lists.specs.Prelude.{_≡_, false, ℕ, List, [], _∷_}
 use Rattle.tables.specs.Record.{Tree}
 use Rattle.tables.specs.Rows.{Tables, tables}
-use Rattle.parser.specs.Walk.{Opts}
 use Rattle.parser.specs.Read.{accepted, read}
 use Rattle.edit_answer.specs.Edit.{Outcome, refuses, gives, edit}
-
--- strict reading, conversion on or off
-abbrev pub strictly : Bool → Opts
-strictly c = record { lenient = false; convert = c }
 
 -- a used text and its rows
 pub record TextRows : Type 0 where
@@ -30,8 +25,8 @@ abbrev pub run : (room : ℕ) → TextRows → List Order → TextRows
 run room s [] = s
 run room s (x ∷ xs) = run room (after s (edit room (s .text) (s .rows) (x .value) (x .bytes))) xs
 
--- text and rows are what a fresh reading gives
-pub record Reads (op : Opts) (s : TextRows) : Type 0 where
+-- text and rows are what a fresh strict reading gives
+pub record Reads (s : TextRows) : Type 0 where
   pub trees : List Tree
-  pub reads : read op (s .text) ≡ accepted trees
+  pub reads : read false (s .text) ≡ accepted trees
   pub same-rows : s .rows ≡ tables trees

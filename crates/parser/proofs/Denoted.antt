@@ -8,7 +8,6 @@ use Rattle.lexer_laws.proofs.Contents.{Denotes, tokens-denote}
 use Rattle.tables.specs.Numbers.{textLimit}
 use Rattle.tables.specs.Record.{Tree, allNodes, allProps}
 use Rattle.tables.specs.declared.Reason.the-variants.{TextTooLong}
-use Rattle.parser.specs.Walk.{Opts}
 use Rattle.parser.specs.Read.{refused, accepted, lexing, lex, decoded, read}
 use Rattle.parser.proofs.Lift.{OfAnswer, of-tokens, of-trees}
 
@@ -16,22 +15,22 @@ ink-denotes : (k : Ink) (t : List ℕ) → All (OfTok (Denotes t)) (lex k t .tok
 ink-denotes blank t = tt
 ink-denotes (inked f l) t = tokens-denote f l t
 
-lexing-denotes : (op : Opts) (b : Bool) (e : End) (k : Ink) (t : List ℕ) → OfAnswer (Denotes t) (lexing op b e (lex k t .toks))
-lexing-denotes op true e k t = of-tokens (Denotes t) op (lex k t .toks) (ink-denotes k t)
-lexing-denotes op false done k t = of-tokens (Denotes t) op (lex k t .toks) (ink-denotes k t)
-lexing-denotes op false (broken f s) k t = tt
+lexing-denotes : (len : Bool) (e : End) (k : Ink) (t : List ℕ) → OfAnswer (Denotes t) (lexing len e (lex k t .toks))
+lexing-denotes true e k t = of-tokens (Denotes t) true (lex k t .toks) (ink-denotes k t)
+lexing-denotes false done k t = of-tokens (Denotes t) false (lex k t .toks) (ink-denotes k t)
+lexing-denotes false (broken f s) k t = tt
 
-decoded-denotes : (op : Opts) (u : Utf) (t : List ℕ) → OfAnswer (Denotes t) (decoded op u t)
-decoded-denotes op (whole k) t = lexing-denotes op (op .lenient) (lex k t .end) k t
-decoded-denotes op (part k s n r c) t = tt
-decoded-denotes op (bad p) t = tt
+decoded-denotes : (len : Bool) (u : Utf) (t : List ℕ) → OfAnswer (Denotes t) (decoded len u t)
+decoded-denotes len (whole k) t = lexing-denotes len (lex k t .end) k t
+decoded-denotes len (part k s n r c) t = tt
+decoded-denotes len (bad p) t = tt
 
-answer-denotes : (op : Opts) (t : List ℕ) → OfAnswer (Denotes t) (read op t)
-answer-denotes op t = go (ltb textLimit (length t))
+answer-denotes : (len : Bool) (t : List ℕ) → OfAnswer (Denotes t) (read len t)
+answer-denotes len t = go (ltb textLimit (length t))
   where
-    go : (b : Bool) → OfAnswer (Denotes t) (pick b (refused TextTooLong 0) (decoded op (utfs (whole blank) 0 t) t))
+    go : (b : Bool) → OfAnswer (Denotes t) (pick b (refused TextTooLong 0) (decoded len (utfs (whole blank) 0 t) t))
     go true = tt
-    go false = decoded-denotes op (utfs (whole blank) 0 t) t
+    go false = decoded-denotes len (utfs (whole blank) 0 t) t
 
-pub read-denotes : (op : Opts) (t : List ℕ) (ts : List Tree) → read op t ≡ accepted ts → All (Denotes t) (allProps (allNodes ts))
-read-denotes op t ts h = of-trees (Denotes t) ts (subst (OfAnswer (Denotes t)) h (answer-denotes op t))
+pub read-denotes : (len : Bool) (t : List ℕ) (ts : List Tree) → read len t ≡ accepted ts → All (Denotes t) (allProps (allNodes ts))
+read-denotes len t ts h = of-trees (Denotes t) ts (subst (OfAnswer (Denotes t)) h (answer-denotes len t))

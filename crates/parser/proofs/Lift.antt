@@ -1,5 +1,5 @@
 -- What holds of every token holds of every token of every slice; what holds of every property token holds of every property of every tree. Assumes nothing.
-use Rattle.lists.proofs.Prelude.{ℕ, zero, suc, Bool, true, false, _||_, List, [], _∷_, reverse, ltb, pick}
+use Rattle.lists.proofs.Prelude.{ℕ, zero, suc, Bool, true, false, List, [], _∷_, reverse, ltb, pick}
 use Rattle.lexer_laws.proofs.Invariant.{OfTok}
 use Rattle.lexer.specs.Token.{Prop, Tok, end, node, prop, start}
 use Rattle.lists.proofs.All.{all-append, all-reverse}
@@ -7,7 +7,7 @@ use Rattle.lists.specs.All.{All}
 use Rattle.parser.specs.Kind.{Kind, is, kind, unkind}
 use Rattle.parser.specs.Read.{Answer, Growing, accepted, answer, failing, growAll, growing, grown, grows, kinded, planted, refused, rooted}
 use Rattle.parser.specs.Split.{Slices, Splitting, ended, filled, no, over, sliced, slices, split, splits, splitting, wrong}
-use Rattle.parser.specs.Walk.{Gate, Opts, Walk, adds, children, closes, gated, halted, opens, refuse, shut, skips, stopped, takes, uppers, walk, walked, walks}
+use Rattle.parser.specs.Walk.{Walk, adds, children, closes, gated, halted, opens, refuse, stopped, walk, walked, walks}
 use Rattle.tables.specs.Numbers.{depthLimit, none}
 use Rattle.tables.specs.Record.{Node, Tree, allNodes, allProps}
 use Rattle.tables.specs.declared.Reason.{Reason}
@@ -81,7 +81,7 @@ module _ (Q : Prop → Type 0) where
   of-opens len cur [] ns h = h
   of-opens len cur (p ∷ st) ns h = go (children p ns)
     where
-      go : (b : Bool) → OfWalk (pick b (walk cur (cur ∷ p ∷ st) shut ns) (refuse len UnexpectedGameTreeStart ns))
+      go : (b : Bool) → OfWalk (pick b (walk cur (cur ∷ p ∷ st) false ns) (refuse len UnexpectedGameTreeStart ns))
       go true = h
       go false = of-refuse len UnexpectedGameTreeStart ns h
 
@@ -89,28 +89,25 @@ module _ (Q : Prop → Type 0) where
   of-closes len cur [] ns h = of-refuse len UnexpectedGameTreeEnd ns h
   of-closes len cur (p ∷ st) ns h = h
 
-  of-adds : (ok len : Bool) (p : Prop) (cur : ℕ) (st : List ℕ) (ns : List Node) → Q p → All OfNode ns → OfWalk (adds ok len p cur st ns)
-  of-adds ok len p cur st [] q h = of-refuse len UnexpectedProperty [] tt
-  of-adds true len p cur st (n ∷ ns) q h = (all-append Q (n .props) (p ∷ []) (h .0) (q, tt), h .1)
-  of-adds false true p cur st (n ∷ ns) q h = h
-  of-adds false false p cur st (n ∷ ns) q h = tt
+  of-adds : (len : Bool) (p : Prop) (cur : ℕ) (st : List ℕ) (ns : List Node) → Q p → All OfNode ns → OfWalk (adds len p cur st ns)
+  of-adds len p cur st [] q h = of-refuse len UnexpectedProperty [] tt
+  of-adds len p cur st (n ∷ ns) q h = (all-append Q (n .props) (p ∷ []) (h .0) (q, tt), h .1)
 
-  of-gated : (op : Opts) (g : Gate) (p : Prop) (cur : ℕ) (st : List ℕ) (ns : List Node) → Q p → All OfNode ns → OfWalk (gated op g p cur st ns)
-  of-gated op shut p cur st ns q h = of-refuse (op .lenient) UnexpectedProperty ns h
-  of-gated op takes p cur st ns q h = of-adds (op .convert || uppers (p .name)) (op .lenient) p cur st ns q h
-  of-gated op skips p cur st ns q h = h
+  of-gated : (len g : Bool) (p : Prop) (cur : ℕ) (st : List ℕ) (ns : List Node) → Q p → All OfNode ns → OfWalk (gated len g p cur st ns)
+  of-gated len false p cur st ns q h = of-refuse len UnexpectedProperty ns h
+  of-gated len true p cur st ns q h = of-adds len p cur st ns q h
 
-  of-walks : (op : Opts) (base : ℕ) (w : Walk) (t : Tok) → OfTok Q t → OfWalk w → OfWalk (walks op base w t)
-  of-walks op base (walk cur st g ns) (start o) q h = of-opens (op .lenient) cur st ns h
-  of-walks op base (walk cur st g ns) (end o) q h = of-closes (op .lenient) cur st ns h
-  of-walks op base (walk cur st g ns) (node o) q h = (tt, h)
-  of-walks op base (walk cur st g ns) (prop p e) q h = of-gated op g p cur st ns q h
-  of-walks op base (halted ns) t q h = h
-  of-walks op base (stopped n) t q h = tt
+  of-walks : (len : Bool) (base : ℕ) (w : Walk) (t : Tok) → OfTok Q t → OfWalk w → OfWalk (walks len base w t)
+  of-walks len base (walk cur st g ns) (start o) q h = of-opens len cur st ns h
+  of-walks len base (walk cur st g ns) (end o) q h = of-closes len cur st ns h
+  of-walks len base (walk cur st g ns) (node o) q h = (tt, h)
+  of-walks len base (walk cur st g ns) (prop p e) q h = of-gated len g p cur st ns q h
+  of-walks len base (halted ns) t q h = h
+  of-walks len base (stopped n) t q h = tt
 
-  pub of-walked : (op : Opts) (base : ℕ) (w : Walk) (ts : List Tok) → All (OfTok Q) ts → OfWalk w → OfWalk (walked op base w ts)
-  of-walked op base w [] q h = h
-  of-walked op base w (t ∷ ts) q h = of-walked op base (walks op base w t) ts (q .1) (of-walks op base w t (q .0) h)
+  pub of-walked : (len : Bool) (base : ℕ) (w : Walk) (ts : List Tok) → All (OfTok Q) ts → OfWalk w → OfWalk (walked len base w ts)
+  of-walked len base w [] q h = h
+  of-walked len base w (t ∷ ts) q h = of-walked len base (walks len base w t) ts (q .1) (of-walks len base w t (q .0) h)
 
   abbrev pub OfReading : Growing → Type 0
   OfReading (growing n ts) = All OfTree ts
@@ -126,21 +123,21 @@ module _ (Q : Prop → Type 0) where
   of-grown len base k (halted ns) ts h t = of-rooted len base k ns ts h t
   of-grown len base k (stopped n) ts h t = tt
 
-  of-kinded : (op : Opts) (base : ℕ) (k : Kind) (s : List Tok) (ts : List Tree) → All (OfTok Q) s → All OfTree ts → OfReading (kinded op base k s ts)
-  of-kinded op base (is k) s ts h t = of-grown (op .lenient) base k (walked op base (walk none [] shut []) s) ts (of-walked op base (walk none [] shut []) s h tt) t
-  of-kinded op base (unkind n) s ts h t = go (op .lenient)
+  of-kinded : (len : Bool) (base : ℕ) (k : Kind) (s : List Tok) (ts : List Tree) → All (OfTok Q) s → All OfTree ts → OfReading (kinded len base k s ts)
+  of-kinded len base (is k) s ts h t = of-grown len base k (walked len base (walk none [] false []) s) ts (of-walked len base (walk none [] false []) s h tt) t
+  of-kinded len base (unkind n) s ts h t = go len
     where
-      go : (b : Bool) → OfReading (pick b (grown true base 0 (walked op base (walk none [] shut []) s) ts) (failing n))
-      go true = of-grown true base 0 (walked op base (walk none [] shut []) s) ts (of-walked op base (walk none [] shut []) s h tt) t
+      go : (b : Bool) → OfReading (pick b (grown true base 0 (walked len base (walk none [] false []) s) ts) (failing n))
+      go true = of-grown true base 0 (walked len base (walk none [] false []) s) ts (of-walked len base (walk none [] false []) s h tt) t
       go false = tt
 
-  of-grows : (op : Opts) (r : Growing) (s : List Tok) → All (OfTok Q) s → OfReading r → OfReading (grows op r s)
-  of-grows op (growing base ts) s h t = of-kinded op base (kind s) s ts h t
-  of-grows op (failing n) s h t = tt
+  of-grows : (len : Bool) (r : Growing) (s : List Tok) → All (OfTok Q) s → OfReading r → OfReading (grows len r s)
+  of-grows len (growing base ts) s h t = of-kinded len base (kind s) s ts h t
+  of-grows len (failing n) s h t = tt
 
-  pub of-growAll : (op : Opts) (r : Growing) (ss : List (List Tok)) → All (All (OfTok Q)) ss → OfReading r → OfReading (growAll op r ss)
-  of-growAll op r [] h t = t
-  of-growAll op r (s ∷ ss) h t = of-growAll op (grows op r s) ss (h .1) (of-grows op r s (h .0) t)
+  pub of-growAll : (len : Bool) (r : Growing) (ss : List (List Tok)) → All (All (OfTok Q)) ss → OfReading r → OfReading (growAll len r ss)
+  of-growAll len r [] h t = t
+  of-growAll len r (s ∷ ss) h t = of-growAll len (grows len r s) ss (h .1) (of-grows len r s (h .0) t)
 
   abbrev pub OfAnswer : Answer → Type 0
   OfAnswer (refused n p) = Unit {0}
@@ -150,15 +147,15 @@ module _ (Q : Prop → Type 0) where
   of-answer (growing n ts) h = all-reverse OfTree ts h
   of-answer (failing n) h = tt
 
-  of-planted : (op : Opts) (s : Slices) → OfSlices (OfTok Q) s → OfAnswer (planted op s)
-  of-planted op (no n) h = tt
-  of-planted op (slices ss) h = of-answer (growAll op (growing 0 []) ss) (of-growAll op (growing 0 []) ss h tt)
+  of-planted : (len : Bool) (s : Slices) → OfSlices (OfTok Q) s → OfAnswer (planted len s)
+  of-planted len (no n) h = tt
+  of-planted len (slices ss) h = of-answer (growAll len (growing 0 []) ss) (of-growAll len (growing 0 []) ss h tt)
 
   -- from the tokens to the answer
-  pub of-tokens : (op : Opts) (ts : List Tok) → All (OfTok Q) ts → OfAnswer (planted op (sliced (op .lenient) (split (op .lenient) (splitting 0 0 [] []) ts)))
-  of-tokens op ts h =
-      of-planted op (sliced (op .lenient) (split (op .lenient) (splitting 0 0 [] []) ts))
-      (of-sliced (OfTok Q) (op .lenient) (split (op .lenient) (splitting 0 0 [] []) ts) (of-split (OfTok Q) (op .lenient) (splitting 0 0 [] []) ts h (tt, tt)))
+  pub of-tokens : (len : Bool) (ts : List Tok) → All (OfTok Q) ts → OfAnswer (planted len (sliced len (split len (splitting 0 0 [] []) ts)))
+  of-tokens len ts h =
+      of-planted len (sliced len (split len (splitting 0 0 [] []) ts))
+      (of-sliced (OfTok Q) len (split len (splitting 0 0 [] []) ts) (of-split (OfTok Q) len (splitting 0 0 [] []) ts h (tt, tt)))
 
   of-nodes : (ns : List Node) → All OfNode ns → All Q (allProps ns)
   of-nodes [] h = tt

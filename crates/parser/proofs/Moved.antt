@@ -7,10 +7,10 @@ use Rattle.lists.specs.All.{All}
 use Rattle.parser.proofs.Lift.{OfSlices, of-sliced, of-split}
 use Rattle.parser.proofs.MovedKind.{GmStays, move-kind}
 use Rattle.parser.proofs.MovedSlices.{map-reverse, moveSlices, move-split, move-sliced}
-use Rattle.parser.specs.Kind.{Kind, is, kind, props, unkind}
+use Rattle.parser.specs.Kind.{Kind, is, kind, unkind}
 use Rattle.parser.specs.Read.{Answer, Growing, accepted, answer, failing, growAll, growing, grown, grows, kinded, planted, refused, rooted}
 use Rattle.parser.specs.Split.{Slices, no, sliced, slices, split, splitting}
-use Rattle.parser.specs.Walk.{Gate, Opts, Walk, adds, children, closes, gated, halted, opens, refuse, shut, skips, stopped, takes, uppers, walk, walked, walks}
+use Rattle.parser.specs.Walk.{Walk, adds, children, closes, gated, halted, opens, refuse, stopped, walk, walked, walks}
 use Rattle.tables.specs.Move.{moveNode, moveTree}
 use Rattle.tables.specs.Numbers.{none}
 use Rattle.tables.specs.Record.{Node, Tree}
@@ -43,7 +43,7 @@ module _ (f g : ℕ → ℕ) (h : ℕ → List ℕ → List ℕ) where
   move-opens len cur [] ns = refl
   move-opens len cur (p ∷ st) ns = rw (move-children p ns) (go (children p ns))
     where
-      go : (b : Bool) → pick b (walk cur (cur ∷ p ∷ st) shut (map N ns)) (refuse len UnexpectedGameTreeStart (map N ns)) ≡ moveWalk (pick b (walk cur (cur ∷ p ∷ st) shut ns) (refuse len UnexpectedGameTreeStart ns))
+      go : (b : Bool) → pick b (walk cur (cur ∷ p ∷ st) false (map N ns)) (refuse len UnexpectedGameTreeStart (map N ns)) ≡ moveWalk (pick b (walk cur (cur ∷ p ∷ st) false ns) (refuse len UnexpectedGameTreeStart ns))
       go true = refl
       go false = move-refuse len UnexpectedGameTreeStart ns
 
@@ -51,30 +51,25 @@ module _ (f g : ℕ → ℕ) (h : ℕ → List ℕ → List ℕ) where
   move-closes len cur [] ns = move-refuse len UnexpectedGameTreeEnd ns
   move-closes len cur (p ∷ st) ns = refl
 
-  move-adds : (ok len : Bool) (p : Prop) (cur : ℕ) (st : List ℕ) (ns : List Node)
-      → adds ok len (moveProp f g h p) cur st (map N ns) ≡ moveWalk (adds ok len p cur st ns)
-  move-adds ok len p cur st [] = move-refuse len UnexpectedProperty []
-  move-adds true len p cur st (n ∷ ns) = rw (map-append (moveProp f g h) (n .props) (p ∷ []))
-  move-adds false true p cur st (n ∷ ns) = refl
-  move-adds false false p cur st (n ∷ ns) = refl
+  move-adds : (len : Bool) (p : Prop) (cur : ℕ) (st : List ℕ) (ns : List Node) → adds len (moveProp f g h p) cur st (map N ns) ≡ moveWalk (adds len p cur st ns)
+  move-adds len p cur st [] = move-refuse len UnexpectedProperty []
+  move-adds len p cur st (n ∷ ns) = rw (map-append (moveProp f g h) (n .props) (p ∷ []))
 
-  move-gated : (op : Opts) (t : Gate) (p : Prop) (cur : ℕ) (st : List ℕ) (ns : List Node)
-      → gated op t (moveProp f g h p) cur st (map N ns) ≡ moveWalk (gated op t p cur st ns)
-  move-gated op shut p cur st ns = move-refuse (op .lenient) UnexpectedProperty ns
-  move-gated op takes p cur st ns = move-adds (op .convert || uppers (p .name)) (op .lenient) p cur st ns
-  move-gated op skips p cur st ns = refl
+  move-gated : (len t : Bool) (p : Prop) (cur : ℕ) (st : List ℕ) (ns : List Node) → gated len t (moveProp f g h p) cur st (map N ns) ≡ moveWalk (gated len t p cur st ns)
+  move-gated len false p cur st ns = move-refuse len UnexpectedProperty ns
+  move-gated len true p cur st ns = move-adds len p cur st ns
 
-  move-walks : (op : Opts) (base : ℕ) (w : Walk) (t : Tok) → walks op base (moveWalk w) (F t) ≡ moveWalk (walks op base w t)
-  move-walks op base (walk cur st t ns) (start o) = move-opens (op .lenient) cur st ns
-  move-walks op base (walk cur st t ns) (end o) = move-closes (op .lenient) cur st ns
-  move-walks op base (walk cur st t ns) (node o) = rw (length-map ns N)
-  move-walks op base (walk cur st t ns) (prop p e) = move-gated op t p cur st ns
-  move-walks op base (halted ns) t = refl
-  move-walks op base (stopped n) t = refl
+  move-walks : (len : Bool) (base : ℕ) (w : Walk) (t : Tok) → walks len base (moveWalk w) (F t) ≡ moveWalk (walks len base w t)
+  move-walks len base (walk cur st t ns) (start o) = move-opens len cur st ns
+  move-walks len base (walk cur st t ns) (end o) = move-closes len cur st ns
+  move-walks len base (walk cur st t ns) (node o) = rw (length-map ns N)
+  move-walks len base (walk cur st t ns) (prop p e) = move-gated len t p cur st ns
+  move-walks len base (halted ns) t = refl
+  move-walks len base (stopped n) t = refl
 
-  move-walked : (op : Opts) (base : ℕ) (w : Walk) (ts : List Tok) → walked op base (moveWalk w) (map F ts) ≡ moveWalk (walked op base w ts)
-  move-walked op base w [] = refl
-  move-walked op base w (t ∷ ts) = ap (λ (z : Walk). walked op base z (map F ts)) (move-walks op base w t) ∙ move-walked op base (walks op base w t) ts
+  move-walked : (len : Bool) (base : ℕ) (w : Walk) (ts : List Tok) → walked len base (moveWalk w) (map F ts) ≡ moveWalk (walked len base w ts)
+  move-walked len base w [] = refl
+  move-walked len base w (t ∷ ts) = ap (λ (z : Walk). walked len base z (map F ts)) (move-walks len base w t) ∙ move-walked len base (walks len base w t) ts
 
   abbrev moveReading : Growing → Growing
   moveReading (growing n ts) = growing n (map (moveTree f g h) ts)
@@ -92,25 +87,25 @@ module _ (f g : ℕ → ℕ) (h : ℕ → List ℕ → List ℕ) where
   move-grown len base k (halted ns) ts = move-rooted len base k ns ts
   move-grown len base k (stopped n) ts = refl
 
-  move-kinded : (op : Opts) (base : ℕ) (k : Kind) (s : List Tok) (ts : List Tree)
-      → kinded op base k (map F s) (map (moveTree f g h) ts) ≡ moveReading (kinded op base k s ts)
-  move-kinded op base (is k) s ts =
-      rw (move-walked op base (walk none [] shut []) s) (move-grown (op .lenient) base k (walked op base (walk none [] shut []) s) ts)
-  move-kinded op base (unkind n) s ts = go (op .lenient)
+  move-kinded : (len : Bool) (base : ℕ) (k : Kind) (s : List Tok) (ts : List Tree)
+      → kinded len base k (map F s) (map (moveTree f g h) ts) ≡ moveReading (kinded len base k s ts)
+  move-kinded len base (is k) s ts =
+      rw (move-walked len base (walk none [] false []) s) (move-grown len base k (walked len base (walk none [] false []) s) ts)
+  move-kinded len base (unkind n) s ts = go len
     where
-      go : (b : Bool) → pick b (grown true base 0 (walked op base (walk none [] shut []) (map F s)) (map (moveTree f g h) ts)) (failing n)
-          ≡ moveReading (pick b (grown true base 0 (walked op base (walk none [] shut []) s) ts) (failing n))
-      go true = rw (move-walked op base (walk none [] shut []) s) (move-grown true base 0 (walked op base (walk none [] shut []) s) ts)
+      go : (b : Bool) → pick b (grown true base 0 (walked len base (walk none [] false []) (map F s)) (map (moveTree f g h) ts)) (failing n)
+          ≡ moveReading (pick b (grown true base 0 (walked len base (walk none [] false []) s) ts) (failing n))
+      go true = rw (move-walked len base (walk none [] false []) s) (move-grown true base 0 (walked len base (walk none [] false []) s) ts)
       go false = refl
 
-  move-grows : (op : Opts) (r : Growing) (s : List Tok) → All (OfTok (GmStays f g h)) s → grows op (moveReading r) (map F s) ≡ moveReading (grows op r s)
-  move-grows op (growing base ts) s k = rw (move-kind f g h s k) (move-kinded op base (kind s) s ts)
-  move-grows op (failing n) s k = refl
+  move-grows : (len : Bool) (r : Growing) (s : List Tok) → All (OfTok (GmStays f g h)) s → grows len (moveReading r) (map F s) ≡ moveReading (grows len r s)
+  move-grows len (growing base ts) s k = rw (move-kind f g h s k) (move-kinded len base (kind s) s ts)
+  move-grows len (failing n) s k = refl
 
-  move-growAll : (op : Opts) (r : Growing) (ss : List (List Tok)) → All (All (OfTok (GmStays f g h))) ss
-      → growAll op (moveReading r) (map (map F) ss) ≡ moveReading (growAll op r ss)
-  move-growAll op r [] k = refl
-  move-growAll op r (s ∷ ss) k = ap (λ (z : Growing). growAll op z (map (map F) ss)) (move-grows op r s (k .0)) ∙ move-growAll op (grows op r s) ss (k .1)
+  move-growAll : (len : Bool) (r : Growing) (ss : List (List Tok)) → All (All (OfTok (GmStays f g h))) ss
+      → growAll len (moveReading r) (map (map F) ss) ≡ moveReading (growAll len r ss)
+  move-growAll len r [] k = refl
+  move-growAll len r (s ∷ ss) k = ap (λ (z : Growing). growAll len z (map (map F) ss)) (move-grows len r s (k .0)) ∙ move-growAll len (grows len r s) ss (k .1)
 
   abbrev pub moveAnswer : Answer → Answer
   moveAnswer (refused n p) = refused n p
@@ -120,15 +115,15 @@ module _ (f g : ℕ → ℕ) (h : ℕ → List ℕ → List ℕ) where
   move-answer (growing n ts) = rw (map-reverse (moveTree f g h) ts)
   move-answer (failing n) = refl
 
-  move-planted : (op : Opts) (s : Slices) → OfSlices (OfTok (GmStays f g h)) s → planted op (moveSlices f g h s) ≡ moveAnswer (planted op s)
-  move-planted op (no n) k = refl
-  move-planted op (slices ss) k = rw (move-growAll op (growing 0 []) ss k) (move-answer (growAll op (growing 0 []) ss))
+  move-planted : (len : Bool) (s : Slices) → OfSlices (OfTok (GmStays f g h)) s → planted len (moveSlices f g h s) ≡ moveAnswer (planted len s)
+  move-planted len (no n) k = refl
+  move-planted len (slices ss) k = rw (move-growAll len (growing 0 []) ss k) (move-answer (growAll len (growing 0 []) ss))
 
   -- the answer after a move
-  pub move-tokens : (op : Opts) (ts : List Tok) → All (OfTok (GmStays f g h)) ts
-      → planted op (sliced (op .lenient) (split (op .lenient) (splitting 0 0 [] []) (map F ts)))
-      ≡ moveAnswer (planted op (sliced (op .lenient) (split (op .lenient) (splitting 0 0 [] []) ts)))
-  move-tokens op ts k =
-      rw (move-split f g h (op .lenient) (splitting 0 0 [] []) ts, move-sliced f g h (op .lenient) (split (op .lenient) (splitting 0 0 [] []) ts))
-      (move-planted op (sliced (op .lenient) (split (op .lenient) (splitting 0 0 [] []) ts))
-      (of-sliced (OfTok (GmStays f g h)) (op .lenient) (split (op .lenient) (splitting 0 0 [] []) ts) (of-split (OfTok (GmStays f g h)) (op .lenient) (splitting 0 0 [] []) ts k (tt, tt))))
+  pub move-tokens : (len : Bool) (ts : List Tok) → All (OfTok (GmStays f g h)) ts
+      → planted len (sliced len (split len (splitting 0 0 [] []) (map F ts)))
+      ≡ moveAnswer (planted len (sliced len (split len (splitting 0 0 [] []) ts)))
+  move-tokens len ts k =
+      rw (move-split f g h len (splitting 0 0 [] []) ts, move-sliced f g h len (split len (splitting 0 0 [] []) ts))
+      (move-planted len (sliced len (split len (splitting 0 0 [] []) ts))
+      (of-sliced (OfTok (GmStays f g h)) len (split len (splitting 0 0 [] []) ts) (of-split (OfTok (GmStays f g h)) len (splitting 0 0 [] []) ts k (tt, tt))))

@@ -1,8 +1,7 @@
--- Texts and options for tables of examples.
-use Rattle.lists.specs.Prelude.{ℕ, zero, suc, true, false, List, [], _∷_}
+-- Texts and ways of reading for tables of examples.
+use Rattle.lists.specs.Prelude.{ℕ, zero, suc, Bool, true, false, List, [], _∷_}
 use Prim.Native.Char.{code}
 use Prim.Native.String.{String, len, charAt}
-use Rattle.parser.specs.Walk.{Opts}
 
 -- the codes of the n characters from place i on
 abbrev from : String → ℕ → ℕ → List ℕ
@@ -13,10 +12,10 @@ from s i (suc n) = code (charAt s i) ∷ from s (suc i) n
 abbrev pub bytes : String → List ℕ
 bytes s = from s 0 (len s)
 
--- the options, conversion on
-abbrev pub strict : Opts
-strict = record { lenient = false; convert = true }
+-- strict reading, in such a table
+abbrev pub strict : Bool
+strict = false
 
--- lenient, conversion on
-abbrev pub lenient : Opts
-lenient = record { lenient = true; convert = true }
+-- lenient reading
+abbrev pub lenient : Bool
+lenient = true

@@ -8,7 +8,7 @@ use Rattle.tables.specs.declared.Reason.{Reason}
 use Rattle.tables.specs.declared.Reason.the-variants.{TextTooLong, NotUtf8, UnexpectedEndOfData}
 use Rattle.parser.specs.Split.{Slices, no, slices, slicesOf}
 use Rattle.parser.specs.Kind.{Kind, is, unkind, kind}
-use Rattle.parser.specs.Walk.{Opts, Walk, walk, halted, stopped, shut, walked}
+use Rattle.parser.specs.Walk.{Walk, walk, halted, stopped, walked}
 
 -- a record, or why there is none and the place
 pub data Answer : Type 0 where
@@ -35,19 +35,19 @@ grown len base k (halted ns) ts = rooted len base k ns ts
 grown len base k (stopped r) ts = failing r
 
 -- a slice of this game type; lenient reading turns a refusal into Go
-abbrev pub kinded : Opts → ℕ → Kind → List Tok → List Tree → Growing
-kinded op base (is k) s ts = grown (op .lenient) base k (walked op base (walk none [] shut []) s) ts
-kinded op base (unkind r) s ts = pick (op .lenient) (grown true base 0 (walked op base (walk none [] shut []) s) ts) (failing r)
+abbrev pub kinded : Bool → ℕ → Kind → List Tok → List Tree → Growing
+kinded len base (is k) s ts = grown len base k (walked len base (walk none [] false []) s) ts
+kinded len base (unkind r) s ts = pick len (grown true base 0 (walked len base (walk none [] false []) s) ts) (failing r)
 
 -- one slice
-abbrev pub grows : Opts → Growing → List Tok → Growing
-grows op (growing base ts) s = kinded op base (kind s) s ts
-grows op (failing r) s = failing r
+abbrev pub grows : Bool → Growing → List Tok → Growing
+grows len (growing base ts) s = kinded len base (kind s) s ts
+grows len (failing r) s = failing r
 
 -- all slices
-abbrev pub growAll : Opts → Growing → List (List Tok) → Growing
-growAll op r [] = r
-growAll op r (s ∷ ss) = growAll op (grows op r s) ss
+abbrev pub growAll : Bool → Growing → List (List Tok) → Growing
+growAll len r [] = r
+growAll len r (s ∷ ss) = growAll len (grows len r s) ss
 
 -- the trees in text order
 abbrev pub answer : Growing → Answer
@@ -57,19 +57,19 @@ answer (failing r) = refused r 0
 -- ---- the whole, in the order of the numbers
 
 -- the slices
-abbrev pub planted : Opts → Slices → Answer
-planted op (no r) = refused r 0
-planted op (slices ss) = answer (growAll op (growing 0 []) ss)
+abbrev pub planted : Bool → Slices → Answer
+planted len (no r) = refused r 0
+planted len (slices ss) = answer (growAll len (growing 0 []) ss)
 
 -- the tokens
-abbrev pub parsed : Opts → List Tok → Answer
-parsed op ts = planted op (slicesOf (op .lenient) ts)
+abbrev pub parsed : Bool → List Tok → Answer
+parsed len ts = planted len (slicesOf len ts)
 
 -- a fault of the tokens: lenient reading takes those before it
-abbrev pub lexing : Opts → Bool → End → List Tok → Answer
-lexing op true e ts = parsed op ts
-lexing op false done ts = parsed op ts
-lexing op false (broken f s) ts = refused (reasonOf f) s
+abbrev pub lexing : Bool → End → List Tok → Answer
+lexing true e ts = parsed true ts
+lexing false done ts = parsed false ts
+lexing false (broken f s) ts = refused (reasonOf f) s
 
 -- the tokens of what trimming keeps
 abbrev pub lex : Ink → List ℕ → Lexed
@@ -77,11 +77,11 @@ lex blank t = record { toks = []; end = done }
 lex (inked f l) t = lexFrom f l (drop f (take l t))
 
 -- UTF-8: a bad sequence, an unfinished one at the end included
-abbrev pub decoded : Opts → Utf → List ℕ → Answer
-decoded op (whole k) t = lexing op (op .lenient) (lex k t .end) (lex k t .toks)
-decoded op (part k s n r c) t = refused NotUtf8 s
-decoded op (bad p) t = refused NotUtf8 p
+abbrev pub decoded : Bool → Utf → List ℕ → Answer
+decoded len (whole k) t = lexing len (lex k t .end) (lex k t .toks)
+decoded len (part k s n r c) t = refused NotUtf8 s
+decoded len (bad p) t = refused NotUtf8 p
 
 -- a reading of a text
-abbrev pub read : Opts → List ℕ → Answer
-read op t = pick (ltb textLimit (length t)) (refused TextTooLong 0) (decoded op (utfs (whole blank) 0 t) t)
+abbrev pub read : Bool → List ℕ → Answer
+read len t = pick (ltb textLimit (length t)) (refused TextTooLong 0) (decoded len (utfs (whole blank) 0 t) t)

@@ -1,3 +1,2 @@
 pub mod Acts
 pub mod Stacks
-pub mod Uppers

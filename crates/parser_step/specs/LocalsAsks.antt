@@ -1,5 +1,5 @@
 -- What the next token asks for, by the state between two tokens.
-use Rattle.lists.specs.Prelude.{ℕ, zero, suc, _+_, Bool, true, false, _||_, _&&_, List, [], _∷_, getD, eqb, ltb, leb, slice, pick}
+use Rattle.lists.specs.Prelude.{ℕ, zero, suc, _+_, Bool, true, false, _&&_, List, [], _∷_, getD, eqb, ltb, leb, pick}
 use Rattle.lexer_scan.specs.Scan.{valuesAt}
 use Rattle.lexer_close.specs.declared.Close.{Close}
 use Rattle.lexer_close.specs.declared.Close.the-variants.{At, Open}
@@ -7,11 +7,10 @@ use Rattle.lexer.specs.Step.{headAt}
 use Rattle.lexer.specs.declared.Head.{Head}
 use Rattle.lexer.specs.declared.Head.the-variants.{Start as start, End as end, Node as node, Name as name, Refused as refused, Done as done}
 use Rattle.tables.specs.Numbers.{depthLimit, none}
-use Rattle.tables.specs.declared.Reason.the-variants.{UnexpectedGameTreeStart, UnexpectedGameTreeEnd, UnexpectedProperty, InvalidFF4Property}
-use Rattle.parser.specs.Walk.{Gate, shut, takes, skips, uppers}
+use Rattle.tables.specs.declared.Reason.the-variants.{UnexpectedGameTreeStart, UnexpectedGameTreeEnd, UnexpectedProperty}
 use Rattle.parser_step.specs.declared.State.{State}
 use Rattle.parser_step.specs.declared.Act.{Act}
-use Rattle.parser_step.specs.declared.Act.the-variants.{Start, End, Node, Add, Skip, Stop, Over}
+use Rattle.parser_step.specs.declared.Act.the-variants.{Start, End, Node, Add, Stop, Over}
 
 -- ---- the stack
 
@@ -35,23 +34,9 @@ mayStart base n depth a = leb depth depthLimit && mayOpen base n (stackOf a dept
 
 -- ---- properties
 
--- may a property follow, is it dropped
-abbrev pub gateOf : Bool → Bool → Gate
-gateOf false drops = shut
-gateOf true false = takes
-gateOf true true = skips
-
--- a property that closes, by the gate, by whether its identifier may be taken, and by leniency
-abbrev pub gateAct : Gate → (ok len : Bool) (i k : ℕ) → Act
-gateAct shut ok len i k = Stop UnexpectedProperty
-gateAct skips ok len i k = Skip k
-gateAct takes true len i k = Add i k
-gateAct takes false true i k = Skip k
-gateAct takes false false i k = Stop InvalidFF4Property
-
--- a property of the text that closes
-unfoldable pub propAct : (len con : Bool) (u : List ℕ) → State → (i k : ℕ) → Act
-propAct len con u st i k = gateAct (gateOf (st .follows) (st .drops)) (con || uppers (slice i k u)) len i k
+-- a property that closes, by whether one may follow
+abbrev pub propAct : State → (i k : ℕ) → Act
+propAct st i k = pick (st .follows) (Add i k) (Stop UnexpectedProperty)
 
 -- lenient reading finds a value that does not close; strict reading does not look
 abbrev pub unclosed : Bool → Close → Bool
@@ -66,14 +51,14 @@ abbrev pub endAct : (depth i : ℕ) → Act
 endAct depth i = pick (eqb depth 0) (Stop UnexpectedGameTreeEnd) (pick (eqb depth 1) (Over (i + 1)) (End i))
 
 -- by how the token begins; base: the number of the tree's first node, a: the array of the stack
-abbrev pub headAct : (len con : Bool) (u : List ℕ) (base : ℕ) → State → (a : List ℕ) → Head → Act
-headAct len con u base st a (start i) = pick (mayStart base (st .nodes) (st .depth) a) (Start i) (Stop UnexpectedGameTreeStart)
-headAct len con u base st a (end i) = endAct (st .depth) i
-headAct len con u base st a (node i) = Node i
-headAct len con u base st a (name i k) = pick (unclosed len (valuesAt u k)) (Over (st .at)) (propAct len con u st i k)
-headAct len con u base st a (refused f i) = Over (st .at)
-headAct len con u base st a done = Over (st .at)
+abbrev pub headAct : (len : Bool) (u : List ℕ) (base : ℕ) → State → (a : List ℕ) → Head → Act
+headAct len u base st a (start i) = pick (mayStart base (st .nodes) (st .depth) a) (Start i) (Stop UnexpectedGameTreeStart)
+headAct len u base st a (end i) = endAct (st .depth) i
+headAct len u base st a (node i) = Node i
+headAct len u base st a (name i k) = pick (unclosed len (valuesAt u k)) (Over (st .at)) (propAct st i k)
+headAct len u base st a (refused f i) = Over (st .at)
+headAct len u base st a done = Over (st .at)
 
 -- what the next token of the text asks for
-unfoldable pub asks : (len con : Bool) (u : List ℕ) (base : ℕ) → State → (a : List ℕ) → Act
-asks len con u base st a = headAct len con u base st a (headAt u (st .at))
+unfoldable pub asks : (len : Bool) (u : List ℕ) (base : ℕ) → State → (a : List ℕ) → Act
+asks len u base st a = headAct len u base st a (headAt u (st .at))

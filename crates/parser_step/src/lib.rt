@@ -6,12 +6,10 @@ use tables::Reason;
 ghost use mathlib.Core.Path.{_≡_};
 ghost use Prim.Native.Nat.{_≤_, _<_};
 ghost use lib.ListN.{length, getD};
-ghost use lib.Seq.{slice};
 ghost use Rattle.lexer_scan.specs.Scan.{valuesAt};
-ghost use Rattle.parser.specs.Walk.{uppers};
-ghost use Rattle.parser_step.specs.LocalsAsks.{mayStart, propAct, unclosed, asks};
+ghost use Rattle.parser_step.specs.LocalsAsks.{mayStart, unclosed, asks};
 
-// Between two tokens: the next place, how many trees are open, the node whose child list is current, the next row of each table, the first property of the last node; may a property follow, and is it dropped.
+// Between two tokens: the next place, how many trees are open, the node whose child list is current, the next row of each table, the first property of the last node; may a property follow.
 pub struct State {
     pub at: usize,
     pub depth: usize,
@@ -21,16 +19,14 @@ pub struct State {
     pub vals: usize,
     pub first: usize,
     pub follows: bool,
-    pub drops: bool,
 }
 
-// What the next token asks for: a start, an end that leaves a tree open, a node, a property to add or to drop; or the tree stops, or its slice ends before a place.
+// What the next token asks for: a start, an end that leaves a tree open, a node, a property; or the tree stops, or its slice ends before a place.
 pub enum Act {
     Start(usize),
     End(usize),
     Node(usize),
     Add(usize, usize),
-    Skip(usize),
     Stop(Reason),
     Over(usize),
 }
@@ -60,48 +56,6 @@ fn may_open(stack: &[u32; 1024], depth: usize, base: usize, n: usize) -> bool
     lists::wide(x) + 1 < n
 }
 
-// Are the bytes uppercase letters only.
-fn plain(s: &[u8], from: usize, to: usize) -> bool
-    requires { ⌜ to ≤ length (now s) ⌝ }
-    ensures { λ r. ⌜ r ≡ uppers (slice from to (now (s .entry))) ⌝ }
-{
-    let mut i = from;
-    while i < to {
-        let b = s[i];
-        if b < b'A' {
-            return false;
-        }
-        if b'Z' < b {
-            return false;
-        }
-        i += 1;
-    }
-    true
-}
-
-// What a property that closes asks for: it is added, dropped, or stops the tree.
-fn property(s: &[u8], lenient: bool, convert: bool, w: State, i: usize, k: usize) -> Act
-    requires { ⌜ k ≤ length (now s) ⌝ }
-    ensures { λ r. ⌜ r ≡ propAct lenient convert (now (s .entry)) w i k ⌝ }
-{
-    if !w.follows {
-        return Act::Stop(Reason::UnexpectedProperty);
-    }
-    if w.drops {
-        return Act::Skip(k);
-    }
-    if convert {
-        return Act::Add(i, k);
-    }
-    if plain(s, i, k) {
-        return Act::Add(i, k);
-    }
-    if lenient {
-        return Act::Skip(k);
-    }
-    Act::Stop(Reason::InvalidFF4Property)
-}
-
 // Does a value of the property not close. Only lenient reading looks: strict reading has looked before.
 fn unclosed(s: &[u8], k: usize, lenient: bool) -> bool
     ensures { λ r. ⌜ r ≡ unclosed lenient (valuesAt (now (s .entry)) k) ⌝ }
@@ -116,15 +70,8 @@ fn unclosed(s: &[u8], k: usize, lenient: bool) -> bool
 }
 
 // What the next token asks for.
-pub fn look(
-    s: &[u8],
-    lenient: bool,
-    convert: bool,
-    base: usize,
-    w: State,
-    stack: &[u32; 1024],
-) -> Act
-    ensures { λ r. ⌜ r ≡ asks lenient convert (now (s .entry)) base w (now (stack .entry)) ⌝ }
+pub fn look(s: &[u8], lenient: bool, base: usize, w: State, stack: &[u32; 1024]) -> Act
+    ensures { λ r. ⌜ r ≡ asks lenient (now (s .entry)) base w (now (stack .entry)) ⌝ }
 {
     match lexer::next_head(s, w.at) {
         Head::Start(i) => {
@@ -147,7 +94,10 @@ pub fn look(
             if unclosed(s, k, lenient) {
                 return Act::Over(w.at);
             }
-            property(s, lenient, convert, w, i, k)
+            if w.follows {
+                return Act::Add(i, k);
+            }
+            Act::Stop(Reason::UnexpectedProperty)
         }
         Head::Refused(_, _) => Act::Over(w.at),
         Head::Done => Act::Over(w.at),

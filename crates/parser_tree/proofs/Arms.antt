@@ -8,7 +8,7 @@ use Rattle.tables.specs.Numbers.{none, depthLimit}
 use Rattle.tables.specs.Record.{Node as Noded}
 use Rattle.tables.specs.declared.Reason.the-variants.{UnexpectedGameTreeStart, UnexpectedGameTreeEnd}
 use Rattle.tables.specs.Columns.{nodeStride}
-use Rattle.parser.specs.Walk.{Opts, Walk, walk, shut, takes, refuse, closes, walked}
+use Rattle.parser.specs.Walk.{Walk, walk, refuse, closes, walked}
 use Rattle.parser.specs.LocalsSlice.{sliceFrom, Shallow}
 use Rattle.parser_tree.specs.LocalsWalks.{walkOf, Stored}
 use Rattle.parser_step.specs.LocalsAsks.{stackOf, mayOpen}
@@ -22,25 +22,25 @@ use Rattle.parser_tree.proofs.Behind.{slice-last, slice-end, shallow-en
 use Rattle.parser_tree.proofs.Meets.{head-meets, head-lies}
 use Rattle.parser_tree.proofs.Walking.{Walking, held, count, onto, shallow-onto, refuse-stays}
 
-module _ {op : Opts} {u : List ℕ} {from base p0 v0 : ℕ} {t₀ q₀ w₀ t q w a : List ℕ} {st : State} (x : Walking op u from base p0 v0 t₀ q₀ w₀ t q w a st) {i : ℕ} where
+module _ {len : Bool} {u : List ℕ} {from base p0 v0 : ℕ} {t₀ q₀ w₀ t q w a : List ℕ} {st : State} (x : Walking len u from base p0 v0 t₀ q₀ w₀ t q w a st) {i : ℕ} where
   -- ---- a start
 
   module _ (g : headAt u (st .at) ≡ Start i) {b : Bool} (m : b ≡ mayOpen base (st .nodes) (stackOf a (st .depth))) where
-    opened : walkOf op base (lexAt u from .toks)
-        ≡ walked op base (pick b (walk (st .cur) (st .cur ∷ stackOf a (st .depth)) shut (x .ns)) (refuse (op .lenient) UnexpectedGameTreeStart (x .ns))) (sliceFrom (suc (st .depth)) (lexAt u (i + 1) .toks))
+    opened : walkOf len base (lexAt u from .toks)
+        ≡ walked len base (pick b (walk (st .cur) (st .cur ∷ stackOf a (st .depth)) false (x .ns)) (refuse len UnexpectedGameTreeStart (x .ns))) (sliceFrom (suc (st .depth)) (lexAt u (i + 1) .toks))
     unfolding sliceFrom
     opened =
         onto x (head-meets u (st .at) g)
-        ∙ ap (λ (z : Walk). walked op base z (sliceFrom (suc (st .depth)) (lexAt u (i + 1) .toks)))
-        (line-may (op .lenient) (x .line)
-        ∙ ap (λ (z : Bool). pick z (walk (st .cur) (st .cur ∷ stackOf a (st .depth)) shut (x .ns)) (refuse (op .lenient) UnexpectedGameTreeStart (x .ns)))
+        ∙ ap (λ (z : Walk). walked len base z (sliceFrom (suc (st .depth)) (lexAt u (i + 1) .toks)))
+        (line-may len (x .line)
+        ∙ ap (λ (z : Bool). pick z (walk (st .cur) (st .cur ∷ stackOf a (st .depth)) false (x .ns)) (refuse len UnexpectedGameTreeStart (x .ns)))
         (ap (λ (z : ℕ). mayOpen base z (stackOf a (st .depth))) (sym (count x)) ∙ sym m))
 
-    pub start-stops : b ≡ false → walkOf op base (lexAt u from .toks) ≡ refuse (op .lenient) UnexpectedGameTreeStart (x .ns)
+    pub start-stops : b ≡ false → walkOf len base (lexAt u from .toks) ≡ refuse len UnexpectedGameTreeStart (x .ns)
     start-stops f =
         opened
-        ∙ ap (λ (z : Bool). walked op base (pick z (walk (st .cur) (st .cur ∷ stackOf a (st .depth)) shut (x .ns)) (refuse (op .lenient) UnexpectedGameTreeStart (x .ns))) (sliceFrom (suc (st .depth)) (lexAt u (i + 1) .toks))) f
-        ∙ refuse-stays op base (op .lenient) UnexpectedGameTreeStart (x .ns) (sliceFrom (suc (st .depth)) (lexAt u (i + 1) .toks))
+        ∙ ap (λ (z : Bool). walked len base (pick z (walk (st .cur) (st .cur ∷ stackOf a (st .depth)) false (x .ns)) (refuse len UnexpectedGameTreeStart (x .ns))) (sliceFrom (suc (st .depth)) (lexAt u (i + 1) .toks))) f
+        ∙ refuse-stays len base UnexpectedGameTreeStart (x .ns) (sliceFrom (suc (st .depth)) (lexAt u (i + 1) .toks))
 
     below : (st .depth < depthLimit) × Shallow (suc (st .depth)) (sliceFrom (suc (st .depth)) (lexAt u (i + 1) .toks))
     unfolding sliceFrom Shallow
@@ -49,7 +49,7 @@ module _ {op : Opts} {u : List ℕ} {from base p0 v0 : ℕ} {t₀ q₀ w₀ t q 
     pub start-fits : st .depth < depthLimit
     start-fits = below .0
 
-    pub walking-start : b ≡ true → {a′ : List ℕ} → a′ ≡ set a (st .depth) (st .cur) → {y : State} → y ≡ shutAt st (i + 1) (st .depth + 1) → Walking op u from base p0 v0 t₀ q₀ w₀ t q w a′ y
+    pub walking-start : b ≡ true → {a′ : List ℕ} → a′ ≡ set a (st .depth) (st .cur) → {y : State} → y ≡ shutAt st (i + 1) (st .depth + 1) → Walking len u from base p0 v0 t₀ q₀ w₀ t q w a′ y
     walking-start f {a′} ea ey =
         let ar = x .array in
         let b = head-lies u (st .at) g in
@@ -58,7 +58,7 @@ module _ {op : Opts} {u : List ℕ} {from base p0 v0 : ℕ} {t₀ q₀ w₀ t q 
         let li = x .little in
         let sm = x .small in
         let s : stackOf a′ (st .depth + 1) ≡ st .cur ∷ stackOf a (st .depth) = ap (λ (z : List ℕ). stackOf z (st .depth + 1)) ea ∙ stack-push a (st .depth) (st .cur) (omega arith) in
-        subst⁻¹ (Walking op u from base p0 v0 t₀ q₀ w₀ t q w a′) ey
+        subst⁻¹ (Walking len u from base p0 v0 t₀ q₀ w₀ t q w a′) ey
         record {
           ready = x .ready;
           ns = x .ns;
@@ -71,9 +71,9 @@ module _ {op : Opts} {u : List ℕ} {from base p0 v0 : ℕ} {t₀ q₀ w₀ t q 
           skip = skipping-start (x .skip) (b .0) (b .1) (head-meets u (st .at) g);
           same =
               opened
-              ∙ ap (λ (z : Bool). walked op base (pick z (walk (st .cur) (st .cur ∷ stackOf a (st .depth)) shut (x .ns)) (refuse (op .lenient) UnexpectedGameTreeStart (x .ns))) (sliceFrom (suc (st .depth)) (lexAt u (i + 1) .toks))) f
-              ∙ ap (λ (z : List ℕ). walked op base (walk (st .cur) z shut (x .ns)) (sliceFrom (suc (st .depth)) (lexAt u (i + 1) .toks))) (sym s)
-              ∙ ap (λ (z : ℕ). walked op base (walk (st .cur) (stackOf a′ (st .depth + 1)) shut (x .ns)) (sliceFrom z (lexAt u (i + 1) .toks))) (sym (add-one (st .depth)));
+              ∙ ap (λ (z : Bool). walked len base (pick z (walk (st .cur) (st .cur ∷ stackOf a (st .depth)) false (x .ns)) (refuse len UnexpectedGameTreeStart (x .ns))) (sliceFrom (suc (st .depth)) (lexAt u (i + 1) .toks))) f
+              ∙ ap (λ (z : List ℕ). walked len base (walk (st .cur) z false (x .ns)) (sliceFrom (suc (st .depth)) (lexAt u (i + 1) .toks))) (sym s)
+              ∙ ap (λ (z : ℕ). walked len base (walk (st .cur) (stackOf a′ (st .depth + 1)) false (x .ns)) (sliceFrom z (lexAt u (i + 1) .toks))) (sym (add-one (st .depth)));
           shallow = subst (λ (z : ℕ). Shallow z (sliceFrom z (lexAt u (i + 1) .toks))) (sym (add-one (st .depth))) (d .1);
           last = λ y. absurd (false≢true y);
           line = subst (λ (z : List ℕ). Line base (x .ns) (st .cur) z) (sym s) (line-open (x .line));
@@ -82,26 +82,26 @@ module _ {op : Opts} {u : List ℕ} {from base p0 v0 : ℕ} {t₀ q₀ w₀ t q 
   -- ---- an end
 
   module _ (g : headAt u (st .at) ≡ End i) where
-    last-token : st .depth ≤ 1 → walkOf op base (lexAt u from .toks) ≡ closes (op .lenient) (st .cur) (stackOf a (st .depth)) (x .ns)
-    last-token h = onto x (head-meets u (st .at) g) ∙ ap (walked op base (held st a (x .ns))) (slice-last (st .depth) i (lexAt u (i + 1) .toks) h)
+    last-token : st .depth ≤ 1 → walkOf len base (lexAt u from .toks) ≡ closes len (st .cur) (stackOf a (st .depth)) (x .ns)
+    last-token h = onto x (head-meets u (st .at) g) ∙ ap (walked len base (held st a (x .ns))) (slice-last (st .depth) i (lexAt u (i + 1) .toks) h)
 
-    pub end-stops : st .depth ≡ 0 → walkOf op base (lexAt u from .toks) ≡ refuse (op .lenient) UnexpectedGameTreeEnd (x .ns)
-    end-stops h = last-token (omega arith) ∙ ap (λ (z : List ℕ). closes (op .lenient) (st .cur) z (x .ns)) (stack-none a (st .depth) h)
+    pub end-stops : st .depth ≡ 0 → walkOf len base (lexAt u from .toks) ≡ refuse len UnexpectedGameTreeEnd (x .ns)
+    end-stops h = last-token (omega arith) ∙ ap (λ (z : List ℕ). closes len (st .cur) z (x .ns)) (stack-none a (st .depth) h)
 
-    popped : (st .depth ≡ 0 → ⊥) → closes (op .lenient) (st .cur) (stackOf a (st .depth)) (x .ns) ≡ walk (getD a (st .depth - 1) 0) (stackOf a (st .depth - 1)) shut (x .ns)
-    popped h = ap (λ (z : List ℕ). closes (op .lenient) (st .cur) z (x .ns)) (stack-pop a (st .depth) h)
+    popped : (st .depth ≡ 0 → ⊥) → closes len (st .cur) (stackOf a (st .depth)) (x .ns) ≡ walk (getD a (st .depth - 1) 0) (stackOf a (st .depth - 1)) false (x .ns)
+    popped h = ap (λ (z : List ℕ). closes len (st .cur) z (x .ns)) (stack-pop a (st .depth) h)
 
-    pub end-last : st .depth ≡ 1 → walkOf op base (lexAt u from .toks) ≡ walk (getD a (st .depth - 1) 0) (stackOf a (st .depth - 1)) shut (x .ns)
+    pub end-last : st .depth ≡ 1 → walkOf len base (lexAt u from .toks) ≡ walk (getD a (st .depth - 1) 0) (stackOf a (st .depth - 1)) false (x .ns)
     end-last h = last-token (omega arith) ∙ popped (λ z. omega arith)
 
-    pub walking-end : 1 < st .depth → {y : State} → y ≡ ended st i a → Walking op u from base p0 v0 t₀ q₀ w₀ t q w a y
+    pub walking-end : 1 < st .depth → {y : State} → y ≡ ended st i a → Walking len u from base p0 v0 t₀ q₀ w₀ t q w a y
     walking-end h ey =
         let b = head-lies u (st .at) g in
         let d = x .deep in
         let fe = x .few in
         let li = x .little in
         let sm = x .small in
-        subst⁻¹ (Walking op u from base p0 v0 t₀ q₀ w₀ t q w a) ey
+        subst⁻¹ (Walking len u from base p0 v0 t₀ q₀ w₀ t q w a) ey
         record {
           ready = x .ready;
           ns = x .ns;
@@ -114,8 +114,8 @@ module _ {op : Opts} {u : List ℕ} {from base p0 v0 : ℕ} {t₀ q₀ w₀ t q 
           skip = skipping-end (x .skip) (b .0) (b .1) (head-meets u (st .at) g) h;
           same =
               onto x (head-meets u (st .at) g)
-              ∙ ap (walked op base (held st a (x .ns))) (slice-end (st .depth) i (lexAt u (i + 1) .toks) h)
-              ∙ ap (λ (z : Walk). walked op base z (sliceFrom (st .depth - 1) (lexAt u (i + 1) .toks))) (popped (λ z. omega arith));
+              ∙ ap (walked len base (held st a (x .ns))) (slice-end (st .depth) i (lexAt u (i + 1) .toks) h)
+              ∙ ap (λ (z : Walk). walked len base z (sliceFrom (st .depth - 1) (lexAt u (i + 1) .toks))) (popped (λ z. omega arith));
           shallow =
               shallow-end (st .depth) i (sliceFrom (st .depth - 1) (lexAt u (i + 1) .toks)) h
               (subst (Shallow (st .depth)) (slice-end (st .depth) i (lexAt u (i + 1) .toks) h) (shallow-onto x (head-meets u (st .at) g)));
@@ -126,7 +126,7 @@ module _ {op : Opts} {u : List ℕ} {from base p0 v0 : ℕ} {t₀ q₀ w₀ t q 
   -- ---- a node
 
   pub walking-node : headAt u (st .at) ≡ Node i → {t′ : List ℕ} → PutIs t (st .nodes * nodeStride) (st .cur ∷ none ∷ none ∷ st .props ∷ 0 ∷ []) t′
-      → {y : State} → y ≡ noded st i → Walking op u from base p0 v0 t₀ q₀ w₀ t′ q w a y
+      → {y : State} → y ≡ noded st i → Walking len u from base p0 v0 t₀ q₀ w₀ t′ q w a y
   unfolding sliceFrom Shallow
   walking-node g {t′} pu ey =
       let b = head-lies u (st .at) g in
@@ -136,7 +136,7 @@ module _ {op : Opts} {u : List ℕ} {from base p0 v0 : ℕ} {t₀ q₀ w₀ t q 
       let co = count x in
       let rd = x .ready in
       let sk = x .skip in
-      subst⁻¹ (Walking op u from base p0 v0 t₀ q₀ w₀ t′ q w a) ey
+      subst⁻¹ (Walking len u from base p0 v0 t₀ q₀ w₀ t′ q w a) ey
       record {
         ready = x .ready;
         ns = record { parent = st .cur; props = [] } ∷ x .ns;
@@ -149,7 +149,7 @@ module _ {op : Opts} {u : List ℕ} {from base p0 v0 : ℕ} {t₀ q₀ w₀ t q 
             subst⁻¹ (λ (z : List Noded). Stored base p0 v0 z t₀ q₀ w₀ t′ q w (st .nodes + 1) (st .props) (st .vals)) (reverse-cons (record { parent = st .cur; props = [] }) (x .ns))
             (stored-node (reverse (x .ns)) (x .stored) (st .cur) pu);
         skip = skipping-node (x .skip) (b .0) (b .1) (head-meets u (st .at) g);
-        same = onto x (head-meets u (st .at) g) ∙ ap (λ (z : ℕ). walked op base (walk z (stackOf a (st .depth)) takes (record { parent = st .cur; props = [] } ∷ x .ns)) (sliceFrom (st .depth) (lexAt u (i + 1) .toks))) (sym co);
+        same = onto x (head-meets u (st .at) g) ∙ ap (λ (z : ℕ). walked len base (walk z (stackOf a (st .depth)) true (record { parent = st .cur; props = [] } ∷ x .ns)) (sliceFrom (st .depth) (lexAt u (i + 1) .toks))) (sym co);
         shallow = shallow-onto x (head-meets u (st .at) g);
         last = λ z. record { top = record { parent = st .cur; props = [] }; below = x .ns; is = refl; at = x .stored .props };
         line = subst⁻¹ (λ (z : ℕ). Line base (record { parent = st .cur; props = [] } ∷ x .ns) z (stackOf a (st .depth))) co (line-node (omega arith) (x .line));

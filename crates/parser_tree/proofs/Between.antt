@@ -1,14 +1,13 @@
 -- Slice after slice: what holds between two walks. Assumes nothing.
-use Rattle.lists.proofs.Prelude.{ℕ, suc, _+_, _≤_, _≡_, _∙_, subst, false, List, arith, length}
+use Rattle.lists.proofs.Prelude.{ℕ, suc, _+_, _≤_, _≡_, _∙_, subst, false, List, arith, length, Bool}
 use Rattle.lists.specs.All.{All}
 use Rattle.lexer.specs.Token.{Tok, done, lexAt}
 use Rattle.tables.specs.Numbers.{textLimit}
-use Rattle.parser.specs.Walk.{Opts}
 use Rattle.parser.specs.LocalsSlice.{sliceFrom, restFrom, cut, Shallow}
 use Rattle.parser_tree.specs.LocalsWalks.{Ready, TreeIs}
 
 -- k trees are read and m are to come, from the place `at` on
-pub record Between (op : Opts) (u : List ℕ) (at k n p v m : ℕ) : Type 0 where
+pub record Between (len : Bool) (u : List ℕ) (at k n p v m : ℕ) : Type 0 where
   pub short : length u ≤ textLimit
   pub inside : at ≤ length u
   pub trees : k + m ≤ textLimit + 1
@@ -16,14 +15,14 @@ pub record Between (op : Opts) (u : List ℕ) (at k n p v m : ℕ) : Type 0 wher
   pub props : p ≤ at
   pub vals : v ≤ at
   pub shallow : All (Shallow 0) (cut m (lexAt u at .toks))
-  pub calm : op .lenient ≡ false → lexAt u at .end ≡ done
+  pub calm : len ≡ false → lexAt u at .end ≡ done
 
-module _ {op : Opts} {u : List ℕ} {from k base p0 v0 m : ℕ} (x : Between op u from k base p0 v0 (suc m)) where
+module _ {len : Bool} {u : List ℕ} {from k base p0 v0 m : ℕ} (x : Between len u from k base p0 v0 (suc m)) where
   first : Shallow 0 (sliceFrom 0 (lexAt u from .toks)) × All (Shallow 0) (cut m (restFrom 0 (lexAt u from .toks)))
   unfolding cut
   first = x .shallow
 
-  pub between-ready : Ready op u from base p0 v0
+  pub between-ready : Ready len u from base p0 v0
   between-ready =
       let s = x .short in
       let i = x .inside in
@@ -33,7 +32,7 @@ module _ {op : Opts} {u : List ℕ} {from k base p0 v0 m : ℕ} (x : Between op 
       let v = x .vals in
       record { short = s; inside = i; nodes = omega arith; props = omega arith; vals = omega arith; shallow = first .0; calm = x .calm }
 
-  pub between-next : {t₀ q₀ w₀ t q w : List ℕ} {at n p v : ℕ} → TreeIs op u from base p0 v0 t₀ q₀ w₀ t q w at n p v → Between op u at (suc k) n p v m
+  pub between-next : {t₀ q₀ w₀ t q w : List ℕ} {at n p v : ℕ} → TreeIs len u from base p0 v0 t₀ q₀ w₀ t q w at n p v → Between len u at (suc k) n p v m
   between-next y =
       let a = x .trees in
       let b = x .nodes in

@@ -10,10 +10,10 @@ use Rattle.tables.specs.Record.{Node as Noded, Tree}
 use Rattle.tables.specs.declared.Reason.{Reason}
 use Rattle.tables.specs.declared.Reason.the-variants.{UnexpectedEndOfData}
 use Rattle.tables.specs.Columns.{nodeStride}
-use Rattle.parser.specs.Walk.{Opts, Gate, Walk, walk, refuse, walked}
+use Rattle.parser.specs.Walk.{Walk, walk, refuse, walked}
 use Rattle.parser.specs.LocalsSlice.{sliceFrom}
 use Rattle.parser.specs.Read.{growing, rooted, grown}
-use Rattle.parser_tree.specs.LocalsWalks.{opts, walkOf, Stored, TreeIs, WalkIs}
+use Rattle.parser_tree.specs.LocalsWalks.{walkOf, Stored, TreeIs, WalkIs}
 use Rattle.parser_tree.specs.LocalsTurns.{StopAt, OverAt, BehindIs, RootBy, RootIs, StopIs}
 use Rattle.parser_step.specs.declared.State.{State}
 use Rattle.parser_tree.specs.declared.Walked.{Walked}
@@ -35,9 +35,9 @@ empty : {A : Type 0} (l : List A) → length l ≡ 0 → l ≡ []
 empty [] h = refl
 empty (y ∷ l) h = absurd (omega arith)
 
-module _ {op : Opts} {u : List ℕ} {from base p0 v0 : ℕ} {t₀ q₀ w₀ t q w a : List ℕ} {st : State} (x : Walking op u from base p0 v0 t₀ q₀ w₀ t q w a st) where
-  module _ (s : (k : ℕ) (ts : List Tree) → grown (op .lenient) base k (walkOf op base (lexAt u from .toks)) ts ≡ rooted (op .lenient) base k (x .ns) ts) {o : ℕ} (b : BehindIs u (st .at) (st .depth) o) where
-    gives-tree : (st .nodes ≡ base → ⊥) → TreeIs op u from base p0 v0 t₀ q₀ w₀ t q w o (st .nodes) (st .props) (st .vals)
+module _ {len : Bool} {u : List ℕ} {from base p0 v0 : ℕ} {t₀ q₀ w₀ t q w a : List ℕ} {st : State} (x : Walking len u from base p0 v0 t₀ q₀ w₀ t q w a st) where
+  module _ (s : (k : ℕ) (ts : List Tree) → grown len base k (walkOf len base (lexAt u from .toks)) ts ≡ rooted len base k (x .ns) ts) {o : ℕ} (b : BehindIs u (st .at) (st .depth) o) where
+    gives-tree : (st .nodes ≡ base → ⊥) → TreeIs len u from base p0 v0 t₀ q₀ w₀ t q w o (st .nodes) (st .props) (st .vals)
     gives-tree h =
         let c = count x in
         let r = skipping-behind (x .skip) b in
@@ -48,7 +48,7 @@ module _ {op : Opts} {u : List ℕ} {from base p0 v0 : ℕ} {t₀ q₀ w₀ t q 
         let m : base < st .nodes = bigger (length (x .ns)) c in
         record {
           es = reverse (x .ns);
-          tree = λ k ts. s k ts ∙ rooted-some (op .lenient) base k (x .ns) ts (λ z. omega arith);
+          tree = λ k ts. s k ts ∙ rooted-some len base k (x .ns) ts (λ z. omega arith);
           stored = x .stored;
           more = m;
           rest = r .rest;
@@ -64,7 +64,7 @@ module _ {op : Opts} {u : List ℕ} {from base p0 v0 : ℕ} {t₀ q₀ w₀ t q 
         bigger zero e = absurd (h (omega arith))
         bigger (suc l) e = omega arith
 
-    gives-root : op .lenient ≡ true → st .nodes ≡ base → {t′ : List ℕ} → PutIs t (st .nodes * nodeStride) (none ∷ none ∷ none ∷ st .props ∷ 0 ∷ []) t′ → TreeIs op u from base p0 v0 t₀ q₀ w₀ t′ q w o (st .nodes + 1) (st .props) (st .vals)
+    gives-root : len ≡ true → st .nodes ≡ base → {t′ : List ℕ} → PutIs t (st .nodes * nodeStride) (none ∷ none ∷ none ∷ st .props ∷ 0 ∷ []) t′ → TreeIs len u from base p0 v0 t₀ q₀ w₀ t′ q w o (st .nodes + 1) (st .props) (st .vals)
     gives-root l h {t′} p =
         let c = count x in
         let n : x .ns ≡ [] = empty (x .ns) (omega arith) in
@@ -93,76 +93,76 @@ module _ {op : Opts} {u : List ℕ} {from base p0 v0 : ℕ} {t₀ q₀ w₀ t q 
           small = omega arith;
         }
 
-    gives-refused : op .lenient ≡ false → st .nodes ≡ base → WalkIs op u from base p0 v0 t₀ q₀ w₀ t q w (refused UnexpectedEndOfData)
+    gives-refused : len ≡ false → st .nodes ≡ base → WalkIs len u from base p0 v0 t₀ q₀ w₀ t q w (refused UnexpectedEndOfData)
     gives-refused l h =
         let c = count x in
         let n : x .ns ≡ [] = empty (x .ns) (omega arith) in
         (l, λ k ts. s k ts ∙ ap (λ (z : Bool). rooted z base k (x .ns) ts) l ∙ ap (λ (z : List Noded). rooted false base k z ts) n)
 
-    gives-finished : (r : Walked) (t′ : List ℕ) → RootIs (op .lenient) base st o t r t′ → WalkIs op u from base p0 v0 t₀ q₀ w₀ t′ q w r
-    gives-finished r t′ = go (eqb (st .nodes) base) (op .lenient) refl refl
+    gives-finished : (r : Walked) (t′ : List ℕ) → RootIs len base st o t r t′ → WalkIs len u from base p0 v0 t₀ q₀ w₀ t′ q w r
+    gives-finished r t′ = go (eqb (st .nodes) base) len refl refl
       where
         Is : Walked → Type 0
-        Is z = WalkIs op u from base p0 v0 t₀ q₀ w₀ t′ q w z
+        Is z = WalkIs len u from base p0 v0 t₀ q₀ w₀ t′ q w z
 
-        go : (e l : Bool) → eqb (st .nodes) base ≡ e → op .lenient ≡ l → RootBy e l st o t r t′ → WalkIs op u from base p0 v0 t₀ q₀ w₀ t′ q w r
-        go false l he hl y = subst⁻¹ Is (y .0) (subst⁻¹ (λ (z : List ℕ). TreeIs op u from base p0 v0 t₀ q₀ w₀ z q w o (st .nodes) (st .props) (st .vals)) (y .1) (gives-tree (eqb-false (st .nodes) base he)))
+        go : (e l : Bool) → eqb (st .nodes) base ≡ e → len ≡ l → RootBy e l st o t r t′ → WalkIs len u from base p0 v0 t₀ q₀ w₀ t′ q w r
+        go false l he hl y = subst⁻¹ Is (y .0) (subst⁻¹ (λ (z : List ℕ). TreeIs len u from base p0 v0 t₀ q₀ w₀ z q w o (st .nodes) (st .props) (st .vals)) (y .1) (gives-tree (eqb-false (st .nodes) base he)))
         go true true he hl y = subst⁻¹ Is (y .0) (gives-root hl (eqb-true (st .nodes) base he) (y .1))
         go true false he hl y = subst⁻¹ Is y (gives-refused hl (eqb-true (st .nodes) base he))
 
   -- the slice is at its end
-  gives : {cur : ℕ} {l : List ℕ} {g : Gate} → walkOf op base (lexAt u from .toks) ≡ walk cur l g (x .ns) → {o : ℕ} → BehindIs u (st .at) (st .depth) o → (r : Walked) (t′ : List ℕ)
-      → RootIs (op .lenient) base st o t r t′ → WalkIs op u from base p0 v0 t₀ q₀ w₀ t′ q w r
-  gives e b r t′ y = gives-finished (λ k ts. ap (λ (z : Walk). grown (op .lenient) base k z ts) e) b r t′ y
+  gives : {cur : ℕ} {l : List ℕ} {g : Bool} → walkOf len base (lexAt u from .toks) ≡ walk cur l g (x .ns) → {o : ℕ} → BehindIs u (st .at) (st .depth) o → (r : Walked) (t′ : List ℕ)
+      → RootIs len base st o t r t′ → WalkIs len u from base p0 v0 t₀ q₀ w₀ t′ q w r
+  gives e b r t′ y = gives-finished (λ k ts. ap (λ (z : Walk). grown len base k z ts) e) b r t′ y
 
   -- the tree stops
-  pub gives-stop : (reason : Reason) → walkOf op base (lexAt u from .toks) ≡ refuse (op .lenient) reason (x .ns) → (r : Walked) (t′ : List ℕ) → StopIs (op .lenient) u base st reason t r t′ → WalkIs op u from base p0 v0 t₀ q₀ w₀ t′ q w r
-  gives-stop reason e r t′ = go (op .lenient) refl
+  pub gives-stop : (reason : Reason) → walkOf len base (lexAt u from .toks) ≡ refuse len reason (x .ns) → (r : Walked) (t′ : List ℕ) → StopIs len u base st reason t r t′ → WalkIs len u from base p0 v0 t₀ q₀ w₀ t′ q w r
+  gives-stop reason e r t′ = go len refl
     where
-      stops : (l : Bool) → op .lenient ≡ l → (k : ℕ) (ts : List Tree) → grown (op .lenient) base k (walkOf op base (lexAt u from .toks)) ts ≡ grown l base k (refuse l reason (x .ns)) ts
-      stops l h k ts = ap (λ (z : Walk). grown (op .lenient) base k z ts) e ∙ ap (λ (z : Bool). grown z base k (refuse z reason (x .ns)) ts) h
+      stops : (l : Bool) → len ≡ l → (k : ℕ) (ts : List Tree) → grown len base k (walkOf len base (lexAt u from .toks)) ts ≡ grown l base k (refuse l reason (x .ns)) ts
+      stops l h k ts = ap (λ (z : Walk). grown len base k z ts) e ∙ ap (λ (z : Bool). grown z base k (refuse z reason (x .ns)) ts) h
 
-      go : (l : Bool) → op .lenient ≡ l → StopIs l u base st reason t r t′ → WalkIs op u from base p0 v0 t₀ q₀ w₀ t′ q w r
-      go false h y = subst⁻¹ (WalkIs op u from base p0 v0 t₀ q₀ w₀ t′ q w) y (h, stops false h)
+      go : (l : Bool) → len ≡ l → StopIs l u base st reason t r t′ → WalkIs len u from base p0 v0 t₀ q₀ w₀ t′ q w r
+      go false h y = subst⁻¹ (WalkIs len u from base p0 v0 t₀ q₀ w₀ t′ q w) y (h, stops false h)
       go true h y =
           gives-finished (λ k ts. stops true h k ts ∙ ap (λ (z : Bool). rooted z base k (x .ns) ts) (sym h)) (y .1) r t′
           (subst⁻¹ (λ (z : Bool). RootIs z base st (y .0) t r t′) h (y .2))
 
   -- no token is left
-  pub gives-over : lexAt u (st .at) .toks ≡ [] → (r : Walked) (t′ : List ℕ) → RootIs (op .lenient) base st (st .at) t r t′ → WalkIs op u from base p0 v0 t₀ q₀ w₀ t′ q w r
+  pub gives-over : lexAt u (st .at) .toks ≡ [] → (r : Walked) (t′ : List ℕ) → RootIs len base st (st .at) t r t′ → WalkIs len u from base p0 v0 t₀ q₀ w₀ t′ q w r
   unfolding sliceFrom
   gives-over h r t′ y =
-      gives (x .same ∙ ap (λ (z : List Tok). walked op base (held st a (x .ns)) (sliceFrom (st .depth) z)) h)
+      gives (x .same ∙ ap (λ (z : List Tok). walked len base (held st a (x .ns)) (sliceFrom (st .depth) z)) h)
       (skipping-over (skipping-first u (st .at) (st .depth) (x .skip .inside)) h) r t′ y
 
   -- the slice's last token
-  pub gives-last : {i : ℕ} → headAt u (st .at) ≡ End i → st .depth ≡ 1 → (r : Walked) (t′ : List ℕ) → RootIs (op .lenient) base st (i + 1) t r t′ → WalkIs op u from base p0 v0 t₀ q₀ w₀ t′ q w r
+  pub gives-last : {i : ℕ} → headAt u (st .at) ≡ End i → st .depth ≡ 1 → (r : Walked) (t′ : List ℕ) → RootIs len base st (i + 1) t r t′ → WalkIs len u from base p0 v0 t₀ q₀ w₀ t′ q w r
   gives-last g h r t′ y =
       let b = head-lies u (st .at) g in
       gives (end-last x g h) (skipping-last (skipping-first u (st .at) (st .depth) (x .skip .inside)) (b .0) (b .1) (head-meets u (st .at) g) (omega arith)) r t′ y
 
-module _ {len con : Bool} {u : List ℕ} {from base p0 v0 : ℕ} {t₀ q₀ w₀ t q w a : List ℕ} {st : State} (x : Walking (opts len con) u from base p0 v0 t₀ q₀ w₀ t q w a st) where
+module _ {len : Bool} {u : List ℕ} {from base p0 v0 : ℕ} {t₀ q₀ w₀ t q w a : List ℕ} {st : State} (x : Walking len u from base p0 v0 t₀ q₀ w₀ t q w a st) where
   -- the next token stops the tree
-  pub gives-stopped : (reason : Reason) → StopAt len con u base st a reason (headAt u (st .at)) → (r : Walked) (t′ : List ℕ) → StopIs len u base st reason t r t′ → WalkIs (opts len con) u from base p0 v0 t₀ q₀ w₀ t′ q w r
+  pub gives-stopped : (reason : Reason) → StopAt u base st a reason (headAt u (st .at)) → (r : Walked) (t′ : List ℕ) → StopIs len u base st reason t r t′ → WalkIs len u from base p0 v0 t₀ q₀ w₀ t′ q w r
   gives-stopped reason z = gives-stop x reason (go (headAt u (st .at)) refl z)
     where
       W : Reason → Type 0
-      W y = walkOf (opts len con) base (lexAt u from .toks) ≡ refuse len y (x .ns)
+      W y = walkOf len base (lexAt u from .toks) ≡ refuse len y (x .ns)
 
-      go : (h : Head) → headAt u (st .at) ≡ h → StopAt len con u base st a reason h → W reason
+      go : (h : Head) → headAt u (st .at) ≡ h → StopAt u base st a reason h → W reason
       go (Start i) g z = subst⁻¹ W (z .0) (start-stops x g refl (z .1))
       go (End i) g z = subst⁻¹ W (z .0) (end-stops x g (z .1))
       go (Node i) g z = absurd z
-      go (Name i k) g z = property-stops x i k g (z .0) reason (z .1)
+      go (Name i k) g z = subst⁻¹ W (z .0) (property-stops x i k g (z .1) (z .2))
       go (Refused f i) g z = absurd z
       go Done g z = absurd z
 
   -- the slice ends before o
-  pub gives-ended : (o : ℕ) → OverAt u st o (headAt u (st .at)) → (r : Walked) (t′ : List ℕ) → RootIs len base st o t r t′ → WalkIs (opts len con) u from base p0 v0 t₀ q₀ w₀ t′ q w r
+  pub gives-ended : (o : ℕ) → OverAt u st o (headAt u (st .at)) → (r : Walked) (t′ : List ℕ) → RootIs len base st o t r t′ → WalkIs len u from base p0 v0 t₀ q₀ w₀ t′ q w r
   gives-ended o z r t′ y = go (headAt u (st .at)) refl z
     where
       W : Type 0
-      W = WalkIs (opts len con) u from base p0 v0 t₀ q₀ w₀ t′ q w r
+      W = WalkIs len u from base p0 v0 t₀ q₀ w₀ t′ q w r
 
       over : lexAt u (st .at) .toks ≡ [] → o ≡ st .at → W
       over h e = gives-over x h r t′ (subst (λ (z : ℕ). RootIs len base st z t r t′) e y)

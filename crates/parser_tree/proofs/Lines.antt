@@ -4,7 +4,7 @@ use Rattle.lexer.specs.Token.{Prop}
 use Rattle.tables.specs.Numbers.{none}
 use Rattle.tables.specs.Record.{Node}
 use Rattle.tables.specs.declared.Reason.the-variants.{UnexpectedGameTreeStart}
-use Rattle.parser.specs.Walk.{children, walk, shut, refuse, opens}
+use Rattle.parser.specs.Walk.{children, walk, refuse, opens}
 use Rattle.parser_step.specs.LocalsAsks.{fuller, mayOpen}
 
 abbrev In : ℕ → ℕ → Type 0
@@ -106,10 +106,10 @@ line-node {base} {ns} {cur} {st} lt x =
 
 -- a start: is the list on top of the stack not empty
 pub line-may : (len : Bool) {base : ℕ} {ns : List Node} {cur : ℕ} {st : List ℕ} → Line base ns cur st
-    → opens len cur st ns ≡ pick (mayOpen base (base + length ns) st) (walk cur (cur ∷ st) shut ns) (refuse len UnexpectedGameTreeStart ns)
+    → opens len cur st ns ≡ pick (mayOpen base (base + length ns) st) (walk cur (cur ∷ st) false ns) (refuse len UnexpectedGameTreeStart ns)
 line-may len {base} {ns} {cur} {st} x = go st (x .held)
   where
     go : (st : List ℕ) → Held base (base + length ns) ns cur st
-        → opens len cur st ns ≡ pick (mayOpen base (base + length ns) st) (walk cur (cur ∷ st) shut ns) (refuse len UnexpectedGameTreeStart ns)
+        → opens len cur st ns ≡ pick (mayOpen base (base + length ns) st) (walk cur (cur ∷ st) false ns) (refuse len UnexpectedGameTreeStart ns)
     go [] h = refl
-    go (y ∷ st) h = ap (λ (b : Bool). pick b (walk cur (cur ∷ y ∷ st) shut ns) (refuse len UnexpectedGameTreeStart ns)) (h .0)
+    go (y ∷ st) h = ap (λ (b : Bool). pick b (walk cur (cur ∷ y ∷ st) false ns) (refuse len UnexpectedGameTreeStart ns)) (h .0)

@@ -4,10 +4,10 @@ use Rattle.lexer.specs.Token.{Tok, Lexed, lexAt}
 use Rattle.tables.specs.Numbers.{depthLimit}
 use Rattle.tables.specs.Record.{Node, allProps}
 use Rattle.tables.specs.declared.Reason.{Reason}
-use Rattle.parser.specs.Walk.{Opts, Walk, walk, refuse, walked}
+use Rattle.parser.specs.Walk.{Walk, walk, refuse, walked}
 use Rattle.parser.specs.LocalsSlice.{sliceFrom, Shallow}
 use Rattle.parser_tree.specs.LocalsWalks.{walkOf, Ready, Stored}
-use Rattle.parser_step.specs.LocalsAsks.{stackOf, gateOf}
+use Rattle.parser_step.specs.LocalsAsks.{stackOf}
 use Rattle.parser_tree.specs.LocalsTurns.{Small, begun}
 use Rattle.parser_step.specs.declared.State.{State}
 use Rattle.parser_tree.proofs.Flats.{props-append}
@@ -24,11 +24,11 @@ pub record Last (ns : List Node) (p0 first : ℕ) : Type 0 where
 
 -- the walk that a state stands for
 abbrev pub held : State → (a : List ℕ) → List Node → Walk
-held st a ns = walk (st .cur) (stackOf a (st .depth)) (gateOf (st .follows) (st .drops)) ns
+held st a ns = walk (st .cur) (stackOf a (st .depth)) (st .follows) ns
 
 -- ns are the nodes so far; the walk from the start is the walk from here
-pub record Walking (op : Opts) (u : List ℕ) (from base p0 v0 : ℕ) (t₀ q₀ w₀ t q w a : List ℕ) (st : State) : Type 0 where
-  pub ready : Ready op u from base p0 v0
+pub record Walking (len : Bool) (u : List ℕ) (from base p0 v0 : ℕ) (t₀ q₀ w₀ t q w a : List ℕ) (st : State) : Type 0 where
+  pub ready : Ready len u from base p0 v0
   pub ns : List Node
   pub array : length a ≡ depthLimit
   pub deep : st .depth ≤ depthLimit
@@ -37,16 +37,16 @@ pub record Walking (op : Opts) (u : List ℕ) (from base p0 v0 : ℕ) (t₀ q₀
   pub small : st .vals + from ≤ v0 + st .at
   pub stored : Stored base p0 v0 (reverse ns) t₀ q₀ w₀ t q w (st .nodes) (st .props) (st .vals)
   pub skip : Skipping u from 0 (st .at) (st .depth)
-  pub same : walkOf op base (lexAt u from .toks) ≡ walked op base (held st a ns) (sliceFrom (st .depth) (lexAt u (st .at) .toks))
+  pub same : walkOf len base (lexAt u from .toks) ≡ walked len base (held st a ns) (sliceFrom (st .depth) (lexAt u (st .at) .toks))
   pub shallow : Shallow (st .depth) (sliceFrom (st .depth) (lexAt u (st .at) .toks))
   pub last : st .follows ≡ true → Last ns p0 (st .first)
   pub line : Line base ns (st .cur) (stackOf a (st .depth))
 
-pub walking-first : {op : Opts} {u : List ℕ} {from base p0 v0 : ℕ} (t q w a : List ℕ) → Ready op u from base p0 v0 → length a ≡ depthLimit
-    → {y : State} → y ≡ begun from base p0 v0 → Walking op u from base p0 v0 t q w t q w a y
+pub walking-first : {len : Bool} {u : List ℕ} {from base p0 v0 : ℕ} (t q w a : List ℕ) → Ready len u from base p0 v0 → length a ≡ depthLimit
+    → {y : State} → y ≡ begun from base p0 v0 → Walking len u from base p0 v0 t q w t q w a y
 unfolding stackOf walkOf
-walking-first {op} {u} {from} {base} {p0} {v0} t q w a x h e =
-    subst⁻¹ (Walking op u from base p0 v0 t q w t q w a) e
+walking-first {len} {u} {from} {base} {p0} {v0} t q w a x h e =
+    subst⁻¹ (Walking len u from base p0 v0 t q w t q w a) e
     record {
       ready = x;
       ns = [];
@@ -64,12 +64,12 @@ walking-first {op} {u} {from} {base} {p0} {v0} t q w a x h e =
     }
 
 -- what is refused stays refused
-pub refuse-stays : (op : Opts) (base : ℕ) (len : Bool) (r : Reason) (ns : List Node) (ts : List Tok) → walked op base (refuse len r ns) ts ≡ refuse len r ns
-refuse-stays op base len r ns [] = refl
-refuse-stays op base true r ns (t ∷ ts) = refuse-stays op base true r ns ts
-refuse-stays op base false r ns (t ∷ ts) = refuse-stays op base false r ns ts
+pub refuse-stays : (len : Bool) (base : ℕ) (r : Reason) (ns : List Node) (ts : List Tok) → walked len base (refuse len r ns) ts ≡ refuse len r ns
+refuse-stays len base r ns [] = refl
+refuse-stays true base r ns (t ∷ ts) = refuse-stays true base r ns ts
+refuse-stays false base r ns (t ∷ ts) = refuse-stays false base r ns ts
 
-module _ {op : Opts} {u : List ℕ} {from base p0 v0 : ℕ} {t₀ q₀ w₀ t q w a : List ℕ} {st : State} (x : Walking op u from base p0 v0 t₀ q₀ w₀ t q w a st) where
+module _ {len : Bool} {u : List ℕ} {from base p0 v0 : ℕ} {t₀ q₀ w₀ t q w a : List ℕ} {st : State} (x : Walking len u from base p0 v0 t₀ q₀ w₀ t q w a st) where
   pub count : st .nodes ≡ base + length (x .ns)
   count = x .stored .nodes ∙ ap (λ (z : ℕ). base + z) (length-reverse (x .ns))
 
@@ -97,9 +97,9 @@ module _ {op : Opts} {u : List ℕ} {from base p0 v0 : ℕ} {t₀ q₀ w₀ t q 
 
   -- the walk with the next tokens
   abbrev pub Ahead : Lexed → Walk
-  Ahead l = walked op base (held st a (x .ns)) (sliceFrom (st .depth) (l .toks))
+  Ahead l = walked len base (held st a (x .ns)) (sliceFrom (st .depth) (l .toks))
 
-  pub onto : {l : Lexed} → lexAt u (st .at) ≡ l → walkOf op base (lexAt u from .toks) ≡ Ahead l
+  pub onto : {l : Lexed} → lexAt u (st .at) ≡ l → walkOf len base (lexAt u from .toks) ≡ Ahead l
   onto e = x .same ∙ ap Ahead e
 
   pub shallow-onto : {l : Lexed} → lexAt u (st .at) ≡ l → Shallow (st .depth) (sliceFrom (st .depth) (l .toks))

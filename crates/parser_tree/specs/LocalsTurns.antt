@@ -12,13 +12,13 @@ use Rattle.tables.specs.Columns.{nodeStride, propertyStride, valueStride}
 use Rattle.tables.specs.Rows.{valRows}
 use Rattle.tables.specs.Flat.{flatVals}
 use Rattle.tables.specs.declared.Reason.{Reason}
-use Rattle.tables.specs.declared.Reason.the-variants.{UnexpectedEndOfData, UnexpectedGameTreeStart, UnexpectedGameTreeEnd}
+use Rattle.tables.specs.declared.Reason.the-variants.{UnexpectedEndOfData, UnexpectedGameTreeStart, UnexpectedGameTreeEnd, UnexpectedProperty}
 use Rattle.parser.specs.LocalsSlice.{restFrom}
 use Rattle.parser_tree.specs.declared.Taken.{Taken}
-use Rattle.parser_step.specs.LocalsAsks.{stackOf, mayOpen, propAct}
+use Rattle.parser_step.specs.LocalsAsks.{stackOf, mayOpen}
 use Rattle.parser_step.specs.declared.State.{State}
 use Rattle.parser_step.specs.declared.Act.{Act}
-use Rattle.parser_step.specs.declared.Act.the-variants.{Start, End, Node, Add, Skip, Stop, Over}
+use Rattle.parser_step.specs.declared.Act.the-variants.{Start, End, Node, Add, Stop, Over}
 use Rattle.parser_tree.specs.declared.Walked.{Walked}
 use Rattle.parser_tree.specs.declared.Walked.the-variants.{Tree, Refused}
 
@@ -37,7 +37,7 @@ pub record Small (st : State) : Type 0 where
 
 -- before the first
 abbrev pub begun : (at n p v : ℕ) → State
-begun at n p v = record { at = at; depth = 0; cur = none; nodes = n; props = p; vals = v; first = p; follows = false; drops = false }
+begun at n p v = record { at = at; depth = 0; cur = none; nodes = n; props = p; vals = v; first = p; follows = false }
 
 -- behind a start or an end
 abbrev pub shutAt : State → (at depth : ℕ) → State
@@ -51,7 +51,6 @@ shutAt st at depth =
       vals = st .vals;
       first = st .first;
       follows = false;
-      drops = st .drops;
     }
 
 -- behind an end at i that leaves a tree open
@@ -66,7 +65,6 @@ ended st i a =
       vals = st .vals;
       first = st .first;
       follows = false;
-      drops = st .drops;
     }
 
 -- a node at i
@@ -81,7 +79,6 @@ noded st i =
       vals = st .vals;
       first = st .props;
       follows = true;
-      drops = false;
     }
 
 -- a property with c values that ends at e
@@ -96,22 +93,6 @@ added st e c =
       vals = st .vals + c;
       first = st .first;
       follows = st .follows;
-      drops = st .drops;
-    }
-
--- one that ends at e and is dropped
-abbrev pub dropped : State → (e : ℕ) → State
-dropped st e =
-    record {
-      at = e;
-      depth = st .depth;
-      cur = st .cur;
-      nodes = st .nodes;
-      props = st .props;
-      vals = st .vals;
-      first = st .first;
-      follows = st .follows;
-      drops = true;
     }
 
 -- ---- properties
@@ -134,21 +115,16 @@ pub record AddIs (u : List ℕ) (st : State) (i k : ℕ) (t q w : List ℕ) (r :
   pub props : PutIs q (st .props * propertyStride) (i ∷ k ∷ st .vals ∷ length (valsAt u k) ∷ []) q′
   pub nodes : PutIs t (st .nodes * nodeStride - 1) ((st .props + 1 - st .first) ∷ []) t′
 
--- it is dropped
-pub record SkippedIs (u : List ℕ) (st : State) (k : ℕ) (r : State) : Type 0 where
-  pub ends : valuesAt u k ≡ At (r .at)
-  pub is : r ≡ dropped st (r .at)
-
 -- ---- what the next token asks for
 
 -- where the tree stops, by the token
-abbrev pub StopAt : (len con : Bool) (u : List ℕ) (base : ℕ) → State → (a : List ℕ) → Reason → Head → Type 0
-StopAt len con u base st a r (start i) = (r ≡ UnexpectedGameTreeStart) × (mayOpen base (st .nodes) (stackOf a (st .depth)) ≡ false)
-StopAt len con u base st a r (end i) = (r ≡ UnexpectedGameTreeEnd) × (st .depth ≡ 0)
-StopAt len con u base st a r (node i) = ⊥
-StopAt len con u base st a r (name i k) = Closes u k × (propAct len con u st i k ≡ Stop r)
-StopAt len con u base st a r (refused f i) = ⊥
-StopAt len con u base st a r done = ⊥
+abbrev pub StopAt : (u : List ℕ) (base : ℕ) → State → (a : List ℕ) → Reason → Head → Type 0
+StopAt u base st a r (start i) = (r ≡ UnexpectedGameTreeStart) × (mayOpen base (st .nodes) (stackOf a (st .depth)) ≡ false)
+StopAt u base st a r (end i) = (r ≡ UnexpectedGameTreeEnd) × (st .depth ≡ 0)
+StopAt u base st a r (node i) = ⊥
+StopAt u base st a r (name i k) = (r ≡ UnexpectedProperty) × Closes u k × (st .follows ≡ false)
+StopAt u base st a r (refused f i) = ⊥
+StopAt u base st a r done = ⊥
 
 -- where the slice ends before o, by the token
 abbrev pub OverAt : List ℕ → State → (o : ℕ) → Head → Type 0
@@ -160,14 +136,13 @@ OverAt u st o (refused f i) = o ≡ st .at
 OverAt u st o done = o ≡ st .at
 
 -- the next token asks for it
-abbrev pub ActIs : (len con : Bool) (u : List ℕ) (base : ℕ) → State → (a : List ℕ) → Act → Type 0
-ActIs len con u base st a (Start i) = (headAt u (st .at) ≡ start i) × (mayOpen base (st .nodes) (stackOf a (st .depth)) ≡ true)
-ActIs len con u base st a (End i) = (headAt u (st .at) ≡ end i) × (1 < st .depth)
-ActIs len con u base st a (Node i) = headAt u (st .at) ≡ node i
-ActIs len con u base st a (Add i k) = (headAt u (st .at) ≡ name i k) × Closes u k × (propAct len con u st i k ≡ Add i k)
-ActIs len con u base st a (Skip k) = (i : ℕ) × (headAt u (st .at) ≡ name i k) × Closes u k × (propAct len con u st i k ≡ Skip k)
-ActIs len con u base st a (Stop r) = StopAt len con u base st a r (headAt u (st .at))
-ActIs len con u base st a (Over o) = OverAt u st o (headAt u (st .at))
+abbrev pub ActIs : (u : List ℕ) (base : ℕ) → State → (a : List ℕ) → Act → Type 0
+ActIs u base st a (Start i) = (headAt u (st .at) ≡ start i) × (mayOpen base (st .nodes) (stackOf a (st .depth)) ≡ true)
+ActIs u base st a (End i) = (headAt u (st .at) ≡ end i) × (1 < st .depth)
+ActIs u base st a (Node i) = headAt u (st .at) ≡ node i
+ActIs u base st a (Add i k) = (headAt u (st .at) ≡ name i k) × Closes u k × (st .follows ≡ true)
+ActIs u base st a (Stop r) = StopAt u base st a r (headAt u (st .at))
+ActIs u base st a (Over o) = OverAt u st o (headAt u (st .at))
 
 -- ---- the end of the slice
 

@@ -7,30 +7,26 @@ use Rattle.tables.specs.Record.{Node, Tree, allProps, allVals}
 use Rattle.tables.specs.Columns.{nodeStride, propertyStride, valueStride}
 use Rattle.tables.specs.Rows.{propRows, valRows}
 use Rattle.tables.specs.Flat.{flatNodes, flatProps, flatVals}
-use Rattle.parser.specs.Walk.{Opts, Walk, walk, shut, walked}
+use Rattle.parser.specs.Walk.{Walk, walk, walked}
 use Rattle.parser.specs.Read.{growing, failing, grown}
 use Rattle.parser.specs.LocalsSlice.{sliceFrom, restFrom, Shallow}
 use Rattle.parser_tree.specs.LocalsFlat.{bareRows}
 use Rattle.parser_tree.specs.declared.Walked.{Walked}
 use Rattle.parser_tree.specs.declared.Walked.the-variants.{Tree as tree, Refused as refused}
 
--- the options as the code has them
-abbrev pub opts : Bool → Bool → Opts
-opts len con = record { lenient = len; convert = con }
-
 -- the walk of the first slice of the tokens
-unfoldable pub walkOf : Opts → (base : ℕ) → List Tok → Walk
-walkOf op base ts = walked op base (walk none [] shut []) (sliceFrom 0 ts)
+unfoldable pub walkOf : Bool → (base : ℕ) → List Tok → Walk
+walkOf len base ts = walked len base (walk none [] false []) (sliceFrom 0 ts)
 
 -- what a walk asks for: a text within the limit, few rows so far, no slice too deep, and where reading is strict no fault ahead
-pub record Ready (op : Opts) (u : List ℕ) (from base p v : ℕ) : Type 0 where
+pub record Ready (len : Bool) (u : List ℕ) (from base p v : ℕ) : Type 0 where
   pub short : length u ≤ textLimit
   pub inside : from ≤ length u
   pub nodes : base ≤ textLimit + textLimit
   pub props : p ≤ textLimit
   pub vals : v ≤ textLimit
   pub shallow : Shallow 0 (sliceFrom 0 (lexAt u from .toks))
-  pub calm : op .lenient ≡ false → lexAt u from .end ≡ done
+  pub calm : len ≡ false → lexAt u from .end ≡ done
 
 -- es stand in the tables from the rows base, p0 and v0 on; n, p and v are the next rows
 pub record Stored (base p0 v0 : ℕ) (es : List Node) (t₀ q₀ w₀ t q w : List ℕ) (n p v : ℕ) : Type 0 where
@@ -42,11 +38,11 @@ pub record Stored (base p0 v0 : ℕ) (es : List Node) (t₀ q₀ w₀ t q w : Li
   pub tvals : PutIs w₀ (v0 * valueStride) (flatVals (valRows (allVals (allProps es)))) w
 
 -- a tree: its nodes es, in the tables; the place behind its slice, from which the other slices are read; as many rows as bytes, but that an empty root has none
-pub record TreeIs (op : Opts) (u : List ℕ) (from base p0 v0 : ℕ) (t₀ q₀ w₀ t q w : List ℕ) (at n p v : ℕ) : Type 0 where
+pub record TreeIs (len : Bool) (u : List ℕ) (from base p0 v0 : ℕ) (t₀ q₀ w₀ t q w : List ℕ) (at n p v : ℕ) : Type 0 where
   pub es : List Node
   pub tree :
       (k : ℕ) (ts : List Tree)
-      → grown (op .lenient) base k (walkOf op base (lexAt u from .toks)) ts
+      → grown len base k (walkOf len base (lexAt u from .toks)) ts
       ≡ growing (base + length es) (record { root = base; kind = k; nodes = es } ∷ ts)
   pub stored : Stored base p0 v0 es t₀ q₀ w₀ t q w n p v
   pub more : base < n
@@ -59,7 +55,7 @@ pub record TreeIs (op : Opts) (u : List ℕ) (from base p0 v0 : ℕ) (t₀ q₀ 
   pub small : v + from ≤ v0 + at
 
 -- what a walk gives
-abbrev pub WalkIs : Opts → (u : List ℕ) (from base p0 v0 : ℕ) (t₀ q₀ w₀ t q w : List ℕ) → Walked → Type 0
-WalkIs op u from base p0 v0 t₀ q₀ w₀ t q w (tree at n p v) = TreeIs op u from base p0 v0 t₀ q₀ w₀ t q w at n p v
-WalkIs op u from base p0 v0 t₀ q₀ w₀ t q w (refused r) =
-    (op .lenient ≡ false) × ((k : ℕ) (ts : List Tree) → grown (op .lenient) base k (walkOf op base (lexAt u from .toks)) ts ≡ failing r)
+abbrev pub WalkIs : Bool → (u : List ℕ) (from base p0 v0 : ℕ) (t₀ q₀ w₀ t q w : List ℕ) → Walked → Type 0
+WalkIs len u from base p0 v0 t₀ q₀ w₀ t q w (tree at n p v) = TreeIs len u from base p0 v0 t₀ q₀ w₀ t q w at n p v
+WalkIs len u from base p0 v0 t₀ q₀ w₀ t q w (refused r) =
+    (len ≡ false) × ((k : ℕ) (ts : List Tree) → grown len base k (walkOf len base (lexAt u from .toks)) ts ≡ failing r)

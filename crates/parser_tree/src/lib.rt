@@ -1,6 +1,5 @@
 // The tree of one slice, read from the tokens from a place on into the lent tables, strict or lenient. One token a turn, each byte scanned once where reading is strict.
 use lexer::Step;
-use lexer_close::Close;
 use lexer_scan::ValueStep;
 use parser_step::Act;
 use parser_step::State;
@@ -16,8 +15,8 @@ ghost use lib.ListN.{length, set};
 ghost use Rattle.lists.specs.Put.{PutIs};
 ghost use Rattle.tables.specs.Numbers.{textLimit, depthLimit, none};
 ghost use Rattle.tables.specs.Columns.{nodeStride};
-ghost use Rattle.parser_tree.specs.LocalsWalks.{opts, Ready, WalkIs};
-ghost use Rattle.parser_tree.specs.LocalsTurns.{rowLimit, Small, begun, shutAt, ended, noded, Closes, TakenIs, AddIs, SkippedIs, BehindIs, RootIs, StopIs};
+ghost use Rattle.parser_tree.specs.LocalsWalks.{Ready, WalkIs};
+ghost use Rattle.parser_tree.specs.LocalsTurns.{rowLimit, Small, begun, shutAt, ended, noded, Closes, TakenIs, AddIs, BehindIs, RootIs, StopIs};
 
 // What a walk gives: the place behind the slice and the next row of each table (nodes, properties, values); or why there is no tree.
 pub enum Walked {
@@ -80,7 +79,6 @@ fn node(mut w: State, i: usize, nodes: &mut [u32]) -> State
     w.nodes += 1;
     w.first = w.props;
     w.follows = true;
-    w.drops = false;
     w
 }
 
@@ -133,19 +131,6 @@ fn add(
     store_numbers::put1(nodes, cell, (w.props - w.first) as u32);
     w.at = taken.end;
     w.vals = taken.next;
-    w
-}
-
-// The property whose first `[` is at `k` is dropped, and those after it.
-fn skip_property(s: &[u8], mut w: State, k: usize) -> State
-    requires { ⌜ Closes (now s) k ⌝ }
-    ensures { λ r. ⌜ SkippedIs (now (s .entry)) w k r ⌝ }
-{
-    w.drops = true;
-    let Close::At(e) = lexer_scan::values_end(s, k) else {
-        return w;
-    };
-    w.at = e;
     w
 }
 
@@ -229,7 +214,6 @@ fn begin(at: usize, nodes: usize, props: usize, vals: usize) -> State
         vals: vals,
         first: props,
         follows: false,
-        drops: false,
     }
 }
 
@@ -238,7 +222,6 @@ pub fn walk_tree(
     s: &[u8],
     from: usize,
     lenient: bool,
-    convert: bool,
     base: usize,
     p0: usize,
     v0: usize,
@@ -246,19 +229,18 @@ pub fn walk_tree(
     props: &mut [u32],
     vals: &mut [u32],
 ) -> Walked
-    requires { ⌜ Ready (opts lenient convert) (now s) from base p0 v0 ⌝ }
-    ensures { λ r. ⌜ WalkIs (opts lenient convert) (now (s .entry)) from base p0 v0
+    requires { ⌜ Ready lenient (now s) from base p0 v0 ⌝ }
+    ensures { λ r. ⌜ WalkIs lenient (now (s .entry)) from base p0 v0
         (now (nodes .entry)) (now (props .entry)) (now (vals .entry)) (now (nodes .exit)) (now (props .exit)) (now (vals .exit)) r ⌝ }
 {
     let mut stack = [0u32; 1024];
     let mut w = begin(from, base, p0, v0);
     loop {
-        match parser_step::look(s, lenient, convert, base, w, &stack) {
+        match parser_step::look(s, lenient, base, w, &stack) {
             Act::Start(i) => w = start(w, i, &mut stack),
             Act::End(i) => w = end(w, i, &stack),
             Act::Node(i) => w = node(w, i, nodes),
             Act::Add(i, k) => w = add(s, w, i, k, nodes, props, vals),
-            Act::Skip(k) => w = skip_property(s, w, k),
             Act::Stop(reason) => return stop(s, lenient, base, w, reason, nodes),
             Act::Over(at) => return finish(lenient, base, w, at, nodes),
         }

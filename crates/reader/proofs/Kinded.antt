@@ -5,10 +5,9 @@ use Rattle.lexer.specs.Token.{Tok}
 use Rattle.tables.specs.Numbers.{none}
 use Rattle.tables.specs.Record.{Tree}
 use Rattle.tables.specs.declared.Reason.{Reason}
-use Rattle.parser.specs.Walk.{Opts, walk, shut, walked}
+use Rattle.parser.specs.Walk.{walk, walked}
 use Rattle.parser.specs.Kind.{Kind, is, unkind}
 use Rattle.parser.specs.Read.{failing, grown, kinded, growAll}
-use Rattle.parser_tree.specs.LocalsWalks.{opts}
 use Rattle.reader.specs.LocalsSlices.{leniently}
 use Rattle.parser_game.specs.LocalsGame.{typeOf}
 use Rattle.parser_game.specs.declared.GameType.{GameType}
@@ -38,24 +37,24 @@ module _ (x : Kind) {g : GameType} (e : g ≡ typeOf x) where
 -- ---- a slice
 
 -- a tree that is refused stays refused
-pub fails : (op : Opts) (r : Reason) (ss : List (List Tok)) → growAll op (failing r) ss ≡ failing r
-fails op r [] = refl
-fails op r (s ∷ ss) = fails op r ss
+pub fails : (len : Bool) (r : Reason) (ss : List (List Tok)) → growAll len (failing r) ss ≡ failing r
+fails len r [] = refl
+fails len r (s ∷ ss) = fails len r ss
 
-module _ (len con : Bool) (base : ℕ) (s : List Tok) (ts : List Tree) where
-  pub kinded-is : (x : Kind) (k : ℕ) → Is k ≡ typeOf (leniently len x) → kinded (opts len con) base x s ts ≡ grown len base k (walked (opts len con) base (walk none [] shut []) s) ts
+module _ (len : Bool) (base : ℕ) (s : List Tok) (ts : List Tree) where
+  pub kinded-is : (x : Kind) (k : ℕ) → Is k ≡ typeOf (leniently len x) → kinded len base x s ts ≡ grown len base k (walked len base (walk none [] false []) s) ts
   kinded-is x k e = go len x e
     where
-      go : (l : Bool) (x : Kind) → Is k ≡ typeOf (leniently l x) → kinded (opts l con) base x s ts ≡ grown l base k (walked (opts l con) base (walk none [] shut []) s) ts
-      go true (is j) e = let z : j ≡ k = cc in ap (λ (y : ℕ). grown true base y (walked (opts true con) base (walk none [] shut []) s) ts) z
-      go true (unkind r) e = let z : 0 ≡ k = cc in ap (λ (y : ℕ). grown true base y (walked (opts true con) base (walk none [] shut []) s) ts) z
-      go false (is j) e = let z : j ≡ k = cc in ap (λ (y : ℕ). grown false base y (walked (opts false con) base (walk none [] shut []) s) ts) z
+      go : (l : Bool) (x : Kind) → Is k ≡ typeOf (leniently l x) → kinded l base x s ts ≡ grown l base k (walked l base (walk none [] false []) s) ts
+      go true (is j) e = let z : j ≡ k = cc in ap (λ (y : ℕ). grown true base y (walked true base (walk none [] false []) s) ts) z
+      go true (unkind r) e = let z : 0 ≡ k = cc in ap (λ (y : ℕ). grown true base y (walked true base (walk none [] false []) s) ts) z
+      go false (is j) e = let z : j ≡ k = cc in ap (λ (y : ℕ). grown false base y (walked false base (walk none [] false []) s) ts) z
       go false (unkind r) e = never (cc)
 
-  pub kinded-refused : (x : Kind) (r : Reason) → Refused r ≡ typeOf (leniently len x) → kinded (opts len con) base x s ts ≡ failing r
+  pub kinded-refused : (x : Kind) (r : Reason) → Refused r ≡ typeOf (leniently len x) → kinded len base x s ts ≡ failing r
   kinded-refused x r e = go len x e
     where
-      go : (l : Bool) (x : Kind) → Refused r ≡ typeOf (leniently l x) → kinded (opts l con) base x s ts ≡ failing r
+      go : (l : Bool) (x : Kind) → Refused r ≡ typeOf (leniently l x) → kinded l base x s ts ≡ failing r
       go true (is j) e = never (cc)
       go true (unkind q) e = never (cc)
       go false (is j) e = never (cc)

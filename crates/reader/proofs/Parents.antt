@@ -1,5 +1,5 @@
 -- The parent of each node that is read is none or a node: a fact of the definition, strict and lenient. Assumes nothing.
-use Rattle.lists.proofs.Prelude.{ℕ, suc, _+_, _≤_, _<_, _≡_, refl, subst, Bool, true, false, _||_, _⊎_, inl, inr, List, [], _∷_, reverse, reverse-reverse, arith, length}
+use Rattle.lists.proofs.Prelude.{ℕ, suc, _+_, _≤_, _<_, _≡_, refl, subst, Bool, true, false, _⊎_, inl, inr, List, [], _∷_, reverse, reverse-reverse, arith, length}
 use Rattle.lists.specs.All.{All}
 use Rattle.lists.proofs.All.{all-append, all-map, all-reverse}
 use Rattle.lists.proofs.Pick.{pick-elim}
@@ -7,7 +7,7 @@ use Rattle.lexer.specs.Token.{Prop, Tok, start, end, node, prop}
 use Rattle.tables.specs.Numbers.{none}
 use Rattle.tables.specs.Record.{Node, Tree, allNodes}
 use Rattle.tables.specs.declared.Reason.{Reason}
-use Rattle.parser.specs.Walk.{Opts, Gate, shut, takes, skips, Walk, walk, halted, stopped, children, uppers, refuse, opens, closes, adds, gated, walks, walked}
+use Rattle.parser.specs.Walk.{Walk, walk, halted, stopped, children, refuse, opens, closes, adds, gated, walks, walked}
 use Rattle.parser.specs.Kind.{Kind, is, unkind, kind}
 use Rattle.parser.specs.Read.{Growing, growing, failing, rooted, grown, kinded, growAll}
 
@@ -38,38 +38,35 @@ module _ (base : ℕ) where
   placed-refuse true r ns h = h
   placed-refuse false r ns h = tt
 
-  placed-opens : (len : Bool) (cur : ℕ) (st : List ℕ) (ns : List Node) → Placed (walk cur st shut ns) → Placed (opens len cur st ns)
+  placed-opens : (len : Bool) (cur : ℕ) (st : List ℕ) (ns : List Node) → Placed (walk cur st false ns) → Placed (opens len cur st ns)
   placed-opens len cur [] ns h = (h .0, (h .0, tt), h .2)
   placed-opens len cur (p ∷ st) ns h = pick-elim Placed (children p ns) (λ _. (h .0, (h .0, h .1), h .2)) (λ _. placed-refuse len _ ns (h .2))
 
-  placed-closes : (len : Bool) (cur : ℕ) (st : List ℕ) (ns : List Node) → Placed (walk cur st shut ns) → Placed (closes len cur st ns)
+  placed-closes : (len : Bool) (cur : ℕ) (st : List ℕ) (ns : List Node) → Placed (walk cur st false ns) → Placed (closes len cur st ns)
   placed-closes len cur [] ns h = placed-refuse len _ ns (h .2)
   placed-closes len cur (p ∷ st) ns h = (h .1 .0, h .1 .1, h .2)
 
-  placed-adds : (ok len : Bool) (p : Prop) (cur : ℕ) (st : List ℕ) (ns : List Node) → Placed (walk cur st takes ns) → Placed (adds ok len p cur st ns)
-  placed-adds ok len p cur st [] h = placed-refuse len _ [] tt
-  placed-adds true len p cur st (n ∷ ns) h = (h .0, h .1, (h .2 .0, h .2 .1))
-  placed-adds false true p cur st (n ∷ ns) h = h
-  placed-adds false false p cur st (n ∷ ns) h = tt
+  placed-adds : (len : Bool) (p : Prop) (cur : ℕ) (st : List ℕ) (ns : List Node) → Placed (walk cur st true ns) → Placed (adds len p cur st ns)
+  placed-adds len p cur st [] h = placed-refuse len _ [] tt
+  placed-adds len p cur st (n ∷ ns) h = (h .0, h .1, (h .2 .0, h .2 .1))
 
-  placed-gated : (op : Opts) (g : Gate) (p : Prop) (cur : ℕ) (st : List ℕ) (ns : List Node) → Placed (walk cur st g ns) → Placed (gated op g p cur st ns)
-  placed-gated op shut p cur st ns h = placed-refuse (op .lenient) _ ns (h .2)
-  placed-gated op takes p cur st ns h = placed-adds (op .convert || uppers (p .name)) (op .lenient) p cur st ns h
-  placed-gated op skips p cur st ns h = h
+  placed-gated : (len g : Bool) (p : Prop) (cur : ℕ) (st : List ℕ) (ns : List Node) → Placed (walk cur st g ns) → Placed (gated len g p cur st ns)
+  placed-gated len false p cur st ns h = placed-refuse len _ ns (h .2)
+  placed-gated len true p cur st ns h = placed-adds len p cur st ns h
 
-  placed-walks : (op : Opts) (w : Walk) (t : Tok) → Placed w → Placed (walks op base w t)
-  placed-walks op (walk cur st g ns) (start o) h = placed-opens (op .lenient) cur st ns h
-  placed-walks op (walk cur st g ns) (end o) h = placed-closes (op .lenient) cur st ns h
-  placed-walks op (walk cur st g ns) (node o) h =
+  placed-walks : (len : Bool) (w : Walk) (t : Tok) → Placed w → Placed (walks len base w t)
+  placed-walks len (walk cur st g ns) (start o) h = placed-opens len cur st ns h
+  placed-walks len (walk cur st g ns) (end o) h = placed-closes len cur st ns h
+  placed-walks len (walk cur st g ns) (node o) h =
       let l : base + length ns ≤ base + suc (length ns) = omega arith in
       (inr (omega arith), all-map _ _ (node-up l) st (h .1), (node-up l cur (h .0), all-map _ _ (below-up l) ns (h .2)))
-  placed-walks op (walk cur st g ns) (prop p e) h = placed-gated op g p cur st ns h
-  placed-walks op (halted ns) t h = h
-  placed-walks op (stopped r) t h = h
+  placed-walks len (walk cur st g ns) (prop p e) h = placed-gated len g p cur st ns h
+  placed-walks len (halted ns) t h = h
+  placed-walks len (stopped r) t h = h
 
-  placed-walked : (op : Opts) (w : Walk) (ts : List Tok) → Placed w → Placed (walked op base w ts)
-  placed-walked op w [] h = h
-  placed-walked op w (t ∷ ts) h = placed-walked op (walks op base w t) ts (placed-walks op w t h)
+  placed-walked : (len : Bool) (w : Walk) (ts : List Tok) → Placed w → Placed (walked len base w ts)
+  placed-walked len w [] h = h
+  placed-walked len w (t ∷ ts) h = placed-walked len (walks len base w t) ts (placed-walks len w t h)
 
 -- ---- all trees
 
@@ -93,25 +90,25 @@ sound-grown len base k (walk cur st g ns) ts h a = sound-rooted len base k ns ts
 sound-grown len base k (halted ns) ts h a = sound-rooted len base k ns ts h a
 sound-grown len base k (stopped r) ts h a = tt
 
-sound-kinded : (op : Opts) (base : ℕ) (x : Kind) (s : List Tok) (ts : List Tree) → All (InTree base) ts → Sound (kinded op base x s ts)
-sound-kinded op base (is k) s ts a =
-    sound-grown (op .lenient) base k (walked op base (walk none [] shut []) s) ts (placed-walked base op (walk none [] shut []) s (inl refl, tt, tt)) a
-sound-kinded op base (unkind r) s ts a =
-    pick-elim Sound (op .lenient)
-    (λ _. sound-grown true base 0 (walked op base (walk none [] shut []) s) ts (placed-walked base op (walk none [] shut []) s (inl refl, tt, tt)) a)
+sound-kinded : (len : Bool) (base : ℕ) (x : Kind) (s : List Tok) (ts : List Tree) → All (InTree base) ts → Sound (kinded len base x s ts)
+sound-kinded len base (is k) s ts a =
+    sound-grown len base k (walked len base (walk none [] false []) s) ts (placed-walked base len (walk none [] false []) s (inl refl, tt, tt)) a
+sound-kinded len base (unkind r) s ts a =
+    pick-elim Sound len
+    (λ _. sound-grown true base 0 (walked len base (walk none [] false []) s) ts (placed-walked base len (walk none [] false []) s (inl refl, tt, tt)) a)
     (λ _. tt)
 
-sound-all : (op : Opts) (x : Growing) (ss : List (List Tok)) → Sound x → Sound (growAll op x ss)
-sound-all op x [] h = h
-sound-all op (growing n ts) (s ∷ ss) h = sound-all op (kinded op n (kind s) s ts) ss (sound-kinded op n (kind s) s ts h)
-sound-all op (failing r) (s ∷ ss) h = sound-all op (failing r) ss tt
+sound-all : (len : Bool) (x : Growing) (ss : List (List Tok)) → Sound x → Sound (growAll len x ss)
+sound-all len x [] h = h
+sound-all len (growing n ts) (s ∷ ss) h = sound-all len (kinded len n (kind s) s ts) ss (sound-kinded len n (kind s) s ts h)
+sound-all len (failing r) (s ∷ ss) h = sound-all len (failing r) ss tt
 
 in-trees : (n : ℕ) (ts : List Tree) → All (InTree n) ts → All (Below n) (allNodes ts)
 in-trees n [] h = tt
 in-trees n (t ∷ ts) h = all-append (Below n) (t .nodes) (allNodes ts) (h .0) (in-trees n ts (h .1))
 
 -- the parents of the nodes of all slices, n nodes in all
-pub parents-below : (op : Opts) (ss : List (List Tok)) (n : ℕ) (ts : List Tree) → growAll op (growing 0 []) ss ≡ growing n (reverse ts) → All (Below n) (allNodes ts)
-parents-below op ss n ts e =
+pub parents-below : (len : Bool) (ss : List (List Tok)) (n : ℕ) (ts : List Tree) → growAll len (growing 0 []) ss ≡ growing n (reverse ts) → All (Below n) (allNodes ts)
+parents-below len ss n ts e =
     in-trees n ts
-    (subst (All (InTree n)) (reverse-reverse ts) (all-reverse (InTree n) (reverse ts) (subst Sound e (sound-all op (growing 0 []) ss tt))))
+    (subst (All (InTree n)) (reverse-reverse ts) (all-reverse (InTree n) (reverse ts) (subst Sound e (sound-all len (growing 0 []) ss tt))))

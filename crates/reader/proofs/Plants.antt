@@ -8,11 +8,10 @@ use Rattle.tables.specs.Record.{Node, Tree, allNodes}
 use Rattle.tables.specs.Rows.{treeRows}
 use Rattle.tables.specs.Flat.{flatTrees}
 use Rattle.tables.specs.declared.Reason.{Reason}
-use Rattle.parser.specs.Walk.{Opts}
 use Rattle.parser.specs.Kind.{kind}
 use Rattle.parser.specs.LocalsSlice.{sliceFrom, restFrom, cut, Shallow}
 use Rattle.parser.specs.Read.{Growing, growing, failing, grown, kinded, growAll}
-use Rattle.parser_tree.specs.LocalsWalks.{opts, walkOf, Ready, Stored, TreeIs, WalkIs}
+use Rattle.parser_tree.specs.LocalsWalks.{walkOf, Ready, Stored, TreeIs, WalkIs}
 use Rattle.parser_tree.specs.declared.Walked.{Walked}
 use Rattle.parser_tree.specs.declared.Walked.the-variants.{Tree as tree, Refused as refusedWalk}
 use Rattle.parser_tree.proofs.Between.{Between, between-ready, between-next}
@@ -38,25 +37,25 @@ nodes-append (x ∷ xs) ys = ap (λ (z : List Node). x .nodes ++ z) (nodes-appen
 
 -- ---- k slices are read, n nodes, p properties and v values
 
-pub record Planting (op : Opts) (u : List ℕ) (l : List Tok) (count : ℕ) (before after : Lent) (at n p v k : ℕ) : Type 0 where
+pub record Planting (len : Bool) (u : List ℕ) (l : List Tok) (count : ℕ) (before after : Lent) (at n p v k : ℕ) : Type 0 where
   pub ts : List Tree
   pub made : length ts ≡ k
   pub below : k ≤ count
-  pub same : readOf op count l ≡ growAll op (growing n ts) (cut (count - k) (lexAt u at .toks))
+  pub same : readOf len count l ≡ growAll len (growing n ts) (cut (count - k) (lexAt u at .toks))
   pub trees : PutIs (before .trees) 0 (flatTrees (treeRows (reverse ts))) (after .trees)
   pub rows : Stored 0 0 0 (allNodes (reverse ts)) (before .nodes) (before .props) (before .vals) (after .nodes) (after .props) (after .vals) n p v
-  pub ready : Between op u at k n p v (count - k)
+  pub ready : Between len u at k n p v (count - k)
 
-pub plant-first : {op : Opts} {u : List ℕ} {from count : ℕ} (b : Lent) → SlicesReady op u from count → Planting op u (lexAt u from .toks) count b b from 0 0 0 0
+pub plant-first : {len : Bool} {u : List ℕ} {from count : ℕ} (b : Lent) → SlicesReady len u from count → Planting len u (lexAt u from .toks) count b b from 0 0 0 0
 unfolding readOf
-plant-first {op} {u} {from} {count} b x =
+plant-first {len} {u} {from} {count} b x =
     let e : count - 0 ≡ count = omega arith in
     let f = x .few in
     record {
       ts = [];
       made = refl;
       below = omega arith;
-      same = ap (λ (z : ℕ). growAll op (growing 0 []) (cut z (lexAt u from .toks))) (sym e);
+      same = ap (λ (z : ℕ). growAll len (growing 0 []) (cut z (lexAt u from .toks))) (sym e);
       trees = put-none (b .trees) 0;
       rows = stored-none 0 0 0 (b .nodes) (b .props) (b .vals);
       ready = record {
@@ -71,18 +70,15 @@ plant-first {op} {u} {from} {count} b x =
       };
     }
 
-module _ {len con : Bool} {u : List ℕ} {l : List Tok} {count : ℕ} {before after : Lent} {at n p v k : ℕ}
-    (x : Planting (opts len con) u l count before after at n p v k) where
-  abbrev op : Opts
-  op = opts len con
-
+module _ {len : Bool} {u : List ℕ} {l : List Tok} {count : ℕ} {before after : Lent} {at n p v k : ℕ}
+    (x : Planting len u l count before after at n p v k) where
   abbrev toks : List Tok
   toks = lexAt u at .toks
 
   pub plant-keeps : (length (after .trees) ≡ length (before .trees)) × (length (after .nodes) ≡ length (before .nodes)) × (length (after .props) ≡ length (before .props)) × (length (after .vals) ≡ length (before .vals))
   plant-keeps = (x .trees .len, x .rows .tnodes .len, x .rows .tprops .len, x .rows .tvals .len)
 
-  pub plant-end : count ≤ k → GrownIs (readOf op count l) count before after n p v
+  pub plant-end : count ≤ k → GrownIs (readOf len count l) count before after n p v
   unfolding cut
   plant-end h =
       let b = x .below in
@@ -91,7 +87,7 @@ module _ {len con : Bool} {u : List ℕ} {l : List Tok} {count : ℕ} {before af
       let r = x .ready in
       record {
         ts = reverse (x .ts);
-        grown = x .same ∙ ap (λ (z : ℕ). growAll op (growing n (x .ts)) (cut z toks)) e ∙ ap (growing n) (sym (reverse-reverse (x .ts)));
+        grown = x .same ∙ ap (λ (z : ℕ). growAll len (growing n (x .ts)) (cut z toks)) e ∙ ap (growing n) (sym (reverse-reverse (x .ts)));
         count-is = length-reverse (x .ts) ∙ x .made ∙ f;
         few = omega arith;
         ttrees = x .trees;
@@ -102,32 +98,32 @@ module _ {len con : Bool} {u : List ℕ} {l : List Tok} {count : ℕ} {before af
     left : count - k ≡ suc (count - (k + 1))
     left = omega arith
 
-    pub plant-between : Between op u at k n p v (suc (count - (k + 1)))
-    plant-between = subst (Between op u at k n p v) left (x .ready)
+    pub plant-between : Between len u at k n p v (suc (count - (k + 1)))
+    plant-between = subst (Between len u at k n p v) left (x .ready)
 
-    pub plant-ready : Ready op u at n p v
+    pub plant-ready : Ready len u at n p v
     plant-ready = between-ready plant-between
 
-    turn : readOf op count l ≡ growAll op (kinded op n (kind (sliceFrom 0 toks)) (sliceFrom 0 toks) (x .ts)) (cut (count - (k + 1)) (restFrom 0 toks))
+    turn : readOf len count l ≡ growAll len (kinded len n (kind (sliceFrom 0 toks)) (sliceFrom 0 toks) (x .ts)) (cut (count - (k + 1)) (restFrom 0 toks))
     unfolding cut
-    turn = x .same ∙ ap (λ (z : ℕ). growAll op (growing n (x .ts)) (cut z toks)) left
+    turn = x .same ∙ ap (λ (z : ℕ). growAll len (growing n (x .ts)) (cut z toks)) left
 
-    pub plant-no : {r : Reason} {g : GameType} → g ≡ typeOf (leniently len (kind (sliceFrom 0 toks))) → g ≡ Refused r → readOf op count l ≡ failing r
+    pub plant-no : {r : Reason} {g : GameType} → g ≡ typeOf (leniently len (kind (sliceFrom 0 toks))) → g ≡ Refused r → readOf len count l ≡ failing r
     plant-no {r} e q =
         turn
-        ∙ ap (λ (j : Growing). growAll op j (cut (count - (k + 1)) (restFrom 0 toks))) (kinded-refused len con n (sliceFrom 0 toks) (x .ts) (kind (sliceFrom 0 toks)) r (sym q ∙ e))
-        ∙ fails op r (cut (count - (k + 1)) (restFrom 0 toks))
+        ∙ ap (λ (j : Growing). growAll len j (cut (count - (k + 1)) (restFrom 0 toks))) (kinded-refused len n (sliceFrom 0 toks) (x .ts) (kind (sliceFrom 0 toks)) r (sym q ∙ e))
+        ∙ fails len r (cut (count - (k + 1)) (restFrom 0 toks))
 
     module _ {g : GameType} {j : ℕ} (e : g ≡ typeOf (leniently len (kind (sliceFrom 0 toks)))) (q : g ≡ Is j) where
-      turned : readOf op count l ≡ growAll op (grown len n j (walkOf op n toks) (x .ts)) (cut (count - (k + 1)) (restFrom 0 toks))
+      turned : readOf len count l ≡ growAll len (grown len n j (walkOf len n toks) (x .ts)) (cut (count - (k + 1)) (restFrom 0 toks))
       unfolding walkOf
-      turned = turn ∙ ap (λ (y : Growing). growAll op y (cut (count - (k + 1)) (restFrom 0 toks))) (kinded-is len con n (sliceFrom 0 toks) (x .ts) (kind (sliceFrom 0 toks)) j (sym q ∙ e))
+      turned = turn ∙ ap (λ (y : Growing). growAll len y (cut (count - (k + 1)) (restFrom 0 toks))) (kinded-is len n (sliceFrom 0 toks) (x .ts) (kind (sliceFrom 0 toks)) j (sym q ∙ e))
 
-      pub plant-stop : {r : Reason} → ((i : ℕ) (ts : List Tree) → grown len n i (walkOf op n toks) ts ≡ failing r) → readOf op count l ≡ failing r
-      plant-stop {r} f = turned ∙ ap (λ (y : Growing). growAll op y (cut (count - (k + 1)) (restFrom 0 toks))) (f j (x .ts)) ∙ fails op r (cut (count - (k + 1)) (restFrom 0 toks))
+      pub plant-stop : {r : Reason} → ((i : ℕ) (ts : List Tree) → grown len n i (walkOf len n toks) ts ≡ failing r) → readOf len count l ≡ failing r
+      plant-stop {r} f = turned ∙ ap (λ (y : Growing). growAll len y (cut (count - (k + 1)) (restFrom 0 toks))) (f j (x .ts)) ∙ fails len r (cut (count - (k + 1)) (restFrom 0 toks))
 
-      pub plant-more : {t q w r : List ℕ} {at′ n′ p′ v′ : ℕ} → TreeIs op u at n p v (after .nodes) (after .props) (after .vals) t q w at′ n′ p′ v′ → PutIs (after .trees) (k * 2) (n ∷ j ∷ []) r
-          → Planting op u l count before (lent r t q w) at′ n′ p′ v′ (k + 1)
+      pub plant-more : {t q w r : List ℕ} {at′ n′ p′ v′ : ℕ} → TreeIs len u at n p v (after .nodes) (after .props) (after .vals) t q w at′ n′ p′ v′ → PutIs (after .trees) (k * 2) (n ∷ j ∷ []) r
+          → Planting len u l count before (lent r t q w) at′ n′ p′ v′ (k + 1)
       plant-more {t} {q} {w} {r} {at′} {n′} {p′} {v′} y pt =
           let m = x .made in
           let rn = y .stored .nodes in
@@ -139,8 +135,8 @@ module _ {len con : Bool} {u : List ℕ} {l : List Tok} {count : ℕ} {before af
             below = omega arith;
             same =
                 turned
-                ∙ ap (λ (z : Growing). growAll op z (cut (count - (k + 1)) (restFrom 0 toks))) (y .tree j (x .ts) ∙ ap (λ (z : ℕ). growing z (record { root = n; kind = j; nodes = y .es } ∷ x .ts)) (sym rn))
-                ∙ ap (λ (z : List Tok). growAll op (growing n′ (record { root = n; kind = j; nodes = y .es } ∷ x .ts)) (cut (count - (k + 1)) z)) (y .rest);
+                ∙ ap (λ (z : Growing). growAll len z (cut (count - (k + 1)) (restFrom 0 toks))) (y .tree j (x .ts) ∙ ap (λ (z : ℕ). growing z (record { root = n; kind = j; nodes = y .es } ∷ x .ts)) (sym rn))
+                ∙ ap (λ (z : List Tok). growAll len (growing n′ (record { root = n; kind = j; nodes = y .es } ∷ x .ts)) (cut (count - (k + 1)) z)) (y .rest);
             trees =
                 subst⁻¹ (λ (z : List Tree). PutIs (before .trees) 0 (flatTrees (treeRows z)) r) (reverse-cons (record { root = n; kind = j; nodes = y .es }) (x .ts))
                 (subst⁻¹ (λ (z : List ℕ). PutIs (before .trees) 0 z r) (tree-append (reverse (x .ts)) (record { root = n; kind = j; nodes = y .es } ∷ []))
@@ -150,13 +146,13 @@ module _ {len con : Bool} {u : List ℕ} {l : List Tok} {count : ℕ} {before af
                 (subst⁻¹ (λ (z : List Node). Stored 0 0 0 z (before .nodes) (before .props) (before .vals) t q w n′ p′ v′)
                 (nodes-append (reverse (x .ts)) (record { root = n; kind = j; nodes = y .es } ∷ []) ∙ ap (λ (z : List Node). allNodes (reverse (x .ts)) ++ z) (append-nil (y .es)))
                 (stored-both (allNodes (reverse (x .ts))) (y .es) (x .rows) (y .stored)));
-            ready = subst (λ (z : ℕ). Between op u at′ z n′ p′ v′ (count - (k + 1))) sk (between-next plant-between y);
+            ready = subst (λ (z : ℕ). Between len u at′ z n′ p′ v′ (count - (k + 1))) sk (between-next plant-between y);
           }
 
 -- what a walk gave
-module _ (op : Opts) (u : List ℕ) (from base p0 v0 : ℕ) (t₀ q₀ w₀ t q w : List ℕ) {x : Walked} (y : WalkIs op u from base p0 v0 t₀ q₀ w₀ t q w x) where
-  pub walk-tree-as : {at n p v : ℕ} → x ≡ tree at n p v → TreeIs op u from base p0 v0 t₀ q₀ w₀ t q w at n p v
-  walk-tree-as e = subst (WalkIs op u from base p0 v0 t₀ q₀ w₀ t q w) e y
+module _ (len : Bool) (u : List ℕ) (from base p0 v0 : ℕ) (t₀ q₀ w₀ t q w : List ℕ) {x : Walked} (y : WalkIs len u from base p0 v0 t₀ q₀ w₀ t q w x) where
+  pub walk-tree-as : {at n p v : ℕ} → x ≡ tree at n p v → TreeIs len u from base p0 v0 t₀ q₀ w₀ t q w at n p v
+  walk-tree-as e = subst (WalkIs len u from base p0 v0 t₀ q₀ w₀ t q w) e y
 
-  pub walk-refused-as : {r : Reason} → x ≡ refusedWalk r → (k : ℕ) (ts : List Tree) → grown (op .lenient) base k (walkOf op base (lexAt u from .toks)) ts ≡ failing r
-  walk-refused-as e = subst (WalkIs op u from base p0 v0 t₀ q₀ w₀ t q w) e y .1
+  pub walk-refused-as : {r : Reason} → x ≡ refusedWalk r → (k : ℕ) (ts : List Tree) → grown len base k (walkOf len base (lexAt u from .toks)) ts ≡ failing r
+  walk-refused-as e = subst (WalkIs len u from base p0 v0 t₀ q₀ w₀ t q w) e y .1

@@ -5,7 +5,6 @@ use Rattle.lexer.specs.Token.{End, done, broken, Lexed, lexAt}
 use Rattle.tables.specs.Numbers.{textLimit}
 use Rattle.tables.specs.declared.Reason.{Reason}
 use Rattle.tables.specs.declared.Reading.{Reading}
-use Rattle.parser.specs.Walk.{Opts}
 use Rattle.parser.specs.Split.{Slices as Sliced, no, slices, slicesOf}
 use Rattle.parser.specs.LocalsSlice.{sliceFrom, restFrom, cut, Shallow}
 use Rattle.parser.specs.LocalsSurvey.{counted, strictly, surveyOf}
@@ -14,7 +13,6 @@ use Rattle.parser.specs.declared.Survey.the-variants.{Refused, Slices as found,
 use Rattle.parser.specs.Read.{Answer, refused, answer, planted, parsed, lexing}
 use Rattle.parser.proofs.Slices.{slices-cut}
 use Rattle.parser.proofs.Tokens.{tokens-few}
-use Rattle.parser_tree.specs.LocalsWalks.{opts}
 use Rattle.reader.specs.Lent.{Lent, ReadIs}
 use Rattle.reader.specs.LocalsSlices.{readOf, SlicesReady}
 use Rattle.parser_split.specs.LocalsPlans.{planFound, planTokens}
@@ -22,13 +20,13 @@ use Rattle.parser_split.specs.declared.Plan.{Plan}
 use Rattle.parser_split.specs.declared.Plan.the-variants.{Slices, Refused as refusedPlan}
 
 -- the answer a is that of these slices of u, or is refused
-abbrev pub PlanIs : Opts → (u : List ℕ) → (a : Answer) → Plan → Type 0
-PlanIs op u a (Slices first last count) = (a ≡ answer (readOf op count (lexAt (take last u) first .toks))) × SlicesReady op (take last u) first count × (last ≤ length u)
-PlanIs op u a (refusedPlan r p) = a ≡ refused r p
+abbrev pub PlanIs : Bool → (u : List ℕ) → (a : Answer) → Plan → Type 0
+PlanIs len u a (Slices first last count) = (a ≡ answer (readOf len count (lexAt (take last u) first .toks))) × SlicesReady len (take last u) first count × (last ≤ length u)
+PlanIs len u a (refusedPlan r p) = a ≡ refused r p
 
 -- the answer of tokens
-abbrev pub tokensAnswer : Bool → Bool → Lexed → Answer
-tokensAnswer len con l = lexing (opts len con) len (l .end) (l .toks)
+abbrev pub tokensAnswer : Bool → Lexed → Answer
+tokensAnswer len l = lexing len (l .end) (l .toks)
 
 pub read-as : {A B : Answer} → A ≡ B → {b a : Lent} {r : Reading} → ReadIs B b a r → ReadIs A b a r
 read-as {A} {B} e {b} {a} {r} x = subst⁻¹ (λ (z : Answer). ReadIs z b a r) e x
@@ -37,9 +35,9 @@ read-as {A} {B} e {b} {a} {r} x = subst⁻¹ (λ (z : Answer). ReadIs z b a r) e
 abbrev Calm : Bool → Lexed → Type 0
 Calm len l = len ≡ false → l .end ≡ done
 
-calm-parsed : (len con : Bool) (l : Lexed) → Calm len l → tokensAnswer len con l ≡ parsed (opts len con) (l .toks)
-calm-parsed true con l c = refl
-calm-parsed false con l c = ap (λ (e : End). lexing (opts false con) false e (l .toks)) (c refl)
+calm-parsed : (len : Bool) (l : Lexed) → Calm len l → tokensAnswer len l ≡ parsed len (l .toks)
+calm-parsed true l c = refl
+calm-parsed false l c = ap (λ (e : End). lexing false e (l .toks)) (c refl)
 
 -- what is found is found in the slices
 survey-of : (len : Bool) (l : Lexed) {x : Survey} → ((r : Reason) (p : ℕ) → x ≡ Refused r p → ⊥) → surveyOf len l ≡ x → Calm len l × (counted (slicesOf len (l .toks)) ≡ x)
@@ -66,20 +64,20 @@ counted-refused (slices (s ∷ u ∷ ss)) r p e = never (cc)
 
 -- ---- refused
 
-answer-refused : (len con : Bool) (l : Lexed) (r : Reason) (p : ℕ) → surveyOf len l ≡ Refused r p → tokensAnswer len con l ≡ refused r p
-answer-refused true con l r p e = let w = counted-refused (slicesOf true (l .toks)) r p e in ap (planted (opts true con)) (w .0) ∙ ap (refused r) (sym (w .1))
-answer-refused false con l r p e = go (l .end) e
+answer-refused : (len : Bool) (l : Lexed) (r : Reason) (p : ℕ) → surveyOf len l ≡ Refused r p → tokensAnswer len l ≡ refused r p
+answer-refused true l r p e = let w = counted-refused (slicesOf true (l .toks)) r p e in ap (planted true) (w .0) ∙ ap (refused r) (sym (w .1))
+answer-refused false l r p e = go (l .end) e
   where
-    go : (d : End) → strictly d (slicesOf false (l .toks)) ≡ Refused r p → lexing (opts false con) false d (l .toks) ≡ refused r p
-    go done w = let v = counted-refused (slicesOf false (l .toks)) r p w in ap (planted (opts false con)) (v .0) ∙ ap (refused r) (sym (v .1))
+    go : (d : End) → strictly d (slicesOf false (l .toks)) ≡ Refused r p → lexing false d (l .toks) ≡ refused r p
+    go done w = let v = counted-refused (slicesOf false (l .toks)) r p w in ap (planted false) (v .0) ∙ ap (refused r) (sym (v .1))
     go (broken f s) w = cc
 
-module _ (len con : Bool) (u : List ℕ) (from : ℕ) {x : Survey} (e : x ≡ surveyOf len (lexAt u from)) where
+module _ (len : Bool) (u : List ℕ) (from : ℕ) {x : Survey} (e : x ≡ surveyOf len (lexAt u from)) where
   abbrev L : Lexed
   L = lexAt u from
 
-  tokens-refused : {r : Reason} {p : ℕ} → x ≡ Refused r p → tokensAnswer len con L ≡ refused r p
-  tokens-refused {r} {p} q = answer-refused len con L r p (sym e ∙ q)
+  tokens-refused : {r : Reason} {p : ℕ} → x ≡ Refused r p → tokensAnswer len L ≡ refused r p
+  tokens-refused {r} {p} q = answer-refused len L r p (sym e ∙ q)
 
   -- ---- so many slices
 
@@ -87,41 +85,41 @@ module _ (len con : Bool) (u : List ℕ) (from : ℕ) {x : Survey} (e : x ≡ su
     found-in : Calm len L × (counted (slicesOf len (L .toks)) ≡ found k)
     found-in = survey-of len L (λ r p z. never (cc)) (sym e ∙ q)
 
-    slices-answer : tokensAnswer len con L ≡ answer (readOf (opts len con) k (L .toks))
+    slices-answer : tokensAnswer len L ≡ answer (readOf len k (L .toks))
     unfolding readOf
-    slices-answer = calm-parsed len con L (found-in .0) ∙ ap (planted (opts len con)) (slices-cut len (L .toks) k (found-in .1) .are)
+    slices-answer = calm-parsed len L (found-in .0) ∙ ap (planted len) (slices-cut len (L .toks) k (found-in .1) .are)
 
-    slices-ready : length u ≤ textLimit → from ≤ length u → SlicesReady (opts len con) u from k
+    slices-ready : length u ≤ textLimit → from ≤ length u → SlicesReady len u from k
     slices-ready h i =
         let s = slices-cut len (L .toks) k (found-in .1) in
         let f = s .few in
         record { short = h; inside = i; few = omega (arith, tokens-few u from); shallow = s .shallow; calm = found-in .0 }
 
-    slices-plan : length u ≤ textLimit → from ≤ length u → PlanIs (opts len con) u (tokensAnswer len con L) (Slices from (length u) k)
+    slices-plan : length u ≤ textLimit → from ≤ length u → PlanIs len u (tokensAnswer len L) (Slices from (length u) k)
     slices-plan h i =
-        (slices-answer ∙ ap (λ (z : List ℕ). answer (readOf (opts len con) k (lexAt z from .toks))) (sym (take-length u)), subst⁻¹ (λ (z : List ℕ). SlicesReady (opts len con) z from k) (take-length u) (slices-ready h i), omega arith)
+        (slices-answer ∙ ap (λ (z : List ℕ). answer (readOf len k (lexAt z from .toks))) (sym (take-length u)), subst⁻¹ (λ (z : List ℕ). SlicesReady len z from k) (take-length u) (slices-ready h i), omega arith)
 
   -- ---- none: the empty text has the empty slice
 
-  empty-answer : x ≡ Empty → tokensAnswer len con L ≡ answer (readOf (opts len con) 1 (lexAt [] 0 .toks))
+  empty-answer : x ≡ Empty → tokensAnswer len L ≡ answer (readOf len 1 (lexAt [] 0 .toks))
   unfolding readOf cut sliceFrom restFrom lexAt
   empty-answer q =
       let w = survey-of len L (λ r p z. never (cc)) (sym e ∙ q) in
-      calm-parsed len con L (w .0) ∙ ap (planted (opts len con)) (counted-empty (slicesOf len (L .toks)) (w .1))
+      calm-parsed len L (w .0) ∙ ap (planted len) (counted-empty (slicesOf len (L .toks)) (w .1))
 
-  empty-ready : SlicesReady (opts len con) [] 0 1
+  empty-ready : SlicesReady len [] 0 1
   unfolding cut sliceFrom restFrom Shallow lexAt
   empty-ready = record { short = omega arith; inside = omega arith; few = omega arith; shallow = (tt, tt); calm = λ z. refl }
 
-  empty-plan : x ≡ Empty → PlanIs (opts len con) u (tokensAnswer len con L) (Slices 0 0 1)
+  empty-plan : x ≡ Empty → PlanIs len u (tokensAnswer len L) (Slices 0 0 1)
   empty-plan q = (empty-answer q, empty-ready, omega arith)
 
 -- ---- the plan of the tokens
 
-pub tokens-plan : (len con : Bool) (u : List ℕ) (from : ℕ) → length u ≤ textLimit → from ≤ length u → PlanIs (opts len con) u (tokensAnswer len con (lexAt u from)) (planTokens len u from)
-tokens-plan len con u from h i = go (surveyOf len (lexAt u from)) refl
+pub tokens-plan : (len : Bool) (u : List ℕ) (from : ℕ) → length u ≤ textLimit → from ≤ length u → PlanIs len u (tokensAnswer len (lexAt u from)) (planTokens len u from)
+tokens-plan len u from h i = go (surveyOf len (lexAt u from)) refl
   where
-    go : (x : Survey) → x ≡ surveyOf len (lexAt u from) → PlanIs (opts len con) u (tokensAnswer len con (lexAt u from)) (planFound from (length u) x)
-    go (Refused r p) e = tokens-refused len con u from e refl
-    go (found k) e = slices-plan len con u from e refl h i
-    go Empty e = empty-plan len con u from e refl
+    go : (x : Survey) → x ≡ surveyOf len (lexAt u from) → PlanIs len u (tokensAnswer len (lexAt u from)) (planFound from (length u) x)
+    go (Refused r p) e = tokens-refused len u from e refl
+    go (found k) e = slices-plan len u from e refl h i
+    go Empty e = empty-plan len u from e refl

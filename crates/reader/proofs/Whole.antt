@@ -13,7 +13,6 @@ use Rattle.tables.specs.declared.Counts.{Counts}
 use Rattle.tables.specs.declared.Reading.the-variants.{Accepted, Refused}
 use Rattle.tables.specs.declared.Reason.{Reason}
 use Rattle.tables.specs.declared.Reason.the-variants.{NoRoom}
-use Rattle.parser.specs.Walk.{Opts}
 use Rattle.parser.specs.LocalsSlice.{cut}
 use Rattle.parser.specs.Read.{Answer, accepted, Growing, growing, failing, answer}
 use Rattle.parser_tree.specs.LocalsFlat.{bareRows}
@@ -76,7 +75,7 @@ module _ {X : Growing} {count n p v : ℕ} {b₀ a₀ : Lent} (G : GrownIs X cou
       subst⁻¹ (λ (z : Answer). ReadIs z b b (Refused NoRoom 0)) (answer-is G) (record { answer = rw (room-is, f); tables = rw (room-is, f) })
 
   -- the run that writes, and the links
-  module _ (f : t ≡ true) {A : Lent} {n′ p′ v′ : ℕ} (Y : GrownIs X count b A n′ p′ v′) (op : Opts) (l : List Tok) (ex : X ≡ readOf op count l) {t2 : List ℕ} (links : LinksIs n (A .nodes) t2) where
+  module _ (f : t ≡ true) {A : Lent} {n′ p′ v′ : ℕ} (Y : GrownIs X count b A n′ p′ v′) (len : Bool) (l : List Tok) (ex : X ≡ readOf len count l) {t2 : List ℕ} (links : LinksIs n (A .nodes) t2) where
     grown-same : growing n′ (reverse (Y .ts)) ≡ growing n (reverse (G .ts))
     grown-same = sym (Y .grown) ∙ G .grown
 
@@ -105,7 +104,7 @@ module _ {X : Growing} {count n p v : ℕ} {b₀ a₀ : Lent} (G : GrownIs X cou
         let fe = Y .few in
         let ns = nodes-same in
         let ln = Y .stored .tnodes .len in
-        let b1 : All (Below n) (allNodes (Y .ts)) = subst (λ (z : ℕ). All (Below z) (allNodes (Y .ts))) nodes-same (parents-below op (cut count l) n′ (Y .ts) (sym ex ∙ Y .grown)) in
+        let b1 : All (Below n) (allNodes (Y .ts)) = subst (λ (z : ℕ). All (Below z) (allNodes (Y .ts))) nodes-same (parents-below len (cut count l) n′ (Y .ts) (sym ex ∙ Y .grown)) in
         lent-same
         (put-all (Y .ttrees) (omega (arith, tree-length (Y .ts))))
         (nodes-linked (allNodes (Y .ts)) n (omega arith) (omega arith) b1 (b .nodes) (put-all (Y .stored .tnodes) (omega (arith, node-length 0 (allNodes (Y .ts))))) (omega arith, omega arith) links)
@@ -121,10 +120,10 @@ module _ {X : Growing} {count n p v : ℕ} {b₀ a₀ : Lent} (G : GrownIs X cou
         })
 
   -- the second run does not refuse where the first did not
-  pub read-accepted : t ≡ true → (A : Lent) (x : Total) → TreesIs X count b A x → (op : Opts) (l : List Tok) → X ≡ readOf op count l → (t2 : List ℕ) → LinksIs n (A .nodes) t2
+  pub read-accepted : t ≡ true → (A : Lent) (x : Total) → TreesIs X count b A x → (len : Bool) (l : List Tok) → X ≡ readOf len count l → (t2 : List ℕ) → LinksIs n (A .nodes) t2
       → ReadIs (answer X) b (lent (A .trees) t2 (A .props) (A .vals)) (Accepted (counts G))
-  read-accepted f A (Rows n′ p′ v′) Y op l ex t2 links = read-filled f Y op l ex links
-  read-accepted f A (refusedTotal r) Y op l ex t2 links =
+  read-accepted f A (Rows n′ p′ v′) Y len l ex t2 links = read-filled f Y len l ex links
+  read-accepted f A (refusedTotal r) Y len l ex t2 links =
       let w : failing r ≡ growing n (reverse (G .ts)) = sym Y ∙ G .grown in never cc
 
 -- what the run that counts gave

@@ -8,7 +8,6 @@ use Rattle.tables.specs.Record.{Tree, allNodes}
 use Rattle.tables.specs.Rows.{treeRows}
 use Rattle.tables.specs.Flat.{flatTrees}
 use Rattle.parser.specs.Kind.{Kind, is, unkind}
-use Rattle.parser.specs.Walk.{Opts}
 use Rattle.parser.specs.LocalsSlice.{cut, Shallow}
 use Rattle.parser.specs.Read.{Growing, growing, failing, growAll}
 use Rattle.parser_tree.specs.LocalsWalks.{Stored}
@@ -23,16 +22,16 @@ leniently true (unkind r) = is 0
 leniently false x = x
 
 -- the trees of the first k slices
-unfoldable pub readOf : Opts → ℕ → List Tok → Growing
-readOf op k ts = growAll op (growing 0 []) (cut k ts)
+unfoldable pub readOf : Bool → ℕ → List Tok → Growing
+readOf len k ts = growAll len (growing 0 []) (cut k ts)
 
 -- what is asked: a text within the limit, no slice too deep, and where reading is strict no fault ahead
-pub record SlicesReady (op : Opts) (u : List ℕ) (from count : ℕ) : Type 0 where
+pub record SlicesReady (len : Bool) (u : List ℕ) (from count : ℕ) : Type 0 where
   pub short : length u ≤ textLimit
   pub inside : from ≤ length u
   pub few : count ≤ textLimit + 1
   pub shallow : All (Shallow 0) (cut count (lexAt u from .toks))
-  pub calm : op .lenient ≡ false → lexAt u from .end ≡ done
+  pub calm : len ≡ false → lexAt u from .end ≡ done
 
 -- the trees in text order, put into the tables from the first row on where there is room
 pub record GrownIs (x : Growing) (count : ℕ) (before after : Lent) (n p v : ℕ) : Type 0 where

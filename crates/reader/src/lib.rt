@@ -2,7 +2,6 @@
 mod slices; // slices.rt: the trees of all slices
 
 ghost use Rattle.parser.specs.Read as definition;
-ghost use Rattle.parser_tree.specs.LocalsWalks.{opts};
 ghost use Rattle.reader.specs.Lent.{lent, ReadIs};
 use parser_split::Plan;
 use tables::Reading;
@@ -11,13 +10,12 @@ use tables::Reading;
 pub fn read(
     text: &[u8],
     lenient: bool,
-    convert: bool,
     trees: &mut [u32],
     nodes: &mut [u32],
     properties: &mut [u32],
     values: &mut [u32],
 ) -> Reading
-    ensures { λ r. ⌜ ReadIs (definition.read (opts lenient convert) (now (text .entry)))
+    ensures { λ r. ⌜ ReadIs (definition.read lenient (now (text .entry)))
         (lent (now (trees .entry)) (now (nodes .entry)) (now (properties .entry)) (now (values .entry)))
         (lent (now (trees .exit)) (now (nodes .exit)) (now (properties .exit)) (now (values .exit)))
         r ⌝ }
@@ -29,7 +27,6 @@ pub fn read(
             first,
             count,
             lenient,
-            convert,
             trees,
             nodes,
             properties,

@@ -4,7 +4,6 @@ ghost use Rattle.lexer.specs.Token.{lexAt};
 ghost use Rattle.parser.specs.Kind.{kind};
 ghost use Rattle.parser.specs.Read.{answer};
 ghost use Rattle.parser.specs.LocalsSlice.{sliceFrom};
-ghost use Rattle.parser_tree.specs.LocalsWalks.{opts};
 ghost use Rattle.parser_game.specs.LocalsGame.{typeOf};
 ghost use Rattle.reader.specs.Lent.{lent, roomFor, ReadIs};
 ghost use Rattle.reader.specs.LocalsSlices.{leniently, readOf, SlicesReady, TreesIs, CountIs};
@@ -41,14 +40,13 @@ fn read_trees(
     from: usize,
     count: usize,
     lenient: bool,
-    convert: bool,
     trees: &mut [u32],
     nodes: &mut [u32],
     properties: &mut [u32],
     values: &mut [u32],
 ) -> Total
-    requires { ⌜ SlicesReady (opts lenient convert) (now s) from count ⌝ }
-    ensures { λ r. ⌜ TreesIs (readOf (opts lenient convert) count (lexAt (now (s .entry)) from .toks)) count
+    requires { ⌜ SlicesReady lenient (now s) from count ⌝ }
+    ensures { λ r. ⌜ TreesIs (readOf lenient count (lexAt (now (s .entry)) from .toks)) count
         (lent (now (trees .entry)) (now (nodes .entry)) (now (properties .entry)) (now (values .entry)))
         (lent (now (trees .exit)) (now (nodes .exit)) (now (properties .exit)) (now (values .exit)))
         r ⌝ }
@@ -62,18 +60,7 @@ fn read_trees(
         match type_or_go(s, at, lenient) {
             GameType::Refused(reason) => return Total::Refused(reason),
             GameType::Is(kind) => {
-                match parser_tree::walk_tree(
-                    s,
-                    at,
-                    lenient,
-                    convert,
-                    n,
-                    p,
-                    v,
-                    nodes,
-                    properties,
-                    values,
-                ) {
+                match parser_tree::walk_tree(s, at, lenient, n, p, v, nodes, properties, values) {
                     Walked::Refused(reason) => return Total::Refused(reason),
                     Walked::Tree(next, node, property, value) => {
                         store_numbers::put2(trees, k * tables::TREE_STRIDE, n as u32, kind);
@@ -101,9 +88,9 @@ fn has_room(counts: Counts, trees: usize, nodes: usize, properties: usize, value
 }
 
 // How many rows the trees of `count` slices have: a run over tables of its own, in which no row has room.
-fn count_rows(s: &[u8], from: usize, count: usize, lenient: bool, convert: bool) -> Total
-    requires { ⌜ SlicesReady (opts lenient convert) (now s) from count ⌝ }
-    ensures { λ r. ⌜ CountIs (readOf (opts lenient convert) count (lexAt (now (s .entry)) from .toks)) count r ⌝ }
+fn count_rows(s: &[u8], from: usize, count: usize, lenient: bool) -> Total
+    requires { ⌜ SlicesReady lenient (now s) from count ⌝ }
+    ensures { λ r. ⌜ CountIs (readOf lenient count (lexAt (now (s .entry)) from .toks)) count r ⌝ }
 {
     let mut trees = [0u32; 1];
     let mut nodes = [0u32; 1];
@@ -114,7 +101,6 @@ fn count_rows(s: &[u8], from: usize, count: usize, lenient: bool, convert: bool)
         from,
         count,
         lenient,
-        convert,
         &mut trees,
         &mut nodes,
         &mut properties,
@@ -128,19 +114,18 @@ pub fn read_slices(
     from: usize,
     count: usize,
     lenient: bool,
-    convert: bool,
     trees: &mut [u32],
     nodes: &mut [u32],
     properties: &mut [u32],
     values: &mut [u32],
 ) -> Reading
-    requires { ⌜ SlicesReady (opts lenient convert) (now s) from count ⌝ }
-    ensures { λ r. ⌜ ReadIs (answer (readOf (opts lenient convert) count (lexAt (now (s .entry)) from .toks)))
+    requires { ⌜ SlicesReady lenient (now s) from count ⌝ }
+    ensures { λ r. ⌜ ReadIs (answer (readOf lenient count (lexAt (now (s .entry)) from .toks)))
         (lent (now (trees .entry)) (now (nodes .entry)) (now (properties .entry)) (now (values .entry)))
         (lent (now (trees .exit)) (now (nodes .exit)) (now (properties .exit)) (now (values .exit)))
         r ⌝ }
 {
-    match count_rows(s, from, count, lenient, convert) {
+    match count_rows(s, from, count, lenient) {
         Total::Refused(reason) => Reading::Refused(reason, 0),
         Total::Rows(n, p, v) => {
             let counts = Counts {
@@ -158,17 +143,7 @@ pub fn read_slices(
             ) {
                 return Reading::Refused(Reason::NoRoom, 0);
             }
-            read_trees(
-                s,
-                from,
-                count,
-                lenient,
-                convert,
-                trees,
-                nodes,
-                properties,
-                values,
-            );
+            read_trees(s, from, count, lenient, trees, nodes, properties, values);
             tables::link_nodes(nodes, n);
             Reading::Accepted(counts)
         }

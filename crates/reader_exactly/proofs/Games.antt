@@ -6,31 +6,30 @@ use Rattle.values.specs.Read.{readValue}
 use Rattle.values.specs.Decimal.{decimalOf}
 use Rattle.lexer.specs.Token.{Val, Prop, Tok}
 use Rattle.tables.specs.declared.Reason.{Reason}
-use Rattle.tables.specs.declared.Reason.the-variants.{TextTooLong, NotUtf8, MissingPropertyIdentifier, UnexpectedEndOfPropertyIdentifier, UnexpectedEndOfPropertyValue, UnexpectedGameTreeEnd, UnexpectedEndOfData, NoGameTrees, TooDeep, UnexpectedGameTreeStart, UnexpectedProperty, InvalidGameType, InvalidFF4Property, NoRoom, EmptyIdentifier, NoSuchNumber, GameTypeFixed, NotClosed, NotFitting}
+use Rattle.tables.specs.declared.Reason.the-variants.{TextTooLong, NotUtf8, MissingPropertyIdentifier, UnexpectedEndOfPropertyIdentifier, UnexpectedEndOfPropertyValue, UnexpectedGameTreeEnd, UnexpectedEndOfData, NoGameTrees, TooDeep, UnexpectedGameTreeStart, UnexpectedProperty, InvalidGameType, NoRoom, EmptyIdentifier, NoSuchNumber, GameTypeFixed, NotClosed, NotFitting}
 use Rattle.parser.specs.Kind.{Kind, is, unkind, numbered, kindVals, kindProps, kind}
-use Rattle.reader_exactly.specs.When.{strict, games, Numeric, WrongGame, TwoGames, StartsEmpty, Unexpected, Nodeless}
+use Rattle.reader_exactly.specs.When.{games, Numeric, WrongGame, TwoGames, StartsEmpty, Unexpected, Nodeless}
 
--- why a slice is refused, by the reason; of 13 nothing is said
-abbrev pub Refuses : Bool → (base : ℕ) → List Tok → Reason → Type 0
-Refuses c base s TextTooLong = ⊥
-Refuses c base s NotUtf8 = ⊥
-Refuses c base s MissingPropertyIdentifier = ⊥
-Refuses c base s UnexpectedEndOfPropertyIdentifier = ⊥
-Refuses c base s UnexpectedEndOfPropertyValue = ⊥
-Refuses c base s UnexpectedGameTreeEnd = ⊥
-Refuses c base s UnexpectedEndOfData = Nodeless (strict c) base s
-Refuses c base s NoGameTrees = ⊥
-Refuses c base s TooDeep = ⊥
-Refuses c base s UnexpectedGameTreeStart = StartsEmpty (strict c) base s
-Refuses c base s UnexpectedProperty = Unexpected (strict c) base s
-Refuses c base s InvalidGameType = WrongGame s
-Refuses c base s InvalidFF4Property = Unit {0}
-Refuses c base s NoRoom = ⊥
-Refuses c base s EmptyIdentifier = ⊥
-Refuses c base s NoSuchNumber = ⊥
-Refuses c base s GameTypeFixed = ⊥
-Refuses c base s NotClosed = ⊥
-Refuses c base s NotFitting = ⊥
+-- why a slice is refused, by the reason
+abbrev pub Refuses : (base : ℕ) → List Tok → Reason → Type 0
+Refuses base s TextTooLong = ⊥
+Refuses base s NotUtf8 = ⊥
+Refuses base s MissingPropertyIdentifier = ⊥
+Refuses base s UnexpectedEndOfPropertyIdentifier = ⊥
+Refuses base s UnexpectedEndOfPropertyValue = ⊥
+Refuses base s UnexpectedGameTreeEnd = ⊥
+Refuses base s UnexpectedEndOfData = Nodeless base s
+Refuses base s NoGameTrees = ⊥
+Refuses base s TooDeep = ⊥
+Refuses base s UnexpectedGameTreeStart = StartsEmpty base s
+Refuses base s UnexpectedProperty = Unexpected base s
+Refuses base s InvalidGameType = WrongGame s
+Refuses base s NoRoom = ⊥
+Refuses base s EmptyIdentifier = ⊥
+Refuses base s NoSuchNumber = ⊥
+Refuses base s GameTypeFixed = ⊥
+Refuses base s NotClosed = ⊥
+Refuses base s NotFitting = ⊥
 
 abbrev valid : Val → Bool
 valid v = numbered (decimalOf (2 ^ 31 - 1) (readValue (v .raw)))
@@ -38,10 +37,10 @@ valid v = numbered (decimalOf (2 ^ 31 - 1) (readValue (v .raw)))
 not-numeric : (v : Val) → valid v ≡ false → Numeric (v ∷ []) → ⊥
 not-numeric v e (w, q, n) = let z : v ≡ w = cc in false≢true (sym e ∙ ap valid z ∙ n)
 
-module _ (c : Bool) (base : ℕ) (s : List Tok) where
+module _ (base : ℕ) (s : List Tok) where
   abbrev KindWhy : Kind → Type 0
   KindWhy (is k) = Unit {0}
-  KindWhy (unkind r) = Refuses c base s r
+  KindWhy (unkind r) = Refuses base s r
 
   -- one GM property, by its values
   vals-why : (p : Prop) → games s ≡ p ∷ [] → (vs : List Val) → p .vals ≡ vs → KindWhy (kindVals vs)
@@ -58,7 +57,7 @@ module _ (c : Bool) (base : ℕ) (s : List Tok) where
   games-why (p ∷ []) e = vals-why p e (p .vals) refl
   games-why (p ∷ q ∷ ps) e = inl (omega (arith, ap length e))
 
-  pub kind-why : (r : Reason) → kind s ≡ unkind r → Refuses c base s r
+  pub kind-why : (r : Reason) → kind s ≡ unkind r → Refuses base s r
   kind-why r e = subst KindWhy e (games-why (games s) refl)
 
 -- ---- and so it is refused

@@ -1,5 +1,5 @@
 -- Each condition gives its number. Assumes nothing.
-use Rattle.lists.proofs.Prelude.{ℕ, _≡_, ap, _∙_, Bool, false, List}
+use Rattle.lists.proofs.Prelude.{ℕ, _≡_, ap, _∙_, false, List}
 use Rattle.lexer.specs.Token.{Tok, End}
 use Rattle.lexer.specs.declared.Fault.{Fault}
 use Rattle.tables.specs.Numbers.{reasonOf}
@@ -9,24 +9,24 @@ use Rattle.parser.specs.Split.{Slices, slicesOf}
 use Rattle.parser.specs.Read.{refused, growing, failing, grows, answer, planted, lexing, read}
 use Rattle.parser.specs.Balance.{Covered}
 use Rattle.reader_exactly.specs.Slicing.{slicesFrom}
-use Rattle.reader_exactly.specs.When.{strict, Valid, tokensOf, FailsAt, Lexes, Splits, First}
+use Rattle.reader_exactly.specs.When.{Valid, tokensOf, FailsAt, Lexes, Splits, First}
 use Rattle.reader_exactly.proofs.Firm.{slices-covered}
 use Rattle.reader_exactly.proofs.Growths.{first-fails}
 use Rattle.reader_exactly.proofs.Stages.{valid-read, fails-broken, not-deep}
 
-module _ (c : Bool) (t : List ℕ) where
-  pub fault-read : (f : Fault) (p : ℕ) → Valid t → FailsAt t f p → read (strict c) t ≡ refused (reasonOf f) p
-  fault-read f p v x = valid-read (strict c) t v ∙ ap (λ (e : End). lexing (strict c) false e (tokensOf t .toks)) (fails-broken t f p x)
+module _ (t : List ℕ) where
+  pub fault-read : (f : Fault) (p : ℕ) → Valid t → FailsAt t f p → read false t ≡ refused (reasonOf f) p
+  fault-read f p v x = valid-read false t v ∙ ap (λ (e : End). lexing false e (tokensOf t .toks)) (fails-broken t f p x)
 
-  pub split-read : Lexes t → {x : Slices} → slicesOf false (tokensOf t .toks) ≡ x → read (strict c) t ≡ planted (strict c) x
+  pub split-read : Lexes t → {x : Slices} → slicesOf false (tokensOf t .toks) ≡ x → read false t ≡ planted false x
   split-read l e =
-      valid-read (strict c) t (l .valid)
-      ∙ ap (λ (z : End). lexing (strict c) false z (tokensOf t .toks)) (l .calm)
-      ∙ ap (planted (strict c)) e
+      valid-read false t (l .valid)
+      ∙ ap (λ (z : End). lexing false z (tokensOf t .toks)) (l .calm)
+      ∙ ap (planted false) e
 
   pub tree-read : (P : ℕ → List Tok → Type 0) (r : Reason)
-      → ((base : ℕ) (s : List Tok) → Covered 0 s → P base s → (ts : List Tree) → grows (strict c) (growing base ts) s ≡ failing r)
-      → Splits t → First (strict c) P (slicesFrom 0 (tokensOf t .toks)) → read (strict c) t ≡ refused r 0
+      → ((base : ℕ) (s : List Tok) → Covered 0 s → P base s → (ts : List Tree) → grows false (growing base ts) s ≡ failing r)
+      → Splits t → First P (slicesFrom 0 (tokensOf t .toks)) → read false t ≡ refused r 0
   tree-read P r f s x =
       split-read (s .lexes) (not-deep (tokensOf t .toks) (s .balanced) (s .shallow))
-      ∙ ap answer (first-fails c (slicesFrom 0 (tokensOf t .toks)) P r f (slices-covered (tokensOf t .toks)) x)
+      ∙ ap answer (first-fails (slicesFrom 0 (tokensOf t .toks)) P r f (slices-covered (tokensOf t .toks)) x)

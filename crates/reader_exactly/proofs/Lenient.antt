@@ -1,5 +1,5 @@
 -- A lenient reading refuses with 1, 2 and 9 only; with 9 exactly when a token of a slice is too deep. Assumes nothing.
-use Rattle.lists.proofs.Prelude.{ℕ, zero, suc, _≤_, _<_, max, _≡_, refl, sym, ap, _∙_, subst, Bool, true, false, _||_, List, [], _∷_, reverse, lt-of-not-le, length, lt-ltb, le-ltb, pick}
+use Rattle.lists.proofs.Prelude.{ℕ, zero, suc, _≤_, _<_, max, _≡_, refl, sym, ap, _∙_, subst, Bool, true, false, List, [], _∷_, reverse, lt-of-not-le, length, lt-ltb, le-ltb, pick}
 use native.Mathlib.Decide.{decLe}
 use Rattle.lists.proofs.Pick.{pick-elim}
 use Rattle.text_chars.specs.Table.{BadFrom}
@@ -7,16 +7,16 @@ use Rattle.lexer.specs.Token.{Prop, Tok, start, end, node, prop}
 use Rattle.tables.specs.Numbers.{textLimit, depthLimit, none}
 use Rattle.tables.specs.Record.{Node, Tree}
 use Rattle.tables.specs.declared.Reason.{Reason}
-use Rattle.tables.specs.declared.Reason.the-variants.{TextTooLong, NotUtf8, MissingPropertyIdentifier, UnexpectedEndOfPropertyIdentifier, UnexpectedEndOfPropertyValue, UnexpectedGameTreeEnd, UnexpectedEndOfData, NoGameTrees, TooDeep, UnexpectedGameTreeStart, UnexpectedProperty, InvalidGameType, InvalidFF4Property, NoRoom, EmptyIdentifier, NoSuchNumber, GameTypeFixed, NotClosed, NotFitting}
+use Rattle.tables.specs.declared.Reason.the-variants.{TextTooLong, NotUtf8, MissingPropertyIdentifier, UnexpectedEndOfPropertyIdentifier, UnexpectedEndOfPropertyValue, UnexpectedGameTreeEnd, UnexpectedEndOfData, NoGameTrees, TooDeep, UnexpectedGameTreeStart, UnexpectedProperty, InvalidGameType, NoRoom, EmptyIdentifier, NoSuchNumber, GameTypeFixed, NotClosed, NotFitting}
 use Rattle.parser.specs.Split.{Splitting, splitting, over, wrong, split, Slices, no as unsplit, slices, deep, sliced, slicesOf}
 use Rattle.parser.specs.Kind.{Kind, is, unkind, kind}
-use Rattle.parser.specs.Walk.{shut, takes, skips, Walk, walk, halted, stopped, children, uppers, adds, walked}
+use Rattle.parser.specs.Walk.{Walk, walk, halted, stopped, children, adds, walked}
 use Rattle.parser.specs.Read.{Answer, refused, accepted, Growing, growing, failing, rooted, grown, kinded, growAll, answer, planted, parsed, read}
 use Rattle.parser.proofs.Surveys.{over-stays}
 use Rattle.parser.proofs.Cuts.{standing, deepest, Right}
 use Rattle.parser.proofs.Texts.{text-long}
 use Rattle.reader_exactly.specs.Slicing.{Any, slicesFrom, Deep}
-use Rattle.reader_exactly.specs.When.{lax, Valid, tokensOf}
+use Rattle.reader_exactly.specs.When.{Valid, tokensOf}
 use Rattle.reader_exactly.proofs.Deeper.{deep-exactly}
 use Rattle.reader_exactly.proofs.Standing.{slices-are}
 use Rattle.reader_exactly.proofs.Stages.{valid-read, bad-read, text-cases}
@@ -72,103 +72,99 @@ module _ (ts : List Tok) where
 
 -- ---- the trees
 
-module _ (c : Bool) where
-  abbrev Goes : Walk → Type 0
-  Goes (walk cur st g ns) = Unit {0}
-  Goes (halted ns) = Unit {0}
-  Goes (stopped r) = ⊥
+abbrev Goes : Walk → Type 0
+Goes (walk cur st g ns) = Unit {0}
+Goes (halted ns) = Unit {0}
+Goes (stopped r) = ⊥
 
-  goes-adds : (ok : Bool) (p : Prop) (cur : ℕ) (st : List ℕ) (ns : List Node) → Goes (adds ok true p cur st ns)
-  goes-adds ok p cur st [] = tt
-  goes-adds true p cur st (n ∷ ns) = tt
-  goes-adds false p cur st (n ∷ ns) = tt
+goes-adds : (p : Prop) (cur : ℕ) (st : List ℕ) (ns : List Node) → Goes (adds true p cur st ns)
+goes-adds p cur st [] = tt
+goes-adds p cur st (n ∷ ns) = tt
 
-  goes : (base : ℕ) (s : List Tok) (w : Walk) → Goes w → Goes (walked (lax c) base w s)
-  goes base [] w h = h
-  goes base (start o ∷ s) (walk cur [] g ns) h = goes base s (walk cur (cur ∷ []) shut ns) tt
-  goes base (start o ∷ s) (walk cur (y ∷ st) g ns) h =
-      goes base s (pick (children y ns) (walk cur (cur ∷ y ∷ st) shut ns) (halted ns)) (pick-elim Goes (children y ns) (λ _. tt) (λ _. tt))
-  goes base (end o ∷ s) (walk cur [] g ns) h = goes base s (halted ns) tt
-  goes base (end o ∷ s) (walk cur (y ∷ st) g ns) h = goes base s (walk y st shut ns) tt
-  goes base (node o ∷ s) (walk cur st g ns) h = goes base s _ tt
-  goes base (prop p e ∷ s) (walk cur st shut ns) h = goes base s (halted ns) tt
-  goes base (prop p e ∷ s) (walk cur st takes ns) h = goes base s (adds (c || uppers (p .name)) true p cur st ns) (goes-adds (c || uppers (p .name)) p cur st ns)
-  goes base (prop p e ∷ s) (walk cur st skips ns) h = goes base s (walk cur st skips ns) tt
-  goes base (t ∷ s) (halted ns) h = goes base s (halted ns) tt
-  goes base (t ∷ s) (stopped r) h = absurd h
+goes : (base : ℕ) (s : List Tok) (w : Walk) → Goes w → Goes (walked true base w s)
+goes base [] w h = h
+goes base (start o ∷ s) (walk cur [] g ns) h = goes base s (walk cur (cur ∷ []) false ns) tt
+goes base (start o ∷ s) (walk cur (y ∷ st) g ns) h =
+    goes base s (pick (children y ns) (walk cur (cur ∷ y ∷ st) false ns) (halted ns)) (pick-elim Goes (children y ns) (λ _. tt) (λ _. tt))
+goes base (end o ∷ s) (walk cur [] g ns) h = goes base s (halted ns) tt
+goes base (end o ∷ s) (walk cur (y ∷ st) g ns) h = goes base s (walk y st false ns) tt
+goes base (node o ∷ s) (walk cur st g ns) h = goes base s _ tt
+goes base (prop p e ∷ s) (walk cur st false ns) h = goes base s (halted ns) tt
+goes base (prop p e ∷ s) (walk cur st true ns) h = goes base s (adds true p cur st ns) (goes-adds p cur st ns)
+goes base (t ∷ s) (halted ns) h = goes base s (halted ns) tt
+goes base (t ∷ s) (stopped r) h = absurd h
 
-  abbrev Grows : Growing → Type 0
-  Grows (growing n ts) = Unit {0}
-  Grows (failing r) = ⊥
+abbrev Grows : Growing → Type 0
+Grows (growing n ts) = Unit {0}
+Grows (failing r) = ⊥
 
-  grows-rooted : (base k : ℕ) (ns : List Node) (ts : List Tree) → Grows (rooted true base k ns ts)
-  grows-rooted base k [] ts = tt
-  grows-rooted base k (n ∷ ns) ts = tt
+grows-rooted : (base k : ℕ) (ns : List Node) (ts : List Tree) → Grows (rooted true base k ns ts)
+grows-rooted base k [] ts = tt
+grows-rooted base k (n ∷ ns) ts = tt
 
-  grows-grown : (base k : ℕ) (w : Walk) → Goes w → (ts : List Tree) → Grows (grown true base k w ts)
-  grows-grown base k (walk cur st g ns) h ts = grows-rooted base k ns ts
-  grows-grown base k (halted ns) h ts = grows-rooted base k ns ts
-  grows-grown base k (stopped r) h ts = absurd h
+grows-grown : (base k : ℕ) (w : Walk) → Goes w → (ts : List Tree) → Grows (grown true base k w ts)
+grows-grown base k (walk cur st g ns) h ts = grows-rooted base k ns ts
+grows-grown base k (halted ns) h ts = grows-rooted base k ns ts
+grows-grown base k (stopped r) h ts = absurd h
 
-  grows-kinded : (base : ℕ) (x : Kind) (s : List Tok) (ts : List Tree) → Grows (kinded (lax c) base x s ts)
-  grows-kinded base (is k) s ts = grows-grown base k (walked (lax c) base (walk none [] shut []) s) (goes base s (walk none [] shut []) tt) ts
-  grows-kinded base (unkind r) s ts = grows-grown base 0 (walked (lax c) base (walk none [] shut []) s) (goes base s (walk none [] shut []) tt) ts
+grows-kinded : (base : ℕ) (x : Kind) (s : List Tok) (ts : List Tree) → Grows (kinded true base x s ts)
+grows-kinded base (is k) s ts = grows-grown base k (walked true base (walk none [] false []) s) (goes base s (walk none [] false []) tt) ts
+grows-kinded base (unkind r) s ts = grows-grown base 0 (walked true base (walk none [] false []) s) (goes base s (walk none [] false []) tt) ts
 
-  grows-all : (ss : List (List Tok)) (x : Growing) → Grows x → Grows (growAll (lax c) x ss)
-  grows-all [] x h = h
-  grows-all (s ∷ ss) (growing n ts) h = grows-all ss (kinded (lax c) n (kind s) s ts) (grows-kinded n (kind s) s ts)
-  grows-all (s ∷ ss) (failing r) h = absurd h
+grows-all : (ss : List (List Tok)) (x : Growing) → Grows x → Grows (growAll true x ss)
+grows-all [] x h = h
+grows-all (s ∷ ss) (growing n ts) h = grows-all ss (kinded true n (kind s) s ts) (grows-kinded n (kind s) s ts)
+grows-all (s ∷ ss) (failing r) h = absurd h
 
-  -- ---- the condition of each number
+-- ---- the condition of each number
 
-  module _ (t : List ℕ) where
-    abbrev pub Mild : Reason → ℕ → Type 0
-    Mild TextTooLong p = (textLimit < length t) × (p ≡ 0)
-    Mild NotUtf8 p = (length t ≤ textLimit) × BadFrom t p
-    Mild MissingPropertyIdentifier p = ⊥
-    Mild UnexpectedEndOfPropertyIdentifier p = ⊥
-    Mild UnexpectedEndOfPropertyValue p = ⊥
-    Mild UnexpectedGameTreeEnd p = ⊥
-    Mild UnexpectedEndOfData p = ⊥
-    Mild NoGameTrees p = ⊥
-    Mild TooDeep p = Valid t × Any (Deep 0) (slicesFrom 0 (tokensOf t .toks)) × (p ≡ 0)
-    Mild UnexpectedGameTreeStart p = ⊥
-    Mild UnexpectedProperty p = ⊥
-    Mild InvalidGameType p = ⊥
-    Mild InvalidFF4Property p = ⊥
-    Mild NoRoom p = ⊥
-    Mild EmptyIdentifier p = ⊥
-    Mild NoSuchNumber p = ⊥
-    Mild GameTypeFixed p = ⊥
-    Mild NotClosed p = ⊥
-    Mild NotFitting p = ⊥
+module _ (t : List ℕ) where
+  abbrev pub Mild : Reason → ℕ → Type 0
+  Mild TextTooLong p = (textLimit < length t) × (p ≡ 0)
+  Mild NotUtf8 p = (length t ≤ textLimit) × BadFrom t p
+  Mild MissingPropertyIdentifier p = ⊥
+  Mild UnexpectedEndOfPropertyIdentifier p = ⊥
+  Mild UnexpectedEndOfPropertyValue p = ⊥
+  Mild UnexpectedGameTreeEnd p = ⊥
+  Mild UnexpectedEndOfData p = ⊥
+  Mild NoGameTrees p = ⊥
+  Mild TooDeep p = Valid t × Any (Deep 0) (slicesFrom 0 (tokensOf t .toks)) × (p ≡ 0)
+  Mild UnexpectedGameTreeStart p = ⊥
+  Mild UnexpectedProperty p = ⊥
+  Mild InvalidGameType p = ⊥
+  Mild NoRoom p = ⊥
+  Mild EmptyIdentifier p = ⊥
+  Mild NoSuchNumber p = ⊥
+  Mild GameTypeFixed p = ⊥
+  Mild NotClosed p = ⊥
+  Mild NotFitting p = ⊥
 
-    abbrev pub AnswerMild : Answer → Type 0
-    AnswerMild (refused r p) = Mild r p
-    AnswerMild (accepted ts) = Unit {0}
+  abbrev pub AnswerMild : Answer → Type 0
+  AnswerMild (refused r p) = Mild r p
+  AnswerMild (accepted ts) = Unit {0}
 
-    tree-mild : (x : Growing) → Grows x → AnswerMild (answer x)
-    tree-mild (growing n ts) h = tt
-    tree-mild (failing r) h = absurd h
+  tree-mild : (x : Growing) → Grows x → AnswerMild (answer x)
+  tree-mild (growing n ts) h = tt
+  tree-mild (failing r) h = absurd h
 
-    pub deep-read : Valid t → Any (Deep 0) (slicesFrom 0 (tokensOf t .toks)) → read (lax c) t ≡ refused TooDeep 0
-    deep-read v h = valid-read (lax c) t v ∙ ap (planted (lax c)) (lax-deep (tokensOf t .toks) h)
+  pub deep-read : Valid t → Any (Deep 0) (slicesFrom 0 (tokensOf t .toks)) → read true t ≡ refused TooDeep 0
+  deep-read v h = valid-read true t v ∙ ap (planted true) (lax-deep (tokensOf t .toks) h)
 
-    valid-mild : Valid t → AnswerMild (parsed (lax c) (tokensOf t .toks))
-    valid-mild v =
-        lax-cases (tokensOf t .toks) (λ h. said (lax-deep (tokensOf t .toks) h) (v, h, refl))
-        (λ ss e. said e (tree-mild (growAll (lax c) (growing 0 []) ss) (grows-all ss (growing 0 []) tt)))
-      where
-        said : {x : Slices} → slicesOf true (tokensOf t .toks) ≡ x → AnswerMild (planted (lax c) x) → AnswerMild (parsed (lax c) (tokensOf t .toks))
-        said {x} e h = subst (λ (z : Slices). AnswerMild (planted (lax c) z)) (sym e) h
+  valid-mild : Valid t → AnswerMild (parsed true (tokensOf t .toks))
+  valid-mild v =
+      lax-cases (tokensOf t .toks) (λ h. said (lax-deep (tokensOf t .toks) h) (v, h, refl))
+      (λ ss e. said e (tree-mild (growAll true (growing 0 []) ss) (grows-all ss (growing 0 []) tt)))
+    where
+      said : {x : Slices} → slicesOf true (tokensOf t .toks) ≡ x → AnswerMild (planted true x) → AnswerMild (parsed true (tokensOf t .toks))
+      said {x} e h = subst (λ (z : Slices). AnswerMild (planted true z)) (sym e) h
 
-    read-mild : AnswerMild (read (lax c) t)
-    read-mild =
-        text-cases (lax c) t
-        (λ h. subst AnswerMild (sym (text-long (lax c) t h)) (h, refl))
-        (λ p h b. subst AnswerMild (sym (bad-read (lax c) t p h b)) (h, b))
-        (λ v. subst AnswerMild (sym (valid-read (lax c) t v)) (valid-mild v))
+  read-mild : AnswerMild (read true t)
+  read-mild =
+      text-cases true t
+      (λ h. subst AnswerMild (sym (text-long true t h)) (h, refl))
+      (λ p h b. subst AnswerMild (sym (bad-read true t p h b)) (h, b))
+      (λ v. subst AnswerMild (sym (valid-read true t v)) (valid-mild v))
 
-    -- what a refusal says
-    pub only-mild : {r : Reason} {p : ℕ} → read (lax c) t ≡ refused r p → Mild r p
-    only-mild e = subst AnswerMild e read-mild
+  -- what a refusal says
+  pub only-mild : {r : Reason} {p : ℕ} → read true t ≡ refused r p → Mild r p
+  only-mild e = subst AnswerMild e read-mild

@@ -14,7 +14,6 @@ use Rattle.lexer_laws.proofs.Faults.{fault-if, fault-only}
 use Rattle.tables.specs.Numbers.{textLimit, depthLimit}
 use Rattle.tables.specs.declared.Reason.the-variants.{NotUtf8 as notUtf8, TooDeep}
 use Rattle.parser.specs.Split.{splitting, split, no as unsplit, slices, slicesOf}
-use Rattle.parser.specs.Walk.{Opts}
 use Rattle.parser.specs.Read.{refused, lexing, read}
 use Rattle.parser.specs.Balance.{starts, ends, Balanced}
 use Rattle.parser.proofs.Cuts.{deepest}
@@ -27,18 +26,18 @@ use Rattle.reader_exactly.proofs.Standing.{slices-are}
 
 -- ---- to the tokens
 
-module _ (op : Opts) (t : List ℕ) where
+module _ (len : Bool) (t : List ℕ) where
   -- by what trimming finds, where the text is well formed
-  trimmed-lexing : (x : Trimmed) → trimmed t ≡ x → WellFormed t → onTrimmed op t x ≡ lexing op (op .lenient) (tokensIn t x .end) (tokensIn t x .toks)
+  trimmed-lexing : (x : Trimmed) → trimmed t ≡ x → WellFormed t → onTrimmed len t x ≡ lexing len (tokensIn t x .end) (tokensIn t x .toks)
   trimmed-lexing (NotUtf8 p) e w = absurd (well-formed-trimmed t w p e)
   trimmed-lexing Blank e w = refl
-  trimmed-lexing (Kept f l) e w = ap (λ (z : Lexed). lexing op (op .lenient) (z .end) (z .toks)) (lex-prefix t f l (trim-bounds t f l e .1))
+  trimmed-lexing (Kept f l) e w = ap (λ (z : Lexed). lexing len (z .end) (z .toks)) (lex-prefix t f l (trim-bounds t f l e .1))
 
-  pub valid-read : Valid t → read op t ≡ lexing op (op .lenient) (tokensOf t .end) (tokensOf t .toks)
-  valid-read v = text-trimmed op t (v .short) ∙ trimmed-lexing (trimmed t) refl (v .formed)
+  pub valid-read : Valid t → read len t ≡ lexing len (tokensOf t .end) (tokensOf t .toks)
+  valid-read v = text-trimmed len t (v .short) ∙ trimmed-lexing (trimmed t) refl (v .formed)
 
-  pub bad-read : (p : ℕ) → length t ≤ textLimit → BadFrom t p → read op t ≡ refused notUtf8 p
-  bad-read p h b = text-trimmed op t h ∙ ap (onTrimmed op t) (bad-trimmed t p b)
+  pub bad-read : (p : ℕ) → length t ≤ textLimit → BadFrom t p → read len t ≡ refused notUtf8 p
+  bad-read p h b = text-trimmed len t h ∙ ap (onTrimmed len t) (bad-trimmed t p b)
 
   -- every text is too long, bad from a place on, or valid
   pub text-cases : {X : Type 0} → (textLimit < length t → X) → ((p : ℕ) → length t ≤ textLimit → BadFrom t p → X) → (Valid t → X) → X

@@ -14,18 +14,10 @@ use Rattle.lexer_laws.specs.Reach.{Reaches}
 use Rattle.tables.specs.Numbers.{textLimit, none}
 use Rattle.tables.specs.Record.{Node, Tree}
 use Rattle.parser.specs.Kind.{GM, props, named, numbered, is, kind}
-use Rattle.parser.specs.Walk.{Opts, Gate, shut, Walk, walk, children, walked}
+use Rattle.parser.specs.Walk.{Walk, walk, children, walked}
 use Rattle.parser.specs.Read.{growing, growAll}
 use Rattle.parser.specs.Balance.{starts, ends, Covered, Balanced}
 use Rattle.reader_exactly.specs.Slicing.{Any, slicesFrom, Deep}
-
--- strict reading, conversion on or off
-abbrev pub strict : Bool → Opts
-strict c = record { lenient = false; convert = c }
-
--- lenient reading, conversion on or off
-abbrev pub lax : Bool → Opts
-lax c = record { lenient = true; convert = c }
 
 -- within the limit, and well formed by table 3-7: neither 1 nor 2
 pub record Valid (t : List ℕ) : Type 0 where
@@ -73,14 +65,14 @@ pub record Splits (t : List ℕ) : Type 0 where
   pub shallow : Any (Deep 0) (slicesFrom 0 (tokensOf t .toks)) → ⊥
 
 -- P holds of a slice and of the number of nodes before it, where the slices before it are trees
-pub record First (op : Opts) (P : ℕ → List Tok → Type 0) (ss : List (List Tok)) : Type 0 where
+pub record First (P : ℕ → List Tok → Type 0) (ss : List (List Tok)) : Type 0 where
   pub before : List (List Tok)
   pub slice : List Tok
   pub after : List (List Tok)
   pub are : ss ≡ before ++ (slice ∷ after)
   pub nodes : ℕ
   pub trees : List Tree
-  pub grown : growAll op (growing 0 []) before ≡ growing nodes trees
+  pub grown : growAll false (growing 0 []) before ≡ growing nodes trees
   pub holds : P nodes slice
 
 -- the GM properties that the game type is taken from
@@ -100,27 +92,27 @@ abbrev pub TwoGames : List Tok → Type 0
 TwoGames s = 2 ≤ length (games s)
 
 -- the game type is taken, and the walk comes behind the tokens `front` of the slice to `t`
-pub record Comes (op : Opts) (base : ℕ) (s front : List Tok) (t : Tok) (w : Walk) : Type 0 where
+pub record Comes (base : ℕ) (s front : List Tok) (t : Tok) (w : Walk) : Type 0 where
   pub type : ℕ
   pub typed : kind s ≡ is type
   pub rest : List Tok
   pub are : s ≡ front ++ (t ∷ rest)
-  pub walked-to : walked op base (walk none [] shut []) front ≡ w
+  pub walked-to : walked false base (walk none [] false []) front ≡ w
 
 -- 10: a start, where the list on top of the stack is empty
-abbrev pub StartsEmpty : Opts → (base : ℕ) → List Tok → Type 0
-StartsEmpty op base s =
-    (front : List Tok) × (o cur y : ℕ) × (st : List ℕ) × (g : Gate) × (ns : List Node)
-    × Comes op base s front (start o) (walk cur (y ∷ st) g ns) × (children y ns ≡ false)
+abbrev pub StartsEmpty : (base : ℕ) → List Tok → Type 0
+StartsEmpty base s =
+    (front : List Tok) × (o cur y : ℕ) × (st : List ℕ) × (g : Bool) × (ns : List Node)
+    × Comes base s front (start o) (walk cur (y ∷ st) g ns) × (children y ns ≡ false)
 
 -- 11 of the tree: a property that is not directly after a node or its properties
-abbrev pub Loose : Opts → (base : ℕ) → List Tok → Type 0
-Loose op base s =
-    (front : List Tok) × (p : Prop) × (e cur : ℕ) × (st : List ℕ) × (ns : List Node) × Comes op base s front (prop p e) (walk cur st shut ns)
+abbrev pub Loose : (base : ℕ) → List Tok → Type 0
+Loose base s =
+    (front : List Tok) × (p : Prop) × (e cur : ℕ) × (st : List ℕ) × (ns : List Node) × Comes base s front (prop p e) (walk cur st false ns)
 
 -- 11: by the game type, or by the tree
-abbrev pub Unexpected : Opts → (base : ℕ) → List Tok → Type 0
-Unexpected op base s = TwoGames s ⊎ Loose op base s
+abbrev pub Unexpected : (base : ℕ) → List Tok → Type 0
+Unexpected base s = TwoGames s ⊎ Loose base s
 
 -- how many of the tokens are nodes
 abbrev pub nodes : List Tok → ℕ
@@ -131,12 +123,12 @@ nodes (node o ∷ ts) = suc (nodes ts)
 nodes (prop p e ∷ ts) = nodes ts
 
 -- 7 of the tree: the game type is taken, the walk ends, and the slice has no node
-pub record Nodeless (op : Opts) (base : ℕ) (s : List Tok) : Type 0 where
+pub record Nodeless (base : ℕ) (s : List Tok) : Type 0 where
   pub type : ℕ
   pub typed : kind s ≡ is type
   pub cur : ℕ
   pub stack : List ℕ
-  pub gate : Gate
+  pub gate : Bool
   pub made : List Node
-  pub ends-so : walked op base (walk none [] shut []) s ≡ walk cur stack gate made
+  pub ends-so : walked false base (walk none [] false []) s ≡ walk cur stack gate made
   pub none-in : nodes s ≡ 0

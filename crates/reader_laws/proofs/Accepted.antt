@@ -10,13 +10,12 @@ use Rattle.parser.specs.Split.{Slices, no, slices, slicesOf}
 use Rattle.parser.specs.LocalsSlice.{sliceFrom, cut}
 use Rattle.parser.specs.LocalsSurvey.{foundAs, counted}
 use Rattle.parser.specs.declared.Survey.the-variants.{Slices as found}
-use Rattle.parser.specs.Walk.{Opts}
 use Rattle.parser.specs.Read.{refused, accepted, Growing, growing, failing, growAll, answer, planted, parsed, lexing, lex, decoded, read}
 use Rattle.parser.proofs.Slices.{slices-cut}
 use Rattle.reader_laws.proofs.Grown.{Grew, grow-all}
 
 -- what an acceptance says; `toks`: the tokens that the slices are cut from, all or none of the text's
-pub record Reading (op : Opts) (t : List ℕ) (ts : List Tree) : Type 0 where
+pub record Reading (len : Bool) (t : List ℕ) (ts : List Tree) : Type 0 where
   pub ink : Ink
   pub valid : utfs (whole blank) 0 t ≡ whole ink
   pub short : length t ≤ textLimit
@@ -24,8 +23,8 @@ pub record Reading (op : Opts) (t : List ℕ) (ts : List Tree) : Type 0 where
   pub from : (toks ≡ lex ink t .toks) ⊎ (toks ≡ [])
   pub k : ℕ
   pub few : k ≤ suc (length toks)
-  pub cuts : slicesOf (op .lenient) (lex ink t .toks) ≡ slices (cut k toks)
-  pub grew : Grew op 0 k toks ts
+  pub cuts : slicesOf len (lex ink t .toks) ≡ slices (cut k toks)
+  pub grew : Grew len 0 k toks ts
 
 record Cutting (l : List Tok) (ss : List (List Tok)) : Type 0 where
   toks : List Tok
@@ -48,17 +47,17 @@ cutting len l ([] ∷ []) e = record { toks = []; from = inr refl; k = 1; few = 
 cutting len l ((t ∷ ts) ∷ []) e = found-cut len l ((t ∷ ts) ∷ []) 1 e refl
 cutting len l (s ∷ u ∷ ss) e = found-cut len l (s ∷ u ∷ ss) (suc (suc (length ss))) e refl
 
-module _ (op : Opts) (t : List ℕ) (ts : List Tree) where
+module _ (len : Bool) (t : List ℕ) (ts : List Tree) where
   of-planted : (l : List Tok) (ink : Ink) → utfs (whole blank) 0 t ≡ whole ink → length t ≤ textLimit → l ≡ lex ink t .toks
-      → (x : Slices) → slicesOf (op .lenient) l ≡ x → planted op x ≡ accepted ts → Reading op t ts
+      → (x : Slices) → slicesOf len l ≡ x → planted len x ≡ accepted ts → Reading len t ts
   of-planted l ink v s el (no r) e h = not-both r 0 ts h
   of-planted l ink v s el (slices ss) e h =
-      let c = cutting (op .lenient) l ss e in
-      go (growAll op (growing 0 []) ss) refl h c
+      let c = cutting len l ss e in
+      go (growAll len (growing 0 []) ss) refl h c
     where
-      go : (x : Growing) → growAll op (growing 0 []) ss ≡ x → answer x ≡ accepted ts → Cutting l ss → Reading op t ts
+      go : (x : Growing) → growAll len (growing 0 []) ss ≡ x → answer x ≡ accepted ts → Cutting l ss → Reading len t ts
       go (growing n all) q z c =
-          let r = grow-all op (c .k) (c .toks) 0 [] n all (ap (growAll op (growing 0 [])) (sym (c .are)) ∙ q) in
+          let r = grow-all len (c .k) (c .toks) 0 [] n all (ap (growAll len (growing 0 [])) (sym (c .are)) ∙ q) in
           let w : reverse all ≡ ts = cc in
           let y : r .0 ≡ ts = sym (reverse-reverse (r .0)) ∙ ap reverse (sym (r .2)) ∙ w in
           record {
@@ -69,27 +68,27 @@ module _ (op : Opts) (t : List ℕ) (ts : List Tree) where
             from = elim (c .from) [ inl a ↦ inl (a ∙ el) | inr a ↦ inr a ];
             k = c .k;
             few = c .few;
-            cuts = ap (slicesOf (op .lenient)) (sym el) ∙ e ∙ ap slices (c .are);
-            grew = subst (Grew op 0 (c .k) (c .toks)) y (r .1);
+            cuts = ap (slicesOf len) (sym el) ∙ e ∙ ap slices (c .are);
+            grew = subst (Grew len 0 (c .k) (c .toks)) y (r .1);
           }
       go (failing r) q z c = not-both r 0 ts z
 
-  of-lexing : (b : Bool) (e : End) (l : List Tok) → lexing op b e l ≡ accepted ts → parsed op l ≡ accepted ts
+  of-lexing : (b : Bool) (e : End) (l : List Tok) → lexing b e l ≡ accepted ts → parsed b l ≡ accepted ts
   of-lexing true e l h = h
   of-lexing false done l h = h
   of-lexing false (broken f s) l h = not-both (reasonOf f) s ts h
 
-  of-decoded : (u : Utf) → utfs (whole blank) 0 t ≡ u → length t ≤ textLimit → decoded op u t ≡ accepted ts → Reading op t ts
+  of-decoded : (u : Utf) → utfs (whole blank) 0 t ≡ u → length t ≤ textLimit → decoded len u t ≡ accepted ts → Reading len t ts
   of-decoded (whole k) e s h =
       let l : List Tok = lex k t .toks in
-      of-planted (lex k t .toks) k e s refl (slicesOf (op .lenient) (lex k t .toks)) refl (of-lexing (op .lenient) (lex k t .end) (lex k t .toks) h)
+      of-planted (lex k t .toks) k e s refl (slicesOf len (lex k t .toks)) refl (of-lexing len (lex k t .end) (lex k t .toks) h)
   of-decoded (part k p n r c) e s h = not-both NotUtf8 p ts h
   of-decoded (bad p) e s h = not-both NotUtf8 p ts h
 
   -- of every text that is read
-  pub reading-is : read op t ≡ accepted ts → Reading op t ts
+  pub reading-is : read len t ≡ accepted ts → Reading len t ts
   reading-is h = go (ltb textLimit (length t)) refl h
     where
-      go : (b : Bool) → ltb textLimit (length t) ≡ b → pick b (refused TextTooLong 0) (decoded op (utfs (whole blank) 0 t) t) ≡ accepted ts → Reading op t ts
+      go : (b : Bool) → ltb textLimit (length t) ≡ b → pick b (refused TextTooLong 0) (decoded len (utfs (whole blank) 0 t) t) ≡ accepted ts → Reading len t ts
       go true e z = not-both TextTooLong 0 ts z
       go false e z = of-decoded (utfs (whole blank) 0 t) refl (ltb-false textLimit (length t) e) z

@@ -8,7 +8,6 @@ use Rattle.tables.specs.declared.Counts.{Counts}
 use Rattle.tables.specs.declared.Reading.the-variants.{Accepted}
 use Rattle.parser.specs.LocalsSlice.{cut}
 use Rattle.parser.specs.Split.{slices}
-use Rattle.parser.specs.Walk.{Opts}
 use Rattle.parser.specs.Read.{Answer, accepted, lex, read}
 use Rattle.reader.specs.Lent.{Lent, answers}
 use Rattle.reader.proofs.Rooms.{tree-count}
@@ -27,25 +26,25 @@ lex-spaced : (t : List ℕ) (k : Ink) → Spaced false (lex k t .toks)
 lex-spaced t blank = tt
 lex-spaced t (inked f l) = tokens-spaced f l (drop f (take l t))
 
-grew-some : (op : Opts) (base k : ℕ) (us : List Tok) (ts : List Tree) → Grew op base k us ts → 0 < length (cut k us) → 0 < length ts
+grew-some : (len : Bool) (base k : ℕ) (us : List Tok) (ts : List Tree) → Grew len base k us ts → 0 < length (cut k us) → 0 < length ts
 unfolding cut
-grew-some op base zero us [] g l = absurd (omega arith)
-grew-some op base (suc k) us [] g l = absurd g
-grew-some op base k us (t ∷ ts) g l = omega arith
+grew-some len base zero us [] g l = absurd (omega arith)
+grew-some len base (suc k) us [] g l = absurd g
+grew-some len base k us (t ∷ ts) g l = omega arith
 
 -- the slice without a token: one tree of one empty node
-grew-none : (op : Opts) (base k : ℕ) (us : List Tok) (ts : List Tree) → Grew op base k us ts → cut k us ≡ [] ∷ []
+grew-none : (len : Bool) (base k : ℕ) (us : List Tok) (ts : List Tree) → Grew len base k us ts → cut k us ≡ [] ∷ []
     → (length ts ≡ 1) × (allNodes ts ≡ inOrder [])
 unfolding cut
-grew-none op base zero us ts g e = never cc
-grew-none op base (suc (suc k)) us ts g e = never cc
-grew-none op base (suc zero) us [] g e = absurd g
-grew-none op base (suc zero) us (t ∷ u ∷ ts) g e = absurd (g .1)
-grew-none op base (suc zero) us (t ∷ []) g e = let n : t .nodes ≡ inOrder [] = g .0 .nodes ∙ ap (λ (s : List Tok). inOrder (walkOf op base s)) (head-eq-of-cons-eq e) in (refl, rw n)
+grew-none len base zero us ts g e = never cc
+grew-none len base (suc (suc k)) us ts g e = never cc
+grew-none len base (suc zero) us [] g e = absurd g
+grew-none len base (suc zero) us (t ∷ u ∷ ts) g e = absurd (g .1)
+grew-none len base (suc zero) us (t ∷ []) g e = let n : t .nodes ≡ inOrder [] = g .0 .nodes ∙ ap (λ (s : List Tok). inOrder (walkOf len base s)) (head-eq-of-cons-eq e) in (refl, rw n)
 
-module _ (op : Opts) (t : List ℕ) (ts : List Tree) (h : read op t ≡ accepted ts) where
-  abbrev r : Reading op t ts
-  r = reading-is op t ts h
+module _ (len : Bool) (t : List ℕ) (ts : List Tree) (h : read len t ≡ accepted ts) where
+  abbrev r : Reading len t ts
+  r = reading-is len t ts h
 
   abbrev size : ℕ
   size = length t
@@ -53,8 +52,8 @@ module _ (op : Opts) (t : List ℕ) (ts : List Tree) (h : read op t ≡ accepted
   spaced : Spaced false (r .toks)
   spaced = toks-have r (Spaced false) tt (lex-spaced t (r .ink))
 
-  parted : (b : Bool) → op .lenient ≡ b → Parted b (slices (cut (r .k) (r .toks)))
-  parted b e = subst (λ (z : Bool). Parted z (slices (cut (r .k) (r .toks)))) e (subst (Parted (op .lenient)) (r .cuts) (slices-parted (op .lenient) (lex (r .ink) t .toks)))
+  parted : (b : Bool) → len ≡ b → Parted b (slices (cut (r .k) (r .toks)))
+  parted b e = subst (λ (z : Bool). Parted z (slices (cut (r .k) (r .toks)))) e (subst (Parted len) (r .cuts) (slices-parted len (lex (r .ink) t .toks)))
 
   abbrev c : Counts
   c = countsOf (tables ts)
@@ -71,35 +70,35 @@ module _ (op : Opts) (t : List ℕ) (ts : List Tree) (h : read op t ≡ accepted
   vals-are : c .values ≡ length (allVals (allProps (allNodes ts)))
   vals-are = val-rows-length (allVals (allProps (allNodes ts)))
 
-  pub strict-enough : op .lenient ≡ false → Suffices (strictRows size) c
+  pub strict-enough : len ≡ false → Suffices (strictRows size) c
   strict-enough s =
       let p = parted false s in
-      let o = grew-some op 0 (r .k) (r .toks) ts (r .grew) (p .1) in
+      let o = grew-some len 0 (r .k) (r .toks) ts (r .grew) (p .1) in
       let w = few-toks r in
-      let x = strict-total op s 0 (r .k) (r .toks) ts (r .grew) (p .0) spaced in (
+      let x = strict-total len s 0 (r .k) (r .toks) ts (r .grew) (p .0) spaced in (
         omega (arith, x .0, trees-are),
         omega (arith, x .1, nodes-are),
         omega (arith, x .2, props-are),
         omega (arith, x .3, x .4, vals-are),
       )
 
-  pub lenient-enough : op .lenient ≡ true → Suffices (lenientRows size) c
+  pub lenient-enough : len ≡ true → Suffices (lenientRows size) c
   lenient-enough s = go (parted true s)
     where
       go : (cut (r .k) (r .toks) ≡ [] ∷ []) ⊎ Ending (cut (r .k) (r .toks)) → Suffices (lenientRows size) c
       go (inl e) =
-          let x = grew-none op 0 (r .k) (r .toks) ts (r .grew) e in
+          let x = grew-none len 0 (r .k) (r .toks) ts (r .grew) e in
           let n = ap (λ (ns : List Node). length ns) (x .1) in
           let p = ap (λ (ns : List Node). length (allProps ns)) (x .1) in
           let v = ap (λ (ns : List Node). length (allVals (allProps ns))) (x .1) in
           (omega (arith, x .0, trees-are), omega (arith, nodes-are), omega (arith, props-are), omega (arith, vals-are))
       go (inr e) =
           let w = few-toks r in
-          let x = lenient-total op 0 (r .k) (r .toks) ts (r .grew) e spaced in
+          let x = lenient-total len 0 (r .k) (r .toks) ts (r .grew) e spaced in
           (omega (arith, x .0, trees-are), omega (arith, x .1, nodes-are), omega (arith, x .3, props-are), omega (arith, x .4, vals-are))
 
   -- where they are lent, what is read is accepted: there is no 14
-  accepts : (x : Rows) (l : Lent) → Suffices x c → Lends x l → answers (read op t) l ≡ Accepted c
+  accepts : (x : Rows) (l : Lent) → Suffices x c → Lends x l → answers (read len t) l ≡ Accepted c
   accepts x l n g =
       ap (λ (a : Answer). answers a l) h
       ∙ rw (
@@ -109,8 +108,8 @@ module _ (op : Opts) (t : List ℕ) (ts : List Tree) (h : read op t ≡ accepted
         le-leb (c .values) (length (l .vals) / 2) (omega (arith, n .3, g .3)),
       )
 
-  pub strict-accepts : op .lenient ≡ false → (l : Lent) → Lends (strictRows size) l → answers (read op t) l ≡ Accepted c
+  pub strict-accepts : len ≡ false → (l : Lent) → Lends (strictRows size) l → answers (read len t) l ≡ Accepted c
   strict-accepts s l g = accepts (strictRows size) l (strict-enough s) g
 
-  pub lenient-accepts : op .lenient ≡ true → (l : Lent) → Lends (lenientRows size) l → answers (read op t) l ≡ Accepted c
+  pub lenient-accepts : len ≡ true → (l : Lent) → Lends (lenientRows size) l → answers (read len t) l ≡ Accepted c
   lenient-accepts s l g = accepts (lenientRows size) l (lenient-enough s) g

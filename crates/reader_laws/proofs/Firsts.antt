@@ -1,11 +1,10 @@
 -- In each tree of an accepted reading the first node has no parent and every other one has. Assumes nothing.
-use Rattle.lists.proofs.Prelude.{_≡_, refl, sym, ap, ℕ, zero, suc, _+_, _≤_, arith, false≢true, List, [], _∷_, _++_, reverseAux, length}
+use Rattle.lists.proofs.Prelude.{_≡_, refl, sym, ap, ℕ, zero, suc, _+_, _≤_, arith, false≢true, List, [], _∷_, _++_, reverseAux, length, Bool, true, false}
 use Rattle.lists.specs.All.{All}
 use Rattle.lexer.specs.Token.{Prop, Tok, start, end, node, prop}
 use Rattle.tables.specs.Numbers.{none}
 use Rattle.tables.specs.Record.{Node, Tree}
 use Rattle.parser.specs.LocalsSlice.{sliceFrom}
-use Rattle.parser.specs.Walk.{Opts, shut}
 use Rattle.reader_laws.proofs.Grown.{walkOf, inOrder}
 use Rattle.lists.proofs.Tests.{never}
 use Rattle.reader_laws.proofs.Accepted.{Reading}
@@ -123,8 +122,6 @@ firsts base =
       adding = λ {cur} {e} {p} {ts} {st} {n} {ns} h.
           let s = stage-skip p e ts cur st (n ∷ ns) (h .1) in
           (omega (arith, h .0), (first-with (n .props ++ (p ∷ [])) n ns (s .0), s .1));
-      dropping = λ {cur} {e} {p} {ts} {st} {n} {ns} h. (omega (arith, h .0), stage-skip p e ts cur st (n ∷ ns) (h .1));
-      skipping = λ {cur} {e} {p} {ts} {st} {ns} h. (omega (arith, h .0), stage-skip p e ts cur st ns (h .1));
       over = λ {cur} {ts} {st} {g} {ns} h. stage-over ts cur st ns (h .1);
       without = tt;
     }
@@ -147,10 +144,10 @@ root-first : (ns : List Node) → FirstOnly ns → RootFirst (inOrder ns)
 root-first [] h = (refl, tt)
 root-first (n ∷ ns) h = in-order n ns [] h tt
 
-pub slice-first : (op : Opts) (base : ℕ) (us : List Tok) → base + length (sliceFrom 0 us) ≤ none → RootFirst (inOrder (walkOf op base (sliceFrom 0 us)))
-slice-first op base us h =
-    root-first (walkOf op base (sliceFrom 0 us))
-    (keep-walk (firsts base) op none [] shut [] (sliceFrom 0 us) (omega arith, before (sliceFrom 0 us) none [] refl (omega arith) (slice-shuts 0 us)))
+pub slice-first : (len : Bool) (base : ℕ) (us : List Tok) → base + length (sliceFrom 0 us) ≤ none → RootFirst (inOrder (walkOf len base (sliceFrom 0 us)))
+slice-first len base us h =
+    root-first (walkOf len base (sliceFrom 0 us))
+    (keep-walk (firsts base) len none [] false [] (sliceFrom 0 us) (omega arith, before (sliceFrom 0 us) none [] refl (omega arith) (slice-shuts 0 us)))
 
-pub reading-first : {op : Opts} {t : List ℕ} {ts : List Tree} → Reading op t ts → All (λ x. RootFirst (x .nodes)) ts
-reading-first {op} r = each-tree r (λ x. RootFirst (x .nodes)) (λ us x k e b. rw e (slice-first op (x .root) us b))
+pub reading-first : {len : Bool} {t : List ℕ} {ts : List Tree} → Reading len t ts → All (λ x. RootFirst (x .nodes)) ts
+reading-first {len} r = each-tree r (λ x. RootFirst (x .nodes)) (λ us x k e b. rw e (slice-first len (x .root) us b))

@@ -1,5 +1,5 @@
 -- The tables of an accepted reading fit its text, strict or lenient, with conversion on or off. Assumes nothing.
-use Rattle.lists.proofs.Prelude.{_≡_, sym, ap, _∙_, ℕ, _≤_, arith, true, List, _++_, length, take, length-append, take-length}
+use Rattle.lists.proofs.Prelude.{_≡_, sym, ap, _∙_, ℕ, _≤_, arith, true, List, _++_, length, take, length-append, take-length, Bool}
 use Rattle.text_utf8.specs.Text.{Utf}
 use Rattle.text_utf8.specs.Trim.{trimmed, shown}
 use Rattle.lexer.specs.Token.{Prop}
@@ -14,7 +14,6 @@ use Rattle.fit.specs.Record.{treeRow, nodeRow, propRow, valRow, rowsOf}
 use Rattle.fit.proofs.Clauses.{Clauses, clauses-fit}
 use Rattle.fit.proofs.RecordFits.{counts-of-rows, nodes-counted, properties-counted, values-counted, record-children, record-siblings, record-properties, record-values}
 use Rattle.fit.proofs.Rows.{rows-of-flat}
-use Rattle.parser.specs.Walk.{Opts}
 use Rattle.parser.specs.Read.{accepted, read}
 use Rattle.reader.specs.Lent.{lent}
 use Rattle.reader.proofs.Rooms.{tree-count, flat-nodes, Room}
@@ -28,15 +27,15 @@ use Rattle.reader_laws.proofs.Spans.{names-fit, have-values, ascent-fit
 use Rattle.fit.proofs.Whole.{whole-sound}
 
 -- any tables that have the rows of the reading
-module _ (op : Opts) (t : List ℕ) (ts : List Tree) (h : read op t ≡ accepted ts) (c : Counts) (tr nd pr vl : List ℕ) (rows : rowsOf c tr nd pr vl ≡ tables ts) where
+module _ (len : Bool) (t : List ℕ) (ts : List Tree) (h : read len t ≡ accepted ts) (c : Counts) (tr nd pr vl : List ℕ) (rows : rowsOf c tr nd pr vl ≡ tables ts) where
   abbrev ns : List Node
   ns = allNodes ts
 
   abbrev ps : List Prop
   ps = allProps (allNodes ts)
 
-  abbrev r : Reading op t ts
-  r = reading-is op t ts h
+  abbrev r : Reading len t ts
+  r = reading-is len t ts h
 
   trees-counted : c .trees ≡ length ts
   trees-counted = ap (λ (z : Counts). z .trees) (sym (counts-of-rows c tr nd pr vl) ∙ ap countsOf rows) ∙ tree-count ts
@@ -79,16 +78,16 @@ module _ (op : Opts) (t : List ℕ) (ts : List Tree) (h : read op t ≡ accepted
         kinds = rw trees-counted (kinds-fit r tr nd tree-rows node-rows);
         node-ranges = record-properties c tr nd pr vl ts rows;
         prop-ranges = record-values c tr nd pr vl ts rows;
-        have-values = rw props-are (have-values op t ts h pr vl prop-rows);
-        ascend = rw props-are (ascent-fits op t ts h pr vl prop-rows val-rows);
-        names = rw props-are (names-fit op t ts h pr vl prop-rows);
-        values = rw vals-are (values-fit op t ts h pr vl val-rows);
+        have-values = rw props-are (have-values len t ts h pr vl prop-rows);
+        ascend = rw props-are (ascent-fits len t ts h pr vl prop-rows val-rows);
+        names = rw props-are (names-fit len t ts h pr vl prop-rows);
+        values = rw vals-are (values-fit len t ts h pr vl val-rows);
       }
 
 -- of the first `used` bytes of a buffer, where enough is lent
-pub rows-fit : (op : Opts) (buf : List ℕ) (used : ℕ) (ts : List Tree) → used ≤ length buf → read op (take used buf) ≡ accepted ts
+pub rows-fit : (len : Bool) (buf : List ℕ) (used : ℕ) (ts : List Tree) → used ≤ length buf → read len (take used buf) ≡ accepted ts
     → (c : Counts) (tr nd pr vl : List ℕ) → Room c (lent tr nd pr vl) → rowsOf c tr nd pr vl ≡ tables ts → Fit (memory buf used c tr nd pr vl) ≡ true
-rows-fit op buf used ts b h c tr nd pr vl room rows = clauses-fit (memory buf used c tr nd pr vl) b (clauses op (take used buf) ts h c tr nd pr vl rows room)
+rows-fit len buf used ts b h c tr nd pr vl room rows = clauses-fit (memory buf used c tr nd pr vl) b (clauses len (take used buf) ts h c tr nd pr vl rows room)
 
 -- ---- the flat tables of the reading, whatever stands behind them
 
@@ -104,13 +103,13 @@ flat-room ts a b c d =
     }
 
 -- over a buffer
-pub buffer-fits : (op : Opts) (buf : List ℕ) (used : ℕ) (ts : List Tree) → used ≤ length buf → read op (take used buf) ≡ accepted ts → (a b c d : List ℕ)
+pub buffer-fits : (len : Bool) (buf : List ℕ) (used : ℕ) (ts : List Tree) → used ≤ length buf → read len (take used buf) ≡ accepted ts → (a b c d : List ℕ)
     → Fit (memory buf used (countsOf (tables ts)) (flatTrees (tables ts .trees) ++ a) (flatNodes (tables ts .nodes) ++ b) (flatProps (tables ts .props) ++ c) (flatVals (tables ts .vals) ++ d)) ≡ true
-buffer-fits op buf used ts l h a b c d =
-    rows-fit op buf used ts l h (countsOf (tables ts)) (flatTrees (tables ts .trees) ++ a) (flatNodes (tables ts .nodes) ++ b) (flatProps (tables ts .props) ++ c) (flatVals (tables ts .vals) ++ d)
+buffer-fits len buf used ts l h a b c d =
+    rows-fit len buf used ts l h (countsOf (tables ts)) (flatTrees (tables ts .trees) ++ a) (flatNodes (tables ts .nodes) ++ b) (flatProps (tables ts .props) ++ c) (flatVals (tables ts .vals) ++ d)
     (flat-room ts a b c d) (rows-of-flat (tables ts) a b c d)
 
 -- over a text that is used whole
-pub reading-fits : (op : Opts) (t : List ℕ) (ts : List Tree) → read op t ≡ accepted ts → (a b c d : List ℕ)
+pub reading-fits : (len : Bool) (t : List ℕ) (ts : List Tree) → read len t ≡ accepted ts → (a b c d : List ℕ)
     → Fit (memory t (length t) (countsOf (tables ts)) (flatTrees (tables ts .trees) ++ a) (flatNodes (tables ts .nodes) ++ b) (flatProps (tables ts .props) ++ c) (flatVals (tables ts .vals) ++ d)) ≡ true
-reading-fits op t ts h a b c d = buffer-fits op t (length t) ts (omega arith) (rw (take-length t) h) a b c d
+reading-fits len t ts h a b c d = buffer-fits len t (length t) ts (omega arith) (rw (take-length t) h) a b c d

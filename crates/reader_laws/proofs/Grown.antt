@@ -10,7 +10,7 @@ use Rattle.tables.specs.Numbers.{none}
 use Rattle.tables.specs.Record.{Node, Tree}
 use Rattle.parser.specs.LocalsSlice.{sliceFrom, restFrom, cut}
 use Rattle.parser.specs.Kind.{Kind, is, unkind, kind, kindVals, kindProps, named, props, GM, numbered}
-use Rattle.parser.specs.Walk.{Opts, Walk, walk, halted, stopped, shut, walked}
+use Rattle.parser.specs.Walk.{Walk, walk, halted, stopped, walked}
 use Rattle.parser.specs.Read.{Growing, growing, failing, rooted, grown, kinded, growAll}
 use Rattle.reader.proofs.Kinded.{fails}
 
@@ -21,8 +21,8 @@ nodesOf (halted ns) = ns
 nodesOf (stopped r) = []
 
 -- the nodes of a slice, last first
-abbrev pub walkOf : Opts → ℕ → List Tok → List Node
-walkOf op base s = nodesOf (walked op base (walk none [] shut []) s)
+abbrev pub walkOf : Bool → ℕ → List Tok → List Node
+walkOf len base s = nodesOf (walked len base (walk none [] false []) s)
 
 -- nodes, last first, as a tree has them: without any, an empty root
 abbrev pub inOrder : List Node → List Node
@@ -30,18 +30,18 @@ inOrder [] = record { parent = none; props = [] } ∷ []
 inOrder (n ∷ ns) = reverse (n ∷ ns)
 
 -- a tree of the first slice of the tokens; base: the number of its first node. Strict reading gives no empty root
-pub record FromSlice (op : Opts) (base : ℕ) (us : List Tok) (t : Tree) : Type 0 where
+pub record FromSlice (len : Bool) (base : ℕ) (us : List Tok) (t : Tree) : Type 0 where
   pub root : t .root ≡ base
   pub kind : t .kind ≤ 1
-  pub nodes : t .nodes ≡ inOrder (walkOf op base (sliceFrom 0 us))
-  pub some : op .lenient ≡ false → 0 < length (walkOf op base (sliceFrom 0 us))
+  pub nodes : t .nodes ≡ inOrder (walkOf len base (sliceFrom 0 us))
+  pub some : len ≡ false → 0 < length (walkOf len base (sliceFrom 0 us))
 
 -- the trees of the first k slices
-abbrev pub Grew : Opts → (base k : ℕ) → List Tok → List Tree → Type 0
-Grew op base zero us [] = Unit {0}
-Grew op base zero us (t ∷ ts) = ⊥
-Grew op base (suc k) us [] = ⊥
-Grew op base (suc k) us (t ∷ ts) = FromSlice op base us t × Grew op (base + length (t .nodes)) k (restFrom 0 us) ts
+abbrev pub Grew : Bool → (base k : ℕ) → List Tok → List Tree → Type 0
+Grew len base zero us [] = Unit {0}
+Grew len base zero us (t ∷ ts) = ⊥
+Grew len base (suc k) us [] = ⊥
+Grew len base (suc k) us (t ∷ ts) = FromSlice len base us t × Grew len (base + length (t .nodes)) k (restFrom 0 us) ts
 
 -- ---- game types
 
@@ -79,29 +79,29 @@ one-grown len base k (walk cur st g ns) ts h = one-rooted len base k ns ts h
 one-grown len base k (halted ns) ts h = one-rooted len base k ns ts h
 one-grown len base k (stopped r) ts h = tt
 
-one-kinded : (op : Opts) (base : ℕ) (x : Kind) (s : List Tok) (ts : List Tree) → Small x → One (op .lenient) base (walkOf op base s) ts (kinded op base x s ts)
-one-kinded op base (is k) s ts h = one-grown (op .lenient) base k (walked op base (walk none [] shut []) s) ts h
-one-kinded op base (unkind r) s ts h =
-    let w : Walk = walked op base (walk none [] shut []) s in
-    pick-elim (One (op .lenient) base (walkOf op base s) ts) (op .lenient)
-    (λ e. subst (λ (z : Bool). One z base (walkOf op base s) ts (grown true base 0 w ts)) (sym e) (one-grown true base 0 w ts (omega arith))) (λ _. tt)
+one-kinded : (len : Bool) (base : ℕ) (x : Kind) (s : List Tok) (ts : List Tree) → Small x → One len base (walkOf len base s) ts (kinded len base x s ts)
+one-kinded len base (is k) s ts h = one-grown len base k (walked len base (walk none [] false []) s) ts h
+one-kinded len base (unkind r) s ts h =
+    let w : Walk = walked len base (walk none [] false []) s in
+    pick-elim (One len base (walkOf len base s) ts) len
+    (λ e. subst (λ (z : Bool). One z base (walkOf len base s) ts (grown true base 0 w ts)) (sym e) (one-grown true base 0 w ts (omega arith))) (λ _. tt)
 
 -- ---- all trees
 
-pub grow-all : (op : Opts) (k : ℕ) (us : List Tok) (base : ℕ) (acc : List Tree) (n : ℕ) (all : List Tree)
-    → growAll op (growing base acc) (cut k us) ≡ growing n all → (ts : List Tree) × (Grew op base k us ts) × (all ≡ reverseAux ts acc)
+pub grow-all : (len : Bool) (k : ℕ) (us : List Tok) (base : ℕ) (acc : List Tree) (n : ℕ) (all : List Tree)
+    → growAll len (growing base acc) (cut k us) ≡ growing n all → (ts : List Tree) × (Grew len base k us ts) × (all ≡ reverseAux ts acc)
 unfolding cut
-grow-all op zero us base acc n all e = ([], tt, cc)
-grow-all op (suc k) us base acc n all e =
-    go (kinded op base (kind (sliceFrom 0 us)) (sliceFrom 0 us) acc)
-    (one-kinded op base (kind (sliceFrom 0 us)) (sliceFrom 0 us) acc (small-props (named GM (props (drop 2 (sliceFrom 0 us)))))) e (grow-all op k (restFrom 0 us))
+grow-all len zero us base acc n all e = ([], tt, cc)
+grow-all len (suc k) us base acc n all e =
+    go (kinded len base (kind (sliceFrom 0 us)) (sliceFrom 0 us) acc)
+    (one-kinded len base (kind (sliceFrom 0 us)) (sliceFrom 0 us) acc (small-props (named GM (props (drop 2 (sliceFrom 0 us)))))) e (grow-all len k (restFrom 0 us))
   where
-    go : (x : Growing) → One (op .lenient) base (walkOf op base (sliceFrom 0 us)) acc x → growAll op x (cut k (restFrom 0 us)) ≡ growing n all
-        → ((b : ℕ) (a : List Tree) (n : ℕ) (all : List Tree) → growAll op (growing b a) (cut k (restFrom 0 us)) ≡ growing n all
-        → (ts : List Tree) × (Grew op b k (restFrom 0 us) ts) × (all ≡ reverseAux ts a))
-        → (ts : List Tree) × (Grew op base (suc k) us ts) × (all ≡ reverseAux ts acc)
+    go : (x : Growing) → One len base (walkOf len base (sliceFrom 0 us)) acc x → growAll len x (cut k (restFrom 0 us)) ≡ growing n all
+        → ((b : ℕ) (a : List Tree) (n : ℕ) (all : List Tree) → growAll len (growing b a) (cut k (restFrom 0 us)) ≡ growing n all
+        → (ts : List Tree) × (Grew len b k (restFrom 0 us) ts) × (all ≡ reverseAux ts a))
+        → (ts : List Tree) × (Grew len base (suc k) us ts) × (all ≡ reverseAux ts acc)
     go (growing m vs) (t, a, b, c, d, f, j) q more =
-        let z : growAll op (growing (base + length (t .nodes)) (t ∷ acc)) (cut k (restFrom 0 us)) ≡ growing n all = rw (← a, ← b) q in
+        let z : growAll len (growing (base + length (t .nodes)) (t ∷ acc)) (cut k (restFrom 0 us)) ≡ growing n all = rw (← a, ← b) q in
         let r = more (base + length (t .nodes)) (t ∷ acc) n all z in
         (t ∷ r .0, (record { root = c; kind = d; nodes = f; some = j }, r .1), r .2)
-    go (failing r) h q more = never (let z : failing r ≡ growing n all = sym (fails op r (cut k (restFrom 0 us))) ∙ q in cc)
+    go (failing r) h q more = never (let z : failing r ≡ growing n all = sym (fails len r (cut k (restFrom 0 us))) ∙ q in cc)

@@ -3,7 +3,6 @@ use Rattle.lists.proofs.Prelude.{_≡_, refl, ap, _∙_, ℕ, suc, _+_, _*_, _�
 use Rattle.lexer.specs.Token.{Prop, Tok}
 use Rattle.tables.specs.Numbers.{none}
 use Rattle.tables.specs.Record.{Node, allVals}
-use Rattle.parser.specs.Walk.{Opts, Gate, shut, takes, skips}
 use Rattle.parser_tree.proofs.Flats.{vals-append}
 use Rattle.reader_laws.proofs.Bracketing.{inner}
 use Rattle.reader_laws.proofs.Grown.{walkOf}
@@ -35,8 +34,6 @@ valued base n =
       closing = λ h. h;
       joining = λ {o} {cur} {ts} {st} {g} {ns} h. rw (append-nil (propsBack ns)) (omega arith);
       adding = λ {cur} {e} {p} {ts} {st} {n = d} {ns} h. omega (arith, h, values-one (propsBack ns) (d .props) p);
-      dropping = λ h. omega arith;
-      skipping = λ h. omega arith;
       over = λ h. omega arith;
       without = omega arith;
     }
@@ -44,20 +41,18 @@ valued base n =
 -- ---- properties
 
 -- of the last node's properties: the first has the byte of its node, each further one its identifier's
-abbrev Spare : Gate → List Prop → Bool → (x n : ℕ) → Type 0
-Spare takes [] b x n = suc x ≤ n
-Spare takes (p ∷ ps) b x n = (b ≡ true) × (x ≤ n)
-Spare shut ps b x n = x ≤ n
-Spare skips ps b x n = x ≤ n
+abbrev Spare : Bool → List Prop → Bool → (x n : ℕ) → Type 0
+Spare true [] b x n = suc x ≤ n
+Spare true (p ∷ ps) b x n = (b ≡ true) × (x ≤ n)
+Spare false ps b x n = x ≤ n
 
-spare-out : (g : Gate) (ps : List Prop) (b : Bool) (x n : ℕ) → Spare g ps b x n → x ≤ n
-spare-out takes [] b x n h = omega arith
-spare-out takes (p ∷ ps) b x n h = h .1
-spare-out shut ps b x n h = h
-spare-out skips ps b x n h = h
+spare-out : (g : Bool) (ps : List Prop) (b : Bool) (x n : ℕ) → Spare g ps b x n → x ≤ n
+spare-out true [] b x n h = omega arith
+spare-out true (p ∷ ps) b x n h = h .1
+spare-out false ps b x n h = h
 
-spare-add : (ps : List Prop) (p : Prop) (b : Bool) (x y n : ℕ) → Spare takes ps b x n → (b ≡ true → 0 < length (p .name)) → 0 < length (p .vals) → y + propWeight p ≡ x + 3
-    → Spare takes (ps ++ (p ∷ [])) true y n
+spare-add : (ps : List Prop) (p : Prop) (b : Bool) (x y n : ℕ) → Spare true ps b x n → (b ≡ true → 0 < length (p .name)) → 0 < length (p .vals) → y + propWeight p ≡ x + 3
+    → Spare true (ps ++ (p ∷ [])) true y n
 spare-add [] p b x y n h w v e = (refl, omega arith)
 spare-add (q ∷ ps) p b x y n h w v e = (refl, omega (arith, h .1, w (h .0)))
 
@@ -79,15 +74,13 @@ propertied base n =
         spare-add (d .props) p (h .0) (3 * length (propsBack (d ∷ ns)) + (propWeight p + inner ts)) (3 * length (propsBack ns ++ (d .props ++ (p ∷ []))) + inner ts) n (h .2) (h .1 .0) (h .1 .1)
             (omega (arith, length-one (propsBack ns) (d .props) p)),
       );
-      dropping = λ {cur} {e} {p} {ts} {st} {n = d} {ns} h. (true, h .1 .2, (let a = spare-out takes (d .props) (h .0) (3 * length (propsBack (d ∷ ns)) + (propWeight p + inner ts)) n (h .2) in omega arith));
-      skipping = λ {cur} {e} {p} {ts} {st} {ns} h. (true, h .1 .2, (let a = h .2 in omega arith));
       over = λ {cur} {ts} {st} {g} {ns} h. (let a = spare-out g (lastProps ns) (h .0) (3 * length (propsBack ns) + inner ts) n (h .2) in omega arith);
       without = omega arith;
     }
 
-pub slice-loads : (op : Opts) (base : ℕ) (s : List Tok) → Spaced false s
-    → (2 * valuesIn (propsBack (walkOf op base s)) + length (walkOf op base s) ≤ inner s) × (3 * length (propsBack (walkOf op base s)) ≤ inner s)
-slice-loads op base s h = (
-  keep-walk (valued base (inner s)) op none [] shut [] s (omega arith),
-  keep-walk (propertied base (inner s)) op none [] shut [] s (false, h, omega arith),
+pub slice-loads : (len : Bool) (base : ℕ) (s : List Tok) → Spaced false s
+    → (2 * valuesIn (propsBack (walkOf len base s)) + length (walkOf len base s) ≤ inner s) × (3 * length (propsBack (walkOf len base s)) ≤ inner s)
+slice-loads len base s h = (
+  keep-walk (valued base (inner s)) len none [] false [] s (omega arith),
+  keep-walk (propertied base (inner s)) len none [] false [] s (false, h, omega arith),
 )

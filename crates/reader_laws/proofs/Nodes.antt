@@ -1,5 +1,5 @@
 -- Lent tables that have the rows of an accepted reading: roots, parents and game types fit. Assumes nothing.
-use Rattle.lists.proofs.Prelude.{_≡_, refl, sym, ap, ap₂, _∙_, subst, ℕ, suc, _+_, _≤_, _<_, arith, true, List, [], _∷_, _++_, reverseAux, head-eq-of-cons-eq, tail-eq-of-cons-eq, length, length-append, length-reverse, eq-eqb, ne-eqb, le-leb}
+use Rattle.lists.proofs.Prelude.{_≡_, refl, sym, ap, ap₂, _∙_, subst, ℕ, suc, _+_, _≤_, _<_, arith, true, List, [], _∷_, _++_, reverseAux, head-eq-of-cons-eq, tail-eq-of-cons-eq, length, length-append, length-reverse, eq-eqb, ne-eqb, le-leb, Bool}
 use Rattle.lists.specs.All.{All}
 use Rattle.lists.specs.Same.{same}
 use Rattle.tables.specs.Numbers.{none}
@@ -14,7 +14,6 @@ use Rattle.lists.proofs.Tests.{same-or}
 use Rattle.tables.proofs.Each.{each-all}
 use Rattle.fit.proofs.Recorded.{Rooted}
 use Rattle.parser.specs.LocalsSlice.{sliceFrom}
-use Rattle.parser.specs.Walk.{Opts}
 use Rattle.reader_laws.proofs.Grown.{inOrder, walkOf}
 use Rattle.reader_laws.proofs.Accepted.{Reading}
 use Rattle.reader_laws.proofs.Firsts.{Child, RootFirst, reading-first}
@@ -127,11 +126,11 @@ kinds-are tr b (t ∷ ts) e h i a l =
 
 -- ---- of a reading
 
-module _ {op : Opts} {t : List ℕ} {ts : List Tree} (r : Reading op t ts) (tr nd : List ℕ)
+module _ {len : Bool} {t : List ℕ} {ts : List Tree} (r : Reading len t ts) (tr nd : List ℕ)
     (trees : tabulate (treeRow tr) 0 (length ts) ≡ treeRows ts)
     (nodes : tabulate (nodeRow nd) 0 (length (allNodes ts)) ≡ nodeRows (parents (allNodes ts)) 0 0 (allNodes ts)) where
   rooted : Rooted 0 ts
-  rooted = grew-rooted op 0 (r .k) (r .toks) ts (r .grew)
+  rooted = grew-rooted len 0 (r .k) (r .toks) ts (r .grew)
 
   has : Has nd 0 (allNodes ts)
   has = has-rows nd (parents (allNodes ts)) 0 0 (allNodes ts) nodes
@@ -141,7 +140,7 @@ module _ {op : Opts} {t : List ℕ} {ts : List Tree} (r : Reading op t ts) (tr n
 
   pub parents-fit : each (length (allNodes ts)) (parentRight nd) ≡ true
   parents-fit =
-      let h = each-tree r (λ x. Ruled (x .root) (x .nodes)) (λ us x k e b. rw e (ruled-order (x .root) (walkOf op (x .root) (sliceFrom 0 us)) (walk-ruled (x .root) op (sliceFrom 0 us)))) in
+      let h = each-tree r (λ x. Ruled (x .root) (x .nodes)) (λ us x k e b. rw e (ruled-order (x .root) (walkOf len (x .root) (sliceFrom 0 us)) (walk-ruled (x .root) len (sliceFrom 0 us)))) in
       each-all (parentRight nd) (length (allNodes ts)) (λ i l. trees-ruled nd 0 ts rooted h has (omega (arith, nodes-most r)) i (omega arith) (omega arith))
 
   pub kinds-fit : each (length ts) (kindRight tr) ≡ true

@@ -1,12 +1,11 @@
 -- The parents of an accepted reading follow the rule: each is none, the node before, or an ancestor of it, whatever a slice begins with. Assumes nothing.
-use Rattle.lists.proofs.Prelude.{_≡_, refl, sym, _∙_, subst, _⊎_, inl, inr, ℕ, suc, _+_, _-_, _≤_, _<_, arith, true, List, [], _∷_, length, eq-eqb, ne-eqb, lt-ltb}
+use Rattle.lists.proofs.Prelude.{_≡_, refl, sym, _∙_, subst, _⊎_, inl, inr, ℕ, suc, _+_, _-_, _≤_, _<_, arith, true, List, [], _∷_, length, eq-eqb, ne-eqb, lt-ltb, Bool, false}
 use Rattle.lexer.specs.Token.{Tok}
 use Rattle.tables.specs.Numbers.{none}
 use Rattle.tables.specs.Record.{Node}
 use Rattle.tables.specs.Columns.{parentAt}
 use Rattle.fit_nodes.specs.Nodes.{onPath, parentRight}
 use Rattle.fit_nodes.proofs.Path.{path-self, path-up, path-le, path-trans, has-parent}
-use Rattle.parser.specs.Walk.{Opts, shut}
 use Rattle.reader_laws.proofs.Grown.{walkOf}
 use Rattle.reader_laws.proofs.Walks.{Kept, keep-walk}
 
@@ -94,11 +93,9 @@ module _ (base : ℕ) where
               chain-new nd (base + length ns) cur st (a .0) (r .1) (omega arith) (r .2),
             );
         adding = λ h nd b a. h nd b a;
-        dropping = λ h nd b a. h nd b a;
-        skipping = λ h nd b a. h nd b a;
         over = λ h nd b a. h nd b a .0;
         without = λ nd b a. tt;
       }
 
-  pub walk-ruled : (op : Opts) (s : List Tok) → Ruled (walkOf op base s)
-  walk-ruled op s = keep-walk lined op none [] shut [] s (λ nd b a. (tt, inl refl, tt))
+  pub walk-ruled : (len : Bool) (s : List Tok) → Ruled (walkOf len base s)
+  walk-ruled len s = keep-walk lined len none [] false [] s (λ nd b a. (tt, inl refl, tt))

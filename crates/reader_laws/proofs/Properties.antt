@@ -1,5 +1,5 @@
 -- The properties of an accepted reading: their spans ascend in the text, identifiers are plain, values stand in brackets and are closed. Assumes nothing.
-use Rattle.lists.proofs.Prelude.{_≡_, ap, subst, ℕ, _-_, arith, true, false, List, [], _∷_, length, take, drop, getD, length-drop, slice, length-take-le, eq-eqb, lt-ltb}
+use Rattle.lists.proofs.Prelude.{_≡_, ap, subst, ℕ, _-_, arith, true, false, List, [], _∷_, length, take, drop, getD, length-drop, slice, length-take-le, eq-eqb, lt-ltb, Bool}
 use Rattle.lists.specs.All.{All}
 use Rattle.lists.proofs.All.{all-append, all-left, all-right}
 use Rattle.text_utf8.specs.Text.{Ink, blank, inked, whole, utfs}
@@ -12,7 +12,6 @@ use Rattle.lexer_laws.proofs.Invariant.{OfTok}
 use Rattle.lexer_laws.proofs.Proper.{Proper, HasProper}
 use Rattle.tables.specs.Record.{Tree, allNodes, allProps, allVals}
 use Rattle.fit_spans.specs.Spans.{ascending, plainName, boxed}
-use Rattle.parser.specs.Walk.{Opts}
 use Rattle.parser.specs.Read.{accepted, lex, read}
 use Rattle.parser.proofs.Denoted.{read-denotes}
 use Rattle.reader_laws.proofs.Accepted.{Reading, reading-is}
@@ -58,26 +57,26 @@ all-values P (p ∷ ps) h = all-append P (p .vals) (allVals ps) (h .0) (all-valu
 
 -- ---- of a reading
 
-module _ (op : Opts) (t : List ℕ) (ts : List Tree) (h : read op t ≡ accepted ts) where
-  abbrev r : Reading op t ts
-  r = reading-is op t ts h
+module _ (len : Bool) (t : List ℕ) (ts : List Tree) (h : read len t ≡ accepted ts) where
+  abbrev r : Reading len t ts
+  r = reading-is len t ts h
 
   abbrev ps : List Prop
   ps = allProps (allNodes ts)
 
   reading-all : (P : Prop → Type 0) → All (OfTok P) (lex (r .ink) t .toks) → All P ps
-  reading-all P a = reading-thin op (All P) (all-thin P) r (all-props P (lex (r .ink) t .toks) a)
+  reading-all P a = reading-thin len (All P) (all-thin P) r (all-props P (lex (r .ink) t .toks) a)
 
   pub props-ascend : ascending (length t) 0 (spansOf ps) ≡ true
   props-ascend =
       let a = lex-ascend t (r .ink) (r .valid) in
-      climb-ascends (length t) 0 (a .0) (spansOf ps) (reading-thin op (λ qs. Climb (length t) 0 (a .0) (spansOf qs)) (climbs-thin (length t) (a .0)) r (a .1))
+      climb-ascends (length t) 0 (a .0) (spansOf ps) (reading-thin len (λ qs. Climb (length t) 0 (a .0) (spansOf qs)) (climbs-thin (length t) (a .0)) r (a .1))
 
   pub props-proper : All HasProper ps
   props-proper = reading-all HasProper (lex-proper t (r .ink) (r .valid))
 
   pub props-plain : All (λ p. plainName (slice (p .from) (p .to) t) ≡ true) ps
-  props-plain = go ps (read-denotes op t ts h) (reading-all Plain (lex-ascend t (r .ink) (r .valid) .2))
+  props-plain = go ps (read-denotes len t ts h) (reading-all Plain (lex-ascend t (r .ink) (r .valid) .2))
     where
       go : (qs : List Prop) → All (Denotes t) qs → All Plain qs → All (λ p. plainName (slice (p .from) (p .to) t) ≡ true) qs
       go [] d a = tt
@@ -89,7 +88,7 @@ module _ (op : Opts) (t : List ℕ) (ts : List Tree) (h : read op t ≡ accepted
       rw (lt-ltb 0 (v .from) (b .0 .0), eq-eqb (getD t (v .from - 1) 0) 0x5b (b .0 .1), eq-eqb (getD t (v .to) 0) 0x5d (b .1)) c
 
   pub values-boxed : All (λ v. boxed t (v .from) (v .to) ≡ true) (allVals ps)
-  values-boxed = all-values (λ v. boxed t (v .from) (v .to) ≡ true) ps (go ps (read-denotes op t ts h) props-proper (reading-all (AllBoxed t) (lex-boxed t (r .ink))))
+  values-boxed = all-values (λ v. boxed t (v .from) (v .to) ≡ true) ps (go ps (read-denotes len t ts h) props-proper (reading-all (AllBoxed t) (lex-boxed t (r .ink))))
     where
       each-value : (vs : List Val) → All (Stands t) vs → All Proper vs → All (Boxed t) vs → All (λ v. boxed t (v .from) (v .to) ≡ true) vs
       each-value [] s p b = tt

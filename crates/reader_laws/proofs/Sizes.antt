@@ -1,5 +1,5 @@
 -- How many nodes an accepted reading has: fewer than the number that means none. Assumes nothing.
-use Rattle.lists.proofs.Prelude.{_≡_, refl, sym, ap, subst, inl, inr, ℕ, zero, suc, _+_, _≤_, arith, List, [], _∷_, _++_, length, length-append, length-reverse, length-take, length-drop, take, drop}
+use Rattle.lists.proofs.Prelude.{_≡_, refl, sym, ap, subst, inl, inr, ℕ, zero, suc, _+_, _≤_, arith, List, [], _∷_, _++_, length, length-append, length-reverse, length-take, length-drop, take, drop, Bool, false}
 use Rattle.lists.specs.All.{All}
 use Rattle.text_utf8.specs.Text.{Ink, blank, inked, whole, utfs}
 use Rattle.lexer.specs.Token.{Tok, start, end, node, prop}
@@ -8,7 +8,6 @@ use Rattle.lexer_laws.proofs.Proper.{HasProper, proper-tokens}
 use Rattle.tables.specs.Numbers.{none}
 use Rattle.tables.specs.Record.{Node, Tree, allNodes}
 use Rattle.parser.specs.LocalsSlice.{sliceFrom, restFrom}
-use Rattle.parser.specs.Walk.{Opts, shut}
 use Rattle.parser.specs.Read.{lex}
 use Rattle.reader_laws.proofs.Grown.{Grew, walkOf, inOrder}
 use Rattle.reader_laws.proofs.Accepted.{Reading}
@@ -37,47 +36,45 @@ counts base n =
       closing = λ h. omega arith;
       joining = λ h. omega arith;
       adding = λ h. omega arith;
-      dropping = λ h. omega arith;
-      skipping = λ h. omega arith;
       over = λ h. omega arith;
       without = omega arith;
     }
 
-pub few-nodes : (op : Opts) (base : ℕ) (s : List Tok) → length (inOrder (walkOf op base s)) ≤ suc (length s)
-few-nodes op base s = go (walkOf op base s) (keep-walk (counts base (length s)) op none [] shut [] s (omega arith))
+pub few-nodes : (len : Bool) (base : ℕ) (s : List Tok) → length (inOrder (walkOf len base s)) ≤ suc (length s)
+few-nodes len base s = go (walkOf len base s) (keep-walk (counts base (length s)) len none [] false [] s (omega arith))
   where
     go : (ns : List Node) → length ns ≤ length s → length (inOrder ns) ≤ suc (length s)
     go [] h = omega arith
     go (n ∷ ns) h = omega (arith, length-reverse (n ∷ ns))
 
-module _ (op : Opts) (base : ℕ) (us : List Tok) (ns : List Node) (e : ns ≡ inOrder (walkOf op base (sliceFrom 0 us))) where
+module _ (len : Bool) (base : ℕ) (us : List Tok) (ns : List Node) (e : ns ≡ inOrder (walkOf len base (sliceFrom 0 us))) where
   -- nodes come from the slice, and what is behind it is left
   tree-room : length ns + length (restFrom 0 us) ≤ suc (length us)
   tree-room =
-      let a : length ns ≤ suc (length (sliceFrom 0 us)) = rw e (few-nodes op base (sliceFrom 0 us)) in
+      let a : length ns ≤ suc (length (sliceFrom 0 us)) = rw e (few-nodes len base (sliceFrom 0 us)) in
       omega (arith, length-append (sliceFrom 0 us) (restFrom 0 us), ap length (slice-rest 0 us))
 
   slice-room : length (sliceFrom 0 us) ≤ length us
   slice-room = omega (arith, length-append (sliceFrom 0 us) (restFrom 0 us), ap length (slice-rest 0 us))
 
-grew-few : (op : Opts) (base k : ℕ) (us : List Tok) (ts : List Tree) → Grew op base k us ts → length (allNodes ts) ≤ length us + k
-grew-few op base zero us [] g = omega arith
-grew-few op base zero us (t ∷ ts) g = absurd g
-grew-few op base (suc k) us [] g = absurd g
-grew-few op base (suc k) us (t ∷ ts) g =
-    omega (arith, tree-room op base us (t .nodes) (g .0 .nodes), grew-few op (base + length (t .nodes)) k (restFrom 0 us) ts (g .1), length-append (t .nodes) (allNodes ts))
+grew-few : (len : Bool) (base k : ℕ) (us : List Tok) (ts : List Tree) → Grew len base k us ts → length (allNodes ts) ≤ length us + k
+grew-few len base zero us [] g = omega arith
+grew-few len base zero us (t ∷ ts) g = absurd g
+grew-few len base (suc k) us [] g = absurd g
+grew-few len base (suc k) us (t ∷ ts) g =
+    omega (arith, tree-room len base us (t .nodes) (g .0 .nodes), grew-few len (base + length (t .nodes)) k (restFrom 0 us) ts (g .1), length-append (t .nodes) (allNodes ts))
 
 -- what holds of the tree of each slice; its nodes' numbers are below none
-grew-each : (op : Opts) (P : Tree → Type 0)
-    → ((us : List Tok) (t : Tree) → t .kind ≤ 1 → t .nodes ≡ inOrder (walkOf op (t .root) (sliceFrom 0 us)) → t .root + length (sliceFrom 0 us) ≤ none → P t)
-    → (base k : ℕ) (us : List Tok) (ts : List Tree) → Grew op base k us ts → base + length us + k ≤ none → All P ts
-grew-each op P f base zero us [] g b = tt
-grew-each op P f base zero us (t ∷ ts) g b = absurd g
-grew-each op P f base (suc k) us [] g b = absurd g
-grew-each op P f base (suc k) us (t ∷ ts) g b =
-    let e : t .nodes ≡ inOrder (walkOf op (t .root) (sliceFrom 0 us)) = rw (g .0 .root) (g .0 .nodes) in (
-      f us t (g .0 .kind) e (omega (arith, g .0 .root, slice-room op base us (t .nodes) (g .0 .nodes))),
-      grew-each op P f (base + length (t .nodes)) k (restFrom 0 us) ts (g .1) (omega (arith, tree-room op base us (t .nodes) (g .0 .nodes))),
+grew-each : (len : Bool) (P : Tree → Type 0)
+    → ((us : List Tok) (t : Tree) → t .kind ≤ 1 → t .nodes ≡ inOrder (walkOf len (t .root) (sliceFrom 0 us)) → t .root + length (sliceFrom 0 us) ≤ none → P t)
+    → (base k : ℕ) (us : List Tok) (ts : List Tree) → Grew len base k us ts → base + length us + k ≤ none → All P ts
+grew-each len P f base zero us [] g b = tt
+grew-each len P f base zero us (t ∷ ts) g b = absurd g
+grew-each len P f base (suc k) us [] g b = absurd g
+grew-each len P f base (suc k) us (t ∷ ts) g b =
+    let e : t .nodes ≡ inOrder (walkOf len (t .root) (sliceFrom 0 us)) = rw (g .0 .root) (g .0 .nodes) in (
+      f us t (g .0 .kind) e (omega (arith, g .0 .root, slice-room len base us (t .nodes) (g .0 .nodes))),
+      grew-each len P f (base + length (t .nodes)) k (restFrom 0 us) ts (g .1) (omega (arith, tree-room len base us (t .nodes) (g .0 .nodes))),
     )
 
 -- ---- tokens and bytes
@@ -90,7 +87,7 @@ lex-weighs : (t : List ℕ) (k : Ink) → weight (lex k t .toks) ≤ length t
 lex-weighs t blank = omega arith
 lex-weighs t (inked f l) = omega (arith, tokens-weigh f l (drop f (take l t)), length-drop f (take l t), length-take l t)
 
-module _ {op : Opts} {t : List ℕ} {ts : List Tree} (r : Reading op t ts) where
+module _ {len : Bool} {t : List ℕ} {ts : List Tree} (r : Reading len t ts) where
   -- the tokens that slices are cut from have what all tokens have
   pub toks-have : (P : List Tok → Type 0) → P [] → P (lex (r .ink) t .toks) → P (r .toks)
   toks-have P a b = elim (r .from) [ inl e ↦ subst P (sym e) b | inr e ↦ subst P (sym e) a ]
@@ -106,8 +103,8 @@ module _ {op : Opts} {t : List ℕ} {ts : List Tree} (r : Reading op t ts) where
 
   -- what holds of the tree of each slice
   pub each-tree : (P : Tree → Type 0)
-      → ((us : List Tok) (t : Tree) → t .kind ≤ 1 → t .nodes ≡ inOrder (walkOf op (t .root) (sliceFrom 0 us)) → t .root + length (sliceFrom 0 us) ≤ none → P t) → All P ts
-  each-tree P f = grew-each op P f 0 (r .k) (r .toks) ts (r .grew) (omega (arith, room))
+      → ((us : List Tok) (t : Tree) → t .kind ≤ 1 → t .nodes ≡ inOrder (walkOf len (t .root) (sliceFrom 0 us)) → t .root + length (sliceFrom 0 us) ≤ none → P t) → All P ts
+  each-tree P f = grew-each len P f 0 (r .k) (r .toks) ts (r .grew) (omega (arith, room))
 
   pub nodes-most : length (allNodes ts) ≤ none
-  nodes-most = omega (arith, grew-few op 0 (r .k) (r .toks) ts (r .grew), room)
+  nodes-most = omega (arith, grew-few len 0 (r .k) (r .toks) ts (r .grew), room)

@@ -1,5 +1,5 @@
 -- Lent tables that have the rows of an accepted reading: spans ascend, identifiers are plain, each property has a value, values stand in brackets and are closed. Assumes nothing.
-use Rattle.lists.proofs.Prelude.{_≡_, refl, sym, ap, ap₂, _∙_, subst, ℕ, suc, _+_, _≤_, _<_, arith, true, List, [], _∷_, _++_, head-eq-of-cons-eq, tail-eq-of-cons-eq, length, slice, le-leb}
+use Rattle.lists.proofs.Prelude.{_≡_, refl, sym, ap, ap₂, _∙_, subst, ℕ, suc, _+_, _≤_, _<_, arith, true, List, [], _∷_, _++_, head-eq-of-cons-eq, tail-eq-of-cons-eq, length, slice, le-leb, Bool}
 use Rattle.lists.specs.All.{All}
 use Rattle.lists.proofs.All.{all-map}
 use Rattle.lexer.specs.Token.{Val, Prop}
@@ -13,7 +13,6 @@ use Rattle.fit.specs.Record.{propRow, valRow}
 use Rattle.fit_spans.specs.Spans.{Span, span, valSpan, propSpans, spans, ascending, plainName, nameRight, boxed, valueRight}
 use Rattle.lists.proofs.Tests.{same-or}
 use Rattle.tables.proofs.Each.{each-all}
-use Rattle.parser.specs.Walk.{Opts}
 use Rattle.parser.specs.Read.{accepted, read}
 use Rattle.reader_laws.proofs.Properties.{props-ascend, props-proper, props-plain, values-boxed}
 use Rattle.reader_laws.proofs.Climbs.{spansOfValues, spansOfProp, spansOf}
@@ -65,7 +64,7 @@ value-each F vl b (v ∷ vs) e h i a l =
 
 -- ---- of a reading
 
-module _ (op : Opts) (t : List ℕ) (ts : List Tree) (h : read op t ≡ accepted ts) (pr vl : List ℕ) where
+module _ (len : Bool) (t : List ℕ) (ts : List Tree) (h : read len t ≡ accepted ts) (pr vl : List ℕ) where
   abbrev ps : List Prop
   ps = allProps (allNodes ts)
 
@@ -73,18 +72,18 @@ module _ (op : Opts) (t : List ℕ) (ts : List Tree) (h : read op t ≡ accepted
     pub names-fit : each (length ps) (nameRight t pr) ≡ true
     names-fit =
         each-all (nameRight t pr) (length ps)
-        (λ i l. prop-each (λ a e n. plainName (slice a e t) ≡ true) pr 0 0 ps props (props-plain op t ts h) i (omega arith) (omega arith))
+        (λ i l. prop-each (λ a e n. plainName (slice a e t) ≡ true) pr 0 0 ps props (props-plain len t ts h) i (omega arith) (omega arith))
 
     pub have-values : each (length ps) (hasValue pr) ≡ true
     have-values =
-        let v = all-map HasProper (λ p. 1 ≤ length (p .vals)) (λ p g. g .0) ps (props-proper op t ts h) in
+        let v = all-map HasProper (λ p. 1 ≤ length (p .vals)) (λ p g. g .0) ps (props-proper len t ts h) in
         each-all (hasValue pr) (length ps) (λ i l. le-leb 1 (valCountAt pr i) (prop-each (λ a e n. 1 ≤ n) pr 0 0 ps props v i (omega arith) (omega arith)))
 
     module _ (vals : tabulate (valRow vl) 0 (length (allVals ps)) ≡ valRows (allVals ps)) where
       pub ascent-fits : ascending (length t) 0 (spans pr vl 0 (length ps)) ≡ true
-      ascent-fits = rw (prop-spans pr vl 0 0 ps props vals) (props-ascend op t ts h)
+      ascent-fits = rw (prop-spans pr vl 0 0 ps props vals) (props-ascend len t ts h)
 
   pub values-fit : tabulate (valRow vl) 0 (length (allVals ps)) ≡ valRows (allVals ps) → each (length (allVals ps)) (valueRight t vl) ≡ true
   values-fit vals =
       each-all (valueRight t vl) (length (allVals ps))
-      (λ i l. value-each (λ a e. boxed t a e ≡ true) vl 0 (allVals ps) vals (values-boxed op t ts h) i (omega arith) (omega arith))
+      (λ i l. value-each (λ a e. boxed t a e ≡ true) vl 0 (allVals ps) vals (values-boxed len t ts h) i (omega arith) (omega arith))

@@ -1,10 +1,9 @@
 -- The properties of an accepted reading are those of its tokens, in order, some left out: what holds of a list and stays when one is left out holds of them. Assumes nothing.
-use Rattle.lists.proofs.Prelude.{_≡_, refl, sym, ap, _∙_, subst, ℕ, zero, suc, _+_, List, [], _∷_, _++_, reverseAux, append-assoc, append-nil, length}
+use Rattle.lists.proofs.Prelude.{_≡_, refl, sym, ap, _∙_, subst, ℕ, zero, suc, _+_, List, [], _∷_, _++_, reverseAux, append-assoc, append-nil, length, Bool, false}
 use Rattle.lexer.specs.Token.{Prop, Tok}
 use Rattle.tables.specs.Numbers.{none}
 use Rattle.tables.specs.Record.{Node, Tree, allNodes, allProps}
 use Rattle.parser.specs.LocalsSlice.{sliceFrom, restFrom}
-use Rattle.parser.specs.Walk.{Opts, shut}
 use Rattle.parser.specs.Read.{lex}
 use Rattle.parser_tree.proofs.Flats.{props-append as nodes-append}
 use Rattle.reader_laws.proofs.Accepted.{Reading}
@@ -44,13 +43,11 @@ thinning base Q thin none-left =
       adding = λ {cur} {e} {p} {ts} {st} {n} {ns} h.
           let a : propsBack ns ++ (n .props ++ (p ∷ [])) ≡ (propsBack ns ++ n .props) ++ (p ∷ []) = sym (append-assoc (propsBack ns) (n .props) (p ∷ [])) in
           rw (a, append-assoc (propsBack ns ++ n .props) (p ∷ []) (propsOf ts)) h;
-      dropping = λ {cur} {e} {p} {ts} {st} {n} {ns} h. thin (propsBack (n ∷ ns)) p (propsOf ts) h;
-      skipping = λ {cur} {e} {p} {ts} {st} {ns} h. thin (propsBack ns) p (propsOf ts) h;
       over = λ {cur} {ts} {st} {g} {ns} h. thin-all Q thin (propsBack ns) (propsOf ts) h;
       without = none-left;
     }
 
-module _ (op : Opts) (Q : List Prop → Type 0) (thin : Thins Q) where
+module _ (len : Bool) (Q : List Prop → Type 0) (thin : Thins Q) where
   -- between what comes before and what comes behind
   abbrev Amid : (before behind xs : List Prop) → Type 0
   Amid before behind xs = Q (before ++ (xs ++ behind))
@@ -64,12 +61,12 @@ module _ (op : Opts) (Q : List Prop → Type 0) (thin : Thins Q) where
   amid-none : (A B xs : List Prop) → Amid A B xs → Amid A B []
   amid-none A B xs h = thin-all (Amid A B) (amid-thin A B) [] xs h
 
-  slice-thin : (base : ℕ) (s : List Tok) (A B : List Prop) → Amid A B (propsOf s) → Amid A B (allProps (inOrder (walkOf op base s)))
+  slice-thin : (base : ℕ) (s : List Tok) (A B : List Prop) → Amid A B (propsOf s) → Amid A B (allProps (inOrder (walkOf len base s)))
   slice-thin base s A B h =
-      rw (order-props (walkOf op base s))
-      (keep-walk (thinning base (Amid A B) (amid-thin A B) (amid-none A B (propsOf s) h)) op none [] shut [] s h)
+      rw (order-props (walkOf len base s))
+      (keep-walk (thinning base (Amid A B) (amid-thin A B) (amid-none A B (propsOf s) h)) len none [] false [] s h)
 
-  grew-thin : (base k : ℕ) (us : List Tok) (ts : List Tree) (A : List Prop) → Grew op base k us ts → Q (A ++ propsOf us) → Q (A ++ allProps (allNodes ts))
+  grew-thin : (base k : ℕ) (us : List Tok) (ts : List Tree) (A : List Prop) → Grew len base k us ts → Q (A ++ propsOf us) → Q (A ++ allProps (allNodes ts))
   grew-thin base zero us [] A g h = subst Q (sym (append-nil A)) (thin-all Q thin A (propsOf us) h)
   grew-thin base zero us (t ∷ ts) A g h = absurd g
   grew-thin base (suc k) us [] A g h = absurd g
@@ -82,7 +79,7 @@ module _ (op : Opts) (Q : List Prop → Type 0) (thin : Thins Q) where
       rw (nodes-append (t .nodes) (allNodes ts)) (subst Q (append-assoc A own (allProps (allNodes ts))) b)
 
   -- from the tokens to the record
-  pub reading-thin : {t : List ℕ} {ts : List Tree} (r : Reading op t ts) → Q (propsOf (lex (r .ink) t .toks)) → Q (allProps (allNodes ts))
+  pub reading-thin : {t : List ℕ} {ts : List Tree} (r : Reading len t ts) → Q (propsOf (lex (r .ink) t .toks)) → Q (allProps (allNodes ts))
   reading-thin {t} {ts} r h =
       let q : Q (propsOf (r .toks)) = toks-have r (λ us. Q (propsOf us)) (thin-all Q thin [] (propsOf (lex (r .ink) t .toks)) h) h in
       grew-thin 0 (r .k) (r .toks) ts [] (r .grew) q

@@ -4,7 +4,6 @@ use Rattle.lists.specs.All.{All}
 use Rattle.lexer.specs.Token.{Tok, start, end, node, prop}
 use Rattle.tables.specs.Record.{Node, Tree, allNodes, allProps}
 use Rattle.parser.specs.LocalsSlice.{sliceFrom, restFrom, cut}
-use Rattle.parser.specs.Walk.{Opts}
 use Rattle.parser_tree.proofs.Flats.{props-append}
 use Rattle.reader_laws.proofs.Bracketing.{startsIn, endsIn, inner, weight-parts, Complete, Ending}
 use Rattle.reader_laws.proofs.Grown.{FromSlice, Grew, walkOf, inOrder}
@@ -31,13 +30,13 @@ slice-weight us =
 -- ---- one tree
 
 -- n: those of its nodes that are tokens; i: what the slice weighs without brackets
-record Loads (op : Opts) (i : ℕ) (ns : List Node) : Type 0 where
+record Loads (len : Bool) (i : ℕ) (ns : List Node) : Type 0 where
   n : ℕ
   nodes : length ns ≡ max 1 n
   values : 2 * valuesIn (allProps ns) + n ≤ i
   props : 3 * length (allProps ns) ≤ i
   bare : n ≡ 0 → valuesIn (allProps ns) ≡ 0
-  some : op .lenient ≡ false → 0 < n
+  some : len ≡ false → 0 < n
 
 order-length : (ns : List Node) → length (inOrder ns) ≡ max 1 (length ns)
 order-length [] = refl
@@ -47,11 +46,11 @@ order-bare : (ns : List Node) → length ns ≡ 0 → valuesIn (allProps (inOrde
 order-bare [] h = refl
 order-bare (n ∷ ns) h = absurd (omega arith)
 
-tree-loads : (op : Opts) (base : ℕ) (us : List Tok) (t : Tree) → FromSlice op base us t → Spaced false (sliceFrom 0 us) → Loads op (inner (sliceFrom 0 us)) (t .nodes)
-tree-loads op base us t f h =
-    let ns : List Node = walkOf op base (sliceFrom 0 us) in
-    let l = slice-loads op base (sliceFrom 0 us) h in
-    subst (Loads op (inner (sliceFrom 0 us))) (sym (f .nodes))
+tree-loads : (len : Bool) (base : ℕ) (us : List Tok) (t : Tree) → FromSlice len base us t → Spaced false (sliceFrom 0 us) → Loads len (inner (sliceFrom 0 us)) (t .nodes)
+tree-loads len base us t f h =
+    let ns : List Node = walkOf len base (sliceFrom 0 us) in
+    let l = slice-loads len base (sliceFrom 0 us) h in
+    subst (Loads len (inner (sliceFrom 0 us))) (sym (f .nodes))
     (record {
       n = length ns;
       nodes = order-length ns;
@@ -86,16 +85,16 @@ module _ (t : Tree) (ts : List Tree) where
 abbrev pub StrictTotal : ℕ → List Tree → Type 0
 StrictTotal w ts = (3 * length ts ≤ w) × (nodeCount ts + 2 * length ts ≤ w) × (3 * propCount ts + 2 * length ts ≤ w) × (2 * valCount ts + nodeCount ts + 2 * length ts ≤ w) × (length ts ≤ nodeCount ts)
 
-pub strict-total : (op : Opts) → op .lenient ≡ false → (base k : ℕ) (us : List Tok) (ts : List Tree) → Grew op base k us ts → All Complete (cut k us) → Spaced false us → StrictTotal (weight us) ts
+pub strict-total : (len : Bool) → len ≡ false → (base k : ℕ) (us : List Tok) (ts : List Tree) → Grew len base k us ts → All Complete (cut k us) → Spaced false us → StrictTotal (weight us) ts
 unfolding cut
-strict-total op s base zero us [] g c h = (omega arith, omega arith, omega arith, omega arith, omega arith)
-strict-total op s base zero us (t ∷ ts) g c h = absurd g
-strict-total op s base (suc k) us [] g c h = absurd g
-strict-total op s base (suc k) us (t ∷ ts) g c h =
+strict-total len s base zero us [] g c h = (omega arith, omega arith, omega arith, omega arith, omega arith)
+strict-total len s base zero us (t ∷ ts) g c h = absurd g
+strict-total len s base (suc k) us [] g c h = absurd g
+strict-total len s base (suc k) us (t ∷ ts) g c h =
     let p = slice-spaced us h in
     let w = slice-weight us in
-    let l = tree-loads op base us t (g .0) (p .0) in
-    let r = strict-total op s (base + length (t .nodes)) k (restFrom 0 us) ts (g .1) (c .1) (p .1) in
+    let l = tree-loads len base us t (g .0) (p .0) in
+    let r = strict-total len s (base + length (t .nodes)) k (restFrom 0 us) ts (g .1) (c .1) (p .1) in
     let a = l .nodes in
     let b = l .values in
     let d = l .props in
@@ -118,15 +117,15 @@ open-values : (n v i w : ℕ) → 2 * v + n ≤ i → (n ≡ 0 → v ≡ 0) → 
 open-values zero v i w h b l = let z = b refl in omega arith
 open-values (suc n) v i w h b l = omega arith
 
-pub lenient-total : (op : Opts) (base k : ℕ) (us : List Tok) (ts : List Tree) → Grew op base k us ts → Ending (cut k us) → Spaced false us → LenientTotal (weight us) ts
+pub lenient-total : (len : Bool) (base k : ℕ) (us : List Tok) (ts : List Tree) → Grew len base k us ts → Ending (cut k us) → Spaced false us → LenientTotal (weight us) ts
 unfolding cut
-lenient-total op base zero us ts g c h = absurd c
-lenient-total op base (suc k) us [] g c h = absurd g
-lenient-total op base (suc zero) us (t ∷ u ∷ ts) g c h = absurd (g .1)
-lenient-total op base (suc zero) us (t ∷ []) g c h =
+lenient-total len base zero us ts g c h = absurd c
+lenient-total len base (suc k) us [] g c h = absurd g
+lenient-total len base (suc zero) us (t ∷ u ∷ ts) g c h = absurd (g .1)
+lenient-total len base (suc zero) us (t ∷ []) g c h =
     let p = slice-spaced us h in
     let w = slice-weight us in
-    let l = tree-loads op base us t (g .0) (p .0) in
+    let l = tree-loads len base us t (g .0) (p .0) in
     let a = l .nodes in
     let b = l .values in
     let d = l .props in
@@ -137,11 +136,11 @@ lenient-total op base (suc zero) us (t ∷ []) g c h =
       omega (arith, more-props t []),
       omega (arith, more-vals t []),
     )
-lenient-total op base (suc (suc k)) us (t ∷ ts) g c h =
+lenient-total len base (suc (suc k)) us (t ∷ ts) g c h =
     let p = slice-spaced us h in
     let w = slice-weight us in
-    let l = tree-loads op base us t (g .0) (p .0) in
-    let r = lenient-total op (base + length (t .nodes)) (suc k) (restFrom 0 us) ts (g .1) (c .1) (p .1) in
+    let l = tree-loads len base us t (g .0) (p .0) in
+    let r = lenient-total len (base + length (t .nodes)) (suc k) (restFrom 0 us) ts (g .1) (c .1) (p .1) in
     let a = l .nodes in
     let b = l .values in
     let d = l .props in

@@ -1,7 +1,6 @@
 -- A writing within the text limit is refused with 9 where it is too deep, and else read back. Assumes nothing.
 use Rattle.lists.proofs.Prelude.{_≡_, refl, sym, ap, _∙_, subst, ℕ, _≤_, _<_, arith, Bool, true, false, List, [], map, reverse, reverseAux, ltb, length, length-map, length-reverseAux, take-length, le-ltb, lt-ltb, ltb-true, pick}
 use Rattle.edit_laws.proofs.Reread.{in-textLimit}
-use Rattle.edit_laws.specs.Run.{strictly}
 use Rattle.lexer.specs.Token.{End, Lexed, Tok, lexFrom}
 use Rattle.lists.proofs.Tests.{never}
 use Rattle.parser.proofs.Moved.{move-tokens, moveAnswer}
@@ -22,42 +21,42 @@ use Rattle.serialize_laws.specs.Back.{Z, K}
 use Rattle.serialize_laws.specs.Depth.{depthOf}
 
 -- the answer for a writing is the answer for its tokens, places aside
-read-tokens : (c : Bool) (ts : List Tree) → Form ts → length (writeTrees ts) ≤ textLimit
-    → moveAnswer Z Z K (read (strictly c) (writeTrees ts)) ≡ planted (strictly c) (sliced false (split false (splitting 0 0 [] []) (tokTrees ts)))
-read-tokens c ts f s =
+read-tokens : (ts : List Tree) → Form ts → length (writeTrees ts) ≤ textLimit
+    → moveAnswer Z Z K (read false (writeTrees ts)) ≡ planted false (sliced false (split false (splitting 0 0 [] []) (tokTrees ts)))
+read-tokens ts f s =
     let W : List ℕ = writeTrees ts in
     let n : ℕ = length W in
     let l = lex-written n ts (f .plain) in
     let X : Lexed = lexFrom 0 n W in
-    ap (moveAnswer Z Z K) (in-textLimit (ltb textLimit n) (decoded (strictly c) (utfs (whole blank) 0 W) W) (le-ltb textLimit n s))
-    ∙ ap (λ (u : Utf). moveAnswer Z Z K (decoded (strictly c) u W)) (written-ink ts (f .some) (f .plain) (f .valid))
-    ∙ ap (λ (z : List ℕ). moveAnswer Z Z K (lexing (strictly c) false (lexFrom 0 n z .end) (lexFrom 0 n z .toks))) (take-length W)
-    ∙ ap (λ (z : End). moveAnswer Z Z K (lexing (strictly c) false z (X .toks))) (l .0)
-    ∙ sym (move-tokens Z Z K (strictly c) (X .toks) (gm-same (X .toks)))
-    ∙ ap (λ (z : List Tok). planted (strictly c) (sliced false (split false (splitting 0 0 [] []) z))) (l .1)
+    ap (moveAnswer Z Z K) (in-textLimit (ltb textLimit n) (decoded false (utfs (whole blank) 0 W) W) (le-ltb textLimit n s))
+    ∙ ap (λ (u : Utf). moveAnswer Z Z K (decoded false u W)) (written-ink ts (f .some) (f .plain) (f .valid))
+    ∙ ap (λ (z : List ℕ). moveAnswer Z Z K (lexing false (lexFrom 0 n z .end) (lexFrom 0 n z .toks))) (take-length W)
+    ∙ ap (λ (z : End). moveAnswer Z Z K (lexing false z (X .toks))) (l .0)
+    ∙ sym (move-tokens Z Z K false (X .toks) (gm-same (X .toks)))
+    ∙ ap (λ (z : List Tok). planted false (sliced false (split false (splitting 0 0 [] []) z))) (l .1)
 
-too-deep : (c : Bool) (m : ℕ) (ss : List (List Tok)) (x : Splitting) → x ≡ splitting 0 m [] ss → depthLimit < deepest x → 0 < length ss → ltb depthLimit m ≡ true
-    → planted (strictly c) (sliced false x) ≡ refused TooDeep 0
-too-deep c m ss x e d n b =
-    ap (λ (z : Splitting). planted (strictly c) (sliced false z)) e
-    ∙ ap (planted (strictly c)) (filled-any m ss n)
-    ∙ ap (λ (q : Bool). planted (strictly c) (pick q (no TooDeep) (slices (reverse ss)))) b
+too-deep : (m : ℕ) (ss : List (List Tok)) (x : Splitting) → x ≡ splitting 0 m [] ss → depthLimit < deepest x → 0 < length ss → ltb depthLimit m ≡ true
+    → planted false (sliced false x) ≡ refused TooDeep 0
+too-deep m ss x e d n b =
+    ap (λ (z : Splitting). planted false (sliced false z)) e
+    ∙ ap (planted false) (filled-any m ss n)
+    ∙ ap (λ (q : Bool). planted false (pick q (no TooDeep) (slices (reverse ss)))) b
 
-nine : (c : Bool) (ts : List Tree) → Form ts → length (writeTrees ts) ≤ textLimit → ltb depthLimit (deepest (split false (splitting 0 0 [] []) (tokTrees ts))) ≡ true
-    → read (strictly c) (writeTrees ts) ≡ refused TooDeep 0
-nine c ts f s b =
+nine : (ts : List Tree) → Form ts → length (writeTrees ts) ≤ textLimit → ltb depthLimit (deepest (split false (splitting 0 0 [] []) (tokTrees ts))) ≡ true
+    → read false (writeTrees ts) ≡ refused TooDeep 0
+nine ts f s b =
     let x = split-trees ts 0 [] (f .few) in
     let X : List (List Tok) = reverseAux (map tokTree ts) [] in
     let ne : 0 < length X = omega (arith, f .some, length-reverseAux (map tokTree ts) [], length-map ts tokTree) in
     let dm : deepest (split false (splitting 0 0 [] []) (tokTrees ts)) ≡ x .0 = ap deepest (x .1) in
-    go (read (strictly c) (writeTrees ts)) refl
-    (read-tokens c ts f s ∙ too-deep c (x .0) X (split false (splitting 0 0 [] []) (tokTrees ts)) (x .1) (ltb-true depthLimit (deepest (split false (splitting 0 0 [] []) (tokTrees ts))) b) ne (ap (ltb depthLimit) (sym dm) ∙ b))
+    go (read false (writeTrees ts)) refl
+    (read-tokens ts f s ∙ too-deep (x .0) X (split false (splitting 0 0 [] []) (tokTrees ts)) (x .1) (ltb-true depthLimit (deepest (split false (splitting 0 0 [] []) (tokTrees ts))) b) ne (ap (ltb depthLimit) (sym dm) ∙ b))
   where
-    go : (a : Answer) → read (strictly c) (writeTrees ts) ≡ a → moveAnswer Z Z K a ≡ refused TooDeep 0 → read (strictly c) (writeTrees ts) ≡ refused TooDeep 0
+    go : (a : Answer) → read false (writeTrees ts) ≡ a → moveAnswer Z Z K a ≡ refused TooDeep 0 → read false (writeTrees ts) ≡ refused TooDeep 0
     go (refused n p) e h = e ∙ h
     go (accepted us) e h = never cc
 
-module _ (c : Bool) (ts : List Tree) (f : Form ts) (s : length (treesText ts) ≤ textLimit) where
+module _ (ts : List Tree) (f : Form ts) (s : length (treesText ts) ≤ textLimit) where
   walked : writeTrees ts ≡ treesText ts
   walked = walk-writes ts f
 
@@ -68,11 +67,11 @@ module _ (c : Bool) (ts : List Tree) (f : Form ts) (s : length (treesText ts) �
   depth = ap depthOf (sym walked) ∙ written-depth ts f
 
   -- 9 where the writing is too deep
-  pub deep-nine : depthLimit < depthOf (treesText ts) → read (strictly c) (treesText ts) ≡ refused TooDeep 0
+  pub deep-nine : depthLimit < depthOf (treesText ts) → read false (treesText ts) ≡ refused TooDeep 0
   deep-nine d =
       let D : ℕ = deepest (split false (splitting 0 0 [] []) (tokTrees ts)) in
-      ap (read (strictly c)) (sym walked) ∙ nine c ts f short (lt-ltb depthLimit D (omega (arith, d, depth)))
+      ap (read false) (sym walked) ∙ nine ts f short (lt-ltb depthLimit D (omega (arith, d, depth)))
 
   -- else it is read back
-  pub shallow-back : depthOf (treesText ts) ≤ depthLimit → Back c ts
-  shallow-back d = read-back-again c ts (record { form = f; shallow = omega (arith, d, depth); short = short })
+  pub shallow-back : depthOf (treesText ts) ≤ depthLimit → Back ts
+  shallow-back d = read-back-again ts (record { form = f; shallow = omega (arith, d, depth); short = short })

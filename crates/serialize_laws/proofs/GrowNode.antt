@@ -1,9 +1,8 @@
 -- Reading back, one node: the writer's path of open nodes is the reader's stack. Assumes nothing.
-use Rattle.lists.proofs.Prelude.{_≡_, refl, ap, _∙_, subst, _⊎_, inl, inr, ℕ, suc, _+_, _≤_, _<_, arith, Bool, true, false, _||_, false≢true, List, [], _∷_, _++_, map, reverseAux, append-assoc, append-nil, eqb, le-leb, eq-eqb, ne-eqb, pick}
-use Rattle.edit_laws.specs.Run.{strictly}
-use Rattle.lexer.specs.Token.{Prop, Tok, prop, start}
+use Rattle.lists.proofs.Prelude.{_≡_, refl, ap, _∙_, subst, inl, inr, ℕ, suc, _+_, _≤_, _<_, arith, Bool, true, false, _||_, false≢true, List, [], _∷_, _++_, map, reverseAux, append-assoc, append-nil, eqb, le-leb, eq-eqb, ne-eqb, pick}
+use Rattle.lexer.specs.Token.{Prop, Tok, start}
 use Rattle.lists.specs.All.{All}
-use Rattle.parser.specs.Walk.{Gate, Opts, Walk, children, opens, shut, takes, walk, walked, walks}
+use Rattle.parser.specs.Walk.{Walk, children, opens, walk, walked}
 use Rattle.serialize_laws.proofs.WrittenProps.{Plain}
 use Rattle.serialize_laws.proofs.Written.{tokEnds, tokOpened, tokProps, tokShuts}
 use Rattle.serialize.proofs.Branches.{On}
@@ -60,9 +59,9 @@ two ps ds p rest e h =
 
 -- ---- the ends before a node
 
-module _ (op : Opts) (base : ℕ) (ds : List Node) where
+module _ (len : Bool) (base : ℕ) (ds : List Node) where
   abbrev Comes : Walk → List Tok → ℕ → List ℕ → Type 0
-  Comes w ts c st = (g : Gate) × (walked op base w ts ≡ walk c st g ds)
+  Comes w ts c st = (g : Bool) × (walked len base w ts ≡ walk c st g ds)
 
   on-child : (ps : List ℕ) (p : ℕ) (x : Open) (xs : List Open) → Chain ps ds (x ∷ xs) → On p xs → children p ds ≡ true
   on-child ps p x [] ch on = absurd on
@@ -70,34 +69,34 @@ module _ (op : Opts) (base : ℕ) (ds : List Node) where
   on-child ps p x (y ∷ ys) ch (inr on) = on-child ps p y ys (ch .3) (on .1)
 
   -- down to p, which stands below the top of the path
-  ends-below : (ps : List ℕ) (p c : ℕ) (g : Gate) (x : Open) (xs : List Open) → Chain ps ds (x ∷ xs) → (x .num ≡ p → ⊥) → On p xs → bracketed ps p ≡ true
+  ends-below : (ps : List ℕ) (p c : ℕ) (g : Bool) (x : Open) (xs : List Open) → Chain ps ds (x ∷ xs) → (x .num ≡ p → ⊥) → On p xs → bracketed ps p ≡ true
       → Comes (walk c (stk (x ∷ xs)) g ds) (tokEnds p (x ∷ xs)) p (stk (left p (x ∷ xs)))
   ends-below ps p c g x [] ch ne on br = absurd on
   ends-below ps p c g x (y ∷ ys) ch ne (inl e) br =
       let b : x .brk ≡ true = ch .1 ∙ ap (bracketed ps) e ∙ br in
-      rw (ne-eqb (x .num) p ne, eq-eqb (y .num) p e, b) (shut, ap (λ (z : ℕ). walk z (stk (y ∷ ys)) shut ds) e)
+      rw (ne-eqb (x .num) p ne, eq-eqb (y .num) p e, b) (false, ap (λ (z : ℕ). walk z (stk (y ∷ ys)) false ds) e)
   ends-below ps p c g x (y ∷ ys) ch ne (inr on) br =
       rw (ne-eqb (x .num) p ne) (go (x .brk) (λ c g. ends-below ps p c g y ys (ch .3) (on .0) (on .1) br))
     where
-      go : (b : Bool) → ((c : ℕ) (g : Gate) → Comes (walk c (stk (y ∷ ys)) g ds) (tokEnds p (y ∷ ys)) p (stk (left p (y ∷ ys))))
+      go : (b : Bool) → ((c : ℕ) (g : Bool) → Comes (walk c (stk (y ∷ ys)) g ds) (tokEnds p (y ∷ ys)) p (stk (left p (y ∷ ys))))
           → Comes (walk c (push b (y .num) (stk (y ∷ ys))) g ds) (tokShuts b (tokEnds p (y ∷ ys))) p (stk (left p (y ∷ ys)))
-      go true k = k (y .num) shut
+      go true k = k (y .num) false
       go false k = k c g
 
-  pub ends-to : (ps : List ℕ) (p : ℕ) (g : Gate) (path : List Open) → Chain ps ds path → On p path → (children p ds ≡ true → bracketed ps p ≡ true)
+  pub ends-to : (ps : List ℕ) (p : ℕ) (g : Bool) (path : List Open) → Chain ps ds path → On p path → (children p ds ≡ true → bracketed ps p ≡ true)
       → Comes (walk (top path) (stk path) g ds) (tokEnds p path) p (stk (left p path))
   ends-to ps p g [] ch on br = absurd on
   ends-to ps p g (x ∷ xs) ch (inl e) br = rw (eq-eqb (x .num) p e) (g, ap (λ (z : ℕ). walk z (stk (x ∷ xs)) g ds) e)
   ends-to ps p g (x ∷ xs) ch (inr on) br = ends-below ps p (x .num) g x xs ch (on .0) (on .1) (br (on-child ps p x xs ch (on .1)))
 
   -- all of them
-  pub ends-all : (ps : List ℕ) (c : ℕ) (g : Gate) (path : List Open) → Chain ps ds path → (c2 : ℕ) × Comes (walk c (stk path) g ds) (tokEnds none path) c2 (none ∷ [])
+  pub ends-all : (ps : List ℕ) (c : ℕ) (g : Bool) (path : List Open) → Chain ps ds path → (c2 : ℕ) × Comes (walk c (stk path) g ds) (tokEnds none path) c2 (none ∷ [])
   ends-all ps c g [] ch = (c, (g, refl))
   ends-all ps c g (x ∷ xs) ch = rw (ne-eqb (x .num) none (λ e. omega (arith, ch .2))) (go (x .brk) (λ c g. ends-all ps c g xs (ch .3)))
     where
-      go : (b : Bool) → ((c : ℕ) (g : Gate) → (c2 : ℕ) × Comes (walk c (stk xs) g ds) (tokEnds none xs) c2 (none ∷ []))
+      go : (b : Bool) → ((c : ℕ) (g : Bool) → (c2 : ℕ) × Comes (walk c (stk xs) g ds) (tokEnds none xs) c2 (none ∷ []))
           → (c2 : ℕ) × Comes (walk c (push b (top xs) (stk xs)) g ds) (tokShuts b (tokEnds none xs)) c2 (none ∷ [])
-      go true k = k (top xs) shut
+      go true k = k (top xs) false
       go false k = k c g
 
 -- ---- one node
@@ -136,32 +135,26 @@ top-child ps ds (x ∷ xs) ch r = go (x .brk) (top-child ps ds xs (ch .3) r)
     go false k = k
 
 -- its properties
-pub props-run : (c : Bool) (base cur : ℕ) (st : List ℕ) (pa : ℕ) (qs ps : List Prop) (ds : List Node) → All Plain ps
-    → walked (strictly c) base (walk cur st takes (record { parent = pa; props = qs } ∷ ds)) (tokProps ps)
-    ≡ walk cur st takes (record { parent = pa; props = qs ++ map zProp ps } ∷ ds)
-props-run c base cur st pa qs [] ds h = rw (append-nil qs)
-props-run c base cur st pa qs (p ∷ ps) ds h =
-    ap (λ (w : Walk). walked (strictly c) base w (tokProps ps)) (go c)
-    ∙ props-run c base cur st pa (qs ++ (zProp p ∷ [])) ps ds (h .1)
-    ∙ ap (λ (z : List Prop). walk cur st takes (record { parent = pa; props = z } ∷ ds)) (append-assoc qs (zProp p ∷ []) (map zProp ps))
-  where
-    go : (c : Bool) → walks (strictly c) base (walk cur st takes (record { parent = pa; props = qs } ∷ ds)) (prop (zProp p) 0)
-        ≡ walk cur st takes (record { parent = pa; props = qs ++ (zProp p ∷ []) } ∷ ds)
-    go true = refl
-    go false = rw (h .0 .upper-case)
+pub props-run : (base cur : ℕ) (st : List ℕ) (pa : ℕ) (qs ps : List Prop) (ds : List Node) → All Plain ps
+    → walked false base (walk cur st true (record { parent = pa; props = qs } ∷ ds)) (tokProps ps)
+    ≡ walk cur st true (record { parent = pa; props = qs ++ map zProp ps } ∷ ds)
+props-run base cur st pa qs [] ds h = rw (append-nil qs)
+props-run base cur st pa qs (p ∷ ps) ds h =
+    props-run base cur st pa (qs ++ (zProp p ∷ [])) ps ds (h .1)
+    ∙ ap (λ (z : List Prop). walk cur st true (record { parent = pa; props = z } ∷ ds)) (append-assoc qs (zProp p ∷ []) (map zProp ps))
 
 -- its bracket
-pub open-run : (op : Opts) (base : ℕ) (ps : List ℕ) (ds : List Node) (p : ℕ) (path : List Open) (g : Gate) (b : Bool) (rest : List Tok) → op .lenient ≡ false
+pub open-run : (len : Bool) (base : ℕ) (ps : List ℕ) (ds : List Node) (p : ℕ) (path : List Open) (g : Bool) (b : Bool) (rest : List Tok) → len ≡ false
     → top path ≡ p → Chain ps ds path → (b ≡ true → children none ds ≡ true)
-    → (g2 : Gate) × (walked op base (walk p (stk path) g ds) (tokOpened b rest) ≡ walked op base (walk p (push b (top path) (stk path)) g2 ds) rest)
-open-run op base ps ds p path g false rest le e ch r = (g, refl)
-open-run op base ps ds p path g true rest le e ch r = go (top-child ps ds path ch (r refl))
+    → (g2 : Bool) × (walked len base (walk p (stk path) g ds) (tokOpened b rest) ≡ walked len base (walk p (push b (top path) (stk path)) g2 ds) rest)
+open-run len base ps ds p path g false rest le e ch r = (g, refl)
+open-run len base ps ds p path g true rest le e ch r = go (top-child ps ds path ch (r refl))
   where
     go : (t : ℕ) × (st : List ℕ) × (stk path ≡ t ∷ st) × (children t ds ≡ true)
-        → (g2 : Gate) × (walked op base (walk p (stk path) g ds) (start 0 ∷ rest) ≡ walked op base (walk p (top path ∷ stk path) g2 ds) rest)
+        → (g2 : Bool) × (walked len base (walk p (stk path) g ds) (start 0 ∷ rest) ≡ walked len base (walk p (top path ∷ stk path) g2 ds) rest)
     go k =
-        let o : opens (op .lenient) p (stk path) ds ≡ walk p (top path ∷ stk path) shut ds = rw (k .2, k .3, e) in
-        (shut, ap (λ (w : Walk). walked op base w rest) o)
+        let o : opens len p (stk path) ds ≡ walk p (top path ∷ stk path) false ds = rw (k .2, k .3, e) in
+        (false, ap (λ (w : Walk). walked len base w rest) o)
 
 pub or-right : (x y : Bool) → y ≡ true → (x || y) ≡ true
 or-right true y e = refl

@@ -3,7 +3,7 @@ use Rattle.lists.proofs.Prelude.{_≡_, refl, sym, ap, _∙_, subst, ℕ, suc, 
 use Rattle.lexer.specs.Token.{Prop, Val}
 use Rattle.lists.proofs.Tests.{and-both}
 use Rattle.lists.specs.All.{All}
-use Rattle.parser.specs.Walk.{uppers}
+use Rattle.serialize_laws.specs.Back.{uppers}
 use Rattle.text_chars.proofs.Tests.{within-true}
 use Rattle.serialize_laws.proofs.WrittenProps.{Plain, letters-same}
 use Rattle.serialize_laws.proofs.Written.{PlainNode, PlainTree}

@@ -1,8 +1,7 @@
 -- The walk over a slice that begins with `(`: the stack holds open nodes, from the current one down. Assumes nothing.
-use Rattle.lists.proofs.Prelude.{_≡_, refl, sym, subst, _⊎_, inl, inr, ℕ, zero, suc, _+_, _≤_, _<_, arith, Bool, true, false, _||_, List, [], _∷_, eqb, length, eq-eqb, ne-eqb, pick}
-use Rattle.edit_laws.specs.Run.{strictly}
+use Rattle.lists.proofs.Prelude.{_≡_, refl, sym, subst, _⊎_, inl, inr, ℕ, zero, suc, _+_, _≤_, _<_, arith, Bool, true, false, List, [], _∷_, eqb, length, eq-eqb, ne-eqb, pick}
 use Rattle.lexer.specs.Token.{Prop, Tok, end, node, prop, start}
-use Rattle.parser.specs.Walk.{Gate, Walk, adds, children, closes, gated, halted, opens, shut, skips, stopped, takes, uppers, walk, walked}
+use Rattle.parser.specs.Walk.{Walk, adds, children, closes, gated, halted, opens, stopped, walk, walked}
 use Rattle.tables.specs.Numbers.{none}
 use Rattle.tables.specs.Record.{Node}
 use Rattle.tables.specs.declared.Reason.{Reason}
@@ -93,27 +92,27 @@ FInv base (walk cur st g (n ∷ ns)) = GoodR base (n ∷ ns) × DescP (base + le
 FInv base (halted ns) = ⊥
 FInv base (stopped n) = Unit {0}
 
-module _ (c : Bool) (base : ℕ) where
-  w-start : (d cur : ℕ) (st : List ℕ) (g : Gate) (ds : List Node) → WInv base d (walk cur st g ds) → WInv base (suc d) (opens false cur st ds)
+module _ (base : ℕ) where
+  w-start : (d cur : ℕ) (st : List ℕ) (g : Bool) (ds : List Node) → WInv base d (walk cur st g ds) → WInv base (suc d) (opens false cur st ds)
   w-start d cur [] g ds h = absurd (h .2)
   w-start d cur (p ∷ st) g ds h = go (children p ds)
     where
-      go : (b : Bool) → WInv base (suc d) (pick b (walk cur (cur ∷ p ∷ st) shut ds) (stopped UnexpectedGameTreeStart))
+      go : (b : Bool) → WInv base (suc d) (pick b (walk cur (cur ∷ p ∷ st) false ds) (stopped UnexpectedGameTreeStart))
       go true = (h .0, h .1, (nest-on (pathR base ds) cur (p ∷ st) (h .2), omega arith, h .2), omega (arith, h .3))
       go false = tt
 
-  w-last : (cur : ℕ) (st : List ℕ) (g : Gate) (ds : List Node) → WInv base 0 (walk cur st g ds) → FInv base (closes false cur st ds)
+  w-last : (cur : ℕ) (st : List ℕ) (g : Bool) (ds : List Node) → WInv base 0 (walk cur st g ds) → FInv base (closes false cur st ds)
   w-last cur [] g ds h = absurd (h .2)
   w-last cur (e ∷ st) g [] h = absurd (h .0)
   w-last cur (e ∷ st) g (n ∷ ns) h = (h .0, h .1)
 
-  w-end : (d cur : ℕ) (st : List ℕ) (g : Gate) (ds : List Node) → WInv base (suc d) (walk cur st g ds) → WInv base d (closes false cur st ds)
+  w-end : (d cur : ℕ) (st : List ℕ) (g : Bool) (ds : List Node) → WInv base (suc d) (walk cur st g ds) → WInv base d (closes false cur st ds)
   w-end d cur [] g ds h = absurd (h .2)
   w-end d cur (e ∷ []) g ds h = absurd (omega (arith, h .3))
   w-end d cur (e ∷ f ∷ st) g ds h = (h .0, h .1, h .2 .2, omega (arith, h .3))
 
-  w-node : (d cur : ℕ) (st : List ℕ) (g : Gate) (ds : List Node) → WInv base d (walk cur st g ds)
-      → WInv base d (walk (base + length ds) st takes (record { parent = cur; props = [] } ∷ ds))
+  w-node : (d cur : ℕ) (st : List ℕ) (g : Bool) (ds : List Node) → WInv base d (walk cur st g ds)
+      → WInv base d (walk (base + length ds) st true (record { parent = cur; props = [] } ∷ ds))
   w-node d cur st g [] h = absurd (h .0)
   w-node d cur st g (m ∷ ds) h = (
     (nest-on (pathR base (m ∷ ds)) cur st (h .2), h .0),
@@ -122,40 +121,38 @@ module _ (c : Bool) (base : ℕ) where
     h .3,
   )
 
-  w-adds : (ok : Bool) (d : ℕ) (p : Prop) (cur : ℕ) (st : List ℕ) (g : Gate) (ds : List Node) → WInv base d (walk cur st g ds) → WInv base d (adds ok false p cur st ds)
-  w-adds ok d p cur st g [] h = absurd (h .0)
-  w-adds true d p cur st g (n ∷ []) h = h
-  w-adds true d p cur st g (n ∷ m ∷ ds) h = h
-  w-adds false d p cur st g (n ∷ ds) h = tt
+  w-adds : (d : ℕ) (p : Prop) (cur : ℕ) (st : List ℕ) (g : Bool) (ds : List Node) → WInv base d (walk cur st g ds) → WInv base d (adds false p cur st ds)
+  w-adds d p cur st g [] h = absurd (h .0)
+  w-adds d p cur st g (n ∷ []) h = h
+  w-adds d p cur st g (n ∷ m ∷ ds) h = h
 
-  w-gated : (d : ℕ) (p : Prop) (cur : ℕ) (st : List ℕ) (g : Gate) (ds : List Node) → WInv base d (walk cur st g ds) → WInv base d (gated (strictly c) g p cur st ds)
-  w-gated d p cur st shut ds h = tt
-  w-gated d p cur st takes ds h = w-adds (c || uppers (p .name)) d p cur st takes ds h
-  w-gated d p cur st skips ds h = h
+  w-gated : (d : ℕ) (p : Prop) (cur : ℕ) (st : List ℕ) (g : Bool) (ds : List Node) → WInv base d (walk cur st g ds) → WInv base d (gated false g p cur st ds)
+  w-gated d p cur st false ds h = tt
+  w-gated d p cur st true ds h = w-adds d p cur st true ds h
 
-  stopped-run : (n : Reason) (ts : List Tok) → walked (strictly c) base (stopped n) ts ≡ stopped n
+  stopped-run : (n : Reason) (ts : List Tok) → walked false base (stopped n) ts ≡ stopped n
   stopped-run n [] = refl
   stopped-run n (t ∷ ts) = stopped-run n ts
 
-  w-stopped : (n : Reason) (ts : List Tok) → FInv base (walked (strictly c) base (stopped n) ts)
+  w-stopped : (n : Reason) (ts : List Tok) → FInv base (walked false base (stopped n) ts)
   w-stopped n ts = subst (FInv base) (sym (stopped-run n ts)) tt
 
-  w-run : (d : ℕ) (w : Walk) (ts : List Tok) → Closes d ts → WInv base d w → FInv base (walked (strictly c) base w ts)
+  w-run : (d : ℕ) (w : Walk) (ts : List Tok) → Closes d ts → WInv base d w → FInv base (walked false base w ts)
   w-run d w [] k h = absurd k
   w-run d (halted ns) (t ∷ ts) k h = absurd h
   w-run d (stopped n) (t ∷ ts) k h = w-stopped n ts
   w-run d (walk cur st g ds) (start o ∷ ts) k h = w-run (suc d) (opens false cur st ds) ts k (w-start d cur st g ds h)
   w-run zero (walk cur st g ds) (end o ∷ ts) k h =
-      subst (λ (z : List Tok). FInv base (walked (strictly c) base (closes false cur st ds) z)) (sym k) (w-last cur st g ds h)
+      subst (λ (z : List Tok). FInv base (walked false base (closes false cur st ds) z)) (sym k) (w-last cur st g ds h)
   w-run (suc d) (walk cur st g ds) (end o ∷ ts) k h = w-run d (closes false cur st ds) ts k (w-end d cur st g ds h)
-  w-run d (walk cur st g ds) (node o ∷ ts) k h = w-run d (walk (base + length ds) st takes (record { parent = cur; props = [] } ∷ ds)) ts k (w-node d cur st g ds h)
-  w-run d (walk cur st g ds) (prop p e ∷ ts) k h = w-run d (gated (strictly c) g p cur st ds) ts k (w-gated d p cur st g ds h)
+  w-run d (walk cur st g ds) (node o ∷ ts) k h = w-run d (walk (base + length ds) st true (record { parent = cur; props = [] } ∷ ds)) ts k (w-node d cur st g ds h)
+  w-run d (walk cur st g ds) (prop p e ∷ ts) k h = w-run d (gated false g p cur st ds) ts k (w-gated d p cur st g ds h)
 
   -- A SLICE THAT BEGINS WITH `(`
-  pub w-slice : (o : ℕ) (ts : List Tok) → Closes 0 ts → FInv base (walked (strictly c) base (walk none [] shut []) (start o ∷ ts))
+  pub w-slice : (o : ℕ) (ts : List Tok) → Closes 0 ts → FInv base (walked false base (walk none [] false []) (start o ∷ ts))
   w-slice o [] k = absurd k
   w-slice o (start o′ ∷ ts) k = w-stopped UnexpectedGameTreeStart ts
-  w-slice o (end o′ ∷ ts) k = subst (λ (z : List Tok). FInv base (walked (strictly c) base (walk none [] shut []) z)) (sym k) tt
+  w-slice o (end o′ ∷ ts) k = subst (λ (z : List Tok). FInv base (walked false base (walk none [] false []) z)) (sym k) tt
   w-slice o (node o′ ∷ ts) k =
-      w-run 0 (walk (base + 0) (none ∷ []) takes (record { parent = none; props = [] } ∷ [])) ts k (refl, (omega arith, tt), (inl refl, refl), refl)
+      w-run 0 (walk (base + 0) (none ∷ []) true (record { parent = none; props = [] } ∷ [])) ts k (refl, (omega arith, tt), (inl refl, refl), refl)
   w-slice o (prop p e ∷ ts) k = w-stopped UnexpectedProperty ts

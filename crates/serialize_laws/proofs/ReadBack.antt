@@ -1,7 +1,6 @@
 -- Strict reading of a writing gives the same trees, places aside; the writer sees no places. Assumes nothing.
-use Rattle.lists.proofs.Prelude.{_≡_, refl, sym, ap, ap₂, _∙_, subst, ℕ, _+_, _≤_, _<_, Bool, false, List, [], _∷_, _++_, map, ltb, length, take-length, le-ltb}
+use Rattle.lists.proofs.Prelude.{_≡_, refl, sym, ap, ap₂, _∙_, subst, ℕ, _+_, _≤_, _<_, false, List, [], _∷_, _++_, map, ltb, length, take-length, le-ltb}
 use Rattle.edit_laws.proofs.Reread.{in-textLimit}
-use Rattle.edit_laws.specs.Run.{strictly}
 use Rattle.lexer_laws.proofs.Invariant.{OfTok}
 use Rattle.lexer.specs.Move.{moveVal}
 use Rattle.lexer.specs.Token.{End, Lexed, Prop, Tok, Val, done, end, lexFrom, node, prop, start}
@@ -48,24 +47,24 @@ pub record Writable (ts : List Tree) : Type 0 where
   pub shallow : deepest (split false (splitting 0 0 [] []) (tokTrees ts)) ≤ 1024
   pub short : length (writeTrees ts) ≤ textLimit
 
-lexed-written : (c : Bool) (X : Lexed) (ts : List Tree) → Writable ts → X .end ≡ done → map zTok (X .toks) ≡ tokTrees ts
-    → moveAnswer Z Z K (lexing (strictly c) false (X .end) (X .toks)) ≡ accepted (map zTree ts)
-lexed-written c X ts w e t =
-    ap (λ (z : End). moveAnswer Z Z K (lexing (strictly c) false z (X .toks))) e
-    ∙ sym (move-tokens Z Z K (strictly c) (X .toks) (gm-same (X .toks)))
-    ∙ ap (λ (z : List Tok). planted (strictly c) (sliced false (split false (splitting 0 0 [] []) z))) t
-    ∙ planted-written c ts (w .form .some) (w .form .sound) (w .form .few) (w .shallow)
+lexed-written : (X : Lexed) (ts : List Tree) → Writable ts → X .end ≡ done → map zTok (X .toks) ≡ tokTrees ts
+    → moveAnswer Z Z K (lexing false (X .end) (X .toks)) ≡ accepted (map zTree ts)
+lexed-written X ts w e t =
+    ap (λ (z : End). moveAnswer Z Z K (lexing false z (X .toks))) e
+    ∙ sym (move-tokens Z Z K false (X .toks) (gm-same (X .toks)))
+    ∙ ap (λ (z : List Tok). planted false (sliced false (split false (splitting 0 0 [] []) z))) t
+    ∙ planted-written ts (w .form .some) (w .form .sound) (w .form .few) (w .shallow)
 
 -- strict reading of a writing gives the trees, places aside
-pub read-back : (c : Bool) (ts : List Tree) → Writable ts → moveAnswer Z Z K (read (strictly c) (writeTrees ts)) ≡ accepted (map zTree ts)
-read-back c ts w =
+pub read-back : (ts : List Tree) → Writable ts → moveAnswer Z Z K (read false (writeTrees ts)) ≡ accepted (map zTree ts)
+read-back ts w =
     let W : List ℕ = writeTrees ts in
     let n : ℕ = length W in
     let l = lex-written n ts (w .form .plain) in
-    ap (moveAnswer Z Z K) (in-textLimit (ltb textLimit n) (decoded (strictly c) (utfs (whole blank) 0 W) W) (le-ltb textLimit n (w .short)))
-    ∙ ap (λ (u : Utf). moveAnswer Z Z K (decoded (strictly c) u W)) (written-ink ts (w .form .some) (w .form .plain) (w .form .valid))
-    ∙ ap (λ (z : List ℕ). moveAnswer Z Z K (lexing (strictly c) false (lexFrom 0 n z .end) (lexFrom 0 n z .toks))) (take-length W)
-    ∙ lexed-written c (lexFrom 0 n W) ts w (l .0) (l .1)
+    ap (moveAnswer Z Z K) (in-textLimit (ltb textLimit n) (decoded false (utfs (whole blank) 0 W) W) (le-ltb textLimit n (w .short)))
+    ∙ ap (λ (u : Utf). moveAnswer Z Z K (decoded false u W)) (written-ink ts (w .form .some) (w .form .plain) (w .form .valid))
+    ∙ ap (λ (z : List ℕ). moveAnswer Z Z K (lexing false (lexFrom 0 n z .end) (lexFrom 0 n z .toks))) (take-length W)
+    ∙ lexed-written (lexFrom 0 n W) ts w (l .0) (l .1)
 
 -- ---- writing again
 
@@ -101,14 +100,14 @@ pub walk-writes : (ts : List Tree) → Form ts → writeTrees ts ≡ treesText t
 walk-writes ts f = walk-trees 0 ts (f .sound)
 
 -- a strict reading of the writing, values as they are raw, is accepted with trees that are the same but for places
-pub record Back (c : Bool) (ts : List Tree) : Type 0 where
+pub record Back (ts : List Tree) : Type 0 where
   pub again : List Tree
-  pub accepts : read (strictly c) (treesText ts) ≡ accepted again
+  pub accepts : read false (treesText ts) ≡ accepted again
   pub alike : map zTree again ≡ map zTree ts
 
-pub read-back-again : (c : Bool) (ts : List Tree) → Writable ts → Back c ts
-read-back-again c ts w = go (read (strictly c) (writeTrees ts)) refl (read-back c ts w)
+pub read-back-again : (ts : List Tree) → Writable ts → Back ts
+read-back-again ts w = go (read false (writeTrees ts)) refl (read-back ts w)
   where
-    go : (a : Answer) → read (strictly c) (writeTrees ts) ≡ a → moveAnswer Z Z K a ≡ accepted (map zTree ts) → Back c ts
+    go : (a : Answer) → read false (writeTrees ts) ≡ a → moveAnswer Z Z K a ≡ accepted (map zTree ts) → Back ts
     go (refused n p) e h = never cc
-    go (accepted us) e h = record { again = us; accepts = ap (read (strictly c)) (sym (walk-writes ts (w .form))) ∙ e; alike = cc }
+    go (accepted us) e h = record { again = us; accepts = ap (read false) (sym (walk-writes ts (w .form))) ∙ e; alike = cc }

@@ -1,13 +1,12 @@
 -- Reading back, the trees: the tokens of a tree grow that tree. Assumes nothing.
 use Rattle.lists.proofs.Prelude.{_≡_, refl, sym, ap, ap₂, _∙_, subst, ℕ, suc, _+_, _≤_, _<_, arith, Bool, true, false, List, [], _∷_, _++_, map, reverse, reverseAux, append-assoc, append-nil, eqb, length, length-map, length-reverseAux, pick}
-use Rattle.edit_laws.specs.Run.{strictly}
 use Rattle.lexer.specs.Token.{Prop, Tok, Val, end, node, start}
 use Rattle.lists.specs.All.{All}
 use Rattle.parser.proofs.MovedKind.{move-kindProps, move-named}
 use Rattle.parser.specs.Kind.{GM, Kind, is, kind, kindProps, named, props}
 use Rattle.parser.specs.Read.{Growing, growAll, growing, grown, grows, kinded, rooted}
 use Rattle.parser.proofs.Runs.{walked-append}
-use Rattle.parser.specs.Walk.{Gate, Walk, shut, takes, walk, walked}
+use Rattle.parser.specs.Walk.{Walk, walk, walked}
 use Rattle.serialize_laws.proofs.Grow.{node-run, walk-nodes}
 use Rattle.serialize_laws.proofs.GrowNode.{stk}
 use Rattle.serialize_laws.proofs.Written.{PlainNode, tokEnds, tokNodes, tokOpened, tokProps, tokShuts, tokTree}
@@ -52,16 +51,16 @@ module _ (r k : ℕ) (qs : List Prop) (ns : List Node) (s : Sound r k qs ns) whe
   slice-is : slice ≡ start 0 ∷ ((node 0 ∷ (tokProps qs ++ after-root)) ++ (end 0 ∷ []))
   slice-is = ap (λ (z : List Tok). start 0 ∷ (z ++ (end 0 ∷ []))) nodes-are
 
-  tree-run : (c : Bool) → (g : Gate) × (walked (strictly c) r (walk none [] shut []) slice ≡ walk none [] g (reverseAux (map zNode ns) (zNode (rootOf qs) ∷ [])))
-  tree-run c =
-      let x = walk-nodes c r ps (suc r) (opening ps r none ∷ []) ns (zNode (rootOf qs) ∷ []) takes (s .plain .1)
+  tree-run : (g : Bool) × (walked false r (walk none [] false []) slice ≡ walk none [] g (reverseAux (map zNode ns) (zNode (rootOf qs) ∷ [])))
+  tree-run =
+      let x = walk-nodes r ps (suc r) (opening ps r none ∷ []) ns (zNode (rootOf qs) ∷ []) true (s .plain .1)
       (refl, refl, omega (arith, s .few), tt) refl refl (omega arith) (s .few) (s .good) in (
-        shut,
-        ap (walked (strictly c) r (walk none [] shut [])) slice-is
-            ∙ walked-append (strictly c) r (walk none (none ∷ []) shut []) (node 0 ∷ (tokProps qs ++ after-root)) (end 0 ∷ [])
-            ∙ ap (λ (w : Walk). walked (strictly c) r w (end 0 ∷ []))
-            (node-run c r ps r none (none ∷ []) shut qs [] after-root (s .plain .0) (omega arith)
-            ∙ ap (λ (b : Bool). walked (strictly c) r (walk r (stk (record { num = r; brk = b } ∷ [])) takes (zNode (rootOf qs) ∷ [])) after-root) (sym (s .single))
+        false,
+        ap (walked false r (walk none [] false [])) slice-is
+            ∙ walked-append false r (walk none (none ∷ []) false []) (node 0 ∷ (tokProps qs ++ after-root)) (end 0 ∷ [])
+            ∙ ap (λ (w : Walk). walked false r w (end 0 ∷ []))
+            (node-run r ps r none (none ∷ []) false qs [] after-root (s .plain .0) (omega arith)
+            ∙ ap (λ (b : Bool). walked false r (walk r (stk (record { num = r; brk = b } ∷ [])) true (zNode (rootOf qs) ∷ [])) after-root) (sym (s .single))
             ∙ x .2),
       )
 
@@ -116,12 +115,12 @@ rooted-any : (base k : ℕ) (X : List Node) (us : List Tree) → 0 < length X
 rooted-any base k [] us h = absurd (omega arith)
 rooted-any base k (n ∷ ns) us h = refl
 
-pub reads-root : (c : Bool) (r k : ℕ) (qs : List Prop) (ns : List Node) (us : List Tree) → Sound r k qs ns
-    → grows (strictly c) (growing r us) (tokTree (record { root = r; kind = k; nodes = rootOf qs ∷ ns }))
+pub reads-root : (r k : ℕ) (qs : List Prop) (ns : List Node) (us : List Tree) → Sound r k qs ns
+    → grows false (growing r us) (tokTree (record { root = r; kind = k; nodes = rootOf qs ∷ ns }))
     ≡ growing (r + suc (length ns)) (zTree (record { root = r; kind = k; nodes = rootOf qs ∷ ns }) ∷ us)
-reads-root c r k qs ns us s =
-    ap (λ (z : Kind). kinded (strictly c) r z (slice r k qs ns s) us) (kind-run r k qs ns s)
-    ∙ ap (λ (z : Walk). grown false r k z us) (tree-run r k qs ns s c .1)
+reads-root r k qs ns us s =
+    ap (λ (z : Kind). kinded false r z (slice r k qs ns s) us) (kind-run r k qs ns s)
+    ∙ ap (λ (z : Walk). grown false r k z us) (tree-run r k qs ns s .1)
     ∙ rooted-any r k X us (omega (arith, len))
     ∙ ap₂ (λ (n : ℕ) (z : List Node). growing (r + n) (record { root = r; kind = k; nodes = z } ∷ us)) (omega (arith, len))
     (reverse-reverseAux (map zNode ns) (zNode (rootOf qs) ∷ []) [] ∙ ap (λ (z : List Node). zNode (rootOf qs) ∷ z) (append-nil (map zNode ns)))
@@ -141,23 +140,23 @@ abbrev pub SoundTrees : ℕ → List Tree → Type 0
 SoundTrees base [] = Unit {0}
 SoundTrees base (t ∷ ts) = (t .root ≡ base) × SoundNodes base (t .kind) (t .nodes) × SoundTrees (base + length (t .nodes)) ts
 
-reads-tree1 : (c : Bool) (r k : ℕ) (ns : List Node) (us : List Tree) → SoundNodes r k ns
-    → grows (strictly c) (growing r us) (tokTree (record { root = r; kind = k; nodes = ns })) ≡ growing (r + length ns) (zTree (record { root = r; kind = k; nodes = ns }) ∷ us)
-reads-tree1 c r k [] us s = absurd s
-reads-tree1 c r k (n ∷ ns) us s =
-    subst (λ (p : ℕ). grows (strictly c) (growing r us) (tokTree (record { root = r; kind = k; nodes = record { parent = p; props = n .props } ∷ ns }))
+reads-tree1 : (r k : ℕ) (ns : List Node) (us : List Tree) → SoundNodes r k ns
+    → grows false (growing r us) (tokTree (record { root = r; kind = k; nodes = ns })) ≡ growing (r + length ns) (zTree (record { root = r; kind = k; nodes = ns }) ∷ us)
+reads-tree1 r k [] us s = absurd s
+reads-tree1 r k (n ∷ ns) us s =
+    subst (λ (p : ℕ). grows false (growing r us) (tokTree (record { root = r; kind = k; nodes = record { parent = p; props = n .props } ∷ ns }))
     ≡ growing (r + suc (length ns)) (zTree (record { root = r; kind = k; nodes = record { parent = p; props = n .props } ∷ ns }) ∷ us)) (sym (s .0))
-    (reads-root c r k (n .props) ns us (s .1))
+    (reads-root r k (n .props) ns us (s .1))
 
-pub reads-all : (c : Bool) (base : ℕ) (ts us : List Tree) → SoundTrees base ts
-    → (n : ℕ) × (growAll (strictly c) (growing base us) (map tokTree ts) ≡ growing n (reverseAux (map zTree ts) us))
-reads-all c base [] us s = (base, refl)
-reads-all c base (t ∷ ts) us s =
-    let x = reads-all c (base + length (t .nodes)) ts (zTree t ∷ us) (s .2) in (
+pub reads-all : (base : ℕ) (ts us : List Tree) → SoundTrees base ts
+    → (n : ℕ) × (growAll false (growing base us) (map tokTree ts) ≡ growing n (reverseAux (map zTree ts) us))
+reads-all base [] us s = (base, refl)
+reads-all base (t ∷ ts) us s =
+    let x = reads-all (base + length (t .nodes)) ts (zTree t ∷ us) (s .2) in (
       x .0,
-      ap (λ (z : Growing). growAll (strictly c) z (map tokTree ts))
-          (subst (λ (r : ℕ). grows (strictly c) (growing base us) (tokTree (record { root = r; kind = t .kind; nodes = t .nodes }))
+      ap (λ (z : Growing). growAll false z (map tokTree ts))
+          (subst (λ (r : ℕ). grows false (growing base us) (tokTree (record { root = r; kind = t .kind; nodes = t .nodes }))
           ≡ growing (base + length (t .nodes)) (zTree (record { root = r; kind = t .kind; nodes = t .nodes }) ∷ us)) (sym (s .0))
-          (reads-tree1 c base (t .kind) (t .nodes) us (s .1)))
+          (reads-tree1 base (t .kind) (t .nodes) us (s .1)))
           ∙ x .1,
     )

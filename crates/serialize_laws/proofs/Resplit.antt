@@ -1,6 +1,5 @@
 -- Reading back, splitting: the tokens of trees are split into these trees, and grow them. Assumes nothing.
 use Rattle.lists.proofs.Prelude.{_≡_, refl, sym, ap, _∙_, ℕ, suc, _+_, _≤_, _<_, max, arith, Bool, true, false, List, [], _∷_, _++_, map, reverse, reverseAux, append-nil, ltb, eqb, length, length-map, length-reverseAux, le-ltb, ne-eqb, pick}
-use Rattle.edit_laws.specs.Run.{strictly}
 use Rattle.lexer.specs.Token.{Prop, Tok, end, node, prop, start}
 use Rattle.lists.specs.All.{All}
 use Rattle.parser.specs.Read.{accepted, answer, growAll, growing, planted}
@@ -125,17 +124,17 @@ filled-any m [] h = absurd (omega arith)
 filled-any m (x ∷ xs) h = refl
 
 -- the answer for the tokens of a writing
-pub planted-written : (c : Bool) (ts : List Tree) → 0 < length ts → SoundTrees 0 ts → Few ts → deepest (split false (splitting 0 0 [] []) (tokTrees ts)) ≤ 1024
-    → planted (strictly c) (sliced false (split false (splitting 0 0 [] []) (tokTrees ts))) ≡ accepted (map zTree ts)
-planted-written c ts ne s l d =
+pub planted-written : (ts : List Tree) → 0 < length ts → SoundTrees 0 ts → Few ts → deepest (split false (splitting 0 0 [] []) (tokTrees ts)) ≤ 1024
+    → planted false (sliced false (split false (splitting 0 0 [] []) (tokTrees ts))) ≡ accepted (map zTree ts)
+planted-written ts ne s l d =
     let x = split-trees ts 0 [] l in
     let X : List (List Tok) = reverseAux (map tokTree ts) [] in
     let lx : length X ≡ length ts = length-reverseAux (map tokTree ts) [] ∙ omega (arith, length-map ts tokTree) in
-    let r = reads-all c 0 ts [] s in
+    let r = reads-all 0 ts [] s in
     let dx : ltb depthLimit (x .0) ≡ false = le-ltb depthLimit (x .0) (omega (arith, ap deepest (x .1))) in
-    ap (λ (z : Splitting). planted (strictly c) (sliced false z)) (x .1)
-    ∙ ap (planted (strictly c)) (filled-any (x .0) X (omega (arith, lx)))
-    ∙ ap (λ (b : Bool). planted (strictly c) (pick b (no TooDeep) (slices (reverse X)))) dx
-    ∙ ap (λ (z : List (List Tok)). answer (growAll (strictly c) (growing 0 []) z)) (reverse-reverseAux (map tokTree ts) [] [] ∙ append-nil (map tokTree ts))
+    ap (λ (z : Splitting). planted false (sliced false z)) (x .1)
+    ∙ ap (planted false) (filled-any (x .0) X (omega (arith, lx)))
+    ∙ ap (λ (b : Bool). planted false (pick b (no TooDeep) (slices (reverse X)))) dx
+    ∙ ap (λ (z : List (List Tok)). answer (growAll false (growing 0 []) z)) (reverse-reverseAux (map tokTree ts) [] [] ∙ append-nil (map tokTree ts))
     ∙ ap answer (r .1)
     ∙ ap accepted (reverse-reverseAux (map zTree ts) [] [] ∙ append-nil (map zTree ts))

@@ -1,10 +1,9 @@
 -- How many tokens, slices' tokens and nodes a text can have. Assumes nothing.
-use Rattle.lists.proofs.Prelude.{_≡_, ℕ, zero, suc, _+_, _≤_, arith, Bool, true, false, _||_, List, [], _∷_, reverse, reverseAux, ltb, eqb, length, length-append, length-reverse, pick}
-use Rattle.edit_laws.specs.Run.{strictly}
+use Rattle.lists.proofs.Prelude.{_≡_, ℕ, zero, suc, _+_, _≤_, arith, Bool, true, false, List, [], _∷_, reverse, reverseAux, ltb, eqb, length, length-append, length-reverse, pick}
 use Rattle.lexer.specs.Token.{Out, Prop, St, Tok, after, afters, begins, between, emits, end, ends, fault, finish, ident, lexFrom, node, prop, start, step, value}
 use Rattle.lexer_scan.specs.Scan.{space}
 use Rattle.parser.specs.Split.{Slices, Splitting, ended, filled, no, over, sliced, slices, split, splits, splitting, wrong}
-use Rattle.parser.specs.Walk.{Gate, Walk, adds, children, closes, gated, halted, opens, shut, skips, stopped, takes, uppers, walk, walked, walks}
+use Rattle.parser.specs.Walk.{Walk, adds, children, closes, gated, halted, opens, stopped, walk, walked, walks}
 use Rattle.tables.specs.Numbers.{depthLimit}
 use Rattle.tables.specs.Record.{Node}
 use Rattle.tables.specs.declared.Reason.the-variants.{TooDeep, UnexpectedGameTreeStart}
@@ -104,12 +103,12 @@ AtMost n (walk cur st g ds) = length ds ≤ n
 AtMost n (halted ns) = length ns ≤ n
 AtMost n (stopped k) = Unit {0}
 
-module _ (c : Bool) (base : ℕ) where
+module _ (base : ℕ) where
   most-opens : (n cur : ℕ) (st : List ℕ) (ds : List Node) → length ds ≤ n → AtMost n (opens false cur st ds)
   most-opens n cur [] ds h = h
   most-opens n cur (p ∷ st) ds h = go (children p ds)
     where
-      go : (b : Bool) → AtMost n (pick b (walk cur (cur ∷ p ∷ st) shut ds) (stopped UnexpectedGameTreeStart))
+      go : (b : Bool) → AtMost n (pick b (walk cur (cur ∷ p ∷ st) false ds) (stopped UnexpectedGameTreeStart))
       go true = h
       go false = tt
 
@@ -117,17 +116,15 @@ module _ (c : Bool) (base : ℕ) where
   most-closes n cur [] ds h = tt
   most-closes n cur (p ∷ st) ds h = h
 
-  most-adds : (ok : Bool) (n : ℕ) (p : Prop) (cur : ℕ) (st : List ℕ) (ds : List Node) → length ds ≤ n → AtMost n (adds ok false p cur st ds)
-  most-adds ok n p cur st [] h = tt
-  most-adds true n p cur st (d ∷ ds) h = h
-  most-adds false n p cur st (d ∷ ds) h = tt
+  most-adds : (n : ℕ) (p : Prop) (cur : ℕ) (st : List ℕ) (ds : List Node) → length ds ≤ n → AtMost n (adds false p cur st ds)
+  most-adds n p cur st [] h = tt
+  most-adds n p cur st (d ∷ ds) h = h
 
-  most-gated : (n : ℕ) (g : Gate) (p : Prop) (cur : ℕ) (st : List ℕ) (ds : List Node) → length ds ≤ n → AtMost n (gated (strictly c) g p cur st ds)
-  most-gated n shut p cur st ds h = tt
-  most-gated n takes p cur st ds h = most-adds (c || uppers (p .name)) n p cur st ds h
-  most-gated n skips p cur st ds h = h
+  most-gated : (n : ℕ) (g : Bool) (p : Prop) (cur : ℕ) (st : List ℕ) (ds : List Node) → length ds ≤ n → AtMost n (gated false g p cur st ds)
+  most-gated n false p cur st ds h = tt
+  most-gated n true p cur st ds h = most-adds n p cur st ds h
 
-  most-walks : (n : ℕ) (w : Walk) (t : Tok) → AtMost n w → AtMost (suc n) (walks (strictly c) base w t)
+  most-walks : (n : ℕ) (w : Walk) (t : Tok) → AtMost n w → AtMost (suc n) (walks false base w t)
   most-walks n (walk cur st g ds) (start o) h = most-opens (suc n) cur st ds (omega arith)
   most-walks n (walk cur st g ds) (end o) h = most-closes (suc n) cur st ds (omega arith)
   most-walks n (walk cur st g ds) (node o) h = omega arith
@@ -140,8 +137,8 @@ module _ (c : Bool) (base : ℕ) where
   at-most-up n m (halted ns) l h = omega arith
   at-most-up n m (stopped k) l h = tt
 
-  pub most-walked : (n : ℕ) (w : Walk) (ts : List Tok) → AtMost n w → AtMost (n + length ts) (walked (strictly c) base w ts)
+  pub most-walked : (n : ℕ) (w : Walk) (ts : List Tok) → AtMost n w → AtMost (n + length ts) (walked false base w ts)
   most-walked n w [] h = at-most-up n (n + 0) w (omega arith) h
   most-walked n w (t ∷ ts) h =
-      at-most-up (suc n + length ts) (n + suc (length ts)) (walked (strictly c) base (walks (strictly c) base w t) ts) (omega arith)
-      (most-walked (suc n) (walks (strictly c) base w t) ts (most-walks n w t h))
+      at-most-up (suc n + length ts) (n + suc (length ts)) (walked false base (walks false base w t) ts) (omega arith)
+      (most-walked (suc n) (walks false base w t) ts (most-walks n w t h))

@@ -1,12 +1,11 @@
 -- Reading back: a slice that begins with `(` and that strict reading accepts gives a tree as the writer asks it. Assumes nothing.
-use Rattle.lists.proofs.Prelude.{_≡_, refl, sym, ap, ap₂, _∙_, subst, ℕ, zero, suc, _+_, _≤_, arith, zero-add, Bool, false, List, [], _∷_, reverse, reverseAux, append-nil, length, length-reverse, drop, lt-leb, ne-eqb}
-use Rattle.edit_laws.specs.Run.{strictly}
+use Rattle.lists.proofs.Prelude.{_≡_, refl, sym, ap, ap₂, _∙_, subst, ℕ, zero, suc, _+_, _≤_, arith, zero-add, false, List, [], _∷_, reverse, reverseAux, append-nil, length, length-reverse, drop, lt-leb, ne-eqb}
 use Rattle.lexer.specs.Token.{Prop, Tok, end, node, prop, start}
 use Rattle.lists.specs.All.{All}
 use Rattle.lists.proofs.Tests.{never}
 use Rattle.parser.specs.Kind.{GM, Kind, is, kind, kindProps, named, props, unkind}
 use Rattle.parser.specs.Read.{Growing, failing, growAll, growing, grown, grows, kinded, rooted}
-use Rattle.parser.specs.Walk.{Walk, halted, shut, stopped, walk, walked}
+use Rattle.parser.specs.Walk.{Walk, halted, stopped, walk, walked}
 use Rattle.serialize_laws.proofs.Closing.{Closes, SliceOk}
 use Rattle.serialize_laws.proofs.Nested.{DescP, FInv, GoodR, desc-left, on-less, pathR, w-slice}
 use Rattle.serialize_laws.proofs.InOrder.{good-nodes, good-tail}
@@ -87,7 +86,7 @@ record Planted (base : ℕ) (s : List Tok) (us : List Tree) (n : ℕ) (vs : List
 pub back-again : {A : Type 0} (xs : List A) → reverseAux (reverse xs) [] ≡ xs
 back-again xs = reverse-reverseAux xs [] [] ∙ append-nil xs
 
-module _ (c : Bool) (base o : ℕ) (ts : List Tok) (us : List Tree) (n : ℕ) (vs : List Tree) where
+module _ (base o : ℕ) (ts : List Tok) (us : List Tree) (n : ℕ) (vs : List Tree) where
   abbrev s : List Tok
   s = start o ∷ ts
 
@@ -116,44 +115,44 @@ module _ (c : Bool) (base o : ℕ) (ts : List Tok) (us : List Tree) (n : ℕ) (v
   planted-walk k (halted ns) f r m e l h = absurd f
   planted-walk k (stopped j) f r m e l h = failed j n vs h
 
-  planted-slice : Closes 0 ts → base + length s ≤ none → grows (strictly c) (growing base us) s ≡ growing n vs → Planted base s us n vs
+  planted-slice : Closes 0 ts → base + length s ≤ none → grows false (growing base us) s ≡ growing n vs → Planted base s us n vs
   planted-slice k l h = go (kind s) refl h
     where
-      go : (x : Kind) → kind s ≡ x → kinded (strictly c) base x s us ≡ growing n vs → Planted base s us n vs
+      go : (x : Kind) → kind s ≡ x → kinded false base x s us ≡ growing n vs → Planted base s us n vs
       go (is j) e q =
-          planted-walk j (walked (strictly c) base (walk none [] shut []) s) (w-slice c base o ts k) (root-slice c base o ts k)
-          (subst (λ (z : ℕ). AtMost z (walked (strictly c) base (walk none [] shut []) s)) (zero-add (length s)) (most-walked c base 0 (walk none [] shut []) s (omega arith))) e l q
+          planted-walk j (walked false base (walk none [] false []) s) (w-slice base o ts k) (root-slice base o ts k)
+          (subst (λ (z : ℕ). AtMost z (walked false base (walk none [] false []) s)) (zero-add (length s)) (most-walked base 0 (walk none [] false []) s (omega arith))) e l q
       go (unkind j) e q = failed j n vs q
 
-failing-all : (c : Bool) (j : Reason) (ss : List (List Tok)) → growAll (strictly c) (failing j) ss ≡ failing j
-failing-all c j [] = refl
-failing-all c j (s ∷ ss) = failing-all c j ss
+failing-all : (j : Reason) (ss : List (List Tok)) → growAll false (failing j) ss ≡ failing j
+failing-all j [] = refl
+failing-all j (s ∷ ss) = failing-all j ss
 
 abbrev pub Grown : ℕ → List (List Tok) → List Tree → List Tree → Type 0
 Grown base ss us vs = (ws : List Tree) × (vs ≡ reverseAux ws us) × PreTrees base ws × (length ws ≡ length ss)
 
 -- one tree more
-grown-more : (c : Bool) (base n : ℕ) (s : List Tok) (ss : List (List Tok)) (us vs : List Tree) (n1 : ℕ) (vs1 : List Tree) → Planted base s us n1 vs1
-    → growAll (strictly c) (growing n1 vs1) ss ≡ growing n vs → base + (length s + total ss) ≤ none
-    → ((b : ℕ) (t : Tree) → b + total ss ≤ none → growAll (strictly c) (growing b (t ∷ us)) ss ≡ growing n vs → Grown b ss (t ∷ us) vs) → Grown base (s ∷ ss) us vs
-grown-more c base n s ss us vs n1 vs1 p q l k =
+grown-more : (base n : ℕ) (s : List Tok) (ss : List (List Tok)) (us vs : List Tree) (n1 : ℕ) (vs1 : List Tree) → Planted base s us n1 vs1
+    → growAll false (growing n1 vs1) ss ≡ growing n vs → base + (length s + total ss) ≤ none
+    → ((b : ℕ) (t : Tree) → b + total ss ≤ none → growAll false (growing b (t ∷ us)) ss ≡ growing n vs → Grown b ss (t ∷ us) vs) → Grown base (s ∷ ss) us vs
+grown-more base n s ss us vs n1 vs1 p q l k =
     let t : Tree = p .t in
-    let q2 : growAll (strictly c) (growing (base + length (t .nodes)) (t ∷ us)) ss ≡ growing n vs =
-    ap₂ (λ (x : ℕ) (y : List Tree). growAll (strictly c) (growing x y) ss) (sym (p .n-is)) (sym (p .vs-is)) ∙ q in
+    let q2 : growAll false (growing (base + length (t .nodes)) (t ∷ us)) ss ≡ growing n vs =
+    ap₂ (λ (x : ℕ) (y : List Tree). growAll false (growing x y) ss) (sym (p .n-is)) (sym (p .vs-is)) ∙ q in
     let r = k (base + length (t .nodes)) t (omega (arith, p .small)) q2 in
     (t ∷ r .0, r .1, (p .root-is, p .pre, r .2), ap suc (r .3))
 
-pub all-trees : (c : Bool) (base : ℕ) (ss : List (List Tok)) (us : List Tree) (n : ℕ) (vs : List Tree) → All Leads ss → All SliceOk ss → base + total ss ≤ none
-    → growAll (strictly c) (growing base us) ss ≡ growing n vs → Grown base ss us vs
-all-trees c base [] us n vs b k l h = let e : us ≡ vs = cc in ([], sym e, tt, refl)
-all-trees c base ([] ∷ ss) us n vs b k l h = absurd (b .0)
-all-trees c base ((end o ∷ ts) ∷ ss) us n vs b k l h = absurd (b .0)
-all-trees c base ((node o ∷ ts) ∷ ss) us n vs b k l h = absurd (b .0)
-all-trees c base ((prop p e ∷ ts) ∷ ss) us n vs b k l h = absurd (b .0)
-all-trees c base ((start o ∷ ts) ∷ ss) us n vs b k l h =
-    go (grows (strictly c) (growing base us) (start o ∷ ts)) refl h (λ x t m q. all-trees c x ss (t ∷ us) n vs (b .1) (k .1) m q)
+pub all-trees : (base : ℕ) (ss : List (List Tok)) (us : List Tree) (n : ℕ) (vs : List Tree) → All Leads ss → All SliceOk ss → base + total ss ≤ none
+    → growAll false (growing base us) ss ≡ growing n vs → Grown base ss us vs
+all-trees base [] us n vs b k l h = let e : us ≡ vs = cc in ([], sym e, tt, refl)
+all-trees base ([] ∷ ss) us n vs b k l h = absurd (b .0)
+all-trees base ((end o ∷ ts) ∷ ss) us n vs b k l h = absurd (b .0)
+all-trees base ((node o ∷ ts) ∷ ss) us n vs b k l h = absurd (b .0)
+all-trees base ((prop p e ∷ ts) ∷ ss) us n vs b k l h = absurd (b .0)
+all-trees base ((start o ∷ ts) ∷ ss) us n vs b k l h =
+    go (grows false (growing base us) (start o ∷ ts)) refl h (λ x t m q. all-trees x ss (t ∷ us) n vs (b .1) (k .1) m q)
   where
-    go : (r : Growing) → grows (strictly c) (growing base us) (start o ∷ ts) ≡ r → growAll (strictly c) r ss ≡ growing n vs
-        → ((x : ℕ) (t : Tree) → x + total ss ≤ none → growAll (strictly c) (growing x (t ∷ us)) ss ≡ growing n vs → Grown x ss (t ∷ us) vs) → Grown base ((start o ∷ ts) ∷ ss) us vs
-    go (growing n1 vs1) e q f = grown-more c base n (start o ∷ ts) ss us vs n1 vs1 (planted-slice c base o ts us n1 vs1 (k .0) (omega arith) e) q l f
-    go (failing j) e q f = failed j n vs (sym (failing-all c j ss) ∙ q)
+    go : (r : Growing) → grows false (growing base us) (start o ∷ ts) ≡ r → growAll false r ss ≡ growing n vs
+        → ((x : ℕ) (t : Tree) → x + total ss ≤ none → growAll false (growing x (t ∷ us)) ss ≡ growing n vs → Grown x ss (t ∷ us) vs) → Grown base ((start o ∷ ts) ∷ ss) us vs
+    go (growing n1 vs1) e q f = grown-more base n (start o ∷ ts) ss us vs n1 vs1 (planted-slice base o ts us n1 vs1 (k .0) (omega arith) e) q l f
+    go (failing j) e q f = failed j n vs (sym (failing-all j ss) ∙ q)

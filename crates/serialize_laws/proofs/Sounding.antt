@@ -1,7 +1,6 @@
 -- Reading back: what strict reading accepts can be written and read back. Assumes nothing.
 use Rattle.lists.proofs.Prelude.{_≡_, refl, sym, ap, _∙_, subst, ℕ, zero, suc, _+_, _≤_, _<_, arith, Bool, true, false, List, [], _∷_, reverse, ltb, length, length-reverse, length-drop, length-take, take, drop, ltb-false, pick}
 use Rattle.edit_laws.proofs.Accepted.{Accepted, accepted-is}
-use Rattle.edit_laws.specs.Run.{strictly}
 use Rattle.lexer_laws.proofs.Proper.{HasProper, Proper, proper-tokens}
 use Rattle.lexer.specs.Token.{Prop, Tok, Val, lexFrom}
 use Rattle.lists.proofs.All.{all-map}
@@ -44,21 +43,21 @@ some-sliced (splitting (suc d) m cur ss) = tt
 some-sliced (over m ss) = some-filled m ss
 some-sliced (wrong n) = tt
 
-pre-answer : (c : Bool) (ss : List (List Tok)) (r : Growing) (ts : List Tree) → growAll (strictly c) (growing 0 []) ss ≡ r → answer r ≡ accepted ts
+pre-answer : (ss : List (List Tok)) (r : Growing) (ts : List Tree) → growAll false (growing 0 []) ss ≡ r → answer r ≡ accepted ts
     → All Leads ss → All SliceOk ss → total ss ≤ none → PreTrees 0 ts × (length ts ≡ length ss)
-pre-answer c ss (growing n vs) ts e h b k l =
-    let g = all-trees c 0 ss [] n vs b k (omega arith) e in
+pre-answer ss (growing n vs) ts e h b k l =
+    let g = all-trees 0 ss [] n vs b k (omega arith) e in
     let h2 : accepted (reverse vs) ≡ accepted ts = h in
     let q : reverse vs ≡ ts = cc in
     let w : g .0 ≡ ts = sym (back-again (g .0)) ∙ ap reverse (sym (g .1)) ∙ q in
     (subst (PreTrees 0) w (g .2), sym (ap length w) ∙ g .3)
-pre-answer c ss (failing j) ts e h b k l = not-both j 0 ts h
+pre-answer ss (failing j) ts e h b k l = not-both j 0 ts h
 
-pre-planted : (c : Bool) (x : Slices) (ts : List Tree) → planted (strictly c) x ≡ accepted ts → Each Leads x → OkSlices x → Within none x → Some x
+pre-planted : (x : Slices) (ts : List Tree) → planted false x ≡ accepted ts → Each Leads x → OkSlices x → Within none x → Some x
     → PreTrees 0 ts × (0 < length ts)
-pre-planted c (no n) ts h b k l m = not-both n 0 ts h
-pre-planted c (slices ss) ts h b k l m =
-    let r = pre-answer c ss (growAll (strictly c) (growing 0 []) ss) ts refl h b k l in (r .0, omega (arith, r .1))
+pre-planted (no n) ts h b k l m = not-both n 0 ts h
+pre-planted (slices ss) ts h b k l m =
+    let r = pre-answer ss (growAll false (growing 0 []) ss) ts refl h b k l in (r .0, omega (arith, r .1))
 
 plain-props : (ps : List Prop) → All HasProper ps → All Named ps → All Plain ps
 plain-props [] h n = tt
@@ -115,14 +114,14 @@ within-up n m (no k) l h = tt
 within-up n m (slices ss) l h = omega arith
 
 -- what strict reading accepts, with trees that begin with `(` and upper case identifiers, can be written and read back, limits aside
-pub writable : (c : Bool) (t : List ℕ) (ts : List Tree) → read (strictly c) t ≡ accepted ts → BeginsAll t → All (OfTree Named) ts
+pub writable : (t : List ℕ) (ts : List Tree) → read false t ≡ accepted ts → BeginsAll t → All (OfTree Named) ts
     → Form ts
-writable c t ts h b nm = go (accepted-is c t ts h)
+writable t ts h b nm = go (accepted-is t ts h)
   where
     long : length t ≤ textLimit
-    long = ltb-false textLimit (length t) (in-bounds (ltb textLimit (length t)) (decoded (strictly c) (utfs (whole blank) 0 t) t) ts h)
+    long = ltb-false textLimit (length t) (in-bounds (ltb textLimit (length t)) (decoded false (utfs (whole blank) 0 t) t) ts h)
 
-    go : Accepted c t ts → Form ts
+    go : Accepted t ts → Form ts
     go A =
         let bs : List ℕ = drop (A .f0) (take (A .l) t) in
         let xs : List Tok = lexFrom (A .f0) (A .l) bs .toks in
@@ -131,9 +130,9 @@ writable c t ts h b nm = go (accepted-is c t ts h)
         let wi : Within none (sliced false (split false (splitting 0 0 [] []) xs)) =
         within-up (length xs) none (sliced false (split false (splitting 0 0 [] []) xs))
         (omega (arith, long, few-tokens (A .f0) (A .l) bs, length-drop (A .f0) (take (A .l) t), length-take (A .l) t)) (few-slices xs) in
-        let pr = pre-planted c (sliced false (split false (splitting 0 0 [] []) xs)) ts (A .trees) bg (ok-tokens xs) wi (some-sliced (split false (splitting 0 0 [] []) xs)) in
+        let pr = pre-planted (sliced false (split false (splitting 0 0 [] []) xs)) ts (A .trees) bg (ok-tokens xs) wi (some-sliced (split false (splitting 0 0 [] []) xs)) in
         let hp : All (OfTree HasProper) ts =
-        subst (OfAnswer HasProper) (A .trees) (of-tokens HasProper (strictly c) xs (proper-tokens t (inked (A .f0) (A .l)) (A .valid) (A .f0) (A .l))) in
+        subst (OfAnswer HasProper) (A .trees) (of-tokens HasProper false xs (proper-tokens t (inked (A .f0) (A .l)) (A .valid) (A .f0) (A .l))) in
         let pl = plain-trees ts hp nm in
         record {
           some = pr .1;

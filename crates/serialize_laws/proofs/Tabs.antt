@@ -95,6 +95,6 @@ pub tab-read : read strict (tabbed "(;^B[aa])") ≡ accepted read-as
 unfolding white space
 tab-read = refl
 
-pub tab-back : ReadsBack true read-as
+pub tab-back : ReadsBack read-as
 unfolding white space readFrom readIdentifier normal go.written goValue shapeOf valueBy moveOf moveTo letterOf letter
-tab-back = reads-back-within true true (tabbed "(;^B[aa])") read-as tab-read (refl, tt) ((refl, refl), tt) (leb-true _ _ refl) (leb-true _ _ refl)
+tab-back = reads-back-within (tabbed "(;^B[aa])") read-as tab-read (refl, tt) ((refl, refl), tt) (leb-true _ _ refl) (leb-true _ _ refl)

@@ -1,6 +1,5 @@
 -- The scope's "Reading back". Assumes nothing.
-use Rattle.lists.proofs.Prelude.{_≡_, sym, _∙_, _⊎_, inl, inr, ℕ, _≤_, _<_, Bool, List, [], _∷_, map, length}
-use Rattle.edit_laws.specs.Run.{strictly}
+use Rattle.lists.proofs.Prelude.{_≡_, sym, _∙_, _⊎_, inl, inr, ℕ, _≤_, _<_, List, [], _∷_, map, length, false}
 use Rattle.lists.proofs.All.{all-left, all-right}
 use Rattle.lists.specs.All.{All}
 use Rattle.parser.proofs.Answers.{not-both}
@@ -30,17 +29,16 @@ named-trees : (ts : List Tree) → All (OfNode Named) (allNodes ts) → All (OfT
 named-trees [] h = tt
 named-trees (t ∷ ts) h = (all-left (OfNode Named) (t .nodes) (allNodes ts) h, named-trees ts (all-right (OfNode Named) (t .nodes) (allNodes ts) h))
 
--- a text that is strictly accepted, conversion on or off, whose trees each begin with `(` and whose raw identifiers are non-empty and uppercase;
--- its writing, within the text limit, is read with conversion on or off
-module _ (c d : Bool) (t : List ℕ) (ts : List Tree) (h : read (strictly c) t ≡ accepted ts) (b : BeginsAll t) (nm : All Named (allProps (allNodes ts)))
+-- a text that is strictly accepted, whose trees each begin with `(` and whose raw identifiers are non-empty and uppercase; its writing, within the text limit, is read
+module _ (t : List ℕ) (ts : List Tree) (h : read false t ≡ accepted ts) (b : BeginsAll t) (nm : All Named (allProps (allNodes ts)))
     (s : length (writing ts) ≤ textLimit) where
   form : Form (map formTree ts)
-  form = normal-form ts (writable c t ts h b (named-trees ts (named-nodes (allNodes ts) nm)))
+  form = normal-form ts (writable t ts h b (named-trees ts (named-nodes (allNodes ts) nm)))
 
   -- within the depth it is read back
-  pub reads-back-within : depthOf (writing ts) ≤ depthLimit → ReadsBack d ts
+  pub reads-back-within : depthOf (writing ts) ≤ depthLimit → ReadsBack ts
   reads-back-within l =
-      let x : Back d (map formTree ts) = shallow-back d (map formTree ts) form s l in
+      let x : Back (map formTree ts) = shallow-back (map formTree ts) form s l in
       let same = same-trees ts (x .again) (x .alike) in
       record {
         again = x .again;
@@ -52,12 +50,12 @@ module _ (c d : Bool) (t : List ℕ) (ts : List Tree) (h : read (strictly c) t �
       }
 
   -- above it, and only there, it is 9
-  pub too-deep : depthLimit < depthOf (writing ts) → read (strictly d) (writing ts) ≡ refused TooDeep 0
-  too-deep = deep-nine d (map formTree ts) form s
+  pub too-deep : depthLimit < depthOf (writing ts) → read false (writing ts) ≡ refused TooDeep 0
+  too-deep = deep-nine (map formTree ts) form s
 
-  pub only-too-deep : (r : Reason) (p : ℕ) → read (strictly d) (writing ts) ≡ refused r p → depthLimit < depthOf (writing ts)
+  pub only-too-deep : (r : Reason) (p : ℕ) → read false (writing ts) ≡ refused r p → depthLimit < depthOf (writing ts)
   only-too-deep r p e = below-or depthLimit (depthOf (writing ts)) (λ l. l) (λ l. not-both r p (reads-back-within l .again) (sym e ∙ reads-back-within l .accepts))
 
   -- so one of the two
-  pub reads-back : (read (strictly d) (writing ts) ≡ refused TooDeep 0) ⊎ ReadsBack d ts
+  pub reads-back : (read false (writing ts) ≡ refused TooDeep 0) ⊎ ReadsBack ts
   reads-back = below-or depthLimit (depthOf (writing ts)) (λ l. inl (too-deep l)) (λ l. inr (reads-back-within l))

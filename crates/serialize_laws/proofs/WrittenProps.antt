@@ -8,12 +8,11 @@ use Rattle.lexer.specs.Token.{Out, Prop, St, Tok, Val, after, between, emits, e
 use Rattle.lexer_scan.specs.Scan.{space}
 use Rattle.lists.proofs.Tests.{and-both}
 use Rattle.lists.specs.All.{All}
-use Rattle.parser.specs.Walk.{uppers}
 use Rattle.serialize.specs.Branch.{boxed}
 use Rattle.text_utf8.proofs.Steps.{place}
 use Rattle.text_chars.specs.White.{within}
 use Rattle.values.specs.Read.{readIdentifier}
-use Rattle.serialize_laws.specs.Back.{some, Z, K, zProp, zTok}
+use Rattle.serialize_laws.specs.Back.{some, uppers, Z, K, zProp, zTok}
 use Rattle.serialize_laws.proofs.Pieces.{Ready, pend, Reads}
 
 -- an upper case letter, against the tests of the machine

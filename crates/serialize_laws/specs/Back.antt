@@ -1,5 +1,5 @@
 -- Reading back: what is asked of a text and its trees; and trees places aside.
-use Rattle.lists.specs.Prelude.{ℕ, _≡_, Bool, true, false, List, [], _∷_, getD}
+use Rattle.lists.specs.Prelude.{ℕ, _≡_, Bool, true, false, _&&_, List, [], _∷_, getD, leb}
 use Rattle.lists.specs.All.{All}
 use Rattle.text_utf8.specs.Text.{Utf, whole, part, bad, blank, utfs}
 use Rattle.lexer.specs.Token.{Prop, Tok, start, end, node, prop}
@@ -7,13 +7,17 @@ use Rattle.lexer.specs.Move.{moveProp, moveTok}
 use Rattle.tables.specs.Record.{Node, Tree}
 use Rattle.tables.specs.Move.{moveNode, moveTree}
 use Rattle.parser.specs.Split.{Slices, no, slices, slicesOf}
-use Rattle.parser.specs.Walk.{uppers}
 use Rattle.parser.specs.Read.{lex}
 
 -- not empty
 abbrev pub some : List ℕ → Bool
 some [] = false
 some (b ∷ bs) = true
+
+-- uppercase letters only
+abbrev pub uppers : List ℕ → Bool
+uppers [] = true
+uppers (b ∷ bs) = (leb 0x41 b && leb b 0x5a) && uppers bs
 
 -- an identifier of uppercase letters only, and not empty
 abbrev pub Named : Prop → Type 0

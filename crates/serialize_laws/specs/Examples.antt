@@ -1,5 +1,5 @@
 -- The scope's examples P1 to P10: one table, one statement.
-use Rattle.lists.specs.Prelude.{_≡_, refl, ℕ, zero, suc, List, [], _∷_, _++_, length, take}
+use Rattle.lists.specs.Prelude.{_≡_, refl, ℕ, zero, suc, List, [], _∷_, _++_, length, take, Bool}
 use Prim.Native.String.{String}
 use Rattle.text_chars.specs.White.{white}
 use Rattle.text_utf8.specs.Trim.{trimmed}
@@ -21,7 +21,6 @@ use Rattle.fit_spans.specs.Spans.{spans, ascending, plainName, spansFit}
 use Rattle.fit.specs.Fit.{fitText, Fit}
 use Rattle.fit.specs.Record.{recordIn}
 use Rattle.parser.specs.Examples.{bytes, strict, lenient}
-use Rattle.parser.specs.Walk.{Opts}
 use Rattle.parser.specs.Read.{Answer, refused, accepted, read}
 use Rattle.edit_answer.specs.Answer.{outcomeOf, editedFor}
 use Rattle.edit_answer.specs.declared.Edited.{Edited}
@@ -33,7 +32,7 @@ use Rattle.serialize.specs.declared.Written.the-variants as writer
 
 -- what is done with a text: it is read; or read strictly and written; or read strictly and value k edited
 pub data Deed : Type 0 where
-  reading : Opts → Deed
+  reading : Bool → Deed
   rewriting : Deed
   editing : (k : ℕ) → String → Deed
 
@@ -133,7 +132,7 @@ editSays t k new (accepted ts) =
 
 -- what is answered to one
 abbrev pub does : List ℕ → Deed → Says
-does t (reading op) = readSays (read op t)
+does t (reading len) = readSays (read len t)
 does t rewriting = writeSays t (read strict t)
 does t (editing k new) = editSays t k (bytes new) (read strict t)
 

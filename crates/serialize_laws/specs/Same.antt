@@ -9,7 +9,6 @@ use Rattle.go_points.specs.declared.Value.the-variants.{Other, Invalid, Pass, M
 use Rattle.tables.specs.Record.{Node, Tree}
 use Rattle.tables.specs.Rows.{tables}
 use Rattle.parser.specs.Read.{accepted, read}
-use Rattle.edit_laws.specs.Run.{strictly}
 use Rattle.fit.specs.Record.{rawsOf}
 use Rattle.serialize.specs.Form.{writing}
 
@@ -47,10 +46,10 @@ pub record SameTree (t u : Tree) : Type 0 where
   pub kind : u .kind ≡ t .kind
   pub nodes : Pairs (SameNode (t .kind)) (t .nodes) (u .nodes)
 
--- a strict reading of the writing, d its conversion option: accepted with the same trees, the same tree and node rows; and writing these gives the same bytes
-pub record ReadsBack (d : Bool) (ts : List Tree) : Type 0 where
+-- a strict reading of the writing: accepted with the same trees, the same tree and node rows; and writing these gives the same bytes
+pub record ReadsBack (ts : List Tree) : Type 0 where
   pub again : List Tree
-  pub accepts : read (strictly d) (writing ts) ≡ accepted again
+  pub accepts : read false (writing ts) ≡ accepted again
   pub same : Pairs SameTree ts again
   pub tree-rows : tables again .trees ≡ tables ts .trees
   pub node-rows : tables again .nodes ≡ tables ts .nodes

@@ -1,5 +1,5 @@
 -- A reading shown as numbers. Assumes nothing.
-use Rattle.lists.proofs.Prelude.{_≡_, ap, _∙_}
+use Rattle.lists.proofs.Prelude.{ℕ, _≡_, ap, _∙_}
 use Rattle.tables.specs.declared.Reading.{Reading}
 use Rattle.parser.specs.Read.{Answer}
 use Rattle.reader.specs.Lent.{Lent, ReadIs}
@@ -7,5 +7,5 @@ use Rattle.c_answers.specs.Shown.{readingShown}
 use Rattle.sgf.specs.Shown.{ReadShown}
 use Rattle.c_answers.specs.declared.SgfReading.{SgfReading}
 
-pub read-shown : {a : Answer} {before after : Lent} {r : Reading} {s : SgfReading} → ReadIs a before after r → s ≡ readingShown r → ReadShown a before after s
-read-shown i s = record { shown = s ∙ ap readingShown (i .answer); tables = i .tables }
+pub read-shown : {a : Answer} {before after : Lent} {r : Reading} {s : SgfReading} {ignored : ℕ} → ReadIs a before after r → s ≡ readingShown ignored r → ReadShown ignored a before after s
+read-shown {ignored = ignored} i s = record { shown = s ∙ ap (readingShown ignored) (i .answer); tables = i .tables }

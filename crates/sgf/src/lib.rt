@@ -26,7 +26,7 @@ ghost use Rattle.values.specs.Read.{readIdentifier};
 ghost use Rattle.c_answers.specs.Shown.{spanShown, goShown};
 ghost use Rattle.sgf.specs.Changed.{WriteShown, EditShown};
 ghost use Rattle.sgf.specs.Asked.{kindOf, fitsShown, answerShown, DisplayShown, RawShown};
-ghost use Rattle.sgf.specs.Shown.{optionsOf, ReadShown};
+ghost use Rattle.sgf.specs.Shown.{lenientOf, ignoredOf, ReadShown};
 ghost use Rattle.c_tokens.specs.Tokens.{TrimIs, TokenIs, ValueIs};
 ghost use Rattle.tables.specs.Memory.{memory};
 ghost use Rattle.c_version.specs.Version.{version};
@@ -63,7 +63,7 @@ pub extern "C" fn sgf_next_value(text: &[u8], at: usize) -> SgfValue
     c_tokens::next_value(text, at)
 }
 
-// Reads a text into the lent tables. Options: 1 lenient, 2 identifiers kept as they are (no conversion), 3 both; further bits mean nothing.
+// Reads a text into the lent tables. Options: 1 lenient; 2, the retired conversion switch, is ignored, and the answer says so; further bits mean nothing.
 #[no_mangle]
 pub extern "C" fn sgf_read(
     text: &[u8],
@@ -73,14 +73,17 @@ pub extern "C" fn sgf_read(
     properties: &mut [u32],
     values: &mut [u32],
 ) -> SgfReading
-    ensures { λ r. ⌜ ReadShown (read (optionsOf options) (now (text .entry)))
+    ensures { λ r. ⌜ ReadShown (ignoredOf options) (read (lenientOf options) (now (text .entry)))
         (lent (now (trees .entry)) (now (nodes .entry)) (now (properties .entry)) (now (values .entry)))
         (lent (now (trees .exit)) (now (nodes .exit)) (now (properties .exit)) (now (values .exit)))
         r ⌝ }
 {
     let lenient = options % 2 == 1;
-    let convert = options / 2 % 2 == 0;
-    c_answers::reading_shown(reader::read(text, lenient, convert, trees, nodes, properties, values))
+    let ignored = options / 2 % 2 * 2;
+    c_answers::reading_shown(
+        ignored,
+        reader::read(text, lenient, trees, nodes, properties, values),
+    )
 }
 
 // Number 0 where the tables fit the first `used` bytes of the text, else 19.

@@ -59,7 +59,6 @@ fn write_text(name: &[u8], text: &[u8], out: &mut [u8]) -> Outcome {
     match reader::read(
         text,
         false,
-        true,
         &mut trees,
         &mut nodes,
         &mut properties,

@@ -107,7 +107,6 @@ fn show(text: &[u8]) {
     match reader::read(
         text,
         false,
-        true,
         &mut trees,
         &mut nodes,
         &mut properties,

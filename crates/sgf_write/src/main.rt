@@ -1,4 +1,4 @@
-// Standard input read strictly, with conversion, and written to standard output with a line feed; a refusal is one line.
+// Standard input read strictly and written to standard output with a line feed; a refusal is one line.
 use serialize::Written;
 use tables::Counts;
 use tables::Reading;
@@ -47,7 +47,6 @@ fn say_text(text: &[u8]) {
     match reader::read(
         text,
         false,
-        true,
         &mut trees,
         &mut nodes,
         &mut properties,

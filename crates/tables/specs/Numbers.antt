@@ -3,7 +3,7 @@ use Rattle.lists.specs.Prelude.{ℕ}
 use Rattle.lexer.specs.declared.Fault.{Fault}
 use Rattle.lexer.specs.declared.Fault.the-variants.{MissingPropertyIdentifier as no-identifier, UnexpectedEndOfPropertyIdentifier as foreign, UnexpectedEndOfPropertyValue as unclosed}
 use Rattle.tables.specs.declared.Reason.{Reason}
-use Rattle.tables.specs.declared.Reason.the-variants.{TextTooLong, NotUtf8, MissingPropertyIdentifier, UnexpectedEndOfPropertyIdentifier, UnexpectedEndOfPropertyValue, UnexpectedGameTreeEnd, UnexpectedEndOfData, NoGameTrees, TooDeep, UnexpectedGameTreeStart, UnexpectedProperty, InvalidGameType, InvalidFF4Property, NoRoom, EmptyIdentifier, NoSuchNumber, GameTypeFixed, NotClosed, NotFitting}
+use Rattle.tables.specs.declared.Reason.the-variants.{TextTooLong, NotUtf8, MissingPropertyIdentifier, UnexpectedEndOfPropertyIdentifier, UnexpectedEndOfPropertyValue, UnexpectedGameTreeEnd, UnexpectedEndOfData, NoGameTrees, TooDeep, UnexpectedGameTreeStart, UnexpectedProperty, InvalidGameType, NoRoom, EmptyIdentifier, NoSuchNumber, GameTypeFixed, NotClosed, NotFitting}
 
 -- the longest text
 abbrev pub textLimit : ℕ
@@ -17,7 +17,7 @@ depthLimit = 1024
 abbrev pub none : ℕ
 none = 4294967295
 
--- the number of a refusal; 0 is acceptance
+-- the number of a refusal; 0 is acceptance, and 13 is given no more
 abbrev pub numberOf : Reason → ℕ
 numberOf TextTooLong = 1
 numberOf NotUtf8 = 2
@@ -31,7 +31,6 @@ numberOf TooDeep = 9
 numberOf UnexpectedGameTreeStart = 10
 numberOf UnexpectedProperty = 11
 numberOf InvalidGameType = 12
-numberOf InvalidFF4Property = 13
 numberOf NoRoom = 14
 numberOf EmptyIdentifier = 15
 numberOf NoSuchNumber = 16

@@ -5,10 +5,10 @@ use Rattle.c_answers.proofs.reading_shown.Statement.{statement}
 use Rattle.c_answers.proofs.reading_shown.Tie as tie
 
 returns : tie.Need-returns
-returns c = ap readingShown (sym (c .before .reading .given .1))
+returns c = ap (readingShown (c .before .before .before .args .ignored)) (sym (c .before .reading .given .1))
 
 returns-2 : tie.Need-returns-2
-returns-2 c = ap (λ (n : ℕ). record { number = n; reserved = 0; place = c .before .before .reading2 .given .0 .1 .0; counts = noRows }) (c .number .ensures) ∙ ap readingShown (sym (c .before .before .reading2 .given .1))
+returns-2 c = ap (λ (n : ℕ). record { number = n; ignored = c .before .before .before .before .args .ignored; place = c .before .before .reading2 .given .0 .1 .0; counts = noRows }) (c .number .ensures) ∙ ap (readingShown (c .before .before .before .before .args .ignored)) (sym (c .before .before .reading2 .given .1))
 
 pub reading-shown-spec : {M : Type 1} → statement M
 reading-shown-spec = tie.close (tie.spec (λ c. search needs) (λ c. search needs) (λ c κs. search needs) returns returns-2)

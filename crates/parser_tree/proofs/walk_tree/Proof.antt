@@ -2,45 +2,41 @@
 use denote.Ref.{now}
 use Rattle.lists.proofs.Prelude.{_-_, length, refl, sym, ap, _∙_, arith, needs}
 use Rattle.parser_step.specs.declared.State.{State}
-use Rattle.parser_step.specs.declared.Act.the-variants.{Start, End, Node, Add, Skip, Stop, Over}
-use Rattle.parser_tree.specs.LocalsWalks.{opts}
+use Rattle.parser_step.specs.declared.Act.the-variants.{Start, End, Node, Add, Stop, Over}
 use Rattle.parser_tree.specs.LocalsTurns.{ActIs}
 use Rattle.parser_tree.proofs.Meets.{head-lies}
 use Rattle.parser_tree.proofs.Acts.{asked}
 use Rattle.parser_tree.proofs.Giving.{gives-stopped, gives-ended}
-use Rattle.parser_tree.proofs.Adding.{adds-follows, walking-added, walking-skipped, property-moves}
+use Rattle.parser_tree.proofs.Adding.{walking-added, property-moves}
 use Rattle.parser_tree.proofs.Arms.{start-fits, walking-start, walking-end, walking-node}
 use Rattle.parser_tree.proofs.Walking.{Walking, walking-first, small-state, counted}
 use Rattle.parser_tree.proofs.walk_tree.Statement.{statement}
 use Rattle.parser_tree.proofs.walk_tree.Tie as tie
 
 abbrev Inv-loop : tie.InvT-loop
-Inv-loop s from lenient convert base p0 v0 nodes₀ props₀ vals₀ stack₀ w₀ nodes props vals stack w = Walking (opts lenient convert) s from base p0 v0 nodes₀ props₀ vals₀ nodes props vals stack w
+Inv-loop s from lenient base p0 v0 nodes₀ props₀ vals₀ stack₀ w₀ nodes props vals stack w = Walking lenient s from base p0 v0 nodes₀ props₀ vals₀ nodes props vals stack w
 
 abbrev μ-loop : tie.MeasureT-loop
-μ-loop s from lenient convert base p0 v0 nodes₀ props₀ vals₀ stack₀ w₀ nodes props vals stack w = length s - w .at
+μ-loop s from lenient base p0 v0 nodes₀ props₀ vals₀ stack₀ w₀ nodes props vals stack w = length s - w .at
 
 -- ---- what the token asks for
 
-starts : (c : tie.After-known-told Inv-loop μ-loop) → ActIs (c .before .before .before .before .before .before .before .before .before .before .before .args .lenient) (c .before .before .before .before .before .before .before .before .before .before .before .args .convert) (now (c .before .before .before .before .before .before .before .before .before .before .before .args .s)) (c .before .before .before .before .before .before .before .before .before .before .before .args .base) (c .before .before .before .before .before .loop .w) (c .before .before .before .before .before .loop .stack) (Start (c .before .i .given .0 .0))
+starts : (c : tie.After-known-told Inv-loop μ-loop) → ActIs (now (c .before .before .before .before .before .before .before .before .before .before .before .args .s)) (c .before .before .before .before .before .before .before .before .before .before .before .args .base) (c .before .before .before .before .before .loop .w) (c .before .before .before .before .before .loop .stack) (Start (c .before .i .given .0 .0))
 starts c = asked (c .before .before .before .before .before .loop .inv) (sym (c .before .i .given .1) ∙ c .before .before .before .look .ensures)
 
-ends : (c : tie.After-known-told2 Inv-loop μ-loop) → ActIs (c .before .before .before .before .before .before .before .before .before .before .before .args .lenient) (c .before .before .before .before .before .before .before .before .before .before .before .args .convert) (now (c .before .before .before .before .before .before .before .before .before .before .before .args .s)) (c .before .before .before .before .before .before .before .before .before .before .before .args .base) (c .before .before .before .before .before .loop .w) (c .before .before .before .before .before .loop .stack) (End (c .before .i2 .given .0 .0))
+ends : (c : tie.After-known-told2 Inv-loop μ-loop) → ActIs (now (c .before .before .before .before .before .before .before .before .before .before .before .args .s)) (c .before .before .before .before .before .before .before .before .before .before .before .args .base) (c .before .before .before .before .before .loop .w) (c .before .before .before .before .before .loop .stack) (End (c .before .i2 .given .0 .0))
 ends c = asked (c .before .before .before .before .before .loop .inv) (sym (c .before .i2 .given .1) ∙ c .before .before .before .look .ensures)
 
-nodes : (c : tie.After-known-told3 Inv-loop μ-loop) → ActIs (c .before .before .before .before .before .before .before .before .before .before .before .args .lenient) (c .before .before .before .before .before .before .before .before .before .before .before .args .convert) (now (c .before .before .before .before .before .before .before .before .before .before .before .args .s)) (c .before .before .before .before .before .before .before .before .before .before .before .args .base) (c .before .before .before .before .before .loop .w) (c .before .before .before .before .before .loop .stack) (Node (c .before .i3 .given .0 .0))
+nodes : (c : tie.After-known-told3 Inv-loop μ-loop) → ActIs (now (c .before .before .before .before .before .before .before .before .before .before .before .args .s)) (c .before .before .before .before .before .before .before .before .before .before .before .args .base) (c .before .before .before .before .before .loop .w) (c .before .before .before .before .before .loop .stack) (Node (c .before .i3 .given .0 .0))
 nodes c = asked (c .before .before .before .before .before .loop .inv) (sym (c .before .i3 .given .1) ∙ c .before .before .before .look .ensures)
 
-adds : (c : tie.After-known-told4 Inv-loop μ-loop) → ActIs (c .before .before .before .before .before .before .before .before .before .before .before .args .lenient) (c .before .before .before .before .before .before .before .before .before .before .before .args .convert) (now (c .before .before .before .before .before .before .before .before .before .before .before .args .s)) (c .before .before .before .before .before .before .before .before .before .before .before .args .base) (c .before .before .before .before .before .loop .w) (c .before .before .before .before .before .loop .stack) (Add (c .before .i4 .given .0 .0) (c .before .i4 .given .0 .1 .0))
+adds : (c : tie.After-known-told4 Inv-loop μ-loop) → ActIs (now (c .before .before .before .before .before .before .before .before .before .before .before .args .s)) (c .before .before .before .before .before .before .before .before .before .before .before .args .base) (c .before .before .before .before .before .loop .w) (c .before .before .before .before .before .loop .stack) (Add (c .before .i4 .given .0 .0) (c .before .i4 .given .0 .1 .0))
 adds c = asked (c .before .before .before .before .before .loop .inv) (sym (c .before .i4 .given .1) ∙ c .before .before .before .look .ensures)
 
-skips : (c : tie.After-known-told5 Inv-loop μ-loop) → ActIs (c .before .before .before .before .before .before .before .before .before .before .before .args .lenient) (c .before .before .before .before .before .before .before .before .before .before .before .args .convert) (now (c .before .before .before .before .before .before .before .before .before .before .before .args .s)) (c .before .before .before .before .before .before .before .before .before .before .before .args .base) (c .before .before .before .before .before .loop .w) (c .before .before .before .before .before .loop .stack) (Skip (c .before .k .given .0 .0))
-skips c = asked (c .before .before .before .before .before .loop .inv) (sym (c .before .k .given .1) ∙ c .before .before .before .look .ensures)
-
-stops : (c : tie.After-known-told6 Inv-loop μ-loop) → ActIs (c .before .before .before .before .before .before .before .before .before .before .before .args .lenient) (c .before .before .before .before .before .before .before .before .before .before .before .args .convert) (now (c .before .before .before .before .before .before .before .before .before .before .before .args .s)) (c .before .before .before .before .before .before .before .before .before .before .before .args .base) (c .before .before .before .before .before .loop .w) (c .before .before .before .before .before .loop .stack) (Stop (c .before .reason .given .0 .0))
+stops : (c : tie.After-known-told5 Inv-loop μ-loop) → ActIs (now (c .before .before .before .before .before .before .before .before .before .before .before .args .s)) (c .before .before .before .before .before .before .before .before .before .before .before .args .base) (c .before .before .before .before .before .loop .w) (c .before .before .before .before .before .loop .stack) (Stop (c .before .reason .given .0 .0))
 stops c = asked (c .before .before .before .before .before .loop .inv) (sym (c .before .reason .given .1) ∙ c .before .before .before .look .ensures)
 
-overs : (c : tie.After-known-told7 Inv-loop μ-loop) → ActIs (c .before .before .before .before .before .before .before .before .before .before .before .args .lenient) (c .before .before .before .before .before .before .before .before .before .before .before .args .convert) (now (c .before .before .before .before .before .before .before .before .before .before .before .args .s)) (c .before .before .before .before .before .before .before .before .before .before .before .args .base) (c .before .before .before .before .before .loop .w) (c .before .before .before .before .before .loop .stack) (Over (c .before .at .given .0 .0))
+overs : (c : tie.After-known-told6 Inv-loop μ-loop) → ActIs (now (c .before .before .before .before .before .before .before .before .before .before .before .args .s)) (c .before .before .before .before .before .before .before .before .before .before .before .args .base) (c .before .before .before .before .before .loop .w) (c .before .before .before .before .before .loop .stack) (Over (c .before .at .given .0 .0))
 overs c = asked (c .before .before .before .before .before .loop .inv) (sym (c .before .at .given .1) ∙ c .before .before .before .look .ensures)
 
 -- ---- the needs
@@ -80,7 +76,7 @@ add-requires c κs =
     let x = c .before .before .before .before .before .before .before .before .loop .inv in
     let z = adds (c .before .before .before) in
     let b = head-lies _ _ (z .0) in
-    let n = counted x (adds-follows x _ _ (z .0) (z .2)) in
+    let n = counted x (z .2) in
     (small-state x, x .ready .short, b .1, omega (arith, b .2), n .0, n .1, z .1)
 
 loop-less-4 : tie.Need-loop-less-4 Inv-loop μ-loop
@@ -88,12 +84,6 @@ loop-less-4 c = omega (arith, property-moves (c .before .before .before .before 
 
 loop-again-4 : tie.Need-loop-again-4 Inv-loop μ-loop
 loop-again-4 c = let z = adds (c .before .before .before .before .before .before .before .before .before .before) in walking-added (c .before .before .before .before .before .before .before .before .before .before .before .before .before .before .before .loop .inv) _ _ (z .0) (z .2) (c .before .before .before .before .before .before .add .ensures)
-
-loop-less-5 : tie.Need-loop-less-5 Inv-loop μ-loop
-loop-less-5 c = omega (arith, property-moves (c .before .before .before .before .before .before .loop .inv) _ _ (skips (c .before) .1) (c .skip-property .ensures .ends))
-
-loop-again-5 : tie.Need-loop-again-5 Inv-loop μ-loop
-loop-again-5 c = let z = skips (c .before) in walking-skipped (c .before .before .before .before .before .before .loop .inv) _ _ (z .1) (z .3) (c .skip-property .ensures)
 
 returns : tie.Need-returns Inv-loop μ-loop
 returns c = gives-stopped (c .before .before .before .before .before .before .before .before .before .loop .inv) _ (stops (c .before .before .before .before)) _ _ (c .before .before .stop .ensures)
@@ -126,10 +116,6 @@ walk-tree-spec =
     add-requires
     loop-less-4
     loop-again-4
-    (λ c. search needs)
-    (λ c κs. skips c .2)
-    loop-less-5
-    loop-again-5
     (λ c. search needs)
     (λ c κs. (let x = c .before .before .before .before .before .before .loop .inv in (small-state x, x .ready .short, x .skip .inside)))
     (λ c. c .before .nodes3 .given ∙ c .before .before .before .before .before .before .before .before .before .loop .inv .stored .tnodes .len)

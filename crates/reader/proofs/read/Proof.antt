@@ -2,21 +2,20 @@
 use denote.Ref.{now}
 use Rattle.lists.proofs.Prelude.{arith, refl, length-take-le, needs}
 use Rattle.parser.specs.Read.{read}
-use Rattle.parser_tree.specs.LocalsWalks.{opts}
 use Rattle.parser_split.specs.declared.Plan.the-variants.{Slices}
 use Rattle.reader.proofs.Surveyed.{PlanIs, read-as}
 use Rattle.reader.proofs.Texts.{planned}
 use Rattle.reader.proofs.read.Statement.{statement}
 use Rattle.reader.proofs.read.Tie as tie
 
-plan-is : (c : tie.After-known-told2) → PlanIs (opts (c .before .before .before .before .before .before .before .before .before .args .lenient) (c .before .before .before .before .before .before .before .before .before .args .convert)) (now (c .before .before .before .before .before .before .before .before .before .args .text)) (read (opts (c .before .before .before .before .before .before .before .before .before .args .lenient) (c .before .before .before .before .before .before .before .before .before .args .convert)) (now (c .before .before .before .before .before .before .before .before .before .args .text))) (Slices (c .before .first .given .0 .0) (c .before .first .given .0 .1 .0) (c .before .first .given .0 .1 .1 .0))
-plan-is c = planned (c .before .before .before .before .before .before .before .before .before .args .lenient) (c .before .before .before .before .before .before .before .before .before .args .convert) (now (c .before .before .before .before .before .before .before .before .before .args .text)) (c .before .before .before .plan-text .ensures) (c .before .first .given .1)
+plan-is : (c : tie.After-known-told2) → PlanIs (c .before .before .before .before .before .before .before .before .before .args .lenient) (now (c .before .before .before .before .before .before .before .before .before .args .text)) (read (c .before .before .before .before .before .before .before .before .before .args .lenient) (now (c .before .before .before .before .before .before .before .before .before .args .text))) (Slices (c .before .first .given .0 .0) (c .before .first .given .0 .1 .0) (c .before .first .given .0 .1 .1 .0))
+plan-is c = planned (c .before .before .before .before .before .before .before .before .before .args .lenient) (now (c .before .before .before .before .before .before .before .before .before .args .text)) (c .before .before .before .plan-text .ensures) (c .before .first .given .1)
 
 slice-aggregate-read-slices : tie.Need-slice-aggregate-read-slices
 slice-aggregate-read-slices c = let l = length-take-le (c .before .before .first .given .0 .1 .0) (now (c .before .before .before .before .before .before .before .before .before .before .args .text)) (plan-is (c .before) .2) in omega arith
 
 returns : tie.Need-returns
-returns c = read-as (planned (c .before .before .before .before .before .before .before .before .before .args .lenient) (c .before .before .before .before .before .before .before .before .before .args .convert) (now (c .before .before .before .before .before .before .before .before .before .args .text)) (c .before .before .before .plan-text .ensures) (c .before .reason .given .1)) (record { answer = refl; tables = refl })
+returns c = read-as (planned (c .before .before .before .before .before .before .before .before .before .args .lenient) (now (c .before .before .before .before .before .before .before .before .before .args .text)) (c .before .before .before .plan-text .ensures) (c .before .reason .given .1)) (record { answer = refl; tables = refl })
 
 returns-2 : tie.Need-returns-2
 returns-2 c = read-as (plan-is (c .before .before .before .before .before .before .before .before .before .before .before .before .before .before) .0) (c .before .before .before .before .before .before .before .before .read-slices .ensures)

@@ -1,5 +1,4 @@
 -- `slices::read_trees` meets its contract. Assumes nothing.
-use Rattle.parser_tree.specs.LocalsWalks.{opts}
 use Rattle.reader.proofs.Plants.{Planting, plant-first, plant-keeps, plant-end, plant-ready, plant-no, plant-stop, plant-more, walk-tree-as, walk-refused-as}
 use Rattle.lists.proofs.Prelude.{_-_, arith, needs}
 use Rattle.lexer.specs.Token.{lexAt}
@@ -8,10 +7,10 @@ use Rattle.reader.proofs.slices.read_trees.Statement.{statement}
 use Rattle.reader.proofs.slices.read_trees.Tie as tie
 
 abbrev Inv-loop : tie.InvT-loop
-Inv-loop s from count lenient convert trees₀ nodes₀ properties₀ values₀ at₀ n₀ p₀ v₀ k₀ trees nodes properties values at n p v k = Planting (opts lenient convert) s (lexAt s from .toks) count (lent trees₀ nodes₀ properties₀ values₀) (lent trees nodes properties values) at n p v k
+Inv-loop s from count lenient trees₀ nodes₀ properties₀ values₀ at₀ n₀ p₀ v₀ k₀ trees nodes properties values at n p v k = Planting lenient s (lexAt s from .toks) count (lent trees₀ nodes₀ properties₀ values₀) (lent trees nodes properties values) at n p v k
 
 abbrev μ-loop : tie.MeasureT-loop
-μ-loop s from count lenient convert trees₀ nodes₀ properties₀ values₀ at₀ n₀ p₀ v₀ k₀ trees nodes properties values at n p v k = count - k
+μ-loop s from count lenient trees₀ nodes₀ properties₀ values₀ at₀ n₀ p₀ v₀ k₀ trees nodes properties values at n p v k = count - k
 
 loop-holds : tie.Need-loop-holds Inv-loop μ-loop
 loop-holds c = plant-first _ (c .before .before .before .before .before .pre)
