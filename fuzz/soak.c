@@ -253,8 +253,8 @@ static bool same_counts(SgfCounts a, SgfCounts b) {
 }
 
 /* Tables of a second reading. */
-static uint32_t fresh[TABLES][5 * OUT];
-#define FRESH fresh[0], 5 * OUT, fresh[1], 5 * OUT, fresh[2], 5 * OUT, fresh[3], 5 * OUT
+static uint32_t fresh[TABLES][SGF_NODE_STRIDE * OUT];
+#define FRESH fresh[0], SGF_NODE_STRIDE * OUT, fresh[1], SGF_NODE_STRIDE * OUT, fresh[2], SGF_NODE_STRIDE * OUT, fresh[3], SGF_NODE_STRIDE * OUT
 
 /* A fresh strict reading of the used text has the same rows. */
 static void check_fresh(void) {
@@ -412,7 +412,7 @@ static void step(void) {
 static void begin(void) {
     if (lent[TREES].low == NULL) {
         for (int t = 0; t < TABLES; t++) {
-            make_room(&lent[t], 4 * 5 * TEXT);
+            make_room(&lent[t], 4 * SGF_NODE_STRIDE * TEXT);
         }
         make_room(&lent[TEXTS], TEXT + ROOM);
         make_room(&lent[OUTS], OUT);

@@ -9,7 +9,7 @@
  *
  * A reading fills four tables of uint32_t, row behind row, numbered from 0 in the order of the text:
  *   tree      root node, game type
- *   node      parent, first child, next sibling, first property, property count
+ *   node      parent, first child, next sibling, first property, property count, depth
  *   property  identifier start, identifier end, first value, value count
  *   value     start, end: what stands between its brackets
  * Starts and ends count bytes of the text, end excluded. "None" is SGF_NONE. So the raw bytes of value k are
@@ -78,7 +78,10 @@ enum {
 #define SGF_DEPTH_LIMIT 1024
 #define SGF_NONE UINT32_C(4294967295)
 
-/* Numbers a row of each table, and their places in it. */
+/* Numbers a row of each table, and their places in it. A node row has 6 numbers, up to version 0.6.0 it had 5: write
+ * SGF_NODE_STRIDE, lend 6 numbers a node, compile anew. Tables that an older library filled are not to be kept, read
+ * the text again: lent as they are, they are as a rule SGF_NOT_FITTING, else other rows than they were; no memory is
+ * harmed. */
 enum { SGF_TREE_ROOT = 0, SGF_TREE_GAME_TYPE = 1, SGF_TREE_STRIDE = 2 };
 enum {
     SGF_NODE_PARENT = 0,
@@ -86,7 +89,8 @@ enum {
     SGF_NODE_NEXT_SIBLING = 2,
     SGF_NODE_FIRST_PROPERTY = 3,
     SGF_NODE_PROPERTY_COUNT = 4,
-    SGF_NODE_STRIDE = 5
+    SGF_NODE_DEPTH = 5, /* distance from the root, 0 at a root; not the nesting that SGF_DEPTH_LIMIT bounds */
+    SGF_NODE_STRIDE = 6
 };
 enum {
     SGF_PROPERTY_IDENTIFIER_START = 0,

@@ -217,7 +217,8 @@ fn fill(s: &[u8], from: usize, slices: usize, [trees, nodes, properties, values]
             }
             b';' => {
                 i += 1;
-                nodes[5 * n..][..5].copy_from_slice(&[cur, NONE, NONE, p as u32, 0]);
+                let depth = if cur == NONE { 0 } else { nodes[6 * cur as usize + 5] + 1 };
+                nodes[6 * n..][..6].copy_from_slice(&[cur, NONE, NONE, p as u32, 0, depth]);
                 cur = n as u32;
                 n += 1;
                 head.token();
@@ -237,15 +238,15 @@ fn fill(s: &[u8], from: usize, slices: usize, [trees, nodes, properties, values]
                 }
                 properties[4 * p..][..4].copy_from_slice(&[start as u32, opens as u32, first as u32, (v - first) as u32]);
                 p += 1;
-                nodes[5 * n - 1] += 1;
+                nodes[6 * n - 2] += 1;
             }
         }
     }
     for k in (0..n).rev() {
-        let parent = nodes[5 * k] as usize;
+        let parent = nodes[6 * k] as usize;
         if parent < n {
-            nodes[5 * k + 2] = nodes[5 * parent + 1];
-            nodes[5 * parent + 1] = k as u32;
+            nodes[6 * k + 2] = nodes[6 * parent + 1];
+            nodes[6 * parent + 1] = k as u32;
         }
     }
 }

@@ -46,7 +46,7 @@ fn game_types(h: &held::Held) -> Vec<u32> {
         while tree + 1 < h.counts.trees && h.tables[0][2 * (tree + 1)] as usize <= k {
             tree += 1;
         }
-        kinds.extend((0..h.tables[1][5 * k + 4]).map(|_| h.tables[0][2 * tree + 1]));
+        kinds.extend((0..h.tables[1][held::STRIDES[1] * k + 4]).map(|_| h.tables[0][2 * tree + 1]));
     }
     kinds
 }

@@ -2,7 +2,7 @@
 pub use crate::ffi::{Counts, Edit, Edited, GoValue, Held, Length, Span};
 
 /// Numbers a row of each table: trees, nodes, properties, values.
-pub const STRIDES: [usize; 4] = [2, 5, 4, 2];
+pub const STRIDES: [usize; 4] = [2, 6, 4, 2];
 
 impl Counts {
     pub fn of(rows: [usize; 4]) -> Self {

@@ -25,6 +25,7 @@ fn nested(depth: usize, before: &str, after: &str) -> Vec<u8> {
 const SHAPES: &[(&str, &str, &str)] = &[
     ("(;C[", "x", "])"),
     ("(", ";", ")"),
+    ("(", ";", ""),
     ("", "(", ""),
     ("(;", "(;)", ")"),
     ("(;)", " ", ""),
@@ -53,7 +54,7 @@ const SHAPES: &[(&str, &str, &str)] = &[
 
 /// Texts of the greatest length and one byte more; bytes that are not UTF-8 too, since the length comes first.
 fn long(choice: Choice) -> Vec<Vec<u8>> {
-    let shapes = if choice == Choice::All { SHAPES } else { &SHAPES[..4] };
+    let shapes = if choice == Choice::All { SHAPES } else { &SHAPES[..5] };
     let at_limit = shapes.iter().map(|(before, unit, after)| filled(before, unit, after, LIMIT));
     let past_limit = shapes.iter().map(|(before, unit, after)| filled(before, unit, after, LIMIT + 1));
     at_limit.chain(past_limit).chain([[b"\xFF".to_vec(), vec![b' '; LIMIT]].concat()]).collect()

@@ -11,6 +11,7 @@ pub fn fits(h: &Held) -> bool {
         && parents_right(h)
         && links_right(h)
         && (0..h.counts.trees).all(|t| row::<2>(h, 0, t)[1] <= 1)
+        && depths_right(h)
         && ranges_right(h)
         && spans_right(h)
         && (0..h.counts.properties).all(|p| identifier_right(identifier(h, p)))
@@ -36,7 +37,7 @@ fn text_right(text: &[u8]) -> bool {
 }
 
 fn parent(h: &Held, k: usize) -> usize {
-    row::<5>(h, 1, k)[0]
+    row::<6>(h, 1, k)[0]
 }
 
 /// The roots are exactly the nodes without parent, ascending.
@@ -68,7 +69,15 @@ fn links_right(h: &Held) -> bool {
         }
         latest[p] = k;
     }
-    (0..n).all(|k| row::<5>(h, 1, k)[1] == first[k] && row::<5>(h, 1, k)[2] == next[k])
+    (0..n).all(|k| row::<6>(h, 1, k)[1] == first[k] && row::<6>(h, 1, k)[2] == next[k])
+}
+
+/// A root has depth 0, any other node its parent's plus 1.
+fn depths_right(h: &Held) -> bool {
+    (0..h.counts.nodes).all(|k| {
+        let [parent, _, _, _, _, depth] = row(h, 1, k);
+        depth == if parent == none() { 0 } else { row::<6>(h, 1, parent)[5] + 1 }
+    })
 }
 
 /// Ranges follow one another without gap from 0 to the total.
@@ -84,7 +93,7 @@ fn follow(ranges: impl Iterator<Item = (usize, usize)>, total: usize) -> bool {
 }
 
 fn ranges_right(h: &Held) -> bool {
-    let properties = (0..h.counts.nodes).map(|k| (row::<5>(h, 1, k)[3], row::<5>(h, 1, k)[4]));
+    let properties = (0..h.counts.nodes).map(|k| (row::<6>(h, 1, k)[3], row::<6>(h, 1, k)[4]));
     let values = (0..h.counts.properties).map(|p| (row::<4>(h, 2, p)[2], row::<4>(h, 2, p)[3]));
     follow(properties, h.counts.properties) && follow(values, h.counts.values) && (0..h.counts.properties).all(|p| row::<4>(h, 2, p)[3] > 0)
 }

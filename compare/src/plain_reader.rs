@@ -22,7 +22,7 @@ pub struct Options {
 #[derive(Debug, Clone, Default, PartialEq, Eq)]
 pub struct Record {
     pub trees: Vec<[u32; 2]>,
-    pub nodes: Vec<[u32; 5]>,
+    pub nodes: Vec<[u32; 6]>,
     pub properties: Vec<[u32; 4]>,
     pub values: Vec<[u32; 2]>,
 }
@@ -214,10 +214,11 @@ impl Tree<'_> {
     /// A node joins the current list, and its own becomes current.
     fn node(&mut self) {
         let parent = if self.current == 0 { NONE } else { (self.first + self.current - 1) as u32 };
+        let depth = if parent == NONE { 0 } else { self.record.nodes[parent as usize][5] + 1 };
         self.lists[self.current] += 1;
         self.current = self.lists.len();
         self.lists.push(0);
-        self.record.nodes.push([parent, NONE, NONE, self.record.properties.len() as u32, 0]);
+        self.record.nodes.push([parent, NONE, NONE, self.record.properties.len() as u32, 0, depth]);
     }
 
     /// The properties that follow join the last node; gives the tokens behind them all.
@@ -241,7 +242,7 @@ impl Tree<'_> {
 }
 
 /// First child and next sibling, as the parents say.
-fn link(nodes: &mut [[u32; 5]]) {
+fn link(nodes: &mut [[u32; 6]]) {
     let mut last = vec![NONE; nodes.len()];
     for k in 0..nodes.len() {
         let parent = nodes[k][0];

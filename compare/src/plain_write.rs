@@ -1,5 +1,5 @@
 //! The writer in plain Rust, written from the scope alone.
-use crate::held::Held;
+use crate::held::{Held, STRIDES};
 use crate::plain_fit::{fits, identifier};
 use crate::plain_go::{self, letter, Go};
 use crate::plain_reader::NONE;
@@ -37,7 +37,7 @@ fn write_tree(h: &Held, root: u32, game_type: u32, out: &mut Vec<u8>) {
             Todo::Node(node) => node,
         };
         out.push(b';');
-        let row = &h.tables[1][node as usize * 5..][..5];
+        let row = &h.tables[1][node as usize * STRIDES[1]..][..STRIDES[1]];
         for p in row[3]..row[3] + row[4] {
             write_property(h, p as usize, game_type, out);
         }
@@ -52,7 +52,7 @@ fn write_tree(h: &Held, root: u32, game_type: u32, out: &mut Vec<u8>) {
 fn children<'a>(h: &Held<'a>, first: u32) -> impl Iterator<Item = u32> + 'a {
     let nodes = h.tables[1];
     let some = |k: u32| (k != NONE).then_some(k);
-    std::iter::successors(some(first), move |k| some(nodes[*k as usize * 5 + 2]))
+    std::iter::successors(some(first), move |k| some(nodes[*k as usize * STRIDES[1] + 2]))
 }
 
 /// The raw values of property p.

@@ -155,32 +155,35 @@ fn compare_trees(text: &str, record: &Record, trees: &[GameTree]) -> Result<(), 
 struct Pending<'a, Prop: SgfProp> {
     node: &'a SgfNode<Prop>,
     parent: u32,
+    depth: u32,
     is_last: bool,
 }
 
 /// Compares the nodes of one tree from number `first` on; gives the number behind its last.
 fn compare_nodes<Prop: SgfProp>(text: &str, record: &Record, first: usize, root: &SgfNode<Prop>) -> Result<usize, String> {
-    let mut pending = vec![Pending { node: root, parent: NONE, is_last: true }];
+    let mut pending = vec![Pending { node: root, parent: NONE, depth: 0, is_last: true }];
     let mut number = first;
     while let Some(next) = pending.pop() {
         let row = record.nodes.get(number).ok_or("a node is missing")?;
         compare_links(row, number, &next)?;
         compare_properties(text, record, row, &next.node.properties)?;
         let count = next.node.children.len();
-        pending.extend((0..count).rev().map(|k| Pending { node: &next.node.children[k], parent: number as u32, is_last: k + 1 == count }));
+        let below = |k: usize| Pending { node: &next.node.children[k], parent: number as u32, depth: next.depth + 1, is_last: k + 1 == count };
+        pending.extend((0..count).rev().map(below));
         number += 1;
     }
     Ok(number)
 }
 
 /// The first child is the next node; the next sibling is tied by its parent, and there is one unless the node is the last.
-fn compare_links<Prop: SgfProp>(row: &[u32; 5], number: usize, next: &Pending<Prop>) -> Result<(), String> {
+fn compare_links<Prop: SgfProp>(row: &[u32; 6], number: usize, next: &Pending<Prop>) -> Result<(), String> {
     let child = if next.node.children.is_empty() { NONE } else { number as u32 + 1 };
     same("parent and first child", (row[0], row[1]), (next.parent, child))?;
+    same("depth", row[5], next.depth)?;
     same("last sibling", row[2] == NONE, next.is_last)
 }
 
-fn compare_properties<Prop: SgfProp>(text: &str, record: &Record, row: &[u32; 5], theirs: &[Prop]) -> Result<(), String> {
+fn compare_properties<Prop: SgfProp>(text: &str, record: &Record, row: &[u32; 6], theirs: &[Prop]) -> Result<(), String> {
     same("property count", row[4] as usize, theirs.len())?;
     let ours = &record.properties[row[3] as usize..][..theirs.len()];
     for (property, prop) in ours.iter().zip(theirs) {

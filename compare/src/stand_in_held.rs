@@ -50,7 +50,7 @@ pub fn go_value(h: &Held, p: usize) -> GoValue {
     match fits(h) {
         0 if p >= h.counts.properties => answer(16, Go::Other),
         0 => {
-            let node = (0..h.counts.nodes).rev().find(|k| h.tables[1][5 * k + 3] as usize <= p).expect("ranges from 0");
+            let node = (0..h.counts.nodes).rev().find(|k| h.tables[1][STRIDES[1] * k + 3] as usize <= p).expect("ranges from 0");
             let tree = (0..h.counts.trees).rev().find(|t| h.tables[0][2 * t] as usize <= node).expect("node 0 is a root");
             let go = plain_go::value(h.tables[0][2 * tree + 1], plain_fit::identifier(h, p), &plain_write::raw_values(h, p));
             answer(0, go)

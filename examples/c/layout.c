@@ -18,11 +18,11 @@ static int checks, failures;
 
 enum { ROWS = 4096 };
 static uint8_t text[SGF_TEXT_LIMIT + 16];
-static uint32_t trees[2 * ROWS], nodes[5 * ROWS], properties[4 * ROWS], values[2 * ROWS];
+static uint32_t trees[2 * ROWS], nodes[SGF_NODE_STRIDE * ROWS], properties[4 * ROWS], values[2 * ROWS];
 static size_t used;
 static SgfCounts counts;
 
-#define TABLES trees, 2 * ROWS, nodes, 5 * ROWS, properties, 4 * ROWS, values, 2 * ROWS
+#define TABLES trees, 2 * ROWS, nodes, SGF_NODE_STRIDE * ROWS, properties, 4 * ROWS, values, 2 * ROWS
 #define RECORD text, sizeof text, used, counts, TABLES
 
 static SgfReading read_bytes(size_t length, uint32_t options) {
@@ -87,6 +87,8 @@ static void check_reading(void) {
     CHECK(nodes[SGF_NODE_PARENT] == SGF_NONE && nodes[SGF_NODE_FIRST_CHILD] == 1 && nodes[SGF_NODE_PROPERTY_COUNT] == 2);
     CHECK(node[SGF_NODE_PARENT] == 0 && node[SGF_NODE_FIRST_CHILD] == SGF_NONE && node[SGF_NODE_NEXT_SIBLING] == 2);
     CHECK(node[SGF_NODE_FIRST_PROPERTY] == 2 && node[SGF_NODE_PROPERTY_COUNT] == 0);
+    CHECK(nodes[SGF_NODE_DEPTH] == 0 && node[SGF_NODE_DEPTH] == 1 && nodes[2 * SGF_NODE_STRIDE + SGF_NODE_DEPTH] == 1);
+    CHECK(nodes[3 * SGF_NODE_STRIDE + SGF_NODE_DEPTH] == 0);
     const uint32_t *property = properties + SGF_PROPERTY_STRIDE;
     CHECK(property[SGF_PROPERTY_IDENTIFIER_START] == 9 && property[SGF_PROPERTY_IDENTIFIER_END] == 10);
     CHECK(property[SGF_PROPERTY_FIRST_VALUE] == 2 && property[SGF_PROPERTY_VALUE_COUNT] == 1);

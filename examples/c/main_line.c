@@ -102,14 +102,33 @@ static void print_moves(const Record *r, const uint32_t *node, uint32_t game_typ
     }
 }
 
+static const uint32_t *node_row(const Record *r, uint32_t k) {
+    return r->nodes + k * SGF_NODE_STRIDE;
+}
+
+/* A remote's key "back to the fork": the nearest ancestor of a node with two or more children; NULL if there is none. */
+static const uint32_t *fork_above(const Record *r, const uint32_t *node) {
+    while (node[SGF_NODE_PARENT] != SGF_NONE) {
+        node = node_row(r, node[SGF_NODE_PARENT]);
+        if (node_row(r, node[SGF_NODE_FIRST_CHILD])[SGF_NODE_NEXT_SIBLING] != SGF_NONE) {
+            return node;
+        }
+    }
+    return NULL;
+}
+
 static void print_main_line(const Record *r) {
     for (size_t t = 0; t < r->counts.trees; t++) {
         const uint32_t *tree = r->trees + t * SGF_TREE_STRIDE;
         printf("game %zu\n", t + 1);
-        for (uint32_t k = tree[SGF_TREE_ROOT]; k != SGF_NONE;) {
-            const uint32_t *node = r->nodes + k * SGF_NODE_STRIDE;
-            print_moves(r, node, tree[SGF_TREE_GAME_TYPE]);
-            k = node[SGF_NODE_FIRST_CHILD];
+        const uint32_t *last = NULL;
+        for (uint32_t k = tree[SGF_TREE_ROOT]; k != SGF_NONE; k = last[SGF_NODE_FIRST_CHILD]) {
+            last = node_row(r, k);
+            print_moves(r, last, tree[SGF_TREE_GAME_TYPE]);
+        }
+        const uint32_t *fork = fork_above(r, last);
+        if (fork != NULL) {
+            printf("  back to the fork: from depth %u to %u\n", (unsigned)last[SGF_NODE_DEPTH], (unsigned)fork[SGF_NODE_DEPTH]);
         }
     }
 }

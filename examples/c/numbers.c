@@ -6,7 +6,7 @@
 #include <string.h>
 
 enum { READ, FITS, VALUE, DISPLAY, GO_VALUE, WRITE, EDIT, TRIM, TOKEN, DISPLAY_VALUE, CALLS };
-enum { FIT, DAMAGED }; /* the tables of a reading, or with a game type that there is not */
+enum { FIT, DAMAGED, DEEPER }; /* the tables of a reading; with a game type that there is not; with a root of depth 1 */
 enum { ROOM = 64, ROWS = 1100, LONG = SGF_TEXT_LIMIT };
 
 /* Texts at a limit and one more: a comment of so many bytes, trees in trees, and a value. */
@@ -50,9 +50,11 @@ static const Row rows[] = {
     {14, 0, READ, "(;B[aa])", 5, FIT, 0, "", 0},
     {0, 0, FITS, "(;C[ab])", 0, FIT, 0, "", 0},
     {19, 0, FITS, "(;C[ab])", 0, DAMAGED, 0, "", 0},
+    {19, 0, FITS, "(;C[ab])", 0, DEEPER, 0, "", 0},
     {0, 0, VALUE, "(;C[ab])", 0, FIT, 0, "", 0},
     {16, 0, VALUE, "(;C[ab])", 0, FIT, 1, "", 0},
     {19, 0, VALUE, "(;C[ab])", 0, DAMAGED, 1, "", 0},
+    {19, 0, VALUE, "(;C[ab])", 0, DEEPER, 0, "", 0},
     {0, 0, DISPLAY, "(;C[ab])", 0, FIT, 0, "", 2},
     {14, 0, DISPLAY, "(;C[ab])", 0, FIT, 0, "", 1},
     {16, 0, DISPLAY, "(;C[ab])", 0, FIT, 1, "", 0},
@@ -67,6 +69,7 @@ static const Row rows[] = {
     {14, 0, WRITE, "(;B[ab])", 0, FIT, 0, "", 7},
     {15, 0, WRITE, "(;[x])", 0, FIT, 0, "", 0},
     {19, 0, WRITE, "(;[x])", 0, DAMAGED, 0, "", 0},
+    {19, 0, WRITE, "(;B[ab])", 0, DEEPER, 0, "", 8},
     {0, 0, EDIT, "(;C[ab])", 0, FIT, 0, "abcd", 2},
     {14, 0, EDIT, "(;C[ab])", 0, FIT, 0, "abcd", 1},
     {1, 0, EDIT, "(;C[ab])", 0, FIT, 0, long_value, 1},
@@ -76,6 +79,7 @@ static const Row rows[] = {
     {17, 0, EDIT, "(;GM[1])", 0, FIT, 0, "\xFF", 0},
     {16, 0, EDIT, "(;GM[1])", 0, FIT, 1, "\xFF", 0},
     {19, 0, EDIT, "(;GM[1])", 0, DAMAGED, 1, "\xFF", 0},
+    {19, 0, EDIT, "(;C[ab])", 0, DEEPER, 0, "abcd", 2},
     {0, 0, TRIM, " (;) ", 0, FIT, 0, "", 0},
     {2, 1, TRIM, "(\xC3(;)", 0, FIT, 0, "", 0},
     {0, 0, TOKEN, "(;B[aa])", 0, FIT, 2, "", 0},
@@ -87,11 +91,11 @@ static const Row rows[] = {
 /* All that is lent, and what it was. */
 static struct Memory {
     uint8_t text[LONG + ROOM], out[ROOM];
-    uint32_t trees[2 * ROWS], nodes[5 * ROWS], properties[4 * ROWS], values[2 * ROWS];
+    uint32_t trees[2 * ROWS], nodes[SGF_NODE_STRIDE * ROWS], properties[4 * ROWS], values[2 * ROWS];
 } lent, before;
 
 static SgfReading reading(size_t length, uint32_t options, size_t value_rows) {
-    return sgf_read(lent.text, length, options, lent.trees, 2 * ROWS, lent.nodes, 5 * ROWS, lent.properties, 4 * ROWS,
+    return sgf_read(lent.text, length, options, lent.trees, 2 * ROWS, lent.nodes, SGF_NODE_STRIDE * ROWS, lent.properties, 4 * ROWS,
                     lent.values, 2 * value_rows);
 }
 
@@ -100,7 +104,7 @@ static bool none(SgfCounts c) {
 }
 
 #define RECORD \
-    lent.text, length + r->room, length, counts, lent.trees, 2 * ROWS, lent.nodes, 5 * ROWS, lent.properties, 4 * ROWS, \
+    lent.text, length + r->room, length, counts, lent.trees, 2 * ROWS, lent.nodes, SGF_NODE_STRIDE * ROWS, lent.properties, 4 * ROWS, \
     lent.values, 2 * ROWS
 
 /* Makes the call: its number and place, and whether all else that it answers is 0. */
@@ -112,6 +116,7 @@ static uint32_t answer(const Row *r, uint32_t options, size_t *place, bool *is_z
     if (r->call != READ && r->call < TRIM) {
         counts = reading(length, SGF_STRICT, ROWS).counts;
         lent.trees[SGF_TREE_GAME_TYPE] = r->state == DAMAGED ? 2 : lent.trees[SGF_TREE_GAME_TYPE];
+        lent.nodes[SGF_NODE_DEPTH] += r->state == DEEPER;
     }
     memcpy(&before, &lent, sizeof lent);
     *place = 0;

@@ -11,6 +11,10 @@ fn print_main_line(record: &Record) {
                 Move::Move(point) => println!("  {colour} {point}"),
             }
         }
+        let last = tree.root().main_variation().last().expect("a tree has a root");
+        if let Some(fork) = last.fork() {
+            println!("  back to the fork: from depth {} to {}", last.depth(), fork.depth());
+        }
     }
 }
 

@@ -58,14 +58,15 @@ fn shown(property: Property) -> Option<String> {
 
 fn show_tree(tree: Tree) -> String {
     let (number, nodes) = (tree.number() + 1, tree.nodes().count());
+    let depth = tree.nodes().map(Node::depth).max().unwrap_or(0);
     if tree.game_type() != GameType::Go {
-        return format!("tree {number}: another game, nodes {nodes}\n");
+        return format!("tree {number}: another game, nodes {nodes}, depth {depth}\n");
     }
     let moves = tree.nodes().flat_map(Node::properties).filter_map(shown).count();
     let main_line: Vec<String> = tree.root().main_variation().flat_map(Node::properties).filter_map(shown).collect();
     let lines: Vec<String> = main_line.chunks(10).map(|line| format!("  {}", line.join(", "))).collect();
     let end = if lines.is_empty() { "" } else { "\n" };
-    format!("tree {number}: Go, nodes {nodes}, moves {moves}\n{}{end}", lines.join(",\n"))
+    format!("tree {number}: Go, nodes {nodes}, depth {depth}, moves {moves}\n{}{end}", lines.join(",\n"))
 }
 
 fn show(record: &Record) -> String {

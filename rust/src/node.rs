@@ -77,6 +77,37 @@ impl<'r> Node<'r> {
         self.linked(self.row()[0])
     }
 
+    /// Its distance from the root, 0 at a root.
+    ///
+    /// ```
+    /// let record = ekimorepa::parse("(;B[aa](;W[bb];B[cc])(;W[dd]))")?;
+    /// let depths: Vec<usize> = record.trees().next().unwrap().nodes().map(|node| node.depth()).collect();
+    /// assert_eq!(depths, [0, 1, 2, 1]);
+    /// # Ok::<(), ekimorepa::Error>(())
+    /// ```
+    pub fn depth(self) -> usize {
+        self.row()[5] as usize
+    }
+
+    /// Its parent, that one's parent, and so on up to the root: as many as its depth.
+    pub fn ancestors(self) -> impl Iterator<Item = Node<'r>> {
+        std::iter::successors(self.parent(), |node| node.parent())
+    }
+
+    /// The nearest ancestor with two or more children: where "back to the fork" leads.
+    ///
+    /// ```
+    /// let record = ekimorepa::parse("(;B[aa](;W[bb];B[cc])(;W[dd]))")?;
+    /// let nodes: Vec<_> = record.trees().next().unwrap().nodes().collect();
+    /// let fork = nodes[2].fork().unwrap();
+    /// assert_eq!((fork.number(), nodes[2].depth() - fork.depth()), (0, 2));
+    /// assert!(fork.fork().is_none());
+    /// # Ok::<(), ekimorepa::Error>(())
+    /// ```
+    pub fn fork(self) -> Option<Node<'r>> {
+        self.ancestors().find(|node| node.children().nth(1).is_some())
+    }
+
     /// Its children, in the order of the text.
     ///
     /// ```
@@ -97,7 +128,7 @@ impl<'r> Node<'r> {
 
     /// Its properties, in the order of the text.
     pub fn properties(self) -> impl Iterator<Item = Property<'r>> {
-        let [_, _, _, first, count] = self.row();
+        let [_, _, _, first, count, _] = self.row();
         (first..first + count).map(move |number| Property { node: self, number: number as usize })
     }
 
@@ -133,7 +164,7 @@ impl<'r> Node<'r> {
         self.tree.record
     }
 
-    fn row(self) -> [u32; 5] {
+    fn row(self) -> [u32; 6] {
         self.record().tables.nodes[self.number]
     }
 

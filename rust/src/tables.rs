@@ -10,8 +10,8 @@ pub(crate) const NONE: u32 = u32::MAX;
 pub struct Tables {
     /// Root node, game type (0 Go, 1 unknown).
     pub trees: Vec<[u32; 2]>,
-    /// Parent, first child, next sibling, first property, property count.
-    pub nodes: Vec<[u32; 5]>,
+    /// Parent, first child, next sibling, first property, property count, depth.
+    pub nodes: Vec<[u32; 6]>,
     /// Identifier start and end, first value, value count.
     pub properties: Vec<[u32; 4]>,
     /// Start and end of what stands between the brackets.
@@ -27,7 +27,7 @@ impl Tables {
         let values = count(b'[');
         Tables {
             trees: vec![[0; 2]; trees],
-            nodes: vec![[0; 5]; count(b';') + trees],
+            nodes: vec![[0; 6]; count(b';') + trees],
             properties: vec![[0; 4]; values],
             values: vec![[0; 2]; values],
         }

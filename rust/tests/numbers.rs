@@ -31,6 +31,8 @@ fn nested(depth: usize) -> String {
 #[test]
 fn every_number() {
     let keep = ParseOptions { convert_mixed_case_identifiers: false, ..ParseOptions::default() };
+    let mut deeper = parse("(;C[a])").unwrap().tables().clone();
+    deeper.nodes[0][5] += 1;
     let rows: Vec<(u32, usize, Answer)> = vec![
         (0, 0, read("(;);")),
         (0, 0, read(comment(TEXT_LIMIT))),
@@ -61,6 +63,7 @@ fn every_number() {
         (17, 0, edit("(;GM[1])", 0, "]")),
         (18, 0, edit("(;C[ab])", 0, "]")),
         (19, 0, Record::from_tables("(;C[])", parse("(;C[a])").unwrap().tables().clone()).map(drop)),
+        (19, 0, Record::from_tables("(;C[a])", deeper).map(drop)),
     ];
     for (number, place, answer) in &rows {
         assert_eq!(answer.map_or_else(|error| (error.number(), error.place()), |()| (0, 0)), (*number, *place));

@@ -35,6 +35,27 @@ fn readings() {
 }
 
 #[test]
+fn depths() {
+    let depths = |record: Record| record.nodes().map(|node| node.depth()).collect::<Vec<usize>>();
+    for (text, expected) in [("(;(;);)", vec![0, 1, 1]), ("(;;)(;)", vec![0, 1, 0]), ("(;(;(;)))", vec![0, 1, 2]), ("(;;;)", vec![0, 1, 2])] {
+        assert_eq!(depths(parse(text).unwrap()), expected, "{text}");
+    }
+    let line = |nodes: usize, end: &str| ["(", &";".repeat(nodes), end].concat();
+    assert_eq!(depths(parse(&line(1_048_574, ")")).unwrap()).last(), Some(&1_048_573));
+    assert_eq!(depths(parse_lenient(&line(1_048_575, "")).unwrap()).last(), Some(&1_048_574));
+}
+
+#[test]
+fn forks() {
+    let record = parse("(;(;;(;;)(;))(;))").unwrap();
+    let forks: Vec<Option<usize>> = record.nodes().map(|node| node.fork().map(|fork| fork.number())).collect();
+    assert_eq!(forks, [None, Some(0), Some(0), Some(2), Some(2), Some(2), Some(0)]);
+    for node in record.nodes() {
+        assert_eq!(node.ancestors().count(), node.depth());
+    }
+}
+
+#[test]
 fn writings() {
     let written = |text: &str| parse(text).unwrap().to_sgf().map_err(|error| error.number());
     assert_eq!(written("(;AB[bb:cc]TB[ba][aa]C[a:b\\]c])").unwrap(), "(;AB[bb][bc][cb][cc]TB[aa][ba]C[a:b\\]c])");

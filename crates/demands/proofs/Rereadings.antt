@@ -1,5 +1,6 @@
 -- Memory that a reading left, calls on it, and a second reading of it. Assumes nothing.
 use Rattle.lists.proofs.Prelude.{ℕ, _*_, _≤_, Bool, true, _&&_, List, _++_, _≡_, refl, sym, ap, ap₂, _∙_, subst, arith, length, take, drop, take-append-drop, take-at, length-take-le, le-leb, pick, false}
+use Rattle.tables.specs.Columns.{nodeStride}
 use Rattle.tables.specs.Flat.{over}
 use Rattle.tables.specs.Memory.{Memory}
 use Rattle.tables.specs.Record.{Tree}
@@ -100,7 +101,7 @@ module _ (m : Memory) (f : Fresh m) where
   n-trees : m .counts .trees * 2 ≤ length (m .trees)
   n-trees = omega (arith, held .trees)
 
-  n-nodes : m .counts .nodes * 5 ≤ length (m .nodes)
+  n-nodes : m .counts .nodes * nodeStride ≤ length (m .nodes)
   n-nodes = omega (arith, held .nodes)
 
   n-properties : m .counts .properties * 4 ≤ length (m .properties)

@@ -5,6 +5,7 @@ use Rattle.lists.specs.Put.{PutWhole}
 use Rattle.lists.proofs.Put.{put-whole-once}
 use Rattle.lists.proofs.Once.{once-is}
 use Rattle.lexer.specs.declared.Fault.{Fault}
+use Rattle.tables.specs.LocalsDepths.{NoDepth, LevelledTo, LevelsIs}
 use Rattle.tables.specs.LocalsLinks.{NoLink, LinkedFrom, HasRows, LinksIs}
 use Rattle.tables.specs.Numbers.{none, numberOf, reasonOf}
 use Rattle.tables.specs.declared.Reason.{Reason}
@@ -27,7 +28,7 @@ use Rattle.go.specs.declared.value.GoValue.{GoValue}
 
 -- store_numbers
 
--- of put1, put2, put4 and put5, whatever is put
+-- of put1, put2, put4 and put6, whatever is put
 pub put-once : (t : List ℕ) (at : ℕ) (vs : List ℕ) → Once (PutWhole t at vs)
 put-once t at vs x y p q = put-whole-once x y p q
 
@@ -44,7 +45,7 @@ module _ (n : ℕ) (t x y : List ℕ) (p : LinkedFrom n t x 0) (q : LinkedFrom n
   stays-same : (i : ℕ) → NoLink n i → getD x i 0 ≡ getD y i 0
   stays-same i h = p .kept i h ∙ sym (q .kept i h)
 
-  cell-same : (i r c : ℕ) → i ≡ r * nodeStride + c → c < 5 → (a : Bool) → ltb r n ≡ a → (b : Bool) → eqb c 1 ≡ b → (d : Bool) → eqb c 2 ≡ d → getD x i 0 ≡ getD y i 0
+  cell-same : (i r c : ℕ) → i ≡ r * nodeStride + c → c < nodeStride → (a : Bool) → ltb r n ≡ a → (b : Bool) → eqb c 1 ≡ b → (d : Bool) → eqb c 2 ≡ d → getD x i 0 ≡ getD y i 0
   cell-same i r c e l false ha b hb d hd = stays-same i (λ s m. let g = ltb-false r n ha in ((λ z. omega arith), (λ z. omega arith)))
   cell-same i r c e l true ha true hb d hd =
       let g = ltb-true r n ha in
@@ -64,15 +65,41 @@ module _ (n : ℕ) (t x y : List ℕ) (p : LinkedFrom n t x 0) (q : LinkedFrom n
   linked-once : x ≡ y
   linked-once =
       ext-getD 0 x y (p .len ∙ sym (q .len))
-      (λ i _. cell-same i (i / nodeStride) (i % 5) (sym (div-add-mod' i 5)) (mod-lt i (omega arith)) (ltb (i / nodeStride) n) refl (eqb (i % 5) 1) refl (eqb (i % 5) 2) refl)
+      (λ i _. cell-same i (i / nodeStride) (i % nodeStride) (sym (div-add-mod' i nodeStride)) (mod-lt i (omega arith)) (ltb (i / nodeStride) n) refl (eqb (i % nodeStride) 1) refl (eqb (i % nodeStride) 2) refl)
+
+-- there are so many rows or not
+rows-or : {X : Type 0} (n : ℕ) (t : List ℕ) → (HasRows n t → X) → ((HasRows n t → ⊥) → X) → X
+rows-or {X} n t f g = go (leb n (length t / nodeStride)) refl (leb n none) refl
+  where
+    go : (a : Bool) → leb n (length t / nodeStride) ≡ a → (b : Bool) → leb n none ≡ b → X
+    go true ha true hb = f (leb-true n (length t / nodeStride) ha, leb-true n none hb)
+    go false ha b hb = g (λ z. omega (arith, z .0, leb-false n (length t / nodeStride) ha))
+    go true ha false hb = g (λ z. omega (arith, z .1, leb-false n none hb))
 
 pub link-nodes-once : (n : ℕ) (t : List ℕ) → Once (LinksIs n t)
-link-nodes-once n t x y p q = go (leb n (length t / nodeStride)) refl (leb n none) refl
-  where
-    go : (a : Bool) → leb n (length t / nodeStride) ≡ a → (b : Bool) → leb n none ≡ b → x ≡ y
-    go true ha true hb = let h : HasRows n t = (leb-true n (length t / nodeStride) ha, leb-true n none hb) in linked-once n t x y (p .made h) (q .made h)
-    go false ha b hb = let h : HasRows n t → ⊥ = λ z. omega (arith, z .0, leb-false n (length t / nodeStride) ha) in p .left h ∙ sym (q .left h)
-    go true ha false hb = let h : HasRows n t → ⊥ = λ z. omega (arith, z .1, leb-false n none hb) in p .left h ∙ sym (q .left h)
+link-nodes-once n t x y p q = rows-or n t (λ h. linked-once n t x y (p .made h) (q .made h)) (λ h. p .left h ∙ sym (q .left h))
+
+-- the depths: a cell is a depth, or it stays
+module _ (n : ℕ) (t x y : List ℕ) (p : LevelledTo n t x n) (q : LevelledTo n t y n) where
+  kept-same : (i : ℕ) → NoDepth n i → getD x i 0 ≡ getD y i 0
+  kept-same i h = p .kept i h ∙ sym (q .kept i h)
+
+  level-same : (i r c : ℕ) → i ≡ r * nodeStride + c → c < nodeStride → (a : Bool) → ltb r n ≡ a → (b : Bool) → eqb c 5 ≡ b → getD x i 0 ≡ getD y i 0
+  level-same i r c e l false ha b hb = kept-same i (λ s m z. let g = ltb-false r n ha in omega arith)
+  level-same i r c e l true ha true hb =
+      let g = ltb-true r n ha in
+      let o = eqb-true c 5 hb in
+      let w : i ≡ r * nodeStride + 5 = omega arith in
+      rw w (p .level r g ∙ sym (q .level r g))
+  level-same i r c e l true ha false hb = let u : c ≡ 5 → ⊥ = eqb-false c 5 hb in kept-same i (λ s m z. u (omega arith))
+
+  levelled-once : x ≡ y
+  levelled-once =
+      ext-getD 0 x y (p .len ∙ sym (q .len))
+      (λ i _. level-same i (i / nodeStride) (i % nodeStride) (sym (div-add-mod' i nodeStride)) (mod-lt i (omega arith)) (ltb (i / nodeStride) n) refl (eqb (i % nodeStride) 5) refl)
+
+pub level-nodes-once : (n : ℕ) (t : List ℕ) → Once (LevelsIs n t)
+level-nodes-once n t x y p q = rows-or n t (λ h. levelled-once n t x y (p .made h) (q .made h)) (λ h. p .left h ∙ sym (q .left h))
 
 -- parts
 

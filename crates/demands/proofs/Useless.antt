@@ -56,7 +56,7 @@ hasty-reader after p x = let e = x .answer ∙ ten-first in never cc
 
 -- a text of two nodes in memory, with these properties and values
 abbrev held : (text : List ℕ) (used : ℕ) (properties values : List ℕ) → Memory
-held t used pr vl = memory t used (rows 1 2 2 2) (0 ∷ 0 ∷ []) (none ∷ 1 ∷ none ∷ 0 ∷ 1 ∷ 0 ∷ none ∷ none ∷ 1 ∷ 1 ∷ []) pr vl
+held t used pr vl = memory t used (rows 1 2 2 2) (0 ∷ 0 ∷ []) (none ∷ 1 ∷ none ∷ 0 ∷ 1 ∷ 0 ∷ 0 ∷ none ∷ none ∷ 1 ∷ 1 ∷ 1 ∷ []) pr vl
 
 -- the text of P10, its value 0 becoming `x`, and then its value 1 `y`; the used length is the caller's
 abbrev pub first : Memory

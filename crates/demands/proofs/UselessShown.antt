@@ -75,7 +75,7 @@ later-idle-edit r x = let e : _≡_ {A = ℕ} 11 10 = ap (λ (m : Memory). getD 
 
 -- a text of one node with one value
 abbrev one : Memory
-one = memory (bytes "(;C[ab])") 8 (rows 1 1 1 1) (0 ∷ 0 ∷ []) (none ∷ none ∷ none ∷ 0 ∷ 1 ∷ []) (2 ∷ 3 ∷ 0 ∷ 1 ∷ []) (4 ∷ 6 ∷ [])
+one = memory (bytes "(;C[ab])") 8 (rows 1 1 1 1) (0 ∷ 0 ∷ []) (none ∷ none ∷ none ∷ 0 ∷ 1 ∷ 0 ∷ []) (2 ∷ 3 ∷ 0 ∷ 1 ∷ []) (4 ∷ 6 ∷ [])
 
 -- eight bytes lent
 abbrev eight : List ℕ

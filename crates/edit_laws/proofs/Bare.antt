@@ -14,7 +14,7 @@ use Rattle.edit_laws.specs.Fresh.{Fresh}
 use Rattle.edit_laws.specs.Run.{Reads}
 
 abbrev pub bare : Memory
-bare = memory (bytes "(;C[a])") 9 (record { trees = 1; nodes = 1; properties = 1; values = 1 }) [] (none ∷ none ∷ none ∷ 0 ∷ 1 ∷ []) (2 ∷ 3 ∷ 0 ∷ 1 ∷ []) (4 ∷ 5 ∷ [])
+bare = memory (bytes "(;C[a])") 9 (record { trees = 1; nodes = 1; properties = 1; values = 1 }) [] (none ∷ none ∷ none ∷ 0 ∷ 1 ∷ 0 ∷ []) (2 ∷ 3 ∷ 0 ∷ 1 ∷ []) (4 ∷ 5 ∷ [])
 
 abbrev read-as : List Tree
 read-as =

@@ -39,12 +39,12 @@ unfolding tabulate
 tree-cells = rows-cells 2 (λ r. r .root ∷ r .kind ∷ []) flatTrees treeRow refl (λ r rs. refl)
     (λ t k h. let n : k * 2 ≡ k * 2 + 0 = omega arith in ap (λ (z : ℕ). getD t z 0 ∷ getD t (k * 2 + 1) 0 ∷ []) n ∙ sym (part-first t (k * 2) 2 h))
 
-pub node-cells : (t : List ℕ) (n : ℕ) → n * 5 ≤ length t → flatNodes (tabulate (nodeRow t) 0 n) ≡ take (n * 5) t
+pub node-cells : (t : List ℕ) (n : ℕ) → n * 6 ≤ length t → flatNodes (tabulate (nodeRow t) 0 n) ≡ take (n * 6) t
 unfolding tabulate
-node-cells = rows-cells 5 (λ r. r .parent ∷ r .child ∷ r .sibling ∷ r .first ∷ r .count ∷ []) flatNodes nodeRow refl (λ r rs. refl)
+node-cells = rows-cells 6 (λ r. r .parent ∷ r .child ∷ r .sibling ∷ r .first ∷ r .count ∷ r .depth ∷ []) flatNodes nodeRow refl (λ r rs. refl)
     (λ t k h.
-    let n : k * 5 ≡ k * 5 + 0 = omega arith in
-    ap (λ (z : ℕ). getD t z 0 ∷ getD t (k * 5 + 1) 0 ∷ getD t (k * 5 + 2) 0 ∷ getD t (k * 5 + 3) 0 ∷ getD t (k * 5 + 4) 0 ∷ []) n ∙ sym (part-first t (k * 5) 5 h))
+    let n : k * 6 ≡ k * 6 + 0 = omega arith in
+    ap (λ (z : ℕ). getD t z 0 ∷ getD t (k * 6 + 1) 0 ∷ getD t (k * 6 + 2) 0 ∷ getD t (k * 6 + 3) 0 ∷ getD t (k * 6 + 4) 0 ∷ getD t (k * 6 + 5) 0 ∷ []) n ∙ sym (part-first t (k * 6) 6 h))
 
 pub property-cells : (t : List ℕ) (n : ℕ) → n * 4 ≤ length t → flatProps (tabulate (propRow t) 0 n) ≡ take (n * 4) t
 unfolding tabulate

@@ -166,6 +166,7 @@ module _ (m : Memory) (k : ℕ) (new : List ℕ) {n : ℕ} (x : Given m k new n)
         children = F .children;
         siblings = F .siblings;
         kinds = F .kinds;
+        depths = F .depths;
         node-ranges = F .node-ranges;
         prop-ranges = ranges-same (m .properties) pr′ (m .counts .properties) first count (m .counts .values) ∙ F .prop-ranges;
         have-values = have-same (m .properties) pr′ (m .counts .properties) first count ∙ F .have-values;

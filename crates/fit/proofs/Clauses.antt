@@ -7,7 +7,7 @@ use Rattle.tables.specs.Each.{each}
 use Rattle.tables.specs.Memory.{Memory}
 use Rattle.fit.specs.Fit.{lentFor, validUtf8, fitText, Fit}
 use Rattle.fit.specs.Locals.{Held}
-use Rattle.fit_nodes.specs.Nodes.{rootsRight, parentRight, childRight, siblingRight, kindRight, nodesFit}
+use Rattle.fit_nodes.specs.Nodes.{rootsRight, parentRight, childRight, siblingRight, kindRight, depthRight, nodesFit}
 use Rattle.fit_spans.specs.Ranges.{gapless, hasValue, rangesFit}
 use Rattle.fit_spans.specs.Spans.{spans, ascending, nameRight, valueRight, spansFit}
 use Rattle.tables.proofs.Cases.{and-left, and-right}
@@ -25,6 +25,7 @@ pub record Clauses (t : List ℕ) (c : Counts) (tr nd pr vl : List ℕ) : Type 0
   pub children : each (c .nodes) (childRight nd (c .nodes)) ≡ true
   pub siblings : each (c .nodes) (siblingRight nd (c .nodes)) ≡ true
   pub kinds : each (c .trees) (kindRight tr) ≡ true
+  pub depths : each (c .nodes) (depthRight nd) ≡ true
   pub node-ranges : gapless (firstPropAt nd) (propCountAt nd) (c .nodes) (c .properties) ≡ true
   pub prop-ranges : gapless (firstValAt pr) (valCountAt pr) (c .properties) (c .values) ≡ true
   pub have-values : each (c .properties) (hasValue pr) ≡ true
@@ -39,6 +40,11 @@ five p q r s u h =
     let h2 = and-left (p && q) r h3 in
     (and-left p q h2, and-right p q h2, and-right (p && q) r h3, and-right (p && q && r) s h4, and-right (p && q && r && s) u h)
 
+six : (p q r s u v : Bool) → (p && q && r && s && u && v) ≡ true → (p ≡ true) × (q ≡ true) × (r ≡ true) × (s ≡ true) × (u ≡ true) × (v ≡ true)
+six p q r s u v h =
+    let x = five p q r s u (and-left (p && q && r && s && u) v h) in
+    (x .0, x .1, x .2, x .3, x .4, and-right (p && q && r && s && u) v h)
+
 three : (p q r : Bool) → (p && q && r) ≡ true → (p ≡ true) × (q ≡ true) × (r ≡ true)
 three p q r h = let h2 = and-left (p && q) r h in (and-left p q h2, and-right p q h2, and-right (p && q) r h)
 
@@ -47,7 +53,7 @@ unfolding Fit fitText nodesFit rangesFit spansFit
 fit-clauses m h =
     let u : List ℕ = textIn m in
     let x = five (leb (length u) textLimit) (validUtf8 u) (nodesFit (m .counts) (m .trees) (m .nodes)) (rangesFit (m .counts) (m .nodes) (m .properties)) (spansFit u (m .counts) (m .properties) (m .values)) (and-right (lentFor m) (fitText u (m .counts) (m .trees) (m .nodes) (m .properties) (m .values)) h) in
-    let n = five (rootsRight (m .counts .trees) (m .counts .nodes) (m .trees) (m .nodes)) (each (m .counts .nodes) (parentRight (m .nodes))) (each (m .counts .nodes) (childRight (m .nodes) (m .counts .nodes))) (each (m .counts .nodes) (siblingRight (m .nodes) (m .counts .nodes))) (each (m .counts .trees) (kindRight (m .trees))) (x .2) in
+    let n = six (rootsRight (m .counts .trees) (m .counts .nodes) (m .trees) (m .nodes)) (each (m .counts .nodes) (parentRight (m .nodes))) (each (m .counts .nodes) (childRight (m .nodes) (m .counts .nodes))) (each (m .counts .nodes) (siblingRight (m .nodes) (m .counts .nodes))) (each (m .counts .trees) (kindRight (m .trees))) (each (m .counts .nodes) (depthRight (m .nodes))) (x .2) in
     let r = three (gapless (firstPropAt (m .nodes)) (propCountAt (m .nodes)) (m .counts .nodes) (m .counts .properties)) (gapless (firstValAt (m .properties)) (valCountAt (m .properties)) (m .counts .properties) (m .counts .values)) (each (m .counts .properties) (hasValue (m .properties))) (x .3) in
     let s = three (ascending (length u) 0 (spans (m .properties) (m .values) 0 (m .counts .properties))) (each (m .counts .properties) (nameRight u (m .properties))) (each (m .counts .values) (valueRight u (m .values))) (x .4) in
     record {
@@ -59,6 +65,7 @@ fit-clauses m h =
       children = n .2;
       siblings = n .3;
       kinds = n .4;
+      depths = n .5;
       node-ranges = r .0;
       prop-ranges = r .1;
       have-values = r .2;
@@ -84,6 +91,7 @@ clauses-fit m l f =
       f .children,
       f .siblings,
       f .kinds,
+      f .depths,
       f .node-ranges,
       f .prop-ranges,
       f .have-values,

@@ -18,7 +18,7 @@ abbrev pub tr : List ℕ
 tr = 0 ∷ 0 ∷ []
 
 abbrev pub nd : List ℕ
-nd = none ∷ 1 ∷ none ∷ 0 ∷ 1 ∷ 0 ∷ none ∷ none ∷ 1 ∷ 1 ∷ []
+nd = none ∷ 1 ∷ none ∷ 0 ∷ 1 ∷ 0 ∷ 0 ∷ none ∷ none ∷ 1 ∷ 1 ∷ 1 ∷ []
 
 abbrev pub pr : List ℕ
 pr = 2 ∷ 3 ∷ 0 ∷ 1 ∷ 8 ∷ 9 ∷ 1 ∷ 1 ∷ []
@@ -53,13 +53,17 @@ pub changed : any (
     ∷ fitting tr (set nd 2 1) pr vl
     ∷ fitting tr (set nd 3 1) pr vl
     ∷ fitting tr (set nd 4 2) pr vl
-    ∷ fitting tr (set nd 5 none) pr vl
     ∷ fitting tr (set nd 5 1) pr vl
+    ∷ fitting tr (set nd 5 none) pr vl
+    ∷ fitting tr (set nd 6 none) pr vl
     ∷ fitting tr (set nd 6 1) pr vl
-    ∷ fitting tr (set nd 7 0) pr vl
+    ∷ fitting tr (set nd 7 1) pr vl
     ∷ fitting tr (set nd 8 0) pr vl
-    ∷ fitting tr (set nd 9 2) pr vl
     ∷ fitting tr (set nd 9 0) pr vl
+    ∷ fitting tr (set nd 10 2) pr vl
+    ∷ fitting tr (set nd 10 0) pr vl
+    ∷ fitting tr (set nd 11 0) pr vl
+    ∷ fitting tr (set nd 11 2) pr vl
     ∷ fitting tr nd (set pr 0 4) vl
     ∷ fitting tr nd (set pr 1 4) vl
     ∷ fitting tr nd (set pr 1 1) vl

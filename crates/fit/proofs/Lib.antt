@@ -1,6 +1,7 @@
 pub mod Clauses
 pub mod Examples
 pub mod Parts
+pub mod RecordDepths
 pub mod RecordFits
 pub mod RecordLinks
 pub mod RecordRanges

@@ -1,15 +1,11 @@
 -- Parts of lists: of a run of numbered elements, and of a list that ranges without gap cut. Assumes nothing.
 use Rattle.lists.proofs.Prelude.{ℕ, zero, suc, _+_, _-_, _≤_, _<_, true, List, [], _∷_, _++_, map, _≡_, refl, sym, ap, ap₂, _∙_, arith, length, take, drop, getD, length-drop, drop-drop, take-add, take-length, length-take-le}
 use Rattle.tables.specs.Each.{sum, tabulate}
+pub use Rattle.tables.proofs.Tabulate.{tabulate-length, tabulate-at}
 use Rattle.fit_spans.specs.Ranges.{gapless}
 use Rattle.fit_spans.proofs.Ranges.{sum-suc, sum-up, gapless-first, gapless-sum, gapless-in}
 
 module _ {A : Type 0} (f : ℕ → A) where
-  pub tabulate-length : (k n : ℕ) → length (tabulate f k n) ≡ n
-  unfolding tabulate
-  tabulate-length k zero = refl
-  tabulate-length k (suc n) = ap suc (tabulate-length (suc k) n)
-
   pub tabulate-last : (k n : ℕ) → tabulate f k (suc n) ≡ tabulate f k n ++ (f (k + n) ∷ [])
   unfolding tabulate
   tabulate-last k zero = let e : k + 0 ≡ k = omega arith in rw e
@@ -44,12 +40,6 @@ module _ {A : Type 0} (f : ℕ → A) where
   tabulate-take zero k n h = refl
   tabulate-take (suc m) k zero h = absurd (omega arith)
   tabulate-take (suc m) k (suc n) h = ap (λ (z : List A). f k ∷ z) (tabulate-take m (suc k) n (omega arith))
-
-  pub tabulate-at : (k n i : ℕ) (d : A) → i < n → getD (tabulate f k n) i d ≡ f (k + i)
-  unfolding tabulate
-  tabulate-at k zero i d h = absurd (omega arith)
-  tabulate-at k (suc n) zero d h = let e : k + 0 ≡ k = omega arith in rw e
-  tabulate-at k (suc n) (suc i) d h = let e : k + suc i ≡ suc k + i = omega arith in rw e (tabulate-at (suc k) n i d (omega arith))
 
   pub map-tabulate : {B : Type 0} (g : A → B) (k n : ℕ) → map g (tabulate f k n) ≡ tabulate (λ i. g (f i)) k n
   unfolding tabulate

@@ -1,17 +1,18 @@
 -- Lent tables that have a record's rows: what of fitting follows for any record. Assumes nothing.
-use Rattle.lists.proofs.Prelude.{ℕ, true, List, _≡_, sym, ap, _∙_, length}
+use Rattle.lists.proofs.Prelude.{ℕ, _≤_, true, List, _≡_, sym, ap, _∙_, subst, length}
 use Rattle.lexer.specs.Token.{Prop}
+use Rattle.tables.specs.Numbers.{none}
 use Rattle.tables.specs.Record.{Node, Tree, allNodes, allProps, allVals}
 use Rattle.tables.specs.Rows.{Tables, tables, parents, nodeRows, propRows, countsOf}
 use Rattle.tables.specs.declared.Counts.{Counts}
 use Rattle.tables.proofs.Lengths.{prop-rows-length, val-rows-length, node-rows-length}
 use Rattle.tables.specs.Columns.{firstPropAt, propCountAt, firstValAt, valCountAt}
 use Rattle.tables.specs.Each.{each, tabulate}
-use Rattle.fit_nodes.specs.Nodes.{childRight, siblingRight}
+use Rattle.fit_nodes.specs.Nodes.{parentRight, childRight, siblingRight, depthRight}
 use Rattle.fit_spans.specs.Ranges.{gapless}
 use Rattle.fit.specs.Record.{nodeRow, propRow, rowsOf}
 use Rattle.fit.proofs.Parts.{tabulate-length}
-use Rattle.fit.proofs.RecordLinks.{children-fit, siblings-fit}
+use Rattle.fit.proofs.RecordLinks.{children-fit, siblings-fit, depths-fit}
 use Rattle.fit.proofs.RecordRanges.{node-ranges-fit, prop-ranges-fit}
 
 -- ---- counts
@@ -49,6 +50,10 @@ module _ (c : Counts) (tr nd pr vl : List ℕ) (ts : List Tree) (h : rowsOf c tr
 
   pub record-siblings : each (c .nodes) (siblingRight nd (c .nodes)) ≡ true
   record-siblings = rw nodes-counted (siblings-fit nd ns node-rows)
+
+  pub record-depths : each (c .nodes) (parentRight nd) ≡ true → c .nodes ≤ none → each (c .nodes) (depthRight nd) ≡ true
+  record-depths rule few =
+      rw nodes-counted (depths-fit nd ns node-rows (subst (λ (z : ℕ). each z (parentRight nd) ≡ true) nodes-counted rule) (subst (λ (z : ℕ). z ≤ none) nodes-counted few))
 
   pub record-properties : gapless (firstPropAt nd) (propCountAt nd) (c .nodes) (c .properties) ≡ true
   record-properties = rw (nodes-counted, properties-counted) (node-ranges-fit nd (parents ns) ns node-rows)

@@ -32,14 +32,15 @@ tree-rows = rows-flat (λ r. r .root ∷ r .kind ∷ []) flatTrees treeRow (λ r
     rw (b, a))
 
 node-rows : (rs : List NodeRow) (w : List ℕ) → tabulate (nodeRow (flatNodes rs ++ w)) 0 (length rs) ≡ rs
-node-rows = rows-flat (λ r. r .parent ∷ r .child ∷ r .sibling ∷ r .first ∷ r .count ∷ []) flatNodes nodeRow (λ r rs. refl) (λ r t. refl)
+node-rows = rows-flat (λ r. r .parent ∷ r .child ∷ r .sibling ∷ r .first ∷ r .count ∷ r .depth ∷ []) flatNodes nodeRow (λ r rs. refl) (λ r t. refl)
     (λ r t k.
-    let a : suc k * nodeStride ≡ suc (suc (suc (suc (suc (k * nodeStride))))) = omega arith in
-    let b : suc k * nodeStride + 1 ≡ suc (suc (suc (suc (suc (k * nodeStride + 1))))) = omega arith in
-    let c : suc k * nodeStride + 2 ≡ suc (suc (suc (suc (suc (k * nodeStride + 2))))) = omega arith in
-    let d : suc k * nodeStride + 3 ≡ suc (suc (suc (suc (suc (k * nodeStride + 3))))) = omega arith in
-    let e : suc k * nodeStride + 4 ≡ suc (suc (suc (suc (suc (k * nodeStride + 4))))) = omega arith in
-    rw (e, d, c, b, a))
+    let a : suc k * nodeStride ≡ suc (suc (suc (suc (suc (suc (k * nodeStride)))))) = omega arith in
+    let b : suc k * nodeStride + 1 ≡ suc (suc (suc (suc (suc (suc (k * nodeStride + 1)))))) = omega arith in
+    let c : suc k * nodeStride + 2 ≡ suc (suc (suc (suc (suc (suc (k * nodeStride + 2)))))) = omega arith in
+    let d : suc k * nodeStride + 3 ≡ suc (suc (suc (suc (suc (suc (k * nodeStride + 3)))))) = omega arith in
+    let e : suc k * nodeStride + 4 ≡ suc (suc (suc (suc (suc (suc (k * nodeStride + 4)))))) = omega arith in
+    let f : suc k * nodeStride + 5 ≡ suc (suc (suc (suc (suc (suc (k * nodeStride + 5)))))) = omega arith in
+    rw (f, e, d, c, b, a))
 
 prop-rows : (rs : List PropRow) (w : List ℕ) → tabulate (propRow (flatProps rs ++ w)) 0 (length rs) ≡ rs
 prop-rows = rows-flat (λ r. r .from ∷ r .to ∷ r .first ∷ r .count ∷ []) flatProps propRow (λ r rs. refl) (λ r t. refl)

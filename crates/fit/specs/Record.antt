@@ -4,7 +4,7 @@ use Rattle.lexer.specs.Token.{Val, Prop}
 use Rattle.tables.specs.Record.{Node, Tree}
 use Rattle.tables.specs.Rows.{TreeRow, NodeRow, PropRow, ValRow, Tables}
 use Rattle.tables.specs.declared.Counts.{Counts}
-use Rattle.tables.specs.Columns.{rootAt, kindAt, parentAt, childAt, siblingAt, firstPropAt, propCountAt, nameFromAt, nameToAt, firstValAt, valCountAt, valFromAt, valToAt}
+use Rattle.tables.specs.Columns.{rootAt, kindAt, parentAt, childAt, siblingAt, firstPropAt, propCountAt, depthAt, nameFromAt, nameToAt, firstValAt, valCountAt, valFromAt, valToAt}
 use Rattle.tables.specs.Each.{tabulate}
 use Rattle.tables.specs.Memory.{Memory}
 
@@ -14,7 +14,15 @@ treeRow tr k = record { root = rootAt tr k; kind = kindAt tr k }
 
 -- of the node table
 abbrev pub nodeRow : List ℕ → ℕ → NodeRow
-nodeRow nd k = record { parent = parentAt nd k; child = childAt nd k; sibling = siblingAt nd k; first = firstPropAt nd k; count = propCountAt nd k }
+nodeRow nd k =
+    record {
+      parent = parentAt nd k;
+      child = childAt nd k;
+      sibling = siblingAt nd k;
+      first = firstPropAt nd k;
+      count = propCountAt nd k;
+      depth = depthAt nd k;
+    }
 
 -- of the property table
 abbrev pub propRow : List ℕ → ℕ → PropRow

@@ -1,9 +1,9 @@
--- Fitting, the nodes: roots, parents, links, game types.
+-- Fitting, the nodes: roots, parents, links, game types, depths.
 use Rattle.lists.specs.Prelude.{ℕ, zero, suc, _-_, _/_, Bool, _||_, _&&_, not, List, [], _∷_, leb, ltb, eqb, length, pick}
 use Rattle.lists.specs.Same.{same}
 use Rattle.tables.specs.Numbers.{none}
 use Rattle.tables.specs.declared.Counts.{Counts}
-use Rattle.tables.specs.Columns.{treeStride, nodeStride, rootAt, kindAt, parentAt, childAt, siblingAt}
+use Rattle.tables.specs.Columns.{treeStride, nodeStride, rootAt, kindAt, parentAt, childAt, siblingAt, depthAt}
 use Rattle.tables.specs.Each.{each, tabulate}
 
 -- those of the m nodes from k on that have no parent
@@ -53,6 +53,10 @@ siblingRight nd n k = eqb (siblingAt nd k) (nextOf nd n k)
 abbrev pub kindRight : List ℕ → ℕ → Bool
 kindRight tr k = leb (kindAt tr k) 1
 
+-- a root has depth 0, any other node its parent's plus 1
+abbrev pub depthRight : List ℕ → ℕ → Bool
+depthRight nd k = eqb (depthAt nd k) (pick (eqb (parentAt nd k) none) 0 (suc (depthAt nd (parentAt nd k))))
+
 -- all of it
 unfoldable pub nodesFit : Counts → (tr nd : List ℕ) → Bool
 nodesFit c tr nd =
@@ -61,6 +65,7 @@ nodesFit c tr nd =
     && each (c .nodes) (childRight nd (c .nodes))
     && each (c .nodes) (siblingRight nd (c .nodes))
     && each (c .trees) (kindRight tr)
+    && each (c .nodes) (depthRight nd)
 
 -- so many trees and nodes are lent; no node has the number that means none
 abbrev pub lentNodes : Counts → (tr nd : List ℕ) → Bool

@@ -1,4 +1,4 @@
-// Whether the links of nodes fit: roots, parents, first children, next siblings; and the game types. Linear in the tables: what climbs leaves a node only once.
+// Whether the links of nodes fit: roots, parents, first children, next siblings; the game types; and the depths. Linear in the tables: what climbs leaves a node only once.
 ghost use mathlib.Core.Path.{_≡_};
 ghost use Prim.Native.Nat.{_/_, _<_, _≤_};
 ghost use lib.ListN.{length};
@@ -6,7 +6,7 @@ ghost use Rattle.tables.specs.Numbers.{none};
 ghost use Rattle.tables.specs.Each.{each};
 ghost use Rattle.tables.specs.Columns.{treeStride, nodeStride};
 ghost use Rattle.fit_nodes.specs.Locals.{Ruled, Next, Climbed};
-ghost use Rattle.fit_nodes.specs.Nodes.{rootsRight, onPath, parentRight, childRight, siblingRight, kindRight, nodesFit, lentNodes, linksFit};
+ghost use Rattle.fit_nodes.specs.Nodes.{rootsRight, onPath, parentRight, childRight, siblingRight, kindRight, depthRight, nodesFit, lentNodes, linksFit};
 
 // Whether the roots of `m` trees are those of `n` nodes that have no parent, ascending.
 fn roots_right(trees: &[u32], m: usize, nodes: &[u32], n: usize) -> bool
@@ -170,7 +170,36 @@ fn kinds_right(trees: &[u32], n: usize) -> bool
     true
 }
 
-// Whether roots, parents, links and game types fit.
+// Whether node k's depth is right: 0 at a root, else the parent's plus 1.
+fn depth_right(nodes: &[u32], n: usize, k: usize) -> bool
+    requires { ⌜ (n ≤ length (now nodes) / nodeStride) × Ruled (now nodes) n × (k < n) ⌝ }
+    ensures { λ r. ⌜ r ≡ depthRight (now (nodes .entry)) k ⌝ }
+{
+    let parent = nodes[k * tables::NODE_STRIDE];
+    let depth = nodes[k * tables::NODE_STRIDE + 5];
+    if parent == tables::NONE {
+        return depth == 0;
+    }
+    let up = lists::wide(parent);
+    lists::wide(depth) == lists::wide(nodes[up * tables::NODE_STRIDE + 5]) + 1
+}
+
+// Whether the depths of `n` nodes are right.
+fn depths_right(nodes: &[u32], n: usize) -> bool
+    requires { ⌜ (n ≤ length (now nodes) / nodeStride) × Ruled (now nodes) n ⌝ }
+    ensures { λ r. ⌜ r ≡ each n (depthRight (now (nodes .entry))) ⌝ }
+{
+    let mut k = 0;
+    while k < n {
+        if !depth_right(nodes, n, k) {
+            return false;
+        }
+        k += 1;
+    }
+    true
+}
+
+// Whether roots, parents, links, game types and depths fit.
 fn nodes_fit(trees: &[u32], nodes: &[u32], counts: tables::Counts) -> bool
     requires { ⌜ (counts .trees ≤ length (now trees) / treeStride) × (counts .nodes ≤ length (now nodes) / nodeStride) × (counts .nodes ≤ none) ⌝ }
     ensures { λ r. ⌜ r ≡ nodesFit counts (now (trees .entry)) (now (nodes .entry)) ⌝ }
@@ -187,7 +216,10 @@ fn nodes_fit(trees: &[u32], nodes: &[u32], counts: tables::Counts) -> bool
     if !siblings_right(nodes, counts.nodes) {
         return false;
     }
-    kinds_right(trees, counts.trees)
+    if !kinds_right(trees, counts.trees) {
+        return false;
+    }
+    depths_right(nodes, counts.nodes)
 }
 
 // Whether so many trees and nodes are lent.
@@ -199,7 +231,7 @@ fn is_lent(trees: &[u32], nodes: &[u32], counts: tables::Counts) -> bool
         & (counts.nodes <= tables::NONE as usize)
 }
 
-// Whether so many trees and nodes are lent, and roots, parents, links and game types fit.
+// Whether so many trees and nodes are lent, and roots, parents, links, game types and depths fit.
 pub fn links_fit(trees: &[u32], nodes: &[u32], counts: tables::Counts) -> bool
     ensures { λ r. ⌜ r ≡ linksFit counts (now (trees .entry)) (now (nodes .entry)) ⌝ }
 {

@@ -125,7 +125,7 @@ module _ {len : Bool} {u : List ℕ} {from base p0 v0 : ℕ} {t₀ q₀ w₀ t q
 
   -- ---- a node
 
-  pub walking-node : headAt u (st .at) ≡ Node i → {t′ : List ℕ} → PutIs t (st .nodes * nodeStride) (st .cur ∷ none ∷ none ∷ st .props ∷ 0 ∷ []) t′
+  pub walking-node : headAt u (st .at) ≡ Node i → {t′ : List ℕ} → PutIs t (st .nodes * nodeStride) (st .cur ∷ none ∷ none ∷ st .props ∷ 0 ∷ 0 ∷ []) t′
       → {y : State} → y ≡ noded st i → Walking len u from base p0 v0 t₀ q₀ w₀ t′ q w a y
   unfolding sliceFrom Shallow
   walking-node g {t′} pu ey =

@@ -39,7 +39,7 @@ pub node-append : (f : ℕ) (xs ys : List Node) → flatNodes (bareRows f (xs ++
 node-append f [] ys = let e : f + 0 ≡ f = omega arith in ap (λ (z : ℕ). flatNodes (bareRows z ys)) (sym e)
 node-append f (x ∷ xs) ys =
     let e : f + length (x .props) + length (allProps xs) ≡ f + length (x .props ++ allProps xs) = omega (arith, length-append (x .props) (allProps xs)) in
-    ap (λ (z : List ℕ). x .parent ∷ none ∷ none ∷ f ∷ length (x .props) ∷ z)
+    ap (λ (z : List ℕ). x .parent ∷ none ∷ none ∷ f ∷ length (x .props) ∷ 0 ∷ z)
     (node-append (f + length (x .props)) xs ys ∙ ap (λ (z : ℕ). flatNodes (bareRows (f + length (x .props)) xs) ++ flatNodes (bareRows z ys)) e)
 
 pub node-length : (f : ℕ) (xs : List Node) → length (flatNodes (bareRows f xs)) ≡ length xs * nodeStride

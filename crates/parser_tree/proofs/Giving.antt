@@ -64,7 +64,7 @@ module _ {len : Bool} {u : List ℕ} {from base p0 v0 : ℕ} {t₀ q₀ w₀ t q
         bigger zero e = absurd (h (omega arith))
         bigger (suc l) e = omega arith
 
-    gives-root : len ≡ true → st .nodes ≡ base → {t′ : List ℕ} → PutIs t (st .nodes * nodeStride) (none ∷ none ∷ none ∷ st .props ∷ 0 ∷ []) t′ → TreeIs len u from base p0 v0 t₀ q₀ w₀ t′ q w o (st .nodes + 1) (st .props) (st .vals)
+    gives-root : len ≡ true → st .nodes ≡ base → {t′ : List ℕ} → PutIs t (st .nodes * nodeStride) (none ∷ none ∷ none ∷ st .props ∷ 0 ∷ 0 ∷ []) t′ → TreeIs len u from base p0 v0 t₀ q₀ w₀ t′ q w o (st .nodes + 1) (st .props) (st .vals)
     gives-root l h {t′} p =
         let c = count x in
         let n : x .ns ≡ [] = empty (x .ns) (omega arith) in

@@ -57,7 +57,7 @@ stored-both {base} {p0} {v0} {t₀} {q₀} {w₀} {t} {q} {w} {n} {p} {v} {t′}
 
 module _ {base p0 v0 : ℕ} {t₀ q₀ w₀ t q w : List ℕ} {n p v : ℕ} where
   -- a node without properties
-  pub stored-node : (es : List Node) → Stored base p0 v0 es t₀ q₀ w₀ t q w n p v → (cur : ℕ) {t′ : List ℕ} → PutIs t (n * nodeStride) (cur ∷ none ∷ none ∷ p ∷ 0 ∷ []) t′
+  pub stored-node : (es : List Node) → Stored base p0 v0 es t₀ q₀ w₀ t q w n p v → (cur : ℕ) {t′ : List ℕ} → PutIs t (n * nodeStride) (cur ∷ none ∷ none ∷ p ∷ 0 ∷ 0 ∷ []) t′
       → Stored base p0 v0 (es ++ (record { parent = cur; props = [] } ∷ [])) t₀ q₀ w₀ t′ q w (n + 1) p v
   stored-node es x cur {t′} h =
       stored-both es (record { parent = cur; props = [] } ∷ []) x
@@ -79,15 +79,15 @@ module _ {base p0 v0 : ℕ} {t₀ q₀ w₀ t q w : List ℕ} {n p v : ℕ} wher
     all-vals = ap allVals all-props ∙ vals-append (allProps (es ++ (m ∷ []))) (P ∷ []) ∙ ap (λ (z : List Val). allVals (allProps (es ++ (m ∷ []))) ++ z) (append-nil (P .vals))
 
     node-row : (b : Node) (first : ℕ) → first ≡ p0 + length (allProps es)
-        → flatNodes (bareRows p0 (es ++ (b ∷ []))) ≡ (flatNodes (bareRows p0 es) ++ (b .parent ∷ none ∷ none ∷ first ∷ [])) ++ (length (b .props) ∷ [])
+        → flatNodes (bareRows p0 (es ++ (b ∷ []))) ≡ (flatNodes (bareRows p0 es) ++ (b .parent ∷ none ∷ none ∷ first ∷ [])) ++ (length (b .props) ∷ 0 ∷ [])
     node-row b first e =
         node-append p0 es (b ∷ [])
-        ∙ ap (λ (z : ℕ). flatNodes (bareRows p0 es) ++ (b .parent ∷ none ∷ none ∷ z ∷ length (b .props) ∷ [])) (sym e)
-        ∙ sym (append-assoc (flatNodes (bareRows p0 es)) (b .parent ∷ none ∷ none ∷ first ∷ []) (length (b .props) ∷ []))
+        ∙ ap (λ (z : ℕ). flatNodes (bareRows p0 es) ++ (b .parent ∷ none ∷ none ∷ z ∷ length (b .props) ∷ 0 ∷ [])) (sym e)
+        ∙ sym (append-assoc (flatNodes (bareRows p0 es)) (b .parent ∷ none ∷ none ∷ first ∷ []) (length (b .props) ∷ 0 ∷ []))
 
     -- the last node's properties and one more: its row, those of its values, and the count in the node's row
     pub stored-prop : {first : ℕ} → first ≡ p0 + length (allProps es) → {q′ w′ t′ : List ℕ} → PutIs q (p * 4) (P .from ∷ P .to ∷ v ∷ length (P .vals) ∷ []) q′
-        → PutIs w (v * 2) (flatVals (valRows (P .vals))) w′ → PutIs t (n * nodeStride - 1) ((p + 1 - first) ∷ []) t′
+        → PutIs w (v * 2) (flatVals (valRows (P .vals))) w′ → PutIs t (n * nodeStride - 2) ((p + 1 - first) ∷ 0 ∷ []) t′
         → Stored base p0 v0 (es ++ (record { parent = m .parent; props = m .props ++ (P ∷ []) } ∷ [])) t₀ q₀ w₀ t′ q′ w′ n (p + 1) (v + length (P .vals))
     unfolding m′
     stored-prop {first} e {q′} {w′} {t′} hq hw ht =
@@ -110,9 +110,9 @@ module _ {base p0 v0 : ℕ} {t₀ q₀ w₀ t q w : List ℕ} {n p v : ℕ} wher
           vals = omega arith;
           tnodes =
               subst (λ (z : List ℕ). PutIs t₀ (base * nodeStride) z t′) (sym (node-row m′ first e))
-              (put-last (flatNodes (bareRows p0 es) ++ (m .parent ∷ none ∷ none ∷ first ∷ [])) (length (m .props) ∷ [])
+              (put-last (flatNodes (bareRows p0 es) ++ (m .parent ∷ none ∷ none ∷ first ∷ [])) (length (m .props) ∷ 0 ∷ [])
               (subst (λ (z : List ℕ). PutIs t₀ (base * nodeStride) z t) (node-row m first e) (x .tnodes))
-              (subst (λ (z : ℕ). PutIs t (n * nodeStride - 1) (z ∷ []) t′) c ht)
+              (subst (λ (z : ℕ). PutIs t (n * nodeStride - 2) (z ∷ 0 ∷ []) t′) c ht)
               (omega arith) refl);
           tprops =
               subst (λ (z : List ℕ). PutIs q₀ (p0 * 4) z q′)

@@ -113,7 +113,7 @@ pub record AddIs (u : List ℕ) (st : State) (i k : ℕ) (t q w : List ℕ) (r :
   pub is : r ≡ added st (r .at) (length (valsAt u k))
   pub vals : PutIs w (st .vals * valueStride) (flatVals (valRows (valsAt u k))) w′
   pub props : PutIs q (st .props * propertyStride) (i ∷ k ∷ st .vals ∷ length (valsAt u k) ∷ []) q′
-  pub nodes : PutIs t (st .nodes * nodeStride - 1) ((st .props + 1 - st .first) ∷ []) t′
+  pub nodes : PutIs t (st .nodes * nodeStride - 2) ((st .props + 1 - st .first) ∷ 0 ∷ []) t′
 
 -- ---- what the next token asks for
 
@@ -157,7 +157,7 @@ pub record BehindIs (u : List ℕ) (from d r : ℕ) : Type 0 where
 abbrev pub RootBy : (none? len : Bool) → State → (at : ℕ) → List ℕ → Walked → List ℕ → Type 0
 RootBy false len st at t r t′ = (r ≡ Tree at (st .nodes) (st .props) (st .vals)) × (t′ ≡ t)
 RootBy true true st at t r t′ =
-    (r ≡ Tree at (st .nodes + 1) (st .props) (st .vals)) × PutIs t (st .nodes * nodeStride) (none ∷ none ∷ none ∷ st .props ∷ 0 ∷ []) t′
+    (r ≡ Tree at (st .nodes + 1) (st .props) (st .vals)) × PutIs t (st .nodes * nodeStride) (none ∷ none ∷ none ∷ st .props ∷ 0 ∷ 0 ∷ []) t′
 RootBy true false st at t r t′ = r ≡ Refused UnexpectedEndOfData
 
 -- the tree whose slice ends before `at`

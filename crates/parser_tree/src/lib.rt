@@ -60,18 +60,19 @@ fn end(mut w: State, i: usize, stack: &[u32; 1024]) -> State
     shut(w, i + 1, depth)
 }
 
-// A node: its row, without links and properties. Its own list becomes current.
+// A node: its row, without links, properties and depth. Its own list becomes current.
 fn node(mut w: State, i: usize, nodes: &mut [u32]) -> State
     requires { ⌜ Small w × (i < textLimit) ⌝ }
-    ensures { λ r. ⌜ (r ≡ noded w i) × PutIs (now (nodes .entry)) (w .nodes * nodeStride) (w .cur ∷ none ∷ none ∷ w .props ∷ 0 ∷ []) (now (nodes .exit)) ⌝ }
+    ensures { λ r. ⌜ (r ≡ noded w i) × PutIs (now (nodes .entry)) (w .nodes * nodeStride) (w .cur ∷ none ∷ none ∷ w .props ∷ 0 ∷ 0 ∷ []) (now (nodes .exit)) ⌝ }
 {
-    store_numbers::put5(
+    store_numbers::put6(
         nodes,
         w.nodes * NODE_STRIDE,
         w.cur,
         NONE,
         NONE,
         w.props as u32,
+        0,
         0,
     );
     w.at = i + 1;
@@ -102,7 +103,7 @@ fn take_values(s: &[u8], from: usize, v0: usize, vals: &mut [u32]) -> Taken
     }
 }
 
-// The property at `i`, whose first `[` is at `k`: its values' rows, its own, and the count of its node.
+// The property at `i`, whose first `[` is at `k`: its values' rows, its own, and the count of its node, whose depth is still 0.
 fn add(
     s: &[u8],
     mut w: State,
@@ -127,8 +128,8 @@ fn add(
         count as u32,
     );
     w.props += 1;
-    let cell = w.nodes * NODE_STRIDE - 1;
-    store_numbers::put1(nodes, cell, (w.props - w.first) as u32);
+    let cell = w.nodes * NODE_STRIDE - 2;
+    store_numbers::put2(nodes, cell, (w.props - w.first) as u32, 0);
     w.at = taken.end;
     w.vals = taken.next;
     w
@@ -177,13 +178,14 @@ fn finish(lenient: bool, base: usize, w: State, at: usize, nodes: &mut [u32]) ->
     if !lenient {
         return Walked::Refused(Reason::UnexpectedEndOfData);
     }
-    store_numbers::put5(
+    store_numbers::put6(
         nodes,
         w.nodes * NODE_STRIDE,
         NONE,
         NONE,
         NONE,
         w.props as u32,
+        0,
         0,
     );
     Walked::Tree(at, w.nodes + 1, w.props, w.vals)
@@ -217,7 +219,7 @@ fn begin(at: usize, nodes: usize, props: usize, vals: usize) -> State
     }
 }
 
-// The tree of the slice that starts at a place, as rows from `base`, `p0` and `v0` on. Links are left none.
+// The tree of the slice that starts at a place, as rows from `base`, `p0` and `v0` on. Links are left none, depths 0.
 pub fn walk_tree(
     s: &[u8],
     from: usize,

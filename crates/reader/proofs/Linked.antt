@@ -1,18 +1,23 @@
--- The node table with its links is the definition's rows. Assumes nothing.
+-- The node table with its links and depths is the definition's rows. Assumes nothing.
 use Rattle.lists.proofs.Prelude.{ℕ, suc, _+_, _-_, _*_, _≤_, _<_, _≡_, sym, ap, _∙_, Bool, inl, inr, List, [], _∷_, _++_, arith, eqb, eq-eqb, ne-eqb, lt-ltb, le-ltb, length, drop, getD, length-drop, getD-drop, ext-getD, pick}
 use Rattle.lists.specs.All.{All}
 use Rattle.tables.specs.Numbers.{none}
 use Rattle.tables.specs.Record.{Node}
-use Rattle.tables.specs.Rows.{next, parents, nodeRows}
+use Rattle.tables.specs.Rows.{next, parents, depths, nodeRows}
 use Rattle.tables.specs.Flat.{flatNodes}
-use Rattle.tables.specs.Columns.{nodeStride, parentAt, childAt}
+use Rattle.tables.specs.Columns.{nodeStride, parentAt, childAt, depthAt}
+use Rattle.tables.specs.Each.{tabulate}
+use Rattle.tables.specs.LocalsDepths.{LevelledTo}
 use Rattle.tables.specs.LocalsLinks.{least, LinkedFrom}
 use Rattle.parser_tree.specs.LocalsFlat.{bareRows}
 use Rattle.reader.proofs.Parents.{Below}
-use Rattle.reader.proofs.Nexts.{next-least, next-skip, cell, five, bare-next, bare-parent}
+use Rattle.reader.proofs.Nexts.{next-least, next-skip, cell, six, bare-next, bare-parent}
 use Rattle.tables.proofs.Lengths.{parents-length}
+use Rattle.tables.proofs.Tabulate.{tabulate-length, tabulate-at}
 
-module _ (all : List Node) (t₀ t rest : List ℕ) (few : length all ≤ none) (b : drop 0 t₀ ≡ flatNodes (bareRows 0 all) ++ rest) (L : LinkedFrom (length all) t₀ t 0) where
+-- t₀ as the walks leave it, t with its links, t₂ with its depths too
+module _ (all : List Node) (t₀ t t₂ rest : List ℕ) (few : length all ≤ none) (b : drop 0 t₀ ≡ flatNodes (bareRows 0 all) ++ rest)
+    (L : LinkedFrom (length all) t₀ t 0) (D : LevelledTo (length all) t t₂ (length all)) where
   abbrev N : ℕ
   N = length all
 
@@ -53,31 +58,53 @@ module _ (all : List Node) (t₀ t rest : List ℕ) (few : length all ≤ none) 
       ∙ ap (λ (z : Bool). pick z none (next (x .parent) (suc i) 0 (parents all))) (sym (ne-eqb (x .parent) none (λ z. omega arith)))
 
   -- the cells that are no links
-  kept-is : (k c : ℕ) → (c ≡ 1 → ⊥) → (c ≡ 2 → ⊥) → c < 5 → (d : List ℕ) → drop (k * nodeStride) t₀ ≡ d → getD t (k * nodeStride + c) 0 ≡ getD d c 0
-  kept-is k c h1 h2 h5 d e = L .kept (k * nodeStride + c) (λ r h. ((λ q. h1 (omega arith)), (λ q. h2 (omega arith)))) ∙ cell t₀ (k * nodeStride) c d e
+  kept-is : (k c : ℕ) → (c ≡ 1 → ⊥) → (c ≡ 2 → ⊥) → c < 6 → (d : List ℕ) → drop (k * nodeStride) t₀ ≡ d → getD t (k * nodeStride + c) 0 ≡ getD d c 0
+  kept-is k c h1 h2 h6 d e = L .kept (k * nodeStride + c) (λ r h. ((λ q. h1 (omega arith)), (λ q. h2 (omega arith)))) ∙ cell t₀ (k * nodeStride) c d e
 
-  past-is : (k : ℕ) → k ≡ N → drop (k * nodeStride) t₀ ≡ rest → drop (k * nodeStride) t ≡ rest
+  -- those that are no depths
+  stays : (k c : ℕ) → c < 5 → getD t₂ (k * nodeStride + c) 0 ≡ getD t (k * nodeStride + c) 0
+  stays k c h = D .kept (k * nodeStride + c) (λ r l q. omega arith)
+
+  parents-told : tabulate (parentAt t) 0 N ≡ parents all
+  parents-told =
+      ext-getD 0 (tabulate (parentAt t) 0 N) (parents all) (tabulate-length (parentAt t) 0 N ∙ sym (parents-length all))
+      (λ j h.
+      let l : j < N = omega (arith, tabulate-length (parentAt t) 0 N) in
+      let z : 0 + j ≡ j = omega arith in
+      tabulate-at (parentAt t) 0 N j 0 l ∙ ap (parentAt t) z ∙ L .kept (j * nodeStride) (λ r m. ((λ q. omega arith), (λ q. omega arith))) ∙ parent-is j l)
+
+  depth-is : (i : ℕ) → i < N → depthAt t₂ i ≡ getD (depths (parents all)) i 0
+  depth-is i h = D .level i h ∙ ap (λ (z : List ℕ). getD (depths z) i 0) parents-told
+
+  past-is : (k : ℕ) → k ≡ N → drop (k * nodeStride) t₀ ≡ rest → drop (k * nodeStride) t₂ ≡ rest
   past-is k e q =
-      ext-getD 0 (drop (k * nodeStride) t) (drop (k * nodeStride) t₀) (length-drop (k * nodeStride) t ∙ ap (λ (z : ℕ). z - k * nodeStride) (L .len) ∙ sym (length-drop (k * nodeStride) t₀))
-      (λ i h. getD-drop (k * nodeStride) t i 0 ∙ L .kept (k * nodeStride + i) (λ r l. ((λ z. omega arith), (λ z. omega arith))) ∙ sym (getD-drop (k * nodeStride) t₀ i 0))
+      ext-getD 0 (drop (k * nodeStride) t₂) (drop (k * nodeStride) t₀)
+      (length-drop (k * nodeStride) t₂ ∙ ap (λ (z : ℕ). z - k * nodeStride) (D .len ∙ L .len) ∙ sym (length-drop (k * nodeStride) t₀))
+      (λ i h.
+      getD-drop (k * nodeStride) t₂ i 0
+      ∙ D .kept (k * nodeStride + i) (λ r l z. omega arith)
+      ∙ L .kept (k * nodeStride + i) (λ r l. ((λ z. omega arith), (λ z. omega arith)))
+      ∙ sym (getD-drop (k * nodeStride) t₀ i 0))
       ∙ q
 
   rows-from : (es : List Node) (k f : ℕ) → drop (k * nodeStride) t₀ ≡ flatNodes (bareRows f es) ++ rest → k + length es ≡ N → All (Below N) es
-      → drop (k * nodeStride) t ≡ flatNodes (nodeRows (parents all) k f es) ++ rest
+      → drop (k * nodeStride) t₂ ≡ flatNodes (nodeRows (parents all) k f es) ++ rest
   rows-from [] k f e h a = past-is k (omega arith) e
   rows-from (n ∷ ns) k f e h a =
-      let s : suc k * nodeStride ≡ k * nodeStride + 5 = omega arith in
+      let s : suc k * nodeStride ≡ k * nodeStride + 6 = omega arith in
       let o : k * nodeStride + 0 ≡ k * nodeStride = omega arith in
-      let room : k * nodeStride + 5 ≤ length t = omega (arith, ap length e, length-drop (k * nodeStride) t₀, L .len) in
+      let room : k * nodeStride + 6 ≤ length t₂ = omega (arith, ap length e, length-drop (k * nodeStride) t₀, L .len, D .len) in
       let hk : k < N = omega arith in
-      let c0 : getD t (k * nodeStride) 0 ≡ n .parent = ap (λ (z : ℕ). getD t z 0) (sym o) ∙ kept-is k 0 (λ z. omega arith) (λ z. omega arith) (omega arith) _ e in
+      let c0 : getD t₂ (k * nodeStride) 0 ≡ n .parent = ap (λ (z : ℕ). getD t₂ z 0) (sym o) ∙ stays k 0 (omega arith) ∙ kept-is k 0 (λ z. omega arith) (λ z. omega arith) (omega arith) _ e in
       let p0 : parentAt t₀ k ≡ n .parent = ap (λ (z : ℕ). getD t₀ z 0) (sym o) ∙ cell t₀ (k * nodeStride) 0 _ e in
-      let c3 : getD t (k * nodeStride + 3) 0 ≡ f = kept-is k 3 (λ z. omega arith) (λ z. omega arith) (omega arith) _ e in
-      let c4 : getD t (k * nodeStride + 4) 0 ≡ length (n .props) = kept-is k 4 (λ z. omega arith) (λ z. omega arith) (omega arith) _ e in
-      five t (k * nodeStride) room
-      ∙ rw (c0, first-is k hk, sibling-is k hk n p0 (a .0), c3, c4, ← s)
-      (ap (λ (z : List ℕ). n .parent ∷ next k 0 0 (parents all) ∷ pick (eqb (n .parent) none) none (next (n .parent) (suc k) 0 (parents all)) ∷ f ∷ length (n .props) ∷ z)
+      let c1 : getD t₂ (k * nodeStride + 1) 0 ≡ next k 0 0 (parents all) = stays k 1 (omega arith) ∙ first-is k hk in
+      let c2 : getD t₂ (k * nodeStride + 2) 0 ≡ pick (eqb (n .parent) none) none (next (n .parent) (suc k) 0 (parents all)) = stays k 2 (omega arith) ∙ sibling-is k hk n p0 (a .0) in
+      let c3 : getD t₂ (k * nodeStride + 3) 0 ≡ f = stays k 3 (omega arith) ∙ kept-is k 3 (λ z. omega arith) (λ z. omega arith) (omega arith) _ e in
+      let c4 : getD t₂ (k * nodeStride + 4) 0 ≡ length (n .props) = stays k 4 (omega arith) ∙ kept-is k 4 (λ z. omega arith) (λ z. omega arith) (omega arith) _ e in
+      six t₂ (k * nodeStride) room
+      ∙ rw (c0, c1, c2, c3, c4, depth-is k hk, ← s)
+      (ap (λ (z : List ℕ). n .parent ∷ next k 0 0 (parents all) ∷ pick (eqb (n .parent) none) none (next (n .parent) (suc k) 0 (parents all)) ∷ f ∷ length (n .props) ∷ getD (depths (parents all)) k 0 ∷ z)
       (rows-from ns (suc k) (f + length (n .props)) (bare-next t₀ rest k f n ns e) (omega arith) (a .1)))
 
-  pub linked-rows : All (Below N) all → t ≡ flatNodes (nodeRows (parents all) 0 0 all) ++ rest
+  pub linked-rows : All (Below N) all → t₂ ≡ flatNodes (nodeRows (parents all) 0 0 all) ++ rest
   linked-rows a = rows-from all 0 0 b (omega arith) a

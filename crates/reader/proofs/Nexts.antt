@@ -1,4 +1,4 @@
--- The first of the nodes with a parent, as the tables are searched and as the definition says; and rows of five without links. Assumes nothing.
+-- The first of the nodes with a parent, as the tables are searched and as the definition says; and node rows without links. Assumes nothing.
 use Rattle.lists.proofs.Prelude.{ℕ, zero, suc, _+_, _*_, _≤_, _<_, _≡_, refl, sym, ap, _∙_, Bool, _&&_, and-true, and-false, List, [], _∷_, _++_, arith, eqb, leb, le-leb, lt-leb, length, drop, getD, drop-cons, drop-drop, getD-drop, pick}
 use Rattle.lists.proofs.Places.{drop-next}
 use Rattle.lists.proofs.Tests.{eqb-sym}
@@ -36,18 +36,20 @@ next-skip p (suc d) k (q ∷ qs) =
     ∙ next-skip p d (suc k) qs
     ∙ ap (λ (z : ℕ). next p z z (drop d qs)) (sym e)
 
--- ---- rows of five
+-- ---- cells of rows
 
 pub cell : (t : List ℕ) (o c : ℕ) (d : List ℕ) → drop o t ≡ d → getD t (o + c) 0 ≡ getD d c 0
 cell t o c d e = sym (getD-drop o t c 0) ∙ ap (λ (z : List ℕ). getD z c 0) e
 
-pub five : (t : List ℕ) (o : ℕ) → o + 5 ≤ length t → drop o t ≡ getD t o 0 ∷ getD t (o + 1) 0 ∷ getD t (o + 2) 0 ∷ getD t (o + 3) 0 ∷ getD t (o + 4) 0 ∷ drop (o + 5) t
-five t o h =
+pub six : (t : List ℕ) (o : ℕ) → o + 6 ≤ length t
+    → drop o t ≡ getD t o 0 ∷ getD t (o + 1) 0 ∷ getD t (o + 2) 0 ∷ getD t (o + 3) 0 ∷ getD t (o + 4) 0 ∷ getD t (o + 5) 0 ∷ drop (o + 6) t
+six t o h =
     drop-next t o (omega arith)
     ∙ ap (λ (z : List ℕ). getD t o 0 ∷ z) (one 1 (omega arith)
     ∙ ap (λ (z : List ℕ). getD t (o + 1) 0 ∷ z) (one 2 (omega arith)
     ∙ ap (λ (z : List ℕ). getD t (o + 2) 0 ∷ z) (one 3 (omega arith)
-    ∙ ap (λ (z : List ℕ). getD t (o + 3) 0 ∷ z) (one 4 (omega arith)))))
+    ∙ ap (λ (z : List ℕ). getD t (o + 3) 0 ∷ z) (one 4 (omega arith)
+    ∙ ap (λ (z : List ℕ). getD t (o + 4) 0 ∷ z) (one 5 (omega arith))))))
   where
     one : (c : ℕ) → o + c < length t → drop (o + c) t ≡ getD t (o + c) 0 ∷ drop (o + suc c) t
     one c l = let e : suc (o + c) ≡ o + suc c = omega arith in drop-cons t (o + c) 0 l ∙ ap (λ (z : ℕ). getD t (o + c) 0 ∷ drop z t) e
@@ -58,7 +60,7 @@ module _ (t : List ℕ) (rest : List ℕ) where
   Bare k f es = drop (k * nodeStride) t ≡ flatNodes (bareRows f es) ++ rest
 
   pub bare-next : (k f : ℕ) (n : Node) (ns : List Node) → Bare k f (n ∷ ns) → Bare (suc k) (f + length (n .props)) ns
-  bare-next k f n ns e = let s : suc k * nodeStride ≡ k * nodeStride + 5 = omega arith in ap (λ (z : ℕ). drop z t) s ∙ sym (drop-drop 5 (k * nodeStride) t) ∙ ap (drop 5) e
+  bare-next k f n ns e = let s : suc k * nodeStride ≡ k * nodeStride + 6 = omega arith in ap (λ (z : ℕ). drop z t) s ∙ sym (drop-drop 6 (k * nodeStride) t) ∙ ap (drop 6) e
 
   pub bare-parent : (k f j : ℕ) (es : List Node) → Bare k f es → j < length es → (parentAt t (k + j) ≡ getD (parents es) j 0) × (childAt t (k + j) ≡ none)
   bare-parent k f j [] e h = absurd (omega arith)

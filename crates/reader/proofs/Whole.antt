@@ -1,4 +1,4 @@
--- The reading put together: the run that counts, the room, the run that writes, the links. Assumes nothing.
+-- The reading put together: the run that counts, the room, the run that writes, the links and depths. Assumes nothing.
 use Rattle.lists.proofs.Prelude.{ℕ, _+_, _*_, _≤_, _≡_, refl, sym, ap, _∙_, subst, subst⁻¹, Bool, true, false, List, _++_, reverse, reverse-reverse, arith, length, drop}
 use Rattle.lists.specs.All.{All}
 use Rattle.lists.proofs.Put.{put-all}
@@ -8,6 +8,7 @@ use Rattle.tables.specs.Numbers.{none}
 use Rattle.tables.specs.Record.{Node, Tree, allNodes, allProps, allVals}
 use Rattle.tables.specs.Rows.{treeRows, nodeRows, parents, propRows, valRows, tables, countsOf}
 use Rattle.tables.specs.Flat.{flatNodes, over}
+use Rattle.tables.specs.LocalsDepths.{LevelledTo, LevelsIs}
 use Rattle.tables.specs.LocalsLinks.{HasRows, LinkedFrom, LinksIs}
 use Rattle.tables.specs.declared.Counts.{Counts}
 use Rattle.tables.specs.declared.Reading.the-variants.{Accepted, Refused}
@@ -38,13 +39,16 @@ read-refused {X} {r} e {b} = subst⁻¹ (λ (z : Growing). ReadIs (answer z) b b
 
 -- ---- the trees put
 
-module _ (es : List Node) (n : ℕ) (e : n ≡ length es) (few : n ≤ none) (below : All (Below n) es) (t : List ℕ) {t1 t2 : List ℕ} (put : t1 ≡ over (flatNodes (bareRows 0 es)) t) (room : HasRows n t1) (links : LinksIs n t1 t2) where
-  nodes-linked : t2 ≡ over (flatNodes (nodeRows (parents es) 0 0 es)) t
+module _ (es : List Node) (n : ℕ) (e : n ≡ length es) (few : n ≤ none) (below : All (Below n) es) (t : List ℕ) {t1 t2 t3 : List ℕ} (put : t1 ≡ over (flatNodes (bareRows 0 es)) t) (room : HasRows n t1)
+    (links : LinksIs n t1 t2) (levels : LevelsIs n t2 t3) where
+  nodes-linked : t3 ≡ over (flatNodes (nodeRows (parents es) 0 0 es)) t
   nodes-linked =
       let l : length (flatNodes (bareRows 0 es)) ≡ length (flatNodes (nodeRows (parents es) 0 0 es)) =
       node-length 0 es ∙ ap (λ (z : ℕ). z * nodeStride) (sym (node-rows-length (parents es) 0 0 es)) ∙ sym (flat-nodes (nodeRows (parents es) 0 0 es)) in
-      linked-rows es t1 t2 (drop (length (flatNodes (bareRows 0 es))) t) (omega arith) put
-      (subst (λ (z : ℕ). LinkedFrom z t1 t2 0) e (links .made room)) (subst (λ (z : ℕ). All (Below z) es) e below)
+      let L = links .made room in
+      let room2 : HasRows n t2 = (rw (L .len) (room .0), room .1) in
+      linked-rows es t1 t2 t3 (drop (length (flatNodes (bareRows 0 es))) t) (omega arith) put
+      (subst (λ (z : ℕ). LinkedFrom z t1 t2 0) e L) (subst (λ (z : ℕ). LevelledTo z t2 t3 z) e (levels .made room2)) (subst (λ (z : ℕ). All (Below z) es) e below)
       ∙ ap (λ (z : ℕ). flatNodes (nodeRows (parents es) 0 0 es) ++ drop z t) l
 
 -- ---- accepted
@@ -74,8 +78,9 @@ module _ {X : Growing} {count n p v : ℕ} {b₀ a₀ : Lent} (G : GrownIs X cou
   read-no-room f =
       subst⁻¹ (λ (z : Answer). ReadIs z b b (Refused NoRoom 0)) (answer-is G) (record { answer = rw (room-is, f); tables = rw (room-is, f) })
 
-  -- the run that writes, and the links
-  module _ (f : t ≡ true) {A : Lent} {n′ p′ v′ : ℕ} (Y : GrownIs X count b A n′ p′ v′) (len : Bool) (l : List Tok) (ex : X ≡ readOf len count l) {t2 : List ℕ} (links : LinksIs n (A .nodes) t2) where
+  -- the run that writes, the links and the depths
+  module _ (f : t ≡ true) {A : Lent} {n′ p′ v′ : ℕ} (Y : GrownIs X count b A n′ p′ v′) (len : Bool) (l : List Tok) (ex : X ≡ readOf len count l)
+      {t2 t3 : List ℕ} (links : LinksIs n (A .nodes) t2) (levels : LevelsIs n t2 t3) where
     grown-same : growing n′ (reverse (Y .ts)) ≡ growing n (reverse (G .ts))
     grown-same = sym (Y .grown) ∙ G .grown
 
@@ -88,7 +93,7 @@ module _ {X : Growing} {count n p v : ℕ} {b₀ a₀ : Lent} (G : GrownIs X cou
     counts-same : counts Y ≡ counts G
     counts-same = sym (counts-are Y) ∙ ap (λ (z : List Tree). countsOf (tables z)) trees-same ∙ counts-are G
 
-    filled : lent (A .trees) t2 (A .props) (A .vals) ≡ stored (tables (Y .ts)) b
+    filled : lent (A .trees) t3 (A .props) (A .vals) ≡ stored (tables (Y .ts)) b
     unfolding readOf
     filled =
         let R : Room (counts Y) b = subst⁻¹ (λ (c : Counts). Room c b) counts-same (room-true (counts G) b (sym e ∙ f)) in
@@ -107,23 +112,23 @@ module _ {X : Growing} {count n p v : ℕ} {b₀ a₀ : Lent} (G : GrownIs X cou
         let b1 : All (Below n) (allNodes (Y .ts)) = subst (λ (z : ℕ). All (Below z) (allNodes (Y .ts))) nodes-same (parents-below len (cut count l) n′ (Y .ts) (sym ex ∙ Y .grown)) in
         lent-same
         (put-all (Y .ttrees) (omega (arith, tree-length (Y .ts))))
-        (nodes-linked (allNodes (Y .ts)) n (omega arith) (omega arith) b1 (b .nodes) (put-all (Y .stored .tnodes) (omega (arith, node-length 0 (allNodes (Y .ts))))) (omega arith, omega arith) links)
+        (nodes-linked (allNodes (Y .ts)) n (omega arith) (omega arith) b1 (b .nodes) (put-all (Y .stored .tnodes) (omega (arith, node-length 0 (allNodes (Y .ts))))) (omega arith, omega arith) links levels)
         (put-all (Y .stored .tprops) (omega (arith, prop-length 0 (allProps (allNodes (Y .ts))))))
         (put-all (Y .stored .tvals) (omega (arith, val-length (allVals (allProps (allNodes (Y .ts)))))))
 
-    read-filled : ReadIs (answer X) b (lent (A .trees) t2 (A .props) (A .vals)) (Accepted (counts G))
+    read-filled : ReadIs (answer X) b (lent (A .trees) t3 (A .props) (A .vals)) (Accepted (counts G))
     read-filled =
-        subst⁻¹ (λ (z : Answer). ReadIs z b (lent (A .trees) t2 (A .props) (A .vals)) (Accepted (counts G))) (answer-is G)
+        subst⁻¹ (λ (z : Answer). ReadIs z b (lent (A .trees) t3 (A .props) (A .vals)) (Accepted (counts G))) (answer-is G)
         (record {
           answer = rw (room-is, f) (ap Accepted (sym (counts-are G)));
           tables = rw (room-is, f) (filled ∙ ap (λ (z : List Tree). stored (tables z) b) trees-same);
         })
 
   -- the second run does not refuse where the first did not
-  pub read-accepted : t ≡ true → (A : Lent) (x : Total) → TreesIs X count b A x → (len : Bool) (l : List Tok) → X ≡ readOf len count l → (t2 : List ℕ) → LinksIs n (A .nodes) t2
-      → ReadIs (answer X) b (lent (A .trees) t2 (A .props) (A .vals)) (Accepted (counts G))
-  read-accepted f A (Rows n′ p′ v′) Y len l ex t2 links = read-filled f Y len l ex links
-  read-accepted f A (refusedTotal r) Y len l ex t2 links =
+  pub read-accepted : t ≡ true → (A : Lent) (x : Total) → TreesIs X count b A x → (len : Bool) (l : List Tok) → X ≡ readOf len count l → (t2 t3 : List ℕ) → LinksIs n (A .nodes) t2 → LevelsIs n t2 t3
+      → ReadIs (answer X) b (lent (A .trees) t3 (A .props) (A .vals)) (Accepted (counts G))
+  read-accepted f A (Rows n′ p′ v′) Y len l ex t2 t3 links levels = read-filled f Y len l ex links levels
+  read-accepted f A (refusedTotal r) Y len l ex t2 t3 links levels =
       let w : failing r ≡ growing n (reverse (G .ts)) = sym Y ∙ G .grown in never cc
 
 -- what the run that counts gave

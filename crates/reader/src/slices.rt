@@ -1,4 +1,4 @@
-// The trees of all slices, into the tables: a run that counts, the room, the run that writes, the links.
+// The trees of all slices, into the tables: a run that counts, the room, the run that writes, the links and the depths.
 ghost use mathlib.Core.Path.{_≡_};
 ghost use Rattle.lexer.specs.Token.{lexAt};
 ghost use Rattle.parser.specs.Kind.{kind};
@@ -145,6 +145,7 @@ pub fn read_slices(
             }
             read_trees(s, from, count, lenient, trees, nodes, properties, values);
             tables::link_nodes(nodes, n);
+            tables::level_nodes(nodes, n);
             Reading::Accepted(counts)
         }
     }

@@ -1,9 +1,9 @@
--- Fitting tables are the tables of the record that they denote: parents determine the links, counts the ranges. So two that fit and denote one record are equal. Assumes nothing.
+-- Fitting tables are the tables of the record that they denote: parents determine links and depths, counts the ranges. So two that fit and denote one record are equal. Assumes nothing.
 use Rattle.lists.proofs.Prelude.{_≡_, refl, sym, ap, _∙_, ℕ, zero, suc, _+_, _-_, _<_, arith, true, List, eqb, length, take, eqb-true, pick}
 use Rattle.lexer.specs.Token.{Val, Prop}
 use Rattle.tables.specs.Numbers.{none}
 use Rattle.tables.specs.Record.{Node, Tree, allNodes, allProps, allVals}
-use Rattle.tables.specs.Rows.{tables, next, parents, nodeRows, propRows, valRows, countsOf}
+use Rattle.tables.specs.Rows.{tables, parents, nodeRows, propRows, valRows, countsOf}
 use Rattle.tables.specs.declared.Counts.{Counts}
 use Rattle.tables.specs.Columns.{parentAt, childAt, siblingAt}
 use Rattle.tables.specs.Each.{tabulate}
@@ -13,9 +13,10 @@ use Rattle.fit_nodes.specs.Nodes.{firstUnder, nextOf, childRight, siblingRight}
 use Rattle.fit.specs.Record.{treeRow, nodeRow, propRow, valRow, rowsOf, treesOf, recordOf, rowsIn}
 use Rattle.tables.proofs.Each.{each-at}
 use Rattle.fit.proofs.Clauses.{Clauses, fit-clauses}
-use Rattle.fit.proofs.Parts.{tabulate-length}
+use Rattle.fit.proofs.Parts.{tabulate-length, tabulate-at}
+use Rattle.fit.proofs.RecordDepths.{depths-are}
 use Rattle.fit.proofs.RecordFits.{counts-of-rows}
-use Rattle.fit.proofs.RecordLinks.{Tells, next-at, next-from}
+use Rattle.fit.proofs.RecordLinks.{Tells, Linked, next-at, next-from}
 use Rattle.fit.proofs.RecordRows.{valsIn, propsIn, nodesIn, props-gapless, vals-gapless, record-nodes, record-props, record-vals}
 use Rattle.reader_laws.proofs.Parts.{tree-rows-back, parents-are, node-rows-back, prop-rows-back, val-rows-back}
 
@@ -30,7 +31,7 @@ module _ {s : List ℕ} {c : Counts} {tr nd pr vl : List ℕ} (k : Clauses s c t
   abbrev qs : List ℕ
   qs = tabulate (parentAt nd) 0 (c .nodes)
 
-  links : (i : ℕ) → i < c .nodes → (childAt nd i ≡ next i 0 0 qs) × (siblingAt nd i ≡ pick (eqb (parentAt nd i) none) none (next (parentAt nd i) (suc i) 0 qs))
+  links : (i : ℕ) → i < c .nodes → Linked nd qs i
   links i l =
       let len : length qs ≡ c .nodes = tabulate-length (parentAt nd) 0 (c .nodes) in
       let e : 0 + length qs - suc i ≡ c .nodes - suc i = omega arith in
@@ -39,6 +40,8 @@ module _ {s : List ℕ} {c : Counts} {tr nd pr vl : List ℕ} (k : Clauses s c t
         a ∙ ap (firstUnder nd i 0) (sym len) ∙ sym (next-at nd i 0 0 qs (omega arith) (tells nd 0 (c .nodes))),
         b ∙ ap (λ (z : ℕ). pick (eqb (parentAt nd i) none) none z)
             (ap (firstUnder nd (parentAt nd i) (suc i)) (sym e) ∙ sym (next-from nd (parentAt nd i) (suc i) 0 qs (omega arith) (omega arith) (tells nd 0 (c .nodes)))),
+        depths-are {nd = nd} (record { most = k .held .few; rule = k .parents }) qs len
+            (λ j h. let z : 0 + j ≡ j = omega arith in sym (tabulate-at (parentAt nd) 0 (c .nodes) j 0 h ∙ ap (parentAt nd) z)) (k .depths) i l,
       )
 
   -- ---- the rows of what the tables denote over the text t

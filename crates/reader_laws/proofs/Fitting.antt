@@ -12,7 +12,7 @@ use Rattle.tables.specs.Memory.{memory}
 use Rattle.fit.specs.Fit.{sound, validUtf8, Fit}
 use Rattle.fit.specs.Record.{treeRow, nodeRow, propRow, valRow, rowsOf}
 use Rattle.fit.proofs.Clauses.{Clauses, clauses-fit}
-use Rattle.fit.proofs.RecordFits.{counts-of-rows, nodes-counted, properties-counted, values-counted, record-children, record-siblings, record-properties, record-values}
+use Rattle.fit.proofs.RecordFits.{counts-of-rows, nodes-counted, properties-counted, values-counted, record-children, record-siblings, record-depths, record-properties, record-values}
 use Rattle.fit.proofs.Rows.{rows-of-flat}
 use Rattle.parser.specs.Read.{accepted, read}
 use Rattle.reader.specs.Lent.{lent}
@@ -76,6 +76,7 @@ module _ (len : Bool) (t : List ℕ) (ts : List Tree) (h : read len t ≡ accept
         children = record-children c tr nd pr vl ts rows;
         siblings = record-siblings c tr nd pr vl ts rows;
         kinds = rw trees-counted (kinds-fit r tr nd tree-rows node-rows);
+        depths = record-depths c tr nd pr vl ts rows (rw nodes-are (parents-fit r tr nd tree-rows node-rows)) (rw nodes-are (nodes-most r));
         node-ranges = record-properties c tr nd pr vl ts rows;
         prop-ranges = record-values c tr nd pr vl ts rows;
         have-values = rw props-are (have-values len t ts h pr vl prop-rows);

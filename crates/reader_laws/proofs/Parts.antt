@@ -1,14 +1,14 @@
 -- Rows that have ranges without gap are the rows of what they denote. Assumes nothing.
-use Rattle.lists.proofs.Prelude.{_≡_, refl, sym, ap, ap₂, _∙_, ℕ, zero, suc, _+_, _≤_, _<_, arith, true, List, [], _∷_, map, eqb, length, take, drop, pick}
+use Rattle.lists.proofs.Prelude.{_≡_, refl, sym, ap, ap₂, _∙_, ℕ, zero, suc, _+_, _≤_, _<_, arith, true, List, [], _∷_, map, length, take, drop}
 use Rattle.lexer.specs.Token.{Val, Prop}
-use Rattle.tables.specs.Numbers.{none}
 use Rattle.tables.specs.Record.{Node}
-use Rattle.tables.specs.Rows.{TreeRow, NodeRow, PropRow, ValRow, next, parents, treeRows, nodeRows, propRows, valRows}
-use Rattle.tables.specs.Columns.{parentAt, childAt, siblingAt, firstPropAt, propCountAt, nameFromAt, nameToAt, firstValAt, valCountAt}
+use Rattle.tables.specs.Rows.{TreeRow, NodeRow, PropRow, ValRow, parents, treeRows, nodeRows, propRows, valRows}
+use Rattle.tables.specs.Columns.{parentAt, firstPropAt, propCountAt, nameFromAt, nameToAt, firstValAt, valCountAt}
 use Rattle.tables.specs.Each.{sum, tabulate}
 use Rattle.fit_spans.specs.Ranges.{gapless}
 use Rattle.fit.specs.Record.{nodeRow, propRow, valOf, propOf, nodeOf, treesOf}
 use Rattle.fit.proofs.Parts.{part-length}
+use Rattle.fit.proofs.RecordLinks.{Linked}
 use Rattle.fit_spans.proofs.Ranges.{sum-suc, gapless-first}
 
 -- ---- trees
@@ -20,9 +20,9 @@ tree-rows-back ns (r ∷ s ∷ rs) = ap (λ (z : List TreeRow). r ∷ z) (tree-r
 
 -- ---- nodes
 
-node-row : (p : ℕ) {c c′ s s′ f f′ n n′ : ℕ} → c ≡ c′ → s ≡ s′ → f ≡ f′ → n ≡ n′
-    → _≡_ {A = NodeRow} (record { parent = p; child = c; sibling = s; first = f; count = n }) (record { parent = p; child = c′; sibling = s′; first = f′; count = n′ })
-node-row p a b c d = rw (a, b, c, d)
+node-row : (p : ℕ) {c c′ s s′ f f′ n n′ d d′ : ℕ} → c ≡ c′ → s ≡ s′ → f ≡ f′ → n ≡ n′ → d ≡ d′
+    → _≡_ {A = NodeRow} (record { parent = p; child = c; sibling = s; first = f; count = n; depth = d }) (record { parent = p; child = c′; sibling = s′; first = f′; count = n′; depth = d′ })
+node-row p a b c d e = rw (a, b, c, d, e)
 
 module _ (nd : List ℕ) (ps : List Prop) (n : ℕ) (g : gapless (firstPropAt nd) (propCountAt nd) n (length ps) ≡ true) where
   abbrev nodesAt : (b m : ℕ) → List Node
@@ -33,7 +33,7 @@ module _ (nd : List ℕ) (ps : List Prop) (n : ℕ) (g : gapless (firstPropAt nd
   parents-are b zero = refl
   parents-are b (suc m) = ap (λ (z : List ℕ). parentAt nd b ∷ z) (parents-are (suc b) m)
 
-  node-rows-from : (qs : List ℕ) → ((i : ℕ) → i < n → (childAt nd i ≡ next i 0 0 qs) × (siblingAt nd i ≡ pick (eqb (parentAt nd i) none) none (next (parentAt nd i) (suc i) 0 qs)))
+  node-rows-from : (qs : List ℕ) → ((i : ℕ) → i < n → Linked nd qs i)
       → (b m : ℕ) → b + m ≤ n → nodeRows qs b (sum (propCountAt nd) b) (nodesAt b m) ≡ tabulate (nodeRow nd) b m
   unfolding tabulate
   node-rows-from qs links b zero l = refl
@@ -43,10 +43,10 @@ module _ (nd : List ℕ) (ps : List Prop) (n : ℕ) (g : gapless (firstPropAt nd
       let e : sum (propCountAt nd) b + length (take (propCountAt nd b) (drop (firstPropAt nd b) ps)) ≡ sum (propCountAt nd) (suc b) =
       ap (λ (z : ℕ). sum (propCountAt nd) b + z) c ∙ sym (sum-suc (firstPropAt nd) (propCountAt nd) b) in
       ap₂ (λ (x : NodeRow) (z : List NodeRow). x ∷ z)
-      (node-row (parentAt nd b) (sym (k .0)) (sym (k .1)) (sym (gapless-first (firstPropAt nd) (propCountAt nd) n (length ps) g b (omega arith))) c)
+      (node-row (parentAt nd b) (sym (k .0)) (sym (k .1)) (sym (gapless-first (firstPropAt nd) (propCountAt nd) n (length ps) g b (omega arith))) c (sym (k .2)))
       (ap (λ (z : ℕ). nodeRows qs (suc b) z (nodesAt (suc b) m)) e ∙ node-rows-from qs links (suc b) m (omega arith))
 
-  pub node-rows-back : (qs : List ℕ) → ((i : ℕ) → i < n → (childAt nd i ≡ next i 0 0 qs) × (siblingAt nd i ≡ pick (eqb (parentAt nd i) none) none (next (parentAt nd i) (suc i) 0 qs)))
+  pub node-rows-back : (qs : List ℕ) → ((i : ℕ) → i < n → Linked nd qs i)
       → nodeRows qs 0 0 (nodesAt 0 n) ≡ tabulate (nodeRow nd) 0 n
   unfolding sum
   node-rows-back qs links = node-rows-from qs links 0 n (omega arith)

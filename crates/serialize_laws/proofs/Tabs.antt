@@ -41,7 +41,7 @@ row t d s = record { text = t; deed = d; says = s }
 
 -- the node table of one node without children that has n properties
 abbrev alone : ℕ → List ℕ
-alone n = none ∷ none ∷ none ∷ 0 ∷ n ∷ []
+alone n = none ∷ none ∷ none ∷ 0 ∷ n ∷ 0 ∷ []
 
 -- before a token; after a value; within an identifier, where it ends nothing; places of a fault; a tail; within a value
 abbrev pub table : List Row
@@ -52,7 +52,7 @@ table =
     ∷ row "(;^GM[2])" (reading strict) (rows (0 ∷ 1 ∷ []) (alone 1) (3 ∷ 5 ∷ 0 ∷ 1 ∷ []) (6 ∷ 7 ∷ []))
     ∷ row "(;^GM[2])" (editing 0 "1") (number 17 0)
     ∷ row "(;GM^[2])" (reading strict) (rows (0 ∷ 0 ∷ []) (alone 1) (2 ∷ 5 ∷ 0 ∷ 1 ∷ []) (6 ∷ 7 ∷ []))
-    ∷ row "(;B[aa]^;)" (reading strict) (rows (0 ∷ 0 ∷ []) (none ∷ 1 ∷ none ∷ 0 ∷ 1 ∷ 0 ∷ none ∷ none ∷ 1 ∷ 0 ∷ []) (2 ∷ 3 ∷ 0 ∷ 1 ∷ []) (4 ∷ 6 ∷ []))
+    ∷ row "(;B[aa]^;)" (reading strict) (rows (0 ∷ 0 ∷ []) (none ∷ 1 ∷ none ∷ 0 ∷ 1 ∷ 0 ∷ 0 ∷ none ∷ none ∷ 1 ∷ 0 ∷ 1 ∷ []) (2 ∷ 3 ∷ 0 ∷ 1 ∷ []) (4 ∷ 6 ∷ []))
     ∷ row "(;B[aa]^[bb])" (reading strict) (rows (0 ∷ 0 ∷ []) (alone 1) (2 ∷ 3 ∷ 0 ∷ 2 ∷ []) (4 ∷ 6 ∷ 9 ∷ 11 ∷ []))
     ∷ row "(;)^B" (reading strict) (number 3 4)
     ∷ row "(;)^;" (reading strict) (rows (0 ∷ 0 ∷ []) (alone 0) [] [])

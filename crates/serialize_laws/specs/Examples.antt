@@ -59,15 +59,15 @@ one = 0 ∷ 0 ∷ []
 
 -- the node table of one node that has neither children nor properties
 abbrev alone : List ℕ
-alone = none ∷ none ∷ none ∷ 0 ∷ 0 ∷ []
+alone = none ∷ none ∷ none ∷ 0 ∷ 0 ∷ 0 ∷ []
 
 -- the node table of one node that has one property
 abbrev single : List ℕ
-single = none ∷ none ∷ none ∷ 0 ∷ 1 ∷ []
+single = none ∷ none ∷ none ∷ 0 ∷ 1 ∷ 0 ∷ []
 
 -- the node table of two nodes, one below the other, with one property each
 abbrev twain : List ℕ
-twain = none ∷ 1 ∷ none ∷ 0 ∷ 1 ∷ 0 ∷ none ∷ none ∷ 1 ∷ 1 ∷ []
+twain = none ∷ 1 ∷ none ∷ 0 ∷ 1 ∷ 0 ∷ 0 ∷ none ∷ none ∷ 1 ∷ 1 ∷ 1 ∷ []
 
 -- P1 to P10, in this order
 abbrev pub table : List Row
@@ -86,7 +86,7 @@ table =
     ∷ row "(B[aa])" (reading strict) (number 11 0)
     ∷ row "(;GM[01])" (reading strict) (rows (0 ∷ 1 ∷ []) single (2 ∷ 4 ∷ 0 ∷ 1 ∷ []) (5 ∷ 7 ∷ []))
     ∷ row "(;GM[x])" (reading strict) (number 12 0)
-    ∷ row "(;(;);)" (reading strict) (rows one (none ∷ 1 ∷ none ∷ 0 ∷ 0 ∷ 0 ∷ none ∷ 2 ∷ 0 ∷ 0 ∷ 0 ∷ none ∷ none ∷ 0 ∷ 0 ∷ []) [] [])
+    ∷ row "(;(;);)" (reading strict) (rows one (none ∷ 1 ∷ none ∷ 0 ∷ 0 ∷ 0 ∷ 0 ∷ none ∷ 2 ∷ 0 ∷ 0 ∷ 1 ∷ 0 ∷ none ∷ none ∷ 0 ∷ 0 ∷ 1 ∷ []) [] [])
     ∷ row "(;(;);)" rewriting (text (bytes "(;(;)(;))"))
     ∷ row "(;C[ab];B[cd])" (reading strict) (rows one twain (2 ∷ 3 ∷ 0 ∷ 1 ∷ 8 ∷ 9 ∷ 1 ∷ 1 ∷ []) (4 ∷ 6 ∷ 10 ∷ 12 ∷ []))
     ∷ row "(;C[ab];B[cd])" (editing 0 "x") (edited 13 (bytes "(;C[x];B[cd])" ++ (0 ∷ [])) one twain (2 ∷ 3 ∷ 0 ∷ 1 ∷ 7 ∷ 8 ∷ 1 ∷ 1 ∷ []) (4 ∷ 5 ∷ 9 ∷ 11 ∷ []))

@@ -1,4 +1,4 @@
-// What is in a record: reads standard input strictly and says its counts, its trees and the moves of each main line, or why it is refused and where.
+// What is in a record: reads standard input strictly and says its counts, its trees with their greatest depths and the moves of each main line, or why it is refused and where.
 mod moves; // moves.rt: the moves of a tree
 mod rows; // rows.rt: cells of the tables
 mod words; // words.rt: refusals in words
@@ -37,11 +37,13 @@ fn say_go_tree(
     moves::say_main_line(text, nodes, properties, values, root, end);
 }
 
-fn say_nodes(game: &[u8], root: usize, end: usize) {
+// A tree's game, its nodes from `root` to `end` and the greatest of their depths.
+fn say_nodes(game: &[u8], nodes: &[u32], root: usize, end: usize) {
     io::write_all(1, game);
     if root <= end {
         say_count(b", nodes ", end - root);
     }
+    say_count(b", depth ", rows::greatest_depth(nodes, root, end));
 }
 
 // The node behind a tree's nodes.
@@ -69,10 +71,10 @@ fn say_tree(
     let end = tree_end(counts, trees, tree);
     say_count(b"tree ", tree + 1);
     if rows::tree_cell(trees, tree, 1) == 0 {
-        say_nodes(b": Go", root, end);
+        say_nodes(b": Go", nodes, root, end);
         say_go_tree(text, counts, nodes, properties, values, root, end);
     } else {
-        say_nodes(b": another game", root, end);
+        say_nodes(b": another game", nodes, root, end);
         io::write_all(1, b"\n");
     }
 }

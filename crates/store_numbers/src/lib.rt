@@ -37,17 +37,27 @@ pub fn put4(t: &mut [u32], at: usize, from: u32, to: u32, first: u32, count: u32
     }
 }
 
-// Five numbers put from a place on, where there is room for all.
-pub fn put5(t: &mut [u32], at: usize, parent: u32, child: u32, sibling: u32, first: u32, count: u32)
-    ensures { λ _. ⌜ PutWhole (now (t .entry)) at (parent ∷ child ∷ sibling ∷ first ∷ count ∷ []) (now (t .exit)) ⌝ }
+// Six numbers put from a place on, where there is room for all.
+pub fn put6(
+    t: &mut [u32],
+    at: usize,
+    parent: u32,
+    child: u32,
+    sibling: u32,
+    first: u32,
+    count: u32,
+    depth: u32,
+)
+    ensures { λ _. ⌜ PutWhole (now (t .entry)) at (parent ∷ child ∷ sibling ∷ first ∷ count ∷ depth ∷ []) (now (t .exit)) ⌝ }
 {
     if at < t.len() {
-        if 4 < t.len() - at {
+        if 5 < t.len() - at {
             t[at] = parent;
             t[at + 1] = child;
             t[at + 2] = sibling;
             t[at + 3] = first;
             t[at + 4] = count;
+            t[at + 5] = depth;
         }
     }
 }

@@ -1,4 +1,4 @@
--- Cells of rows of five: they are there and can be counted. Assumes nothing.
+-- Cells of the node rows: they are there and can be counted. Assumes nothing.
 use Rattle.lists.proofs.Prelude.{ℕ, _+_, _-_, _*_, _/_, _^_, _≤_, _<_, _≡_, true, List, arith, leb, length, set, length-set, leb-true}
 use mir.Syntax.{w32, w64}
 use mir.Val.{Fits}
@@ -37,15 +37,15 @@ module _ {n : ℕ} {t : List ℕ} (r : Table n t) (j : ℕ) (h : j < n) where
   row-there = let p = r .rows in omega arith
 
   -- the cell i of the row
-  module _ (i : ℕ) (e : leb i 4 ≡ true) where
+  module _ (i : ℕ) (e : leb i 5 ≡ true) where
     pub cell-fits : Fits w64 (j * nodeStride + i)
-    cell-fits = let l = leb-true i 4 e in let p = r .rows in let q = r .bytes in omega arith
+    cell-fits = let l = leb-true i 5 e in let p = r .rows in let q = r .bytes in omega arith
 
     pub cell-bytes : Fits w64 ((j * nodeStride + i) * 4)
-    cell-bytes = let l = leb-true i 4 e in let p = r .rows in let q = r .bytes in omega arith
+    cell-bytes = let l = leb-true i 5 e in let p = r .rows in let q = r .bytes in omega arith
 
     pub cell-there : j * nodeStride + i < length t
-    cell-there = let l = leb-true i 4 e in let p = r .rows in omega arith
+    cell-there = let l = leb-true i 5 e in let p = r .rows in omega arith
 
     pub cell-stays : (a v : ℕ) → j * nodeStride + i < length (set t a v)
     cell-stays a v = let l = length-set t a v in let p = cell-there in omega arith

@@ -1,6 +1,10 @@
 pub mod Cases
 pub mod Cells
+pub mod Depths
+pub mod Distances
 pub mod Each
 pub mod Lengths
+pub mod Levels
 pub mod Links
 pub mod Moved
+pub mod Tabulate

@@ -7,7 +7,7 @@ treeStride = 2
 
 -- in a row of the node table
 abbrev pub nodeStride : ℕ
-nodeStride = 5
+nodeStride = 6
 
 -- in a row of the property table
 abbrev pub propertyStride : ℕ
@@ -44,6 +44,10 @@ firstPropAt nd k = getD nd (k * nodeStride + 3) 0
 -- its property count
 abbrev pub propCountAt : List ℕ → ℕ → ℕ
 propCountAt nd k = getD nd (k * nodeStride + 4) 0
+
+-- its depth
+abbrev pub depthAt : List ℕ → ℕ → ℕ
+depthAt nd k = getD nd (k * nodeStride + 5) 0
 
 -- property k: where its identifier starts
 abbrev pub nameFromAt : List ℕ → ℕ → ℕ

@@ -7,10 +7,10 @@ abbrev pub flatTrees : List TreeRow → List ℕ
 flatTrees [] = []
 flatTrees (r ∷ rs) = r .root ∷ r .kind ∷ flatTrees rs
 
--- parent, first child, next sibling, first property, property count
+-- parent, first child, next sibling, first property, property count, depth
 abbrev pub flatNodes : List NodeRow → List ℕ
 flatNodes [] = []
-flatNodes (r ∷ rs) = r .parent ∷ r .child ∷ r .sibling ∷ r .first ∷ r .count ∷ flatNodes rs
+flatNodes (r ∷ rs) = r .parent ∷ r .child ∷ r .sibling ∷ r .first ∷ r .count ∷ r .depth ∷ flatNodes rs
 
 -- identifier start and end, first value, value count
 abbrev pub flatProps : List PropRow → List ℕ

@@ -1,5 +1,5 @@
 -- The rows of the four tables of a record.
-use Rattle.lists.specs.Prelude.{ℕ, suc, _+_, _&&_, List, [], _∷_, length, leb, eqb, pick}
+use Rattle.lists.specs.Prelude.{ℕ, suc, _+_, _&&_, List, [], _∷_, _++_, length, getD, leb, ltb, eqb, pick}
 use Rattle.lexer.specs.Token.{Val, Prop}
 use Rattle.tables.specs.Numbers.{none}
 use Rattle.tables.specs.Record.{Node, Tree, allNodes, allProps, allVals}
@@ -10,13 +10,14 @@ pub record TreeRow : Type 0 where
   pub root : ℕ
   pub kind : ℕ
 
--- a row of the node table: first child, next sibling, first property and property count beside the parent
+-- a row of the node table: first child, next sibling, first property, property count and depth beside the parent
 pub record NodeRow : Type 0 where
   pub parent : ℕ
   pub child : ℕ
   pub sibling : ℕ
   pub first : ℕ
   pub count : ℕ
+  pub depth : ℕ
 
 -- a row of the property table: identifier span, first value, value count
 pub record PropRow : Type 0 where
@@ -56,6 +57,19 @@ abbrev pub parents : List Node → List ℕ
 parents [] = []
 parents (n ∷ ns) = n .parent ∷ parents ns
 
+-- the depth of the node behind those of the depths ds, by its parent: 0 at a root, else the parent's plus 1
+abbrev pub depthBehind : (ds : List ℕ) (p : ℕ) → ℕ
+depthBehind ds p = pick (ltb p (length ds)) (suc (getD ds p 0)) 0
+
+-- the depths ds, and behind them those of the nodes with these parents, from left to right
+abbrev pub depthsFrom : (ds ps : List ℕ) → List ℕ
+depthsFrom ds [] = ds
+depthsFrom ds (p ∷ ps) = depthsFrom (ds ++ (depthBehind ds p ∷ [])) ps
+
+-- the depths of the nodes with these parents
+abbrev pub depths : List ℕ → List ℕ
+depths ps = depthsFrom [] ps
+
 -- ps: all parents; k: the number of the first of these nodes; f: its first property. Children are linked in ascending order, a root has no next sibling
 abbrev pub nodeRows : (ps : List ℕ) (k f : ℕ) → List Node → List NodeRow
 nodeRows ps k f [] = []
@@ -66,6 +80,7 @@ nodeRows ps k f (n ∷ ns) =
       sibling = pick (eqb (n .parent) none) none (next (n .parent) (suc k) 0 ps);
       first = f;
       count = length (n .props);
+      depth = getD (depths ps) k 0;
     }
     ∷ nodeRows ps (suc k) (f + length (n .props)) ns
 

@@ -1,5 +1,6 @@
-// The four lent tables: their rows, the counts and numbers given back, and the links of the nodes.
+// The four lent tables: their rows, the counts and numbers given back, and the links and depths of the nodes.
 ghost use mathlib.Core.Path.{_≡_};
+ghost use Rattle.tables.specs.LocalsDepths.{LevelsIs};
 ghost use Rattle.tables.specs.LocalsLinks.{LinksIs};
 ghost use Rattle.tables.specs.Numbers.{numberOf, reasonOf};
 
@@ -15,7 +16,7 @@ pub const NONE: u32 = 4294967295;
 // Numbers in a row of each table.
 pub const TREE_STRIDE: usize = 2;
 
-pub const NODE_STRIDE: usize = 5;
+pub const NODE_STRIDE: usize = 6;
 
 pub const PROPERTY_STRIDE: usize = 4;
 
@@ -117,6 +118,30 @@ pub fn link_nodes(t: &mut [u32], n: usize)
             t[child] = k as u32;
         } else {
             t[at + 2] = NONE;
+        }
+    }
+}
+
+// The depth of each of n nodes, from the parents, by one pass forward: 0 at a root, else the parent's plus 1.
+pub fn level_nodes(t: &mut [u32], n: usize)
+    ensures { λ _. ⌜ LevelsIs n (now (t .entry)) (now (t .exit)) ⌝ }
+{
+    if t.len() / NODE_STRIDE < n {
+        return;
+    }
+    if (NONE as usize) < n {
+        return;
+    }
+    let mut k = 0;
+    while k < n {
+        let row = k;
+        k += 1;
+        let at = row * NODE_STRIDE;
+        let parent = t[at] as usize;
+        if parent < row {
+            t[at + 5] = t[parent * NODE_STRIDE + 5] + 1;
+        } else {
+            t[at + 5] = 0;
         }
     }
 }

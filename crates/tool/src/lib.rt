@@ -11,11 +11,11 @@ pub fn pair_rows() -> [u32; 65536]
     [0u32; 65536]
 }
 
-// Of nodes, five numbers each.
-pub fn node_rows() -> [u32; 327680]
-    ensures { λ r. ⌜ r ≡ replicate 327680 0 ⌝ }
+// Of nodes, six numbers each.
+pub fn node_rows() -> [u32; 393216]
+    ensures { λ r. ⌜ r ≡ replicate 393216 0 ⌝ }
 {
-    [0u32; 327680]
+    [0u32; 393216]
 }
 
 // Of properties, four numbers each.
