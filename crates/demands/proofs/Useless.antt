@@ -28,7 +28,7 @@ rows t n p v = record { trees = t; nodes = n; properties = p; values = v }
 
 -- tables with room for one tree of two nodes
 abbrev pub room : Lent
-room = lent (0 ∷ 0 ∷ []) (0 ∷ 0 ∷ 0 ∷ 0 ∷ 0 ∷ 0 ∷ 0 ∷ 0 ∷ 0 ∷ 0 ∷ []) [] []
+room = lent (0 ∷ 0 ∷ []) (0 ∷ 0 ∷ 0 ∷ 0 ∷ 0 ∷ 0 ∷ 0 ∷ 0 ∷ 0 ∷ 0 ∷ 0 ∷ 0 ∷ []) [] []
 
 pub two-nodes : answers (read strict (bytes "(;;)")) room ≡ Accepted (rows 1 2 0 0)
 unfolding white space
