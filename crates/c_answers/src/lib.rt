@@ -9,6 +9,7 @@ use tables::Counts;
 use tables::Reading;
 use value_display::Displayed;
 ghost use mathlib.Core.Path.{_≡_};
+ghost use Rattle.go.specs.Value.{unmarked};
 ghost use Rattle.ask.specs.Ask.{shownFor};
 ghost use Rattle.c_answers.specs.Shown.{readingShown, spanShown, displayShown, figuresShown, goShown, writingShown, editShown};
 
@@ -209,6 +210,21 @@ pub fn go_shown(number: u32, go: GoValue) -> SgfGoValue
         y: f.y,
         handicap: f.handicap,
         marks: marks,
+    }
+}
+
+// A value that is no set, number 0 beside it: no point marked.
+pub fn unmarked_shown(value: Value) -> SgfGoValue
+    ensures { λ r. ⌜ r ≡ goShown 0 (unmarked value) ⌝ }
+{
+    let f = figures_of(value);
+    SgfGoValue {
+        number: 0,
+        kind: f.kind,
+        x: f.x,
+        y: f.y,
+        handicap: f.handicap,
+        marks: [false; 2704],
     }
 }
 

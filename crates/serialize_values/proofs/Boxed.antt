@@ -1,5 +1,5 @@
 -- Values in their brackets, one after another. Assumes nothing.
-use Rattle.lists.proofs.Prelude.{ℕ, suc, _+_, _^_, _≤_, _<_, _-_, _≡_, refl, sym, ap, _∙_, Bool, true, false, List, [], _∷_, _++_, append-assoc, add-one, length, getD, drop, drop-of-length-le, drop-cons, lt-ltb, le-ltb, pick}
+use Rattle.lists.proofs.Prelude.{ℕ, suc, _+_, _^_, _≤_, _<_, _-_, _≡_, refl, sym, ap, _∙_, Bool, true, false, List, [], _∷_, _++_, append-assoc, add-one, arith, length, getD, set, drop, drop-of-length-le, drop-cons, lt-ltb, le-ltb, pick}
 use Rattle.store_bytes.specs.LocalsWrote.{Wrote}
 use Rattle.store_bytes.proofs.Written.{wrote-is}
 use Rattle.go_points.specs.Area.{letter}
@@ -24,6 +24,25 @@ boxes-cons v vs = ap (λ (z : List ℕ). 0x5b ∷ z) (sym (append-assoc v (0x5d 
 pub box-wrote : (v : List ℕ) {o : List ℕ} {at : ℕ} {o1 : List ℕ} {r1 : ℕ} {o2 : List ℕ} {r2 : ℕ} {o3 : List ℕ} {r3 : ℕ} → length o < 2 ^ 64 → at < 2 ^ 64
     → Wrote (0x5b ∷ []) o at o1 r1 → Wrote v o1 r1 o2 r2 → Wrote (0x5d ∷ []) o2 r2 o3 r3 → Wrote (boxes (v ∷ [])) o at o3 r3
 box-wrote v s b x y z = writing-last z (writing-next y (writing-next x (writing-is (boxes-one v) (writing-first (boxes (v ∷ [])) _ _ s b))))
+
+-- a value of two bytes in its brackets, byte by byte
+pub pair-wrote : (v out : List ℕ) (at : ℕ) → length v ≡ 2 → at + 4 ≤ length out → length out < 2 ^ 64
+    → Wrote (boxes (v ∷ [])) out at (set (set (set (set out at 0x5b) (at + 1) (getD v 0 0)) (at + 2) (getD v 1 0)) (at + 3) 0x5d) (at + 4)
+unfolding boxes
+pair-wrote [] out at l h s = absurd (omega arith)
+pair-wrote (a ∷ []) out at l h s = absurd (omega arith)
+pair-wrote (a ∷ b ∷ []) out at l h s =
+    let e : at + 1 ≡ suc at = omega arith in
+    let f : at + 2 ≡ suc (suc at) = omega arith in
+    let g : at + 3 ≡ suc (suc (suc at)) = omega arith in
+    record {
+      place = omega arith;
+      bytes =
+          ap (λ (n : ℕ). set (set (set (set out at 0x5b) n a) (at + 2) b) (at + 3) 0x5d) e
+          ∙ ap (λ (n : ℕ). set (set (set (set out at 0x5b) (suc at) a) n b) (at + 3) 0x5d) f
+          ∙ ap (λ (n : ℕ). set (set (set (set out at 0x5b) (suc at) a) (suc (suc at)) b) n 0x5d) g;
+    }
+pair-wrote (a ∷ b ∷ c ∷ r) out at l h s = absurd (omega arith)
 
 -- ---- raw values
 

@@ -1,4 +1,5 @@
 pub mod Boxed
 pub mod Forms
+pub mod Plain
 pub mod Variants
 pub mod Writing

@@ -1,8 +1,9 @@
 // Values as they are written.
 ghost use mathlib.Core.Path.{_≡_};
+ghost use mathlib.Core.Bool.{true, false};
 ghost use mathlib.Core.List.{[], _∷_};
-ghost use Prim.Native.Nat.{_<_, _/_, _%_};
-ghost use lib.ListN.{length};
+ghost use Prim.Native.Nat.{ℕ, _+_, _<_, _≤_, _/_, _%_};
+ghost use lib.ListN.{length, getD, drop};
 ghost use Rattle.lists.specs.Pick.{pick};
 ghost use Rattle.values.specs.Read.{readIdentifier};
 ghost use Rattle.store_bytes.specs.LocalsWrote.{Wrote};
@@ -45,6 +46,48 @@ fn put_raw(
     to
 }
 
+// A value of two bytes in its brackets, at once where there is room.
+fn put_pair(out: &mut [u8], at: usize, value: &[u8]) -> usize
+    requires { ⌜ length (now value) ≡ 2 ⌝ }
+    ensures { λ r. ⌜ Wrote (boxes (now (value .entry) ∷ [])) (now (out .entry)) at (now (out .exit)) r ⌝ }
+{
+    if out.len() <= at {
+        return put_box(out, at, value);
+    }
+    if out.len() - at < 4 {
+        return put_box(out, at, value);
+    }
+    out[at] = b'[';
+    out[at + 1] = value[0];
+    out[at + 2] = value[1];
+    out[at + 3] = b']';
+    at + 4
+}
+
+// Whether a property has one value, two letters, which as a move or a set is written as it is raw.
+fn is_plain(shape: Shape, count: usize, value: &[u8]) -> bool
+    ensures { λ r. ⌜ (r ≡ true → (count ≡ 1) × (length (now (value .entry)) ≡ 2)
+        × (now (value .entry) ∷ [] ≡ formBy shape (now (value .entry) ∷ []))) ⌝ }
+{
+    if count != 1 {
+        return false;
+    }
+    if value.len() != 2 {
+        return false;
+    }
+    if 51 < go_points::letter_of(value[0]) {
+        return false;
+    }
+    if 51 < go_points::letter_of(value[1]) {
+        return false;
+    }
+    match shape {
+        Shape::OneMove => true,
+        Shape::ManyPoints => true,
+        _ => false,
+    }
+}
+
 // The letter of a coordinate.
 fn letter_at(n: u8) -> u8
     requires { ⌜ n < 52 ⌝ }
@@ -78,6 +121,33 @@ fn put_marked(out: &mut [u8], at: usize, mark: bool, i: usize) -> usize
     at
 }
 
+// Whether one of 64 places from i on is marked: no early way out, so that the compiler takes many at once.
+fn any_marked(marks: &[bool; 2704], i: usize) -> bool
+    requires { ⌜ (i + 64 ≤ 2704) × (length (now marks) ≡ 2704) ⌝ }
+    ensures { λ r. ⌜ (r ≡ false → (k : ℕ) → k < 64 → getD (now (marks .entry)) (i + k) false ≡ false) ⌝ }
+{
+    let mut any = false;
+    for k in 0..64usize {
+        any = any | marks[i + k];
+    }
+    any
+}
+
+// Past places from i on that are not marked.
+fn past_unmarked(marks: &[bool; 2704], i: usize) -> usize
+    requires { ⌜ (i < 2704) × (length (now marks) ≡ 2704) ⌝ }
+    ensures { λ r. ⌜ (i ≤ r) × (r < 2704) × (pointsFrom i (drop i (now (marks .entry))) ≡ pointsFrom r (drop r (now (marks .entry)))) ⌝ }
+{
+    let mut at = i;
+    while at + 64 < 2704 {
+        if any_marked(marks, at) {
+            return at;
+        }
+        at += 64;
+    }
+    at
+}
+
 // The marked points in order.
 fn put_points(out: &mut [u8], at: usize, marks: &[bool; 2704]) -> usize
     requires { ⌜ length (now marks) ≡ 2704 ⌝ }
@@ -86,8 +156,9 @@ fn put_points(out: &mut [u8], at: usize, marks: &[bool; 2704]) -> usize
     let mut to = at;
     let mut i: usize = 0;
     while i < 2704 {
-        to = put_marked(out, to, marks[i], i);
-        i += 1;
+        let n = past_unmarked(marks, i);
+        to = put_marked(out, to, marks[n], n);
+        i = n + 1;
     }
     to
 }
@@ -156,6 +227,10 @@ pub fn put_values(
         return put_raw(out, at, text, values, first, count);
     }
     let shape = go_shape::shape_of(identifier);
+    let value = parts::value_at(text, values, first, 0);
+    if is_plain(shape, count, value) {
+        return put_pair(out, at, value);
+    }
     if let Shape::ManyPoints = shape {
         return put_set(out, at, text, values, first, count);
     }

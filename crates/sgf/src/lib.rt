@@ -9,9 +9,12 @@ use c_answers::SgfWriting;
 use c_tokens::SgfToken;
 use c_tokens::SgfTrim;
 use c_tokens::SgfValue;
+use go_shape::Shape;
 use tables::Counts;
 use value_display::Kind;
 ghost use mathlib.Core.Path.{_≡_};
+ghost use lib.Dec.{eqb};
+ghost use Rattle.lists.specs.Pick.{pick};
 ghost use Rattle.lexer_scan.specs.Scan.{valueAt};
 ghost use Rattle.lexer.specs.Step.{nextAt};
 ghost use Rattle.text_utf8.specs.Trim.{trimmed};
@@ -20,6 +23,8 @@ ghost use Rattle.reader.specs.Lent.{lent};
 ghost use Rattle.fit.specs.Fit.{Fit};
 ghost use Rattle.ask_value.specs.Access.{accessed};
 ghost use Rattle.parts.specs.Rows.{valuesAt};
+ghost use Rattle.go_shape.specs.Shape.{shapeOf};
+ghost use Rattle.go_shape.specs.declared.Shape.the-variants.{Unread};
 ghost use Rattle.go.specs.Value.{goValue};
 ghost use Rattle.ask.specs.Ask.{refusalNumber, goAnswer};
 ghost use Rattle.values.specs.Read.{readIdentifier};
@@ -214,6 +219,16 @@ pub extern "C" fn sgf_go_value(
     c_answers::go_shown(refusal_number(refusal), go)
 }
 
+// What a property takes in a tree with this game type: nothing that is read where that is not Go.
+fn shape_in(game_type: u32, identifier: &[u8]) -> Shape
+    ensures { λ r. ⌜ r ≡ pick (eqb «game_type» 0) (shapeOf (readIdentifier (now (identifier .entry)))) Unread ⌝ }
+{
+    if game_type != 0 {
+        return Shape::Unread;
+    }
+    go_shape::shape_of(identifier)
+}
+
 // The Go value of a property by its parts, for tables that are known to fit: its tree's game type, its identifier, and the rows of its values.
 #[no_mangle]
 pub extern "C" fn sgf_go_property(
@@ -227,10 +242,11 @@ pub extern "C" fn sgf_go_property(
     ensures { λ r. ⌜ r ≡ goShown 0 (goValue «game_type» (readIdentifier (now (identifier .entry)))
         (valuesAt (now (text .entry)) (now (values .entry)) first count)) ⌝ }
 {
-    c_answers::go_shown(
-        0,
-        go::value::go_value(game_type, identifier, text, values, first, count),
-    )
+    let shape = shape_in(game_type, identifier);
+    if let Shape::ManyPoints = shape {
+        return c_answers::go_shown(0, go::set::read_points(text, values, first, count));
+    }
+    c_answers::unmarked_shown(go::value::value_by(shape, text, values, first, count))
 }
 
 // Writes the record into the output, or changes nothing: 19, 15, 14.

@@ -1,5 +1,5 @@
 -- `serialize_values::put_points` meets its contract. Assumes nothing.
-use Rattle.lists.proofs.Prelude.{_-_, _≡_, arith, length, drop, needs}
+use Rattle.lists.proofs.Prelude.{_-_, _≡_, ap, _∙_, arith, length, drop}
 use Rattle.store_bytes.proofs.Written.{wrote-length}
 use Rattle.go.specs.Normal.{pointsFrom}
 use Rattle.serialize_values.specs.LocalsBoxes.{boxes}
@@ -20,10 +20,30 @@ loop-holds c =
     let good = c .before .good in
     (writing-first (boxes (pointsFrom 0 (args .marks .now))) (args .out .now) (args .at) (omega (arith, good)) (omega (arith, good)), c .before .pre)
 
+past-unmarked-requires : tie.Need-past-unmarked-requires Inv-loop μ-loop
+past-unmarked-requires c κs = (c .loop-test .taken, c .before .loop .inv .1)
+
+element-copy-out-put-marked : tie.Need-element-copy-out-put-marked Inv-loop μ-loop
+element-copy-out-put-marked c = let h = c .before .past-unmarked .ensures .1 in omega arith
+
+put-marked-requires : tie.Need-put-marked-requires Inv-loop μ-loop
+put-marked-requires c κs = c .before .before .past-unmarked .ensures .1
+
+add-i : tie.Need-add-i Inv-loop μ-loop
+add-i c = let h = c .before .before .before .before .before .past-unmarked .ensures .1 in omega arith
+
+loop-less : tie.Need-loop-less Inv-loop μ-loop
+loop-less c =
+    let n = c .before .before .before .before .before .past-unmarked .ensures .0 in
+    let h = c .before .before .before .before .before .before .loop-test .taken in
+    omega arith
+
 loop-again : tie.Need-loop-again Inv-loop μ-loop
 loop-again c =
-    let loop = c .before .before .before .before .before .before .loop in
-    (writing-next (c .before .before .put-marked .ensures) (writing-is (points-next (c .before .before .before .before .before .before .before .before .args .marks .now) (loop .i) (omega (arith, loop .inv .1, c .before .before .before .before .before .loop-test .taken))) (loop .inv .0)), loop .inv .1)
+    let loop = c .before .before .before .before .before .before .before .loop in
+    let n = c .before .before .before .before .before .past-unmarked in
+    let here = ap boxes (n .ensures .2) ∙ points-next (c .before .before .before .before .before .before .before .before .before .args .marks .now) (n .result) (omega (arith, loop .inv .1, n .ensures .1)) in
+    (writing-next (c .before .before .put-marked .ensures) (writing-is here (loop .inv .0)), loop .inv .1)
 
 same-length : tie.Need-same-length Inv-loop μ-loop
 same-length c = wrote-length (c .before .loop .inv .0 .wrote)
@@ -40,10 +60,11 @@ put-points-spec =
     Inv-loop
     μ-loop
     loop-holds
-    (λ c. search needs)
-    (λ c κs. search needs)
-    (λ c. search needs)
-    (λ c. search needs)
+    past-unmarked-requires
+    element-copy-out-put-marked
+    put-marked-requires
+    add-i
+    loop-less
     loop-again
     same-length
     returns)

@@ -1,11 +1,30 @@
 -- `sgf::sgf_go_property` meets its contract. Assumes nothing.
-use Rattle.c_answers.specs.Shown.{goShown}
 use Rattle.lists.proofs.Prelude.{ap, _∙_, needs}
+use Rattle.go.proofs.Choosing.{not-set}
+use Rattle.c_answers.specs.Shown.{goShown}
+use Rattle.sgf.proofs.Shaped.{set-shaped, alone-shaped}
 use Rattle.sgf.proofs.sgf_go_property.Statement.{statement}
 use Rattle.sgf.proofs.sgf_go_property.Tie as tie
 
 returns : tie.Need-returns
-returns c = c .go-shown .ensures ∙ ap (goShown 0) (c .before .go-value .ensures)
+returns c =
+    c .go-shown .ensures
+    ∙ ap (goShown 0) (set-shaped (c .before .before .before .before .before .before .before .before .args .game-type) _ _ (c .before .before .before .before .shape-in .ensures) (c .before .before .enum-told .given .1) (c .before .read-points .ensures))
+
+returns-2 : tie.Need-returns-2
+returns-2 c =
+    c .unmarked-shown .ensures
+    ∙ ap (goShown 0) (alone-shaped (c .before .before .before .before .before .before .before .args .game-type) _ _ (c .before .before .before .shape-in .ensures) (not-set _ (c .before .before .match .keys2)) (c .before .value-by .ensures))
 
 pub sgf-go-property-spec : {M : Type 1} → statement M
-sgf-go-property-spec = tie.close (tie.spec (λ c κs. search needs) (λ c κs. search needs) returns)
+sgf-go-property-spec =
+    tie.close
+    (tie.spec
+    (λ c κs. search needs)
+    (λ c. search needs)
+    (λ c κs. search needs)
+    (λ c κs. search needs)
+    returns
+    (λ c κs. search needs)
+    (λ c κs. search needs)
+    returns-2)
