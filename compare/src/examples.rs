@@ -175,7 +175,7 @@ fn holds(example: &Example) -> bool {
     let tables = [&mut trees[..], &mut nodes[..], &mut properties[..], &mut values[..]];
     let reading = library::read(example.text.as_bytes(), example.bits, tables);
     let kinds: Vec<u32> = trees.chunks(2).take(reading.counts.trees).map(|row| row[1]).collect();
-    let parents: Vec<u32> = nodes.chunks(5).take(reading.counts.nodes).map(|row| row[0]).collect();
+    let parents: Vec<u32> = nodes.chunks(STRIDES[1]).take(reading.counts.nodes).map(|row| row[0]).collect();
     let good = reading.ignored == example.bits & KEEP_IDENTIFIERS
         && (reading.number, reading.place, &kinds[..], &parents[..]) == (example.number, example.place, example.kinds, example.parents);
     if !good {

@@ -6,6 +6,7 @@ pub mod Between
 pub mod Faults
 pub mod Flats
 pub mod Giving
+pub mod Inner
 pub mod Lines
 pub mod Meets
 pub mod Stacks

@@ -10,6 +10,7 @@ use Rattle.tables.specs.Flat.{flatNodes, flatProps, flatVals}
 use Rattle.tables.specs.Columns.{nodeStride}
 use Rattle.parser_tree.specs.LocalsFlat.{bareRows}
 use Rattle.parser_tree.specs.LocalsWalks.{Stored}
+use Rattle.parser_tree.proofs.Inner.{put-within}
 use Rattle.parser_tree.proofs.Flats.{val-append, val-length, vals-append, props-append, prop-append, prop-length, node-append, node-length}
 
 pub stored-none : (base p0 v0 : ℕ) (t q w : List ℕ) → Stored base p0 v0 [] t q w t q w base p0 v0
@@ -87,7 +88,7 @@ module _ {base p0 v0 : ℕ} {t₀ q₀ w₀ t q w : List ℕ} {n p v : ℕ} wher
 
     -- the last node's properties and one more: its row, those of its values, and the count in the node's row
     pub stored-prop : {first : ℕ} → first ≡ p0 + length (allProps es) → {q′ w′ t′ : List ℕ} → PutIs q (p * 4) (P .from ∷ P .to ∷ v ∷ length (P .vals) ∷ []) q′
-        → PutIs w (v * 2) (flatVals (valRows (P .vals))) w′ → PutIs t (n * nodeStride - 2) ((p + 1 - first) ∷ 0 ∷ []) t′
+        → PutIs w (v * 2) (flatVals (valRows (P .vals))) w′ → PutIs t (n * nodeStride - 2) ((p + 1 - first) ∷ []) t′
         → Stored base p0 v0 (es ++ (record { parent = m .parent; props = m .props ++ (P ∷ []) } ∷ [])) t₀ q₀ w₀ t′ q′ w′ n (p + 1) (v + length (P .vals))
     unfolding m′
     stored-prop {first} e {q′} {w′} {t′} hq hw ht =
@@ -104,15 +105,15 @@ module _ {base p0 v0 : ℕ} {t₀ q₀ w₀ t q w : List ℕ} {n p v : ℕ} wher
         let l7 : length (flatNodes (bareRows p0 es) ++ (m .parent ∷ none ∷ none ∷ first ∷ [])) ≡ length es * nodeStride + 4 =
         length-append (flatNodes (bareRows p0 es)) (m .parent ∷ none ∷ none ∷ first ∷ []) ∙ ap (λ (z : ℕ). z + 4) (node-length p0 es) in
         let c : p + 1 - first ≡ length (m .props ++ (P ∷ [])) = omega arith in
+        let rows : List ℕ = flatNodes (bareRows p0 es) ++ (m .parent ∷ none ∷ none ∷ first ∷ []) in
+        let put : PutIs t₀ (base * nodeStride) (rows ++ (length (m .props) ∷ 0 ∷ [])) t = subst (λ (z : List ℕ). PutIs t₀ (base * nodeStride) z t) (node-row m first e) (x .tnodes) in
         record {
           nodes = omega arith;
           props = omega arith;
           vals = omega arith;
           tnodes =
               subst (λ (z : List ℕ). PutIs t₀ (base * nodeStride) z t′) (sym (node-row m′ first e))
-              (put-last (flatNodes (bareRows p0 es) ++ (m .parent ∷ none ∷ none ∷ first ∷ [])) (length (m .props) ∷ 0 ∷ [])
-              (subst (λ (z : List ℕ). PutIs t₀ (base * nodeStride) z t) (node-row m first e) (x .tnodes))
-              (subst (λ (z : ℕ). PutIs t (n * nodeStride - 2) (z ∷ 0 ∷ []) t′) c ht)
+              (put-last rows (length (m .props) ∷ 0 ∷ []) put (put-within rows (length (m .props) ∷ []) (0 ∷ []) put (subst (λ (z : ℕ). PutIs t (n * nodeStride - 2) (z ∷ []) t′) c ht) (omega arith) refl)
               (omega arith) refl);
           tprops =
               subst (λ (z : List ℕ). PutIs q₀ (p0 * 4) z q′)

@@ -113,7 +113,7 @@ pub record AddIs (u : List ℕ) (st : State) (i k : ℕ) (t q w : List ℕ) (r :
   pub is : r ≡ added st (r .at) (length (valsAt u k))
   pub vals : PutIs w (st .vals * valueStride) (flatVals (valRows (valsAt u k))) w′
   pub props : PutIs q (st .props * propertyStride) (i ∷ k ∷ st .vals ∷ length (valsAt u k) ∷ []) q′
-  pub nodes : PutIs t (st .nodes * nodeStride - 2) ((st .props + 1 - st .first) ∷ 0 ∷ []) t′
+  pub nodes : PutIs t (st .nodes * nodeStride - 2) ((st .props + 1 - st .first) ∷ []) t′
 
 -- ---- what the next token asks for
 

@@ -103,7 +103,7 @@ fn take_values(s: &[u8], from: usize, v0: usize, vals: &mut [u32]) -> Taken
     }
 }
 
-// The property at `i`, whose first `[` is at `k`: its values' rows, its own, and the count of its node, whose depth is still 0.
+// The property at `i`, whose first `[` is at `k`: its values' rows, its own, and the count of its node.
 fn add(
     s: &[u8],
     mut w: State,
@@ -129,7 +129,7 @@ fn add(
     );
     w.props += 1;
     let cell = w.nodes * NODE_STRIDE - 2;
-    store_numbers::put2(nodes, cell, (w.props - w.first) as u32, 0);
+    store_numbers::put1(nodes, cell, (w.props - w.first) as u32);
     w.at = taken.end;
     w.vals = taken.next;
     w

@@ -122,7 +122,7 @@ pub fn link_nodes(t: &mut [u32], n: usize)
     }
 }
 
-// The depth of each of n nodes, from the parents, by one pass forward: 0 at a root, else the parent's plus 1.
+// The depth of each of n nodes, from the parents, by one pass forward: 0 at a root, else the parent's plus 1. `last` is that of the node before, as a rule the parent: it need not be read again.
 pub fn level_nodes(t: &mut [u32], n: usize)
     ensures { λ _. ⌜ LevelsIs n (now (t .entry)) (now (t .exit)) ⌝ }
 {
@@ -133,14 +133,20 @@ pub fn level_nodes(t: &mut [u32], n: usize)
         return;
     }
     let mut k = 0;
+    let mut last: u32 = 0;
     while k < n {
         let row = k;
         k += 1;
         let at = row * NODE_STRIDE;
         let parent = t[at] as usize;
-        if parent < row {
-            t[at + 5] = t[parent * NODE_STRIDE + 5] + 1;
+        if parent + 1 == row {
+            last += 1;
+            t[at + 5] = last;
+        } else if parent < row {
+            last = t[parent * NODE_STRIDE + 5] + 1;
+            t[at + 5] = last;
         } else {
+            last = 0;
             t[at + 5] = 0;
         }
     }

@@ -22,7 +22,7 @@ returns c =
       is = rw (t .next);
       vals = t .rows;
       props = subst (λ (z : ℕ). PutIs (now (c .before .before .before .before .before .before .before .before .before .before .before .before .before .before .before .before .before .before .before .before .before .before .before .args .props)) (c .before .before .before .before .before .before .before .before .before .before .before .before .before .before .before .before .before .before .before .before .before .before .before .args .w .props * 4) (c .before .before .before .before .before .before .before .before .before .before .before .before .before .before .before .before .before .before .before .before .before .before .before .args .i ∷ c .before .before .before .before .before .before .before .before .before .before .before .before .before .before .before .before .before .before .before .before .before .before .before .args .k ∷ c .before .before .before .before .before .before .before .before .before .before .before .before .before .before .before .before .before .before .before .before .before .before .before .args .w .vals ∷ z ∷ []) (c .before .before .before .before .before .before .before .before .before .put4 .last .0)) (taken-count t) (c .before .before .before .before .before .before .before .before .before .put4 .ensures .is);
-      nodes = c .before .before .put2 .ensures .is;
+      nodes = c .before .before .put1 .ensures .is;
     }
 
 pub add-spec : {M : Type 1} → statement M
