@@ -7,10 +7,13 @@ use Rattle.parser.specs.LocalsSurvey.{surveyOf}
 use Rattle.parser.specs.declared.Survey.{Survey}
 use Rattle.parser_split.specs.LocalsPlans.{planText}
 use Rattle.parser_split.specs.declared.Plan.{Plan}
-use Rattle.parser.specs.Kind.{kind}
+use Rattle.parser.specs.Kind.{kindVals, kind}
 use Rattle.parser.specs.LocalsSlice.{sliceFrom}
+use Rattle.lexer.specs.Step.{valsAt}
 use Rattle.parser_game.specs.LocalsGame.{typeOf}
 use Rattle.parser_game.specs.declared.GameType.{GameType}
+use Rattle.parser_census.specs.LocalsCensus.{censusOf}
+use Rattle.parser_census.specs.declared.Census.{Census}
 use Rattle.parser_step.specs.LocalsAsks.{asks}
 use Rattle.parser_step.specs.declared.State.{State}
 use Rattle.parser_step.specs.declared.Act.{Act}
@@ -33,6 +36,14 @@ plan-text-once len t = once-is (planText len t)
 
 pub game-type-once : (s : List ℕ) (from : ℕ) → Once (λ (r : GameType). r ≡ typeOf (kind (sliceFrom 0 (lexAt s from .toks))))
 game-type-once s from = once-is (typeOf (kind (sliceFrom 0 (lexAt s from .toks))))
+
+pub kind-values-once : (s : List ℕ) (k : ℕ) → Once (λ (r : GameType). r ≡ typeOf (kindVals (valsAt s k)))
+kind-values-once s k = once-is (typeOf (kindVals (valsAt s k)))
+
+-- parser_census
+
+pub take-census-once : (s : List ℕ) (from : ℕ) → Once (λ (r : Census). r ≡ censusOf (lexAt s from))
+take-census-once s from = once-is (censusOf (lexAt s from))
 
 -- parser_step
 

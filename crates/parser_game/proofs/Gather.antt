@@ -22,7 +22,7 @@ past-toks s = rw (drop-length s)
 
 -- ---- two tokens skipped
 
-props-slice : (d : ℕ) (ts : List Tok) → props (sliceFrom d ts) ≡ props ts
+pub props-slice : (d : ℕ) (ts : List Tok) → props (sliceFrom d ts) ≡ props ts
 unfolding sliceFrom
 props-slice d [] = refl
 props-slice d (start o ∷ ts) = refl

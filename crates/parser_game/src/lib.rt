@@ -54,7 +54,7 @@ fn kind_of(v: &[u8]) -> GameType
 }
 
 // The game type that the values from k on say: exactly one is wanted.
-fn kind_values(s: &[u8], k: usize) -> GameType
+pub fn kind_values(s: &[u8], k: usize) -> GameType
     ensures { λ r. ⌜ r ≡ typeOf (kindVals (valsAt (now (s .entry)) k)) ⌝ }
 {
     let ValueStep::Value(a, e, next) = lexer_scan::next_value(s, k) else {

@@ -5,6 +5,7 @@ pub mod Parents
 pub mod Plants
 pub mod Reasons
 pub mod Rooms
+pub mod Simple
 pub mod Surveyed
 pub mod Texts
 pub mod Theorems

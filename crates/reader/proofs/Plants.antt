@@ -1,5 +1,5 @@
 -- The trees of the slices, one slice at a time. Assumes nothing.
-use Rattle.lists.proofs.Prelude.{ℕ, suc, _+_, _-_, _*_, _≤_, _<_, _≡_, refl, sym, ap, _∙_, subst, subst⁻¹, Bool, List, [], _∷_, _++_, append-assoc, append-nil, reverse, reverse-cons, reverse-reverse, arith, length, length-reverse}
+use Rattle.lists.proofs.Prelude.{ℕ, suc, _+_, _-_, _*_, _≤_, _<_, _≡_, refl, sym, ap, _∙_, subst, subst⁻¹, Bool, true, false, List, [], _∷_, _++_, append-assoc, append-nil, reverse, reverse-cons, reverse-reverse, arith, length, length-reverse}
 use Rattle.lists.specs.All.{All}
 use Rattle.lists.specs.Put.{PutIs}
 use Rattle.lists.proofs.Put.{put-none, put-more}
@@ -8,7 +8,7 @@ use Rattle.tables.specs.Record.{Node, Tree, allNodes}
 use Rattle.tables.specs.Rows.{treeRows}
 use Rattle.tables.specs.Flat.{flatTrees}
 use Rattle.tables.specs.declared.Reason.{Reason}
-use Rattle.parser.specs.Kind.{kind}
+use Rattle.parser.specs.Kind.{Kind, is, kind}
 use Rattle.parser.specs.LocalsSlice.{sliceFrom, restFrom, cut, Shallow}
 use Rattle.parser.specs.Read.{Growing, growing, failing, grown, kinded, growAll}
 use Rattle.parser_tree.specs.LocalsWalks.{walkOf, Ready, Stored, TreeIs, WalkIs}
@@ -17,7 +17,7 @@ use Rattle.parser_tree.specs.declared.Walked.the-variants.{Tree as tree, Refuse
 use Rattle.parser_tree.proofs.Between.{Between, between-ready, between-next}
 use Rattle.parser_tree.proofs.Stored.{stored-none, stored-both}
 use Rattle.reader.specs.Lent.{Lent, lent}
-use Rattle.reader.specs.LocalsSlices.{leniently, readOf, SlicesReady, GrownIs}
+use Rattle.reader.specs.LocalsSlices.{leniently, readOf, SlicesReady, GoIf, GrownIs}
 use Rattle.parser_game.specs.LocalsGame.{typeOf}
 use Rattle.reader.proofs.Kinded.{fails, kinded-is, kinded-refused}
 use Rattle.parser_game.specs.declared.GameType.{GameType}
@@ -37,7 +37,7 @@ nodes-append (x ∷ xs) ys = ap (λ (z : List Node). x .nodes ++ z) (nodes-appen
 
 -- ---- k slices are read, n nodes, p properties and v values
 
-pub record Planting (len : Bool) (u : List ℕ) (l : List Tok) (count : ℕ) (before after : Lent) (at n p v k : ℕ) : Type 0 where
+pub record Planting (len go : Bool) (u : List ℕ) (l : List Tok) (count : ℕ) (before after : Lent) (at n p v k : ℕ) : Type 0 where
   pub ts : List Tree
   pub made : length ts ≡ k
   pub below : k ≤ count
@@ -45,10 +45,11 @@ pub record Planting (len : Bool) (u : List ℕ) (l : List Tok) (count : ℕ) (be
   pub trees : PutIs (before .trees) 0 (flatTrees (treeRows (reverse ts))) (after .trees)
   pub rows : Stored 0 0 0 (allNodes (reverse ts)) (before .nodes) (before .props) (before .vals) (after .nodes) (after .props) (after .vals) n p v
   pub ready : Between len u at k n p v (count - k)
+  pub kinds : GoIf go (cut (count - k) (lexAt u at .toks))
 
-pub plant-first : {len : Bool} {u : List ℕ} {from count : ℕ} (b : Lent) → SlicesReady len u from count → Planting len u (lexAt u from .toks) count b b from 0 0 0 0
+pub plant-first : {len go : Bool} {u : List ℕ} {from count : ℕ} (b : Lent) → SlicesReady len u from count → GoIf go (cut count (lexAt u from .toks)) → Planting len go u (lexAt u from .toks) count b b from 0 0 0 0
 unfolding readOf
-plant-first {len} {u} {from} {count} b x =
+plant-first {len} {go} {u} {from} {count} b x ks =
     let e : count - 0 ≡ count = omega arith in
     let f = x .few in
     record {
@@ -68,10 +69,11 @@ plant-first {len} {u} {from} {count} b x =
         shallow = subst⁻¹ (λ (z : ℕ). All (Shallow 0) (cut z (lexAt u from .toks))) e (x .shallow);
         calm = x .calm;
       };
+      kinds = subst⁻¹ (λ (z : ℕ). GoIf go (cut z (lexAt u from .toks))) e ks;
     }
 
-module _ {len : Bool} {u : List ℕ} {l : List Tok} {count : ℕ} {before after : Lent} {at n p v k : ℕ}
-    (x : Planting len u l count before after at n p v k) where
+module _ {len go : Bool} {u : List ℕ} {l : List Tok} {count : ℕ} {before after : Lent} {at n p v k : ℕ}
+    (x : Planting len go u l count before after at n p v k) where
   abbrev toks : List Tok
   toks = lexAt u at .toks
 
@@ -104,6 +106,17 @@ module _ {len : Bool} {u : List ℕ} {l : List Tok} {count : ℕ} {before after 
     pub plant-ready : Ready len u at n p v
     plant-ready = between-ready plant-between
 
+    plant-kinds : GoIf go (cut (suc (count - (k + 1))) toks)
+    plant-kinds = subst (λ (z : ℕ). GoIf go (cut z toks)) left (x .kinds)
+
+    pub plant-go : go ≡ true → kind (sliceFrom 0 toks) ≡ is 0
+    unfolding cut
+    plant-go e = plant-kinds e .0
+
+    plant-others : GoIf go (cut (count - (k + 1)) (restFrom 0 toks))
+    unfolding cut
+    plant-others e = plant-kinds e .1
+
     turn : readOf len count l ≡ growAll len (kinded len n (kind (sliceFrom 0 toks)) (sliceFrom 0 toks) (x .ts)) (cut (count - (k + 1)) (restFrom 0 toks))
     unfolding cut
     turn = x .same ∙ ap (λ (z : ℕ). growAll len (growing n (x .ts)) (cut z toks)) left
@@ -123,7 +136,7 @@ module _ {len : Bool} {u : List ℕ} {l : List Tok} {count : ℕ} {before after 
       plant-stop {r} f = turned ∙ ap (λ (y : Growing). growAll len y (cut (count - (k + 1)) (restFrom 0 toks))) (f j (x .ts)) ∙ fails len r (cut (count - (k + 1)) (restFrom 0 toks))
 
       pub plant-more : {t q w r : List ℕ} {at′ n′ p′ v′ : ℕ} → TreeIs len u at n p v (after .nodes) (after .props) (after .vals) t q w at′ n′ p′ v′ → PutIs (after .trees) (k * 2) (n ∷ j ∷ []) r
-          → Planting len u l count before (lent r t q w) at′ n′ p′ v′ (k + 1)
+          → Planting len go u l count before (lent r t q w) at′ n′ p′ v′ (k + 1)
       plant-more {t} {q} {w} {r} {at′} {n′} {p′} {v′} y pt =
           let m = x .made in
           let rn = y .stored .nodes in
@@ -147,6 +160,7 @@ module _ {len : Bool} {u : List ℕ} {l : List Tok} {count : ℕ} {before after 
                 (nodes-append (reverse (x .ts)) (record { root = n; kind = j; nodes = y .es } ∷ []) ∙ ap (λ (z : List Node). allNodes (reverse (x .ts)) ++ z) (append-nil (y .es)))
                 (stored-both (allNodes (reverse (x .ts))) (y .es) (x .rows) (y .stored)));
             ready = subst (λ (z : ℕ). Between len u at′ z n′ p′ v′ (count - (k + 1))) sk (between-next plant-between y);
+            kinds = subst (λ (z : List Tok). GoIf go (cut (count - (k + 1)) z)) (y .rest) plant-others;
           }
 
 -- what a walk gave
@@ -156,3 +170,11 @@ module _ (len : Bool) (u : List ℕ) (from base p0 v0 : ℕ) (t₀ q₀ w₀ t q
 
   pub walk-refused-as : {r : Reason} → x ≡ refusedWalk r → (k : ℕ) (ts : List Tree) → grown len base k (walkOf len base (lexAt u from .toks)) ts ≡ failing r
   walk-refused-as e = subst (WalkIs len u from base p0 v0 t₀ q₀ w₀ t q w) e y .1
+
+-- a game type that is known
+pub go-type : (len : Bool) {K : Kind} → K ≡ is 0 → Is 0 ≡ typeOf (leniently len K)
+go-type len e = go len ∙ ap (λ (z : Kind). typeOf (leniently len z)) (sym e)
+  where
+    go : (len : Bool) → Is 0 ≡ typeOf (leniently len (is 0))
+    go true = refl
+    go false = refl

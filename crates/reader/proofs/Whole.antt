@@ -19,7 +19,7 @@ use Rattle.parser.specs.Read.{Answer, accepted, Growing, growing, failing, answ
 use Rattle.parser_tree.specs.LocalsFlat.{bareRows}
 use Rattle.parser_tree.proofs.Flats.{val-length, prop-length, node-length}
 use Rattle.reader.specs.Lent.{Lent, lent, roomFor, roomy, stored, ReadIs}
-use Rattle.reader.specs.LocalsSlices.{readOf, GrownIs, TreesIs, CountIs}
+use Rattle.reader.specs.LocalsSlices.{readOf, CountedAs, GrownIs, TreesIs, CountIs}
 use Rattle.reader.specs.declared.slices.Total.{Total}
 use Rattle.reader.specs.declared.slices.Total.the-variants.{Rows, Refused as refusedTotal}
 use Rattle.reader.proofs.Parents.{Below, parents-below}
@@ -65,38 +65,42 @@ module _ {X : Growing} {count n p v : ℕ} {b₀ a₀ : Lent} (G : GrownIs X cou
       let e4 : length (valRows (allVals (allProps (allNodes (G .ts))))) ≡ v = omega (arith, val-rows-length (allVals (allProps (allNodes (G .ts)))), G .stored .vals) in
       rw (e1, e2, e3, e4)
 
-  answer-is : answer X ≡ accepted (G .ts)
-  answer-is = ap answer (G .grown) ∙ ap accepted (reverse-reverse (G .ts))
+  pub grown-counted : CountedAs X counts
+  grown-counted = record { ts = G .ts; grown = G .grown; counts = counts-are }
 
-module _ {X : Growing} {count n p v : ℕ} {b₀ a₀ : Lent} (G : GrownIs X count b₀ a₀ n p v) (b : Lent)
-    {t : Bool} (e : t ≡ roomFor (counts G) (length (b .trees)) (length (b .nodes)) (length (b .props)) (length (b .vals))) where
-  room-is : roomy (tables (G .ts)) b ≡ t
+module _ {X : Growing} {c : Counts} (K : CountedAs X c) where
+  answer-is : answer X ≡ accepted (K .ts)
+  answer-is = ap answer (K .grown) ∙ ap accepted (reverse-reverse (K .ts))
+
+module _ {X : Growing} {c : Counts} (K : CountedAs X c) (b : Lent)
+    {t : Bool} (e : t ≡ roomFor c (length (b .trees)) (length (b .nodes)) (length (b .props)) (length (b .vals))) where
+  room-is : roomy (tables (K .ts)) b ≡ t
   room-is =
-      ap (λ (c : Counts). roomFor c (length (b .trees)) (length (b .nodes)) (length (b .props)) (length (b .vals))) (counts-are G) ∙ sym e
+      ap (λ (z : Counts). roomFor z (length (b .trees)) (length (b .nodes)) (length (b .props)) (length (b .vals))) (K .counts) ∙ sym e
 
   pub read-no-room : t ≡ false → ReadIs (answer X) b b (Refused NoRoom 0)
   read-no-room f =
-      subst⁻¹ (λ (z : Answer). ReadIs z b b (Refused NoRoom 0)) (answer-is G) (record { answer = rw (room-is, f); tables = rw (room-is, f) })
+      subst⁻¹ (λ (z : Answer). ReadIs z b b (Refused NoRoom 0)) (answer-is K) (record { answer = rw (room-is, f); tables = rw (room-is, f) })
 
   -- the run that writes, the links and the depths
-  module _ (f : t ≡ true) {A : Lent} {n′ p′ v′ : ℕ} (Y : GrownIs X count b A n′ p′ v′) (len : Bool) (l : List Tok) (ex : X ≡ readOf len count l)
-      {t2 t3 : List ℕ} (links : LinksIs n (A .nodes) t2) (levels : LevelsIs n t2 t3) where
-    grown-same : growing n′ (reverse (Y .ts)) ≡ growing n (reverse (G .ts))
-    grown-same = sym (Y .grown) ∙ G .grown
+  module _ (f : t ≡ true) {A : Lent} {n′ p′ v′ : ℕ} (Y : GrownIs X (c .trees) b A n′ p′ v′) (len : Bool) (l : List Tok) (ex : X ≡ readOf len (c .trees) l)
+      {t2 t3 : List ℕ} (links : LinksIs (c .nodes) (A .nodes) t2) (levels : LevelsIs (c .nodes) t2 t3) where
+    grown-same : growing n′ (reverse (Y .ts)) ≡ growing (c .nodes) (reverse (K .ts))
+    grown-same = sym (Y .grown) ∙ K .grown
 
-    nodes-same : n′ ≡ n
+    nodes-same : n′ ≡ c .nodes
     nodes-same = let z = grown-same in cc
 
-    trees-same : Y .ts ≡ G .ts
-    trees-same = let z = grown-same in let w : reverse (Y .ts) ≡ reverse (G .ts) = cc in sym (reverse-reverse (Y .ts)) ∙ ap reverse w ∙ reverse-reverse (G .ts)
+    trees-same : Y .ts ≡ K .ts
+    trees-same = let z = grown-same in let w : reverse (Y .ts) ≡ reverse (K .ts) = cc in sym (reverse-reverse (Y .ts)) ∙ ap reverse w ∙ reverse-reverse (K .ts)
 
-    counts-same : counts Y ≡ counts G
-    counts-same = sym (counts-are Y) ∙ ap (λ (z : List Tree). countsOf (tables z)) trees-same ∙ counts-are G
+    counts-same : counts Y ≡ c
+    counts-same = sym (counts-are Y) ∙ ap (λ (z : List Tree). countsOf (tables z)) trees-same ∙ K .counts
 
     filled : lent (A .trees) t3 (A .props) (A .vals) ≡ stored (tables (Y .ts)) b
     unfolding readOf
     filled =
-        let R : Room (counts Y) b = subst⁻¹ (λ (c : Counts). Room c b) counts-same (room-true (counts G) b (sym e ∙ f)) in
+        let R : Room (counts Y) b = subst⁻¹ (λ (z : Counts). Room z b) counts-same (room-true c b (sym e ∙ f)) in
         let rt = R .trees in
         let rn = R .nodes in
         let rp = R .props in
@@ -109,27 +113,27 @@ module _ {X : Growing} {count n p v : ℕ} {b₀ a₀ : Lent} (G : GrownIs X cou
         let fe = Y .few in
         let ns = nodes-same in
         let ln = Y .stored .tnodes .len in
-        let b1 : All (Below n) (allNodes (Y .ts)) = subst (λ (z : ℕ). All (Below z) (allNodes (Y .ts))) nodes-same (parents-below len (cut count l) n′ (Y .ts) (sym ex ∙ Y .grown)) in
+        let b1 : All (Below (c .nodes)) (allNodes (Y .ts)) = subst (λ (z : ℕ). All (Below z) (allNodes (Y .ts))) nodes-same (parents-below len (cut (c .trees) l) n′ (Y .ts) (sym ex ∙ Y .grown)) in
         lent-same
         (put-all (Y .ttrees) (omega (arith, tree-length (Y .ts))))
-        (nodes-linked (allNodes (Y .ts)) n (omega arith) (omega arith) b1 (b .nodes) (put-all (Y .stored .tnodes) (omega (arith, node-length 0 (allNodes (Y .ts))))) (omega arith, omega arith) links levels)
+        (nodes-linked (allNodes (Y .ts)) (c .nodes) (omega arith) (omega arith) b1 (b .nodes) (put-all (Y .stored .tnodes) (omega (arith, node-length 0 (allNodes (Y .ts))))) (omega arith, omega arith) links levels)
         (put-all (Y .stored .tprops) (omega (arith, prop-length 0 (allProps (allNodes (Y .ts))))))
         (put-all (Y .stored .tvals) (omega (arith, val-length (allVals (allProps (allNodes (Y .ts)))))))
 
-    read-filled : ReadIs (answer X) b (lent (A .trees) t3 (A .props) (A .vals)) (Accepted (counts G))
+    read-filled : ReadIs (answer X) b (lent (A .trees) t3 (A .props) (A .vals)) (Accepted c)
     read-filled =
-        subst⁻¹ (λ (z : Answer). ReadIs z b (lent (A .trees) t3 (A .props) (A .vals)) (Accepted (counts G))) (answer-is G)
+        subst⁻¹ (λ (z : Answer). ReadIs z b (lent (A .trees) t3 (A .props) (A .vals)) (Accepted c)) (answer-is K)
         (record {
-          answer = rw (room-is, f) (ap Accepted (sym (counts-are G)));
+          answer = rw (room-is, f) (ap Accepted (sym (K .counts)));
           tables = rw (room-is, f) (filled ∙ ap (λ (z : List Tree). stored (tables z) b) trees-same);
         })
 
   -- the second run does not refuse where the first did not
-  pub read-accepted : t ≡ true → (A : Lent) (x : Total) → TreesIs X count b A x → (len : Bool) (l : List Tok) → X ≡ readOf len count l → (t2 t3 : List ℕ) → LinksIs n (A .nodes) t2 → LevelsIs n t2 t3
-      → ReadIs (answer X) b (lent (A .trees) t3 (A .props) (A .vals)) (Accepted (counts G))
+  pub read-accepted : t ≡ true → (A : Lent) (x : Total) → TreesIs X (c .trees) b A x → (len : Bool) (l : List Tok) → X ≡ readOf len (c .trees) l → (t2 t3 : List ℕ) → LinksIs (c .nodes) (A .nodes) t2 → LevelsIs (c .nodes) t2 t3
+      → ReadIs (answer X) b (lent (A .trees) t3 (A .props) (A .vals)) (Accepted c)
   read-accepted f A (Rows n′ p′ v′) Y len l ex t2 t3 links levels = read-filled f Y len l ex links levels
   read-accepted f A (refusedTotal r) Y len l ex t2 t3 links levels =
-      let w : failing r ≡ growing n (reverse (G .ts)) = sym Y ∙ G .grown in never cc
+      let w : failing r ≡ growing (c .nodes) (reverse (K .ts)) = sym Y ∙ K .grown in never cc
 
 -- what the run that counts gave
 module _ (X : Growing) (count : ℕ) {x : Total} (y : CountIs X count x) where

@@ -5,9 +5,10 @@ use Rattle.lists.specs.Put.{PutIs}
 use Rattle.lexer.specs.Token.{Tok, done, lexAt}
 use Rattle.tables.specs.Numbers.{textLimit}
 use Rattle.tables.specs.Record.{Tree, allNodes}
-use Rattle.tables.specs.Rows.{treeRows}
+use Rattle.tables.specs.Rows.{treeRows, countsOf, tables}
+use Rattle.tables.specs.declared.Counts.{Counts}
 use Rattle.tables.specs.Flat.{flatTrees}
-use Rattle.parser.specs.Kind.{Kind, is, unkind}
+use Rattle.parser.specs.Kind.{Kind, is, unkind, kind}
 use Rattle.parser.specs.LocalsSlice.{cut, Shallow}
 use Rattle.parser.specs.Read.{Growing, growing, failing, growAll}
 use Rattle.parser_tree.specs.LocalsWalks.{Stored}
@@ -32,6 +33,22 @@ pub record SlicesReady (len : Bool) (u : List ℕ) (from count : ℕ) : Type 0 w
   pub few : count ≤ textLimit + 1
   pub shallow : All (Shallow 0) (cut count (lexAt u from .toks))
   pub calm : len ≡ false → lexAt u from .end ≡ done
+
+-- each slice is Go, where that is said
+abbrev pub GoIf : Bool → List (List Tok) → Type 0
+GoIf go ss = go ≡ true → All (λ (s : List Tok). kind s ≡ is 0) ss
+
+-- the trees, whose rows are so many
+pub record CountedAs (x : Growing) (c : Counts) : Type 0 where
+  pub ts : List Tree
+  pub grown : x ≡ growing (c .nodes) (reverse ts)
+  pub counts : countsOf (tables ts) ≡ c
+
+-- what is asked where the rows are counted
+pub record FillReady (len go : Bool) (u : List ℕ) (from : ℕ) (c : Counts) : Type 0 where
+  pub ready : SlicesReady len u from (c .trees)
+  pub counted : CountedAs (readOf len (c .trees) (lexAt u from .toks)) c
+  pub kinds : GoIf go (cut (c .trees) (lexAt u from .toks))
 
 -- the trees in text order, put into the tables from the first row on where there is room
 pub record GrownIs (x : Growing) (count : ℕ) (before after : Lent) (n p v : ℕ) : Type 0 where

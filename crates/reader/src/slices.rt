@@ -1,12 +1,13 @@
 // The trees of all slices, into the tables: a run that counts, the room, the run that writes, the links and the depths.
 ghost use mathlib.Core.Path.{_≡_};
+ghost use mathlib.Core.Bool.{true};
 ghost use Rattle.lexer.specs.Token.{lexAt};
-ghost use Rattle.parser.specs.Kind.{kind};
+ghost use Rattle.parser.specs.Kind.{is, kind};
 ghost use Rattle.parser.specs.Read.{answer};
-ghost use Rattle.parser.specs.LocalsSlice.{sliceFrom};
+ghost use Rattle.parser.specs.LocalsSlice.{sliceFrom, cut};
 ghost use Rattle.parser_game.specs.LocalsGame.{typeOf};
 ghost use Rattle.reader.specs.Lent.{lent, roomFor, ReadIs};
-ghost use Rattle.reader.specs.LocalsSlices.{leniently, readOf, SlicesReady, TreesIs, CountIs};
+ghost use Rattle.reader.specs.LocalsSlices.{leniently, readOf, SlicesReady, GoIf, FillReady, TreesIs, CountIs};
 use parser_game::GameType;
 use parser_tree::Walked;
 use tables::Counts;
@@ -34,18 +35,30 @@ fn type_or_go(s: &[u8], at: usize, lenient: bool) -> GameType
     }
 }
 
+// The same, where it may be known that it is Go.
+fn type_unless(s: &[u8], at: usize, lenient: bool, go: bool) -> GameType
+    requires { ⌜ (go ≡ true → kind (sliceFrom 0 (lexAt (now s) at .toks)) ≡ is 0) ⌝ }
+    ensures { λ r. ⌜ r ≡ typeOf (leniently lenient (kind (sliceFrom 0 (lexAt (now (s .entry)) at .toks)))) ⌝ }
+{
+    if go {
+        return GameType::Is(0);
+    }
+    type_or_go(s, at, lenient)
+}
+
 // The trees of `count` slices from a place on, into the tables where they have room.
 fn read_trees(
     s: &[u8],
     from: usize,
     count: usize,
     lenient: bool,
+    go: bool,
     trees: &mut [u32],
     nodes: &mut [u32],
     properties: &mut [u32],
     values: &mut [u32],
 ) -> Total
-    requires { ⌜ SlicesReady lenient (now s) from count ⌝ }
+    requires { ⌜ SlicesReady lenient (now s) from count × GoIf go (cut count (lexAt (now s) from .toks)) ⌝ }
     ensures { λ r. ⌜ TreesIs (readOf lenient count (lexAt (now (s .entry)) from .toks)) count
         (lent (now (trees .entry)) (now (nodes .entry)) (now (properties .entry)) (now (values .entry)))
         (lent (now (trees .exit)) (now (nodes .exit)) (now (properties .exit)) (now (values .exit)))
@@ -57,7 +70,7 @@ fn read_trees(
     let mut v: usize = 0;
     let mut k: usize = 0;
     while k < count {
-        match type_or_go(s, at, lenient) {
+        match type_unless(s, at, lenient, go) {
             GameType::Refused(reason) => return Total::Refused(reason),
             GameType::Is(kind) => {
                 match parser_tree::walk_tree(s, at, lenient, n, p, v, nodes, properties, values) {
@@ -101,6 +114,7 @@ fn count_rows(s: &[u8], from: usize, count: usize, lenient: bool) -> Total
         from,
         count,
         lenient,
+        false,
         &mut trees,
         &mut nodes,
         &mut properties,
@@ -108,7 +122,50 @@ fn count_rows(s: &[u8], from: usize, count: usize, lenient: bool) -> Total
     )
 }
 
-// The trees of `count` slices from a place on. The rows are counted first, so that a refusal has written nothing.
+// The trees of slices whose rows are counted, so that a refusal has written nothing.
+pub fn fill(
+    s: &[u8],
+    from: usize,
+    counts: Counts,
+    lenient: bool,
+    go: bool,
+    trees: &mut [u32],
+    nodes: &mut [u32],
+    properties: &mut [u32],
+    values: &mut [u32],
+) -> Reading
+    requires { ⌜ FillReady lenient go (now s) from counts ⌝ }
+    ensures { λ r. ⌜ ReadIs (answer (readOf lenient (counts .trees) (lexAt (now (s .entry)) from .toks)))
+        (lent (now (trees .entry)) (now (nodes .entry)) (now (properties .entry)) (now (values .entry)))
+        (lent (now (trees .exit)) (now (nodes .exit)) (now (properties .exit)) (now (values .exit)))
+        r ⌝ }
+{
+    if !has_room(
+        counts,
+        trees.len(),
+        nodes.len(),
+        properties.len(),
+        values.len(),
+    ) {
+        return Reading::Refused(Reason::NoRoom, 0);
+    }
+    read_trees(
+        s,
+        from,
+        counts.trees,
+        lenient,
+        go,
+        trees,
+        nodes,
+        properties,
+        values,
+    );
+    tables::link_nodes(nodes, counts.nodes);
+    tables::level_nodes(nodes, counts.nodes);
+    Reading::Accepted(counts)
+}
+
+// The trees of `count` slices from a place on: the rows are counted first.
 pub fn read_slices(
     s: &[u8],
     from: usize,
@@ -134,19 +191,17 @@ pub fn read_slices(
                 properties: p,
                 values: v,
             };
-            if !has_room(
+            fill(
+                s,
+                from,
                 counts,
-                trees.len(),
-                nodes.len(),
-                properties.len(),
-                values.len(),
-            ) {
-                return Reading::Refused(Reason::NoRoom, 0);
-            }
-            read_trees(s, from, count, lenient, trees, nodes, properties, values);
-            tables::link_nodes(nodes, n);
-            tables::level_nodes(nodes, n);
-            Reading::Accepted(counts)
+                lenient,
+                false,
+                trees,
+                nodes,
+                properties,
+                values,
+            )
         }
     }
 }

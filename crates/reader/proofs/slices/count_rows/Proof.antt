@@ -1,5 +1,5 @@
 -- `slices::count_rows` meets its contract. Assumes nothing.
-use Rattle.lists.proofs.Prelude.{needs}
+use Rattle.lists.proofs.Prelude.{false≢true, needs}
 use Rattle.reader.proofs.slices.count_rows.Statement.{statement}
 use Rattle.reader.proofs.slices.count_rows.Tie as tie
 
@@ -11,5 +11,5 @@ count-rows-spec =
     (λ c. search needs)
     (λ c. search needs)
     (λ c. search needs)
-    (λ c κs. c .before .before .before .before .before .pre)
+    (λ c κs. (c .before .before .before .before .before .pre, λ e. absurd (false≢true e)))
     (λ c. (_, _, c .before .before .before .before .read-trees .ensures)))

@@ -1,5 +1,5 @@
 -- `slices::read_trees` meets its contract. Assumes nothing.
-use Rattle.reader.proofs.Plants.{Planting, plant-first, plant-keeps, plant-end, plant-ready, plant-no, plant-stop, plant-more, walk-tree-as, walk-refused-as}
+use Rattle.reader.proofs.Plants.{Planting, plant-first, plant-keeps, plant-end, plant-ready, plant-go, plant-no, plant-stop, plant-more, walk-tree-as, walk-refused-as}
 use Rattle.lists.proofs.Prelude.{_-_, arith, needs}
 use Rattle.lexer.specs.Token.{lexAt}
 use Rattle.reader.specs.Lent.{lent}
@@ -7,13 +7,13 @@ use Rattle.reader.proofs.slices.read_trees.Statement.{statement}
 use Rattle.reader.proofs.slices.read_trees.Tie as tie
 
 abbrev Inv-loop : tie.InvT-loop
-Inv-loop s from count lenient trees₀ nodes₀ properties₀ values₀ at₀ n₀ p₀ v₀ k₀ trees nodes properties values at n p v k = Planting lenient s (lexAt s from .toks) count (lent trees₀ nodes₀ properties₀ values₀) (lent trees nodes properties values) at n p v k
+Inv-loop s from count lenient go trees₀ nodes₀ properties₀ values₀ at₀ n₀ p₀ v₀ k₀ trees nodes properties values at n p v k = Planting lenient go s (lexAt s from .toks) count (lent trees₀ nodes₀ properties₀ values₀) (lent trees nodes properties values) at n p v k
 
 abbrev μ-loop : tie.MeasureT-loop
-μ-loop s from count lenient trees₀ nodes₀ properties₀ values₀ at₀ n₀ p₀ v₀ k₀ trees nodes properties values at n p v k = count - k
+μ-loop s from count lenient go trees₀ nodes₀ properties₀ values₀ at₀ n₀ p₀ v₀ k₀ trees nodes properties values at n p v k = count - k
 
 loop-holds : tie.Need-loop-holds Inv-loop μ-loop
-loop-holds c = plant-first _ (c .before .before .before .before .before .pre)
+loop-holds c = plant-first _ (c .before .before .before .before .before .pre .0) (c .before .before .before .before .before .pre .1)
 
 same-length : tie.Need-same-length Inv-loop μ-loop
 same-length c = (plant-keeps (c .before .before .before .before .before .loop .inv)) .0
@@ -28,7 +28,7 @@ same-length-4 : tie.Need-same-length-4 Inv-loop μ-loop
 same-length-4 c = (plant-keeps (c .before .before .before .before .before .loop .inv)) .3
 
 returns : tie.Need-returns Inv-loop μ-loop
-returns c = plant-no (c .before .before .before .before .before .loop .inv) (c .before .before .before .before .loop-test .taken) (c .before .before .before .type-or-go .ensures) (c .before .reason .given .1)
+returns c = plant-no (c .before .before .before .before .before .loop .inv) (c .before .before .before .before .loop-test .taken) (c .before .before .before .type-unless .ensures) (c .before .reason .given .1)
 
 walk-tree-requires : tie.Need-walk-tree-requires Inv-loop μ-loop
 walk-tree-requires c κs = plant-ready (c .before .before .before .before .before .before .before .before .loop .inv) (c .before .before .before .before .before .before .before .loop-test .taken)
@@ -46,7 +46,7 @@ same-length-8 : tie.Need-same-length-8 Inv-loop μ-loop
 same-length-8 c = let k = (plant-keeps (c .before .before .before .before .before .before .before .before .before .before .before .before .before .before .before .before .before .before .loop .inv)) in omega arith
 
 returns-2 : tie.Need-returns-2 Inv-loop μ-loop
-returns-2 c = plant-stop (c .before .before .before .before .before .before .before .before .before .before .before .before .before .before .before .before .before .before .loop .inv) (c .before .before .before .before .before .before .before .before .before .before .before .before .before .before .before .before .before .loop-test .taken) (c .before .before .before .before .before .before .before .before .before .before .before .before .before .before .before .before .type-or-go .ensures) (c .before .before .before .before .before .before .before .before .before .before .before .before .before .before .kind .given .1) (walk-refused-as _ _ _ _ _ _ _ _ _ _ _ _ (c .before .before .before .before .before .before .before .before .before .walk-tree .ensures) (c .before .reason2 .given .1))
+returns-2 c = plant-stop (c .before .before .before .before .before .before .before .before .before .before .before .before .before .before .before .before .before .before .loop .inv) (c .before .before .before .before .before .before .before .before .before .before .before .before .before .before .before .before .before .loop-test .taken) (c .before .before .before .before .before .before .before .before .before .before .before .before .before .before .before .before .type-unless .ensures) (c .before .before .before .before .before .before .before .before .before .before .before .before .before .before .kind .given .1) (walk-refused-as _ _ _ _ _ _ _ _ _ _ _ _ (c .before .before .before .before .before .before .before .before .before .walk-tree .ensures) (c .before .reason2 .given .1))
 
 mul-put2 : tie.Need-mul-put2 Inv-loop μ-loop
 mul-put2 c = let r = (c .before .before .before .before .before .before .before .before .before .before .before .before .before .before .before .before .before .before .before .loop .inv) .ready in let b = (c .before .before .before .before .before .before .before .before .before .before .before .before .before .before .before .before .before .before .before .loop .inv) .below in omega arith
@@ -61,7 +61,7 @@ loop-less : tie.Need-loop-less Inv-loop μ-loop
 loop-less c = let t = c .before .before .before .before .before .before .before .before .before .before .before .before .before .before .before .before .before .before .before .before .before .loop-test .taken in omega arith
 
 loop-again : tie.Need-loop-again Inv-loop μ-loop
-loop-again c = plant-more (c .before .before .before .before .before .before .before .before .before .before .before .before .before .before .before .before .before .before .before .before .before .before .loop .inv) (c .before .before .before .before .before .before .before .before .before .before .before .before .before .before .before .before .before .before .before .before .before .loop-test .taken) (c .before .before .before .before .before .before .before .before .before .before .before .before .before .before .before .before .before .before .before .before .type-or-go .ensures) (c .before .before .before .before .before .before .before .before .before .before .before .before .before .before .before .before .before .before .kind .given .1) (walk-tree-as _ _ _ _ _ _ _ _ _ _ _ _ (c .before .before .before .before .before .before .before .before .before .before .before .before .before .walk-tree .ensures) (c .before .before .before .before .before .next .given .1)) (c .before .before .put2 .ensures .is)
+loop-again c = plant-more (c .before .before .before .before .before .before .before .before .before .before .before .before .before .before .before .before .before .before .before .before .before .before .loop .inv) (c .before .before .before .before .before .before .before .before .before .before .before .before .before .before .before .before .before .before .before .before .before .loop-test .taken) (c .before .before .before .before .before .before .before .before .before .before .before .before .before .before .before .before .before .before .before .before .type-unless .ensures) (c .before .before .before .before .before .before .before .before .before .before .before .before .before .before .before .before .before .before .kind .given .1) (walk-tree-as _ _ _ _ _ _ _ _ _ _ _ _ (c .before .before .before .before .before .before .before .before .before .before .before .before .before .walk-tree .ensures) (c .before .before .before .before .before .next .given .1)) (c .before .before .put2 .ensures .is)
 
 same-length-9 : tie.Need-same-length-9 Inv-loop μ-loop
 same-length-9 c = (plant-keeps (c .before .loop .inv)) .0
@@ -85,7 +85,7 @@ read-trees-spec =
     Inv-loop
     μ-loop
     loop-holds
-    (λ c κs. search needs)
+    (λ c κs. plant-go (c .before .loop .inv) (c .loop-test .taken))
     (λ c. search needs)
     same-length
     same-length-2

@@ -1,0 +1,12 @@
+pub mod Counting
+pub mod Grow
+pub mod Grown
+pub mod Holds
+pub mod Modes
+pub mod Named
+pub mod OddMode
+pub mod Odds
+pub mod Places
+pub mod Sizes
+pub mod Slices
+pub mod Turns

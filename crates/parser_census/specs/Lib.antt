@@ -1,0 +1,2 @@
+pub mod LocalsCensus
+pub mod LocalsCount
