@@ -23,7 +23,7 @@ pub enum Edited {
 }
 
 // Whether a value is closed.
-fn is_closed(value: &[u8]) -> bool
+pub fn is_closed(value: &[u8]) -> bool
     ensures { λ r. ⌜ r ≡ closed (now (value .entry)) ⌝ }
 {
     let mut escaped = false;
@@ -40,7 +40,7 @@ fn is_closed(value: &[u8]) -> bool
 }
 
 // Whether a raw identifier is exactly `GM`.
-fn is_gm(name: &[u8]) -> bool
+pub fn is_gm(name: &[u8]) -> bool
     ensures { λ r. ⌜ r ≡ same (now (name .entry)) GM ⌝ }
 {
     if name.len() != 2 {

@@ -65,10 +65,10 @@ module _ (pr vl : List ℕ) (used : ℕ) where
   abbrev pub upTo : ℕ → ℕ
   upTo p = sum (valCountAt pr) p
 
-  abbrev Ranged : (p m : ℕ) → Type 0
+  abbrev pub Ranged : (p m : ℕ) → Type 0
   Ranged p m = (i : ℕ) → p ≤ i → i < p + m → firstValAt pr i ≡ upTo i
 
-  up-suc : (p : ℕ) → upTo (suc p) ≡ upTo p + valCountAt pr p
+  pub up-suc : (p : ℕ) → upTo (suc p) ≡ upTo p + valCountAt pr p
   up-suc p = ap upTo (sym (add-one p)) ∙ sum-next (firstValAt pr) (valCountAt pr) p
 
   -- a property's spans: the identifier, the run of its values, and what follows
@@ -76,14 +76,14 @@ module _ (pr vl : List ℕ) (used : ℕ) where
     pub head : First used o (name p) (tabulate (valSpan vl) (firstValAt pr p) (valCountAt pr p) ++ spans pr vl (suc p) m)
     pub run : Run used (valSpan vl) (valCountAt pr p) (firstValAt pr p) (suc (nameToAt pr p)) (spans pr vl (suc p) m)
 
-  property-is : (p m o : ℕ) → ascending used o (spans pr vl p (suc m)) ≡ true → Property p m o
+  pub property-is : (p m o : ℕ) → ascending used o (spans pr vl p (suc m)) ≡ true → Property p m o
   unfolding spans
   property-is p m o h =
       let s = first-is used o (name p) (tabulate (valSpan vl) (firstValAt pr p) (valCountAt pr p) ++ spans pr vl (suc p) m) h in
       record { head = s; run = run-is used (valSpan vl) (valCountAt pr p) (firstValAt pr p) (suc (nameToAt pr p)) (spans pr vl (suc p) m) (s .rest) }
 
   -- all start at o or later
-  spans-low : (m p o : ℕ) → Ranged p m → ascending used o (spans pr vl p m) ≡ true
+  pub spans-low : (m p o : ℕ) → Ranged p m → ascending used o (spans pr vl p m) ≡ true
       → ((i : ℕ) → p ≤ i → i < p + m → o ≤ nameFromAt pr i) × ((j : ℕ) → upTo p ≤ j → j < upTo (p + m) → o ≤ valFromAt vl j)
   spans-low zero p o g h = ((λ i a b. absurd (omega arith)), (λ j a b. let e : p + 0 ≡ p = omega arith in absurd (omega (arith, ap upTo e))))
   spans-low (suc m) p o g h =

@@ -1,0 +1,4 @@
+pub mod Feed
+pub mod Find
+pub mod LocalsNext
+pub mod Made

@@ -1,0 +1,1 @@
+// A text and its rows by the bytes of its values: laws, and no code.

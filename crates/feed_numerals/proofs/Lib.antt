@@ -1,0 +1,4 @@
+pub mod Groups
+pub mod RoundTrip
+pub mod Spelling
+pub mod Unique
