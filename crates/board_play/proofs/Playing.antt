@@ -1,10 +1,10 @@
 -- What can be played, and a play put together. Assumes nothing.
-use Rattle.lists.proofs.Prelude.{ℕ, _<_, Bool, true, false, _||_, _⊎_, inl, inr, ⊎-elim, _≡_, refl, subst, List, set, eqb, arith, eqb-true}
+use Rattle.lists.proofs.Prelude.{ℕ, _<_, Bool, true, false, _||_, _⊎_, inl, inr, ⊎-elim, _≡_, refl, subst, List, set, eqb, arith, eqb-true, ltb, ltb-true}
 use Rattle.lists.proofs.Tests.{and-both}
 use Rattle.board_groups.specs.Board.{onBoard}
 use Rattle.board_groups.specs.Groups.{Takes, TakesBeside, TakesGroup}
 use Rattle.board_groups.proofs.Beside.{board-on}
-use Rattle.board_play.specs.Play.{Player, otherOf, playable, Plays, PlaysNear}
+use Rattle.board_play.specs.Play.{Player, otherOf, settable, playable, Plays, PlaysNear}
 
 either : (x y : Bool) → x || y ≡ true → (x ≡ true) ⊎ (y ≡ true)
 either true y h = inl refl
@@ -22,6 +22,14 @@ module _ (w h c p : ℕ) where
   pub playable-place : playable w h c p ≡ true → p < 2704
   unfolding playable
   playable-place e = board-on w h p (and-both (eqb c 1 || eqb c 2) (onBoard w h p) e .1) .place
+
+  pub playable-board : playable w h c p ≡ true → onBoard w h p ≡ true
+  unfolding playable
+  playable-board e = and-both (eqb c 1 || eqb c 2) (onBoard w h p) e .1
+
+  pub settable-place : settable w h c p ≡ true → p < 2704
+  unfolding settable
+  settable-place e = board-on w h p (and-both (ltb c 3) (onBoard w h p) e .1) .place
 
   pub play-made : (b : List ℕ) {b1 b2 b′ : List ℕ} {n k : ℕ} → b1 ≡ set b p c → Takes w h (otherOf c) b1 b2 n → Takes w h c b2 b′ k → Plays w h c p b b′ n k
   play-made b {b1} {b2} {b′} {n} {k} e t u =

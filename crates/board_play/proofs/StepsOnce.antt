@@ -7,8 +7,8 @@ use Rattle.board_play.specs.Steps.{Pos, Act, sets, plays, played, Step, 
 
 module _ (w h : ℕ) where
   pub step-once : (s : Pos) (a : Act) (x y : Pos) → Step w h s a x → Step w h s a y → x ≡ y
-  step-once s (sets c p) x y set-step set-step = refl
-  step-once s (plays c p) x y (play-step {between = m} {b′ = i} {n = n} {k = k} t u) (play-step {between = m′} {b′ = j} {n = n′} {k = k′} t′ u′) =
+  step-once s (sets c p) x y (set-step e) (set-step f) = refl
+  step-once s (plays c p) x y (play-step {between = m} {b′ = i} {n = n} {k = k} on t u) (play-step {between = m′} {b′ = j} {n = n′} {k = k′} on′ t′ u′) =
       let e : m ≡ m′ = takes-once w h (otherOf c) (set (s .stones) p c) m m′ n n′ t t′ in
       let v : Takes w h c m′ i k = subst (λ (z : List ℕ). Takes w h c z i k) e u in
       ap (λ (z : List ℕ). played c p z n k s) (takes-once w h c m′ i j k k′ v u′)

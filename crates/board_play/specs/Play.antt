@@ -1,6 +1,6 @@
 -- A stone set and a stone played.
 use lib.ListN.{set}
-use Rattle.lists.specs.Prelude.{ℕ, _-_, _<_, _≤_, Bool, true, false, _&&_, _||_, _≡_, List, eqb}
+use Rattle.lists.specs.Prelude.{ℕ, _-_, _<_, _≤_, Bool, true, false, _&&_, _||_, _≡_, List, eqb, ltb}
 use Rattle.board_groups.specs.Board.{at, onBoard}
 use Rattle.board_groups.specs.Groups.{Takes, TakesBeside, TakesGroup}
 
@@ -17,6 +17,10 @@ otherOf c = 3 - c
 pub record Player (c : ℕ) : Type 0 where
   pub most : c < 3
   pub least : 0 < c
+
+-- what can be set: empty, black or white, at a point of the board
+unfoldable pub settable : (w h c p : ℕ) → Bool
+settable w h c p = ltb c 3 && onBoard w h p
 
 -- a stone that can be played: it is black or white, and p is a point of the board
 unfoldable pub playable : (w h c p : ℕ) → Bool

@@ -1,0 +1,407 @@
+// The acts of one node upon a position: what its setup sets, then what its moves play.
+ghost use mathlib.Core.Path.{_≡_};
+ghost use mathlib.Core.List.{[], _∷_};
+ghost use Prim.Native.Nat.{_-_, _/_, _<_, _≤_};
+ghost use lib.ListN.{length};
+ghost use Rattle.values.specs.Read.{readIdentifier};
+ghost use Rattle.tables.specs.Columns.{propertyStride};
+ghost use Rattle.tables.specs.Each.{tabulate};
+ghost use Rattle.go_points.specs.declared.Value.the-variants.{Move};
+ghost use Rattle.parts_props.specs.Props.{propertyAt, propertiesAt};
+ghost use Rattle.board_groups.specs.Board.{onBoard};
+ghost use Rattle.board_play.specs.Play.{Player};
+ghost use Rattle.board_play.specs.Steps.{sets};
+ghost use Rattle.board_node.specs.Node.{setupColour, moveColour, setsFrom, moveActs, setupsOf, movesOf, allSetups, allMoves};
+ghost use Rattle.board_node.specs.Answer.{refusedNode, NodeIs};
+ghost use Rattle.board_node.specs.LocalsTurn.{TurnIs, MovesIs};
+use board_acts::State;
+use board_acts::Sums;
+use go_points::Value;
+
+// What stands at each place, and the sums.
+pub struct Position {
+    pub stones: [u8; 2704],
+    pub state: State,
+}
+
+// A node played, or refused: then nothing stands and the sums are 0.
+pub struct NodeAnswer {
+    pub refused: bool,
+    pub position: Position,
+}
+
+// What one step leaves: whether it is refused, and the sums.
+struct Turn {
+    refused: bool,
+    state: State,
+}
+
+// The place is a point of the board.
+fn on_board(columns: usize, rows: usize, p: usize) -> bool
+    ensures { λ r. ⌜ r ≡ onBoard columns rows p ⌝ }
+{
+    ((p / 52 < columns) & (p % 52 < rows)) & (p < 2704)
+}
+
+// The colour that a setup property sets, or 3.
+fn setup_colour(identifier: &[u8]) -> u8
+    ensures { λ r. ⌜ r ≡ setupColour (readIdentifier (now (identifier .entry))) ⌝ }
+{
+    if parts_props::reads_as(identifier, b"AB") {
+        return 1;
+    }
+    if parts_props::reads_as(identifier, b"AW") {
+        return 2;
+    }
+    if parts_props::reads_as(identifier, b"AE") {
+        return 0;
+    }
+    3
+}
+
+// The colour that a move has, or 0.
+fn move_colour(identifier: &[u8]) -> u8
+    ensures { λ r. ⌜ r ≡ moveColour (readIdentifier (now (identifier .entry))) ⌝ }
+{
+    if parts_props::reads_as(identifier, b"B") {
+        return 1;
+    }
+    if parts_props::reads_as(identifier, b"W") {
+        return 2;
+    }
+    0
+}
+
+// Sets one place, unless it is off the board or was set before.
+fn set_place(
+    stones: &mut [u8; 2704],
+    seen: &mut [bool; 2704],
+    state: State,
+    columns: usize,
+    rows: usize,
+    p: usize,
+    colour: u8,
+) -> Turn
+    requires { ⌜ colour < 3 ⌝ }
+    ensures { λ r. ⌜ TurnIs columns rows (sets colour p ∷ []) (now (seen .entry)) (now (stones .entry)) state
+        (now (seen .exit)) (now (stones .exit)) (r .state) (r .refused) ⌝ }
+{
+    if !on_board(columns, rows, p) {
+        return Turn {
+            refused: true,
+            state: state,
+        };
+    }
+    if 2704 <= p {
+        return Turn {
+            refused: true,
+            state: state,
+        };
+    }
+    if seen[p] {
+        return Turn {
+            refused: true,
+            state: state,
+        };
+    }
+    seen[p] = true;
+    let then = board_acts::set_act(stones, state, columns, rows, p, colour);
+    Turn {
+        refused: false,
+        state: then,
+    }
+}
+
+// Sets every marked place, ascending.
+fn set_places(
+    stones: &mut [u8; 2704],
+    seen: &mut [bool; 2704],
+    marks: &[bool; 2704],
+    state: State,
+    columns: usize,
+    rows: usize,
+    colour: u8,
+) -> Turn
+    requires { ⌜ (colour < 3) × (length (now marks) ≡ 2704) ⌝ }
+    ensures { λ r. ⌜ TurnIs columns rows (setsFrom colour 0 (now (marks .entry))) (now (seen .entry)) (now (stones .entry)) state
+        (now (seen .exit)) (now (stones .exit)) (r .state) (r .refused) ⌝ }
+{
+    let mut then = state;
+    let mut p: usize = 0;
+    while p < 2704 {
+        if !marks[p] {
+            p += 1;
+            continue;
+        }
+        let turn = set_place(stones, seen, then, columns, rows, p, colour);
+        let refused = turn.refused;
+        if refused {
+            return turn;
+        }
+        then = turn.state;
+        p += 1;
+    }
+    Turn {
+        refused: false,
+        state: then,
+    }
+}
+
+// Does the setup of property p.
+fn set_row(
+    stones: &mut [u8; 2704],
+    seen: &mut [bool; 2704],
+    state: State,
+    columns: usize,
+    rows: usize,
+    text: &[u8],
+    properties: &[u32],
+    values: &[u32],
+    p: usize,
+) -> Turn
+    requires { ⌜ p < length (now properties) / propertyStride ⌝ }
+    ensures { λ r. ⌜ TurnIs columns rows (setupsOf (propertyAt (now (text .entry)) (now (properties .entry)) (now (values .entry)) p))
+        (now (seen .entry)) (now (stones .entry)) state (now (seen .exit)) (now (stones .exit)) (r .state) (r .refused) ⌝ }
+{
+    let identifier = parts_props::identifier_at(text, properties, p);
+    let colour = setup_colour(identifier);
+    if 2 < colour {
+        return Turn {
+            refused: false,
+            state: state,
+        };
+    }
+    let start = lists::wide(properties[p * tables::PROPERTY_STRIDE + 2]);
+    let many = lists::wide(properties[p * tables::PROPERTY_STRIDE + 3]);
+    let go = go::value::go_value(0, identifier, text, values, start, many);
+    let marks = go.marks;
+    set_places(stones, seen, &marks, state, columns, rows, colour)
+}
+
+// Does the setup of the properties from row `first` up to row `to`.
+fn set_rows(
+    stones: &mut [u8; 2704],
+    seen: &mut [bool; 2704],
+    state: State,
+    columns: usize,
+    rows: usize,
+    text: &[u8],
+    properties: &[u32],
+    values: &[u32],
+    first: usize,
+    to: usize,
+) -> Turn
+    requires { ⌜ (first < to → to ≤ length (now properties) / propertyStride) ⌝ }
+    ensures { λ r. ⌜ TurnIs columns rows
+        (allSetups (tabulate (propertyAt (now (text .entry)) (now (properties .entry)) (now (values .entry))) first (to - first)))
+        (now (seen .entry)) (now (stones .entry)) state (now (seen .exit)) (now (stones .exit)) (r .state) (r .refused) ⌝ }
+{
+    let mut then = state;
+    let mut p = first;
+    while p < to {
+        let turn = set_row(
+            stones,
+            seen,
+            then,
+            columns,
+            rows,
+            text,
+            properties,
+            values,
+            p,
+        );
+        let refused = turn.refused;
+        if refused {
+            return turn;
+        }
+        then = turn.state;
+        p += 1;
+    }
+    Turn {
+        refused: false,
+        state: then,
+    }
+}
+
+// Plays the move to (x, y): a pass where it is `tt` on a board up to 19 by 19.
+fn play_move(
+    stones: &mut [u8; 2704],
+    state: State,
+    columns: usize,
+    rows: usize,
+    x: u8,
+    y: u8,
+    colour: u8,
+) -> Turn
+    requires { ⌜ Player colour ⌝ }
+    ensures { λ r. ⌜ MovesIs columns rows (moveActs columns rows colour (Move x y)) (now (stones .entry)) state (now (stones .exit)) (r .state) (r .refused) ⌝ }
+{
+    if ((columns <= 19) & (rows <= 19)) & ((x == 19) & (y == 19)) {
+        return Turn {
+            refused: false,
+            state: state,
+        };
+    }
+    let p = 52 * (x as usize) + (y as usize);
+    if !on_board(columns, rows, p) {
+        return Turn {
+            refused: true,
+            state: state,
+        };
+    }
+    let then = board_acts::play_act(stones, state, columns, rows, p, colour);
+    Turn {
+        refused: false,
+        state: then,
+    }
+}
+
+// Plays the move of property p.
+fn play_row(
+    stones: &mut [u8; 2704],
+    state: State,
+    columns: usize,
+    rows: usize,
+    text: &[u8],
+    properties: &[u32],
+    values: &[u32],
+    p: usize,
+) -> Turn
+    requires { ⌜ p < length (now properties) / propertyStride ⌝ }
+    ensures { λ r. ⌜ MovesIs columns rows (movesOf columns rows (propertyAt (now (text .entry)) (now (properties .entry)) (now (values .entry)) p))
+        (now (stones .entry)) state (now (stones .exit)) (r .state) (r .refused) ⌝ }
+{
+    let identifier = parts_props::identifier_at(text, properties, p);
+    let colour = move_colour(identifier);
+    if colour < 1 {
+        return Turn {
+            refused: false,
+            state: state,
+        };
+    }
+    let start = lists::wide(properties[p * tables::PROPERTY_STRIDE + 2]);
+    let many = lists::wide(properties[p * tables::PROPERTY_STRIDE + 3]);
+    let go = go::value::go_value(0, identifier, text, values, start, many);
+    let value = go.value;
+    let Value::Move(x, y) = value else {
+        return Turn {
+            refused: false,
+            state: state,
+        };
+    };
+    play_move(stones, state, columns, rows, x, y, colour)
+}
+
+// Plays the moves of the properties from row `first` up to row `to`.
+fn play_rows(
+    stones: &mut [u8; 2704],
+    state: State,
+    columns: usize,
+    rows: usize,
+    text: &[u8],
+    properties: &[u32],
+    values: &[u32],
+    first: usize,
+    to: usize,
+) -> Turn
+    requires { ⌜ (first < to → to ≤ length (now properties) / propertyStride) ⌝ }
+    ensures { λ r. ⌜ MovesIs columns rows
+        (allMoves columns rows (tabulate (propertyAt (now (text .entry)) (now (properties .entry)) (now (values .entry))) first (to - first)))
+        (now (stones .entry)) state (now (stones .exit)) (r .state) (r .refused) ⌝ }
+{
+    let mut then = state;
+    let mut p = first;
+    while p < to {
+        let turn = play_row(stones, then, columns, rows, text, properties, values, p);
+        let refused = turn.refused;
+        if refused {
+            return turn;
+        }
+        then = turn.state;
+        p += 1;
+    }
+    Turn {
+        refused: false,
+        state: then,
+    }
+}
+
+// A refused node: nothing stands, the sums are 0.
+fn refuse() -> NodeAnswer
+    ensures { λ r. ⌜ r ≡ refusedNode ⌝ }
+{
+    let none = [0u8; 2704];
+    let black = Sums { on: 0, off: 0 };
+    let white = Sums { on: 0, off: 0 };
+    let state = State {
+        black: black,
+        white: white,
+        settled: false,
+    };
+    let position = Position {
+        stones: none,
+        state: state,
+    };
+    NodeAnswer {
+        refused: true,
+        position: position,
+    }
+}
+
+// Plays the properties of `count` rows from `first` on upon a position: setup first, then moves, each in property order.
+pub fn play_node(
+    position: Position,
+    columns: usize,
+    rows: usize,
+    text: &[u8],
+    properties: &[u32],
+    values: &[u32],
+    first: usize,
+    count: usize,
+) -> NodeAnswer
+    ensures { λ r. ⌜ NodeIs columns rows (propertiesAt (now (text .entry)) (now (properties .entry)) (now (values .entry)) first count) position r ⌝ }
+{
+    let to = first + parts_props::row_count(properties, first, count);
+    let mut stones = position.stones;
+    let mut seen = [false; 2704];
+    let set = set_rows(
+        &mut stones,
+        &mut seen,
+        position.state,
+        columns,
+        rows,
+        text,
+        properties,
+        values,
+        first,
+        to,
+    );
+    let bad = set.refused;
+    if bad {
+        return refuse();
+    }
+    let played = play_rows(
+        &mut stones,
+        set.state,
+        columns,
+        rows,
+        text,
+        properties,
+        values,
+        first,
+        to,
+    );
+    let off = played.refused;
+    if off {
+        return refuse();
+    }
+    let state = played.state;
+    let then = Position {
+        stones: stones,
+        state: state,
+    };
+    NodeAnswer {
+        refused: false,
+        position: then,
+    }
+}
