@@ -1,5 +1,5 @@
 //! The scope's own examples and the points it leaves open, as a table: what each text must give.
-use crate::held;
+use crate::held::{self, STRIDES};
 use crate::library::{self, KEEP_IDENTIFIERS, LENIENT};
 use crate::oracle;
 use crate::plain_reader::{Options, NONE};

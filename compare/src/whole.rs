@@ -81,7 +81,7 @@ impl Whole {
     pub fn alone(raw: &[u8]) -> Self {
         let none = u32::MAX;
         let end = 1 + raw.len() as u32;
-        let rows: [&[u32]; 4] = [&[0, 1], &[none, none, none, 0, 1], &[0, 0, 0, 1], &[1, end]];
+        let rows: [&[u32]; 4] = [&[0, 1], &[none, none, none, 0, 1, 0], &[0, 0, 0, 1], &[1, end]];
         let text = [b"[", raw, b"]"].concat();
         Whole { text: Fenced::new(&text, 0), used: text.len(), counts: Counts::of([1; 4]), tables: rows.map(|row| Fenced::new(row, 0)) }
     }
