@@ -18,7 +18,7 @@ fromOf vs j = getD vs j (record { from = 0; to = 0 }) .from
 abbrev pub toOf : List ValRow → ℕ → ℕ
 toOf vs j = getD vs j (record { from = 0; to = 0 }) .to
 
-sum-front : (g : ℕ → ℕ) (i : ℕ) → sum g (suc i) ≡ g 0 + sum (λ j. g (suc j)) i
+pub sum-front : (g : ℕ → ℕ) (i : ℕ) → sum g (suc i) ≡ g 0 + sum (λ j. g (suc j)) i
 sum-front g zero = omega (arith, sum-more g 0, sum-none g, sum-none (λ j. g (suc j)))
 sum-front g (suc i) = omega (arith, sum-more g (suc i), sum-front g i, sum-more (λ j. g (suc j)) i)
 

@@ -83,10 +83,10 @@ module _ (m : Memory) (fit : Fit m ≡ true) where
       let b : k < n = omega arith in
       (g k refl b, order k b, inside k b, chain-from i (suc k) (e k) (omega arith) (λ j q s. subst (λ (z : ℕ). e k ≤ a z) q (omega (arith, apart k (omega (arith, q, s))))) (inside k b))
 
-  chain : Chain (length (textIn m)) 0 (rowsIn m .vals)
+  pub chain : Chain (length (textIn m)) 0 (rowsIn m .vals)
   chain = chain-from n 0 0 (omega arith) (λ j _ _. omega arith) (omega arith)
 
-  count : length (rowsIn m .vals) ≡ n
+  pub count : length (rowsIn m .vals) ≡ n
   count = tabulate-length (valRow (m .values)) 0 n
 
   row-at : (j : ℕ) → j < n → getD (rowsIn m .vals) j (record { from = 0; to = 0 }) ≡ valRow (m .values) j
@@ -98,7 +98,7 @@ module _ (m : Memory) (fit : Fit m ≡ true) where
   to-at : (j : ℕ) → j < n → toOf (rowsIn m .vals) j ≡ e j
   to-at j l = ap (λ (z : ValRow). z .to) (row-at j l)
 
-  sums-at : (k : ℕ) → k ≤ n → sum (λ j. toOf (rowsIn m .vals) j - fromOf (rowsIn m .vals) j) k ≡ sum (λ j. e j - a j) k
+  pub sums-at : (k : ℕ) → k ≤ n → sum (λ j. toOf (rowsIn m .vals) j - fromOf (rowsIn m .vals) j) k ≡ sum (λ j. e j - a j) k
   sums-at zero h = sum-none (λ j. toOf (rowsIn m .vals) j - fromOf (rowsIn m .vals) j) ∙ sym (sum-none (λ j. e j - a j))
   sums-at (suc k) h =
       sum-more (λ j. toOf (rowsIn m .vals) j - fromOf (rowsIn m .vals) j) k

@@ -1,0 +1,4 @@
+pub mod Links
+pub mod Nexts
+pub mod Unique
+pub mod Ways

@@ -1,0 +1,2 @@
+pub mod LocalsNext
+pub mod Way
