@@ -1,4 +1,4 @@
--- The tables of an accepted reading fit its text, strict or lenient, with conversion on or off. Assumes nothing.
+-- The tables of an accepted reading fit its text, strict or lenient. Assumes nothing.
 use Rattle.lists.proofs.Prelude.{_≡_, sym, ap, _∙_, ℕ, _≤_, arith, true, List, _++_, length, take, length-append, take-length, Bool}
 use Rattle.text_utf8.specs.Text.{Utf}
 use Rattle.text_utf8.specs.Trim.{trimmed, shown}

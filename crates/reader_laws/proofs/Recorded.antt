@@ -17,7 +17,7 @@ grew-rooted len base zero us (t ∷ ts) g = absurd g
 grew-rooted len base (suc k) us [] g = absurd g
 grew-rooted len base (suc k) us (t ∷ ts) g = (g .0 .root, grew-rooted len (base + length (t .nodes)) k (restFrom 0 us) ts (g .1))
 
--- strict or lenient, with conversion on or off
+-- strict or lenient
 pub record-of : (len : Bool) (t : List ℕ) (ts : List Tree) → read len t ≡ accepted ts → recordOf t (tables ts) ≡ ts
 record-of len t ts h =
     let r = reading-is len t ts h in
