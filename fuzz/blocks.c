@@ -1,7 +1,7 @@
 /* Coverage of the archive's own machine code, for libFuzzer, on Linux, x86-64 or aarch64. The code of libsgf.a is not instrumented:
  * it is the proved object file. So a breakpoint is put at the beginning of each of its basic blocks, whose places fuzz/run
  * finds in the disassembly; the first input that reaches one takes it away again and is told to the fuzzer, which keeps
- * that input. SGF_BLOCKS names the file of places, as offsets from sgf_read; at the end it says how many were reached. */
+ * that input. SGF_BLOCKS names the file of places, as offsets from sgf_read_strict; at the end it says how many were reached. */
 #define _GNU_SOURCE
 #include "sgf.h"
 
@@ -60,7 +60,7 @@ static void report(void) {
     FILE *file = name != NULL ? fopen(name, "w") : NULL;
     for (size_t i = 0; file != NULL && i < count; i++) {
         if (*blocks[i] == TRAP) {
-            fprintf(file, "%td\n", (uint8_t *)blocks[i] - (uint8_t *)sgf_read);
+            fprintf(file, "%td\n", (uint8_t *)blocks[i] - (uint8_t *)sgf_read_strict);
         }
     }
 }
@@ -70,7 +70,7 @@ int LLVMFuzzerInitialize(int *argc, char ***argv) {
     FILE *file = name != NULL ? fopen(name, "r") : NULL;
     long offset;
     while (file != NULL && count < MOST && fscanf(file, "%ld", &offset) == 1) {
-        blocks[count++] = (Code *)((uint8_t *)sgf_read + offset);
+        blocks[count++] = (Code *)((uint8_t *)sgf_read_strict + offset);
     }
     if (count == 0) {
         return 0;

@@ -172,11 +172,12 @@ static void read_text(void) {
         size_t numbers = is_short ? draw((uint32_t)(rows[t] * strides[t]) + 1) : rows[t] * strides[t] + draw(4);
         lend(&lent[t], 4 * numbers, draw(4) == 3);
     }
-    uint32_t options = draw(8);
+    uint32_t settings = draw(8);
+    bool lenient = draw(2);
     remember_all();
-    SgfReading r = sgf_read(lent[TEXTS].at, used, options, LENT_TABLES);
-    REQUIRE(r.ignored == (options & 2));
-    uint32_t may = options & 1 ? MAY(2) | MAY(9) | MAY(14) : 0x5FFCu;
+    SgfReading r = (lenient ? sgf_read_lenient : sgf_read_strict)(lent[TEXTS].at, used, settings, LENT_TABLES);
+    REQUIRE(r.ignored == settings % 4);
+    uint32_t may = lenient ? MAY(2) | MAY(9) | MAY(14) : 0x5FFCu;
     bool good = answered(READ, r.number, is_short ? may : may & ~MAY(14), MAY(TREES) | MAY(NODES) | MAY(PROPERTIES) | MAY(VALUES));
     size_t found[TABLES] = {r.counts.trees, r.counts.nodes, r.counts.properties, r.counts.values};
     for (int t = 0; t < TABLES; t++) {
@@ -188,7 +189,7 @@ static void read_text(void) {
     REQUIRE(r.place == 0 || (r.number >= 2 && r.number <= 5 && r.place < used));
     counts = r.counts;
     REQUIRE(!good || sgf_fits(RECORD) == 0);
-    is_strict = good && (options & 1) == 0;
+    is_strict = good && !lenient;
     is_plain = is_strict && are_plain();
 }
 
@@ -258,7 +259,7 @@ static uint32_t fresh[TABLES][SGF_NODE_STRIDE * OUT];
 
 /* A fresh strict reading of the used text has the same rows. */
 static void check_fresh(void) {
-    SgfReading r = sgf_read(lent[TEXTS].at, used, SGF_STRICT, FRESH);
+    SgfReading r = sgf_read_strict(lent[TEXTS].at, used, 0, FRESH);
     size_t rows[TABLES] = {counts.trees, counts.nodes, counts.properties, counts.values};
     REQUIRE(r.number == 0 && same_counts(r.counts, counts));
     for (int t = 0; t < TABLES; t++) {
@@ -269,7 +270,7 @@ static void check_fresh(void) {
 /* A strict reading of a writing has the same trees and nodes, and is written again as the same bytes. */
 static void check_again(size_t length) {
     static uint8_t again[OUT];
-    SgfReading r = sgf_read(lent[OUTS].at, length, SGF_STRICT, FRESH);
+    SgfReading r = sgf_read_strict(lent[OUTS].at, length, 0, FRESH);
     SgfCounts c = r.counts;
     REQUIRE(r.number == 0 && c.trees == counts.trees && c.nodes == counts.nodes && c.properties == counts.properties);
     REQUIRE(memcmp(fresh[0], TABLE(TREES), 8 * c.trees) == 0 && memcmp(fresh[1], TABLE(NODES), 20 * c.nodes) == 0);

@@ -21,7 +21,7 @@
  * is its place, but for numbers 2 to 5. After acceptance, what lies behind the counts given back stays as well,
  * except for the bytes that sgf_edit sets to 0.
  *
- * Stack: sgf_go_value 11.4 KB, sgf_write 8.8 KB, sgf_go_property 8.5 KB, sgf_read 5 KB, the others at most 0.5 KB.
+ * Stack: sgf_go_value 11.4 KB, sgf_write 8.8 KB, sgf_go_property 8.5 KB, sgf_read_strict and sgf_read_lenient 5 KB, the others at most 0.5 KB.
  */
 #ifndef SGF_H
 #define SGF_H
@@ -104,12 +104,10 @@ enum { SGF_VALUE_START = 0, SGF_VALUE_END = 1, SGF_VALUE_STRIDE = 2 };
 /* Game types of a tree. */
 enum { SGF_GO = 0, SGF_UNKNOWN_GAME = 1 };
 
-/* Options of a reading, to be added; further bits mean nothing. */
-enum {
-    SGF_STRICT = 0,
-    SGF_LENIENT = 1,         /* reads as far as it can; refuses only with 1, 2, 9, 14; of "" gives one tree, one empty node */
-    SGF_KEEP_IDENTIFIERS = 2 /* retired: read as if not set; the answer's `ignored` is then 2 */
-};
+/* Bits of the settings that a box profile stores. Both switches are retired: they change no reading, and those that are
+ * set come back in `ignored` of the answer. Whether a reading is strict or lenient is its name's, sgf_read_strict or
+ * sgf_read_lenient. SGF_KEEP_IDENTIFIERS is the old name of the second. */
+enum { SGF_IGNORED_LENIENCY = 1, SGF_IGNORED_CONVERSION = 2, SGF_KEEP_IDENTIFIERS = SGF_IGNORED_CONVERSION };
 
 /* Rows that suffice for the reading of any text of n bytes, strict or lenient: times the stride, numbers to lend.
  * That they suffice is proved. With fewer rows a reading may answer SGF_NO_ROOM, and nothing worse: double them then
@@ -126,25 +124,34 @@ typedef struct {
     size_t trees, nodes, properties, values;
 } SgfCounts;
 
-/* Number 0 and the used rows of each table; or the number of a refusal and its place. `ignored`, on refusals too, is
- * SGF_KEEP_IDENTIFIERS where the options have it, for it is ignored, else 0. */
+/* Number 0 and the used rows of each table; or the number of a refusal and its place. `ignored`, on refusals too, has the
+ * bits of the retired switches that the settings have: settings % 4. */
 typedef struct {
     uint32_t number, ignored;
     size_t place;
     SgfCounts counts;
 } SgfReading;
 
-/* Reads a text into the lent tables. Numbers, in this order: 1; 2; 3 to 5, the first in the text; 6; 7; 8; 9; then
- * tree by tree 11 and 12 for its game type, 10, 11 and 7 for the tree; 14. */
-SgfReading sgf_read(const uint8_t *text, size_t text_len, uint32_t options,
-                    uint32_t *trees, size_t trees_len, uint32_t *nodes, size_t nodes_len,
-                    uint32_t *properties, size_t properties_len, uint32_t *values, size_t values_len);
+/* sgf_read is gone: a flag chose between these two, and the wrong one was taken unseen. */
+
+/* Reads a text into the lent tables, strictly. Numbers, in this order: 1; 2; 3 to 5, the first in the text; 6; 7; 8; 9;
+ * then tree by tree 11 and 12 for its game type, 10, 11 and 7 for the tree; 14. No bit of `settings`, the number that a
+ * box profile stores, changes a reading; those of the two retired switches that are set come back in `ignored`. */
+SgfReading sgf_read_strict(const uint8_t *text, size_t text_len, uint32_t settings,
+                           uint32_t *trees, size_t trees_len, uint32_t *nodes, size_t nodes_len,
+                           uint32_t *properties, size_t properties_len, uint32_t *values, size_t values_len);
+
+/* The same, leniently: as far as the text can be read; of "" it gives one tree with one empty node. What is accepted
+ * strictly is accepted leniently, with the same rows. Numbers: 1, 2, 9, 14 and no other. */
+SgfReading sgf_read_lenient(const uint8_t *text, size_t text_len, uint32_t settings,
+                            uint32_t *trees, size_t trees_len, uint32_t *nodes, size_t nodes_len,
+                            uint32_t *properties, size_t properties_len, uint32_t *values, size_t values_len);
 
 /* ---- Over a record in memory ------------------------------------------------------------------------------ */
 
 /* Each function below takes a text of which the first `used` bytes are the record's, the counts of used rows and
  * the four tables. Whatever made them, a call first checks that they fit one another, in time linear in text and
- * tables, and answers 19 if they do not. Tables that sgf_read or sgf_edit accepted do fit their text. text_len may
+ * tables, and answers 19 if they do not. Tables that a reading or sgf_edit accepted do fit their text. text_len may
  * exceed SGF_TEXT_LIMIT, used may not; used above text_len is 19. */
 #define SGF_RECORD \
     const uint8_t *text, size_t text_len, size_t used, SgfCounts counts, \

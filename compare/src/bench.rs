@@ -65,7 +65,7 @@ fn round(text: &str, tables: &mut [Vec<u32>; 4]) -> [Duration; 5] {
     [
         timed(|| library::trim(bytes)),
         timed(|| tokens(bytes)),
-        timed(|| library::read(bytes, 0, [trees, nodes, properties, values])),
+        timed(|| library::read_strict(bytes, 0, [trees, nodes, properties, values])),
         timed(|| by_hand::read(bytes, [trees, nodes, properties, values])),
         timed(|| sgf_parse::parse(black_box(text))),
     ]

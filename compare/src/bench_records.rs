@@ -2,7 +2,7 @@
 use crate::bench::{comments, game, in_turn, Made};
 use crate::heap;
 use crate::held::{self, Held, STRIDES};
-use crate::library;
+use crate::library::{self, Mode};
 use crate::plain;
 use crate::plain_fit::identifier;
 use crate::plain_go::read_identifier;
@@ -25,7 +25,7 @@ fn nanos(time: Duration) -> f64 {
 
 fn read(text: &str, tables: &mut [Vec<u32>; 4]) -> library::Reading {
     let [trees, nodes, properties, values] = tables;
-    library::read(black_box(text.as_bytes()), 0, [trees, nodes, properties, values])
+    library::read_strict(black_box(text.as_bytes()), 0, [trees, nodes, properties, values])
 }
 
 fn tables(text: &str) -> [Vec<u32>; 4] {
@@ -34,7 +34,7 @@ fn tables(text: &str) -> [Vec<u32>; 4] {
 }
 
 fn whole(text: &str) -> Whole {
-    Whole::read(text.as_bytes(), 0, 64).unwrap().expect("a text to be read")
+    Whole::read(text.as_bytes(), Mode::Strict, 64).unwrap().expect("a text to be read")
 }
 
 /// The fitting check, and reading and writing beside the crate's.

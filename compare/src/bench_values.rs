@@ -1,7 +1,7 @@
 //! Request [6]: speed where values are long, of the library that is linked. Two archives are compared by two runs of this program in turn.
 use crate::bench::{comments, game, in_turn, tokens, Made};
 use crate::held::{self, STRIDES};
-use crate::library;
+use crate::library::{self, Mode};
 use crate::whole::{sufficient, Whole};
 use std::hint::black_box;
 use std::time::Duration;
@@ -25,10 +25,10 @@ fn per_byte(time: Duration, text: &str) -> String {
 }
 
 /// Tokens, a reading (lenient, where strict reading refuses the text) and the fitting check of what it made.
-fn row(name: &str, text: &str, options: u32) {
+fn row(name: &str, text: &str, mode: Mode) {
     let rows = sufficient(text.len());
     let mut tables = [0, 1, 2, 3].map(|t| vec![0u32; rows[t] * STRIDES[t]]);
-    let record = Whole::read(text.as_bytes(), options, 0).unwrap().expect("a text to be read");
+    let record = Whole::read(text.as_bytes(), mode, 0).unwrap().expect("a text to be read");
     let h = record.held();
     let done = |n: usize| -> Made {
         black_box(n);
@@ -38,7 +38,7 @@ fn row(name: &str, text: &str, options: u32) {
         &mut || done(tokens(black_box(text.as_bytes()))),
         &mut || {
             let [trees, nodes, properties, values] = &mut tables;
-            done(library::read(black_box(text.as_bytes()), options, [trees, nodes, properties, values]).place)
+            done(library::read(black_box(text.as_bytes()), mode, 0, [trees, nodes, properties, values]).place)
         },
         &mut || done(held::fits(black_box(&h)) as usize),
     ])
@@ -76,11 +76,11 @@ fn users() {
 pub fn run() {
     println!("{}; ns per byte, least of all rounds", library::NAME);
     println!("{:<34}{:>9}{:>11}{:>11}{:>11}", "text", "bytes", "tokens", "reading", "fitting");
-    row("comments of 30,000 bytes", &comments(), 0);
-    row("the same, an escape every 60 bytes", &escaped(60), 0);
-    row("the same, an escape every 8 bytes", &escaped(8), 0);
-    row("values of 17 to 80 bytes", &middling(), 0);
-    row("an unclosed value of 1 MB", &format!("(;C[{}", "a".repeat((1 << 20) - 4)), library::LENIENT);
-    row("game", &game(200_000), 0);
+    row("comments of 30,000 bytes", &comments(), Mode::Strict);
+    row("the same, an escape every 60 bytes", &escaped(60), Mode::Strict);
+    row("the same, an escape every 8 bytes", &escaped(8), Mode::Strict);
+    row("values of 17 to 80 bytes", &middling(), Mode::Strict);
+    row("an unclosed value of 1 MB", &format!("(;C[{}", "a".repeat((1 << 20) - 4)), Mode::Lenient);
+    row("game", &game(200_000), Mode::Strict);
     users();
 }

@@ -280,7 +280,7 @@ pub fn compare(text: &[u8]) -> Result<(), String> {
     let read = |by_hand: bool| {
         let [mut trees, mut nodes, mut properties, mut values] = [0, 1, 2, 3].map(|t| vec![7; rows[t] * STRIDES[t]]);
         let lent: [&mut [u32]; 4] = [&mut trees, &mut nodes, &mut properties, &mut values];
-        let reading = if by_hand { self::read(text, lent) } else { library::read(text, 0, lent) };
+        let reading = if by_hand { self::read(text, lent) } else { library::read_strict(text, 0, lent) };
         (reading, trees, nodes, properties, values)
     };
     same("by hand", read(true), read(false))

@@ -1,5 +1,6 @@
 //! Text display of every value of a text, and access to it: the library beside the crate.
 use crate::held::{self, Length, Span, SIMPLE_TEXT, TEXT};
+use crate::library::Mode;
 use crate::plain;
 use crate::report::{count, same};
 use crate::whole::{Fenced, Whole};
@@ -9,7 +10,7 @@ const WHOLE: usize = 4;
 
 /// Compares access to and the display of each value of a text that is accepted leniently.
 pub fn compare(text: &[u8]) -> Result<(), String> {
-    let Some(whole) = Whole::read(text, 1, 0)? else { return Ok(()) };
+    let Some(whole) = Whole::read(text, Mode::Lenient, 0)? else { return Ok(()) };
     let total = whole.counts.values;
     for k in 0..total {
         compare_value(&Whole::alone(whole.raw(k)), 0)?;

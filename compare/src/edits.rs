@@ -1,5 +1,6 @@
 //! Runs of edits on the record of a text: each beside the scope's words and beside a fresh strict reading.
 use crate::held::{self, Counts, Edit};
+use crate::library::Mode;
 use crate::plain_edit;
 use crate::report::{count, same};
 use crate::rng::Rng;
@@ -34,7 +35,7 @@ const NEW: &[&[u8]] = &[
 pub fn compare(text: &[u8]) -> Result<(), String> {
     let mut rng = Rng::new(text.iter().fold(11, |h, b| h * 31 % 1_000_003 + u64::from(*b)));
     let room = [0, 1, 7, 60][rng.below(4)];
-    let Some(mut whole) = Whole::read(text, 0, room)? else { return Ok(()) };
+    let Some(mut whole) = Whole::read(text, Mode::Strict, room)? else { return Ok(()) };
     let run = RUN.min(2 + 400_000 / (text.len() + 1));
     for turn in 0..run {
         let k = if rng.one_in(15) { whole.counts.values + rng.below(3) } else { rng.below(whole.counts.values.max(1)) };
@@ -83,7 +84,7 @@ fn shown(number: u32, place: usize, used: usize, counts: Counts) -> Edit {
 
 /// Counts and rows are those of a fresh strict reading of the used text.
 fn compare_fresh(whole: &Whole) -> Result<(), String> {
-    let fresh = Whole::read(&whole.text.lent()[..whole.used], 0, 0)?.ok_or("the new text is refused")?;
+    let fresh = Whole::read(&whole.text.lent()[..whole.used], Mode::Strict, 0)?.ok_or("the new text is refused")?;
     same("counts of a fresh reading", fresh.counts, whole.counts)?;
     let used = |w: &Whole, t: usize| w.tables[t].lent()[..w.counts.rows()[t] * held::STRIDES[t]].to_vec();
     match (0..4).find(|t| used(&fresh, *t) != used(whole, *t)) {

@@ -1,93 +1,94 @@
 //! The scope's own examples and the points it leaves open, as a table: what each text must give.
 use crate::held::{self, STRIDES};
-use crate::library::{self, KEEP_IDENTIFIERS, LENIENT};
+use crate::library::{self, Mode};
 use crate::oracle;
-use crate::plain_reader::{Options, NONE};
+use crate::plain_reader::NONE;
 use crate::whole::Whole;
 use sgf_parse::GameTree;
 
-/// A text read with some options: number and place, and if it is accepted the game types and the parents.
+/// A text read one way or the other: number and place, and if it is accepted the game types and the parents.
 struct Example {
     text: &'static str,
-    bits: u32,
+    mode: Mode,
     number: u32,
     place: usize,
     kinds: &'static [u32],
     parents: &'static [u32],
 }
 
-const fn refused(text: &'static str, bits: u32, number: u32, place: usize) -> Example {
-    Example { text, bits, number, place, kinds: &[], parents: &[] }
+const fn refused(text: &'static str, mode: Mode, number: u32, place: usize) -> Example {
+    Example { text, mode, number, place, kinds: &[], parents: &[] }
 }
 
-const fn accepted(text: &'static str, bits: u32, kinds: &'static [u32], parents: &'static [u32]) -> Example {
-    Example { text, bits, number: 0, place: 0, kinds, parents }
+const fn accepted(text: &'static str, mode: Mode, kinds: &'static [u32], parents: &'static [u32]) -> Example {
+    Example { text, mode, number: 0, place: 0, kinds, parents }
 }
 
+const STRICT: Mode = Mode::Strict;
+const LENIENT: Mode = Mode::Lenient;
 const GO: &[u32] = &[0];
 const UNKNOWN: &[u32] = &[1];
 const ONE: &[u32] = &[NONE];
 
 const EXAMPLES: &[Example] = &[
-    refused("", 0, 8, 0),
+    refused("", STRICT, 8, 0),
     accepted("", LENIENT, GO, ONE),
-    accepted("(;);", 0, GO, ONE),
-    refused("(;B)", 0, 3, 2),
-    accepted("(;[x])", 0, GO, ONE),
-    refused(")", 0, 6, 0),
-    refused("(;", 0, 7, 0),
-    refused("()", 0, 7, 0),
-    refused("((;))", 0, 10, 0),
-    accepted("(;())", 0, GO, ONE),
-    refused("(B[aa])", 0, 11, 0),
-    accepted("(;GM[01])", 0, UNKNOWN, ONE),
-    accepted("(;GM[+1])", 0, UNKNOWN, ONE),
-    refused("(;GM[x])", 0, 12, 0),
-    accepted("(;(;);)", 0, GO, &[NONE, 0, 0]),
-    refused("(a[])", KEEP_IDENTIFIERS, 11, 0),
-    refused("(;((;)))", 0, 10, 0),
-    accepted("(;(;)((;)))", 0, GO, &[NONE, 0, 0]),
-    accepted("(;()(;))", 0, GO, &[NONE, 0]),
-    refused("()(;GM[x])", 0, 7, 0),
-    refused("(;GM[x])()", 0, 12, 0),
-    refused("()(", 0, 7, 0),
-    refused("(;a[]GM[x])", KEEP_IDENTIFIERS, 12, 0),
-    accepted("(;a[])", KEEP_IDENTIFIERS, GO, ONE),
-    accepted("(;a[]B[aa])", KEEP_IDENTIFIERS | LENIENT, GO, ONE),
-    refused("(", KEEP_IDENTIFIERS, 7, 0),
-    refused("((GM[x]))", 0, 12, 0),
-    refused("(;GM[x]GM[y])", 0, 11, 0),
-    accepted(";GM[2](;)", 0, GO, &[NONE, 0]),
-    accepted(";;GM[2](;)", 0, UNKNOWN, &[NONE, 0, 1]),
+    accepted("(;);", STRICT, GO, ONE),
+    refused("(;B)", STRICT, 3, 2),
+    accepted("(;[x])", STRICT, GO, ONE),
+    refused(")", STRICT, 6, 0),
+    refused("(;", STRICT, 7, 0),
+    refused("()", STRICT, 7, 0),
+    refused("((;))", STRICT, 10, 0),
+    accepted("(;())", STRICT, GO, ONE),
+    refused("(B[aa])", STRICT, 11, 0),
+    accepted("(;GM[01])", STRICT, UNKNOWN, ONE),
+    accepted("(;GM[+1])", STRICT, UNKNOWN, ONE),
+    refused("(;GM[x])", STRICT, 12, 0),
+    accepted("(;(;);)", STRICT, GO, &[NONE, 0, 0]),
+    refused("(a[])", STRICT, 11, 0),
+    refused("(;((;)))", STRICT, 10, 0),
+    accepted("(;(;)((;)))", STRICT, GO, &[NONE, 0, 0]),
+    accepted("(;()(;))", STRICT, GO, &[NONE, 0]),
+    refused("()(;GM[x])", STRICT, 7, 0),
+    refused("(;GM[x])()", STRICT, 12, 0),
+    refused("()(", STRICT, 7, 0),
+    refused("(;a[]GM[x])", STRICT, 12, 0),
+    accepted("(;a[])", STRICT, GO, ONE),
+    accepted("(;a[]B[aa])", LENIENT, GO, ONE),
+    refused("(", STRICT, 7, 0),
+    refused("((GM[x]))", STRICT, 12, 0),
+    refused("(;GM[x]GM[y])", STRICT, 11, 0),
+    accepted(";GM[2](;)", STRICT, GO, &[NONE, 0]),
+    accepted(";;GM[2](;)", STRICT, UNKNOWN, &[NONE, 0, 1]),
     accepted("(A[]GM[2])", LENIENT, UNKNOWN, ONE),
-    accepted("(;GM [2])", 0, GO, ONE),
-    refused("(;GM[])", 0, 12, 0),
-    refused("(;GM[+])", 0, 12, 0),
-    refused("(;GM[ 1])", 0, 12, 0),
-    accepted("(;GM[2147483647])", 0, UNKNOWN, ONE),
-    refused("(;GM[2147483648])", 0, 12, 0),
-    accepted("(;GM[-2147483648])", 0, UNKNOWN, ONE),
-    refused("(;GM[-2147483649])", 0, 12, 0),
-    accepted(";(;)", 0, GO, &[NONE, 0]),
-    accepted("(;);(;)", 0, &[0, 0], &[NONE, NONE, 1]),
-    refused("(;A[x][y", 0, 5, 2),
-    refused("\u{FEFF}(;)", 0, 4, 0),
+    accepted("(;GM [2])", STRICT, GO, ONE),
+    refused("(;GM[])", STRICT, 12, 0),
+    refused("(;GM[+])", STRICT, 12, 0),
+    refused("(;GM[ 1])", STRICT, 12, 0),
+    accepted("(;GM[2147483647])", STRICT, UNKNOWN, ONE),
+    refused("(;GM[2147483648])", STRICT, 12, 0),
+    accepted("(;GM[-2147483648])", STRICT, UNKNOWN, ONE),
+    refused("(;GM[-2147483649])", STRICT, 12, 0),
+    accepted(";(;)", STRICT, GO, &[NONE, 0]),
+    accepted("(;);(;)", STRICT, &[0, 0], &[NONE, NONE, 1]),
+    refused("(;A[x][y", STRICT, 5, 2),
+    refused("\u{FEFF}(;)", STRICT, 4, 0),
     accepted("\u{FEFF}(;)", LENIENT, GO, ONE),
-    refused("\u{200B}(;)", 0, 4, 0),
-    refused("\u{180E}(;)", 0, 4, 0),
-    refused("\x1C(;)", 0, 3, 0),
-    refused("(;B\u{3000}", 0, 3, 2),
-    refused("(;B\u{3000}x", 0, 4, 2),
-    accepted("(;[x])", KEEP_IDENTIFIERS, GO, ONE),
-    refused("(;B\x0B)", 0, 3, 2),
-    accepted("(\x0B;B[aa])", 0, GO, ONE),
-    accepted("(;\x0BB[aa])", 0, GO, ONE),
-    accepted("(;\x0BGM[2])", 0, UNKNOWN, ONE),
-    accepted("(;GM\x0B[2])", 0, GO, ONE),
-    accepted("(;B[aa]\x0B;)", 0, GO, &[NONE, 0]),
-    accepted("(;B[aa]\x0B[bb])", 0, GO, ONE),
-    refused("(;)\x0BB", 0, 3, 4),
-    accepted("(;)\x0B;", 0, GO, ONE),
+    refused("\u{200B}(;)", STRICT, 4, 0),
+    refused("\u{180E}(;)", STRICT, 4, 0),
+    refused("\x1C(;)", STRICT, 3, 0),
+    refused("(;B\u{3000}", STRICT, 3, 2),
+    refused("(;B\u{3000}x", STRICT, 4, 2),
+    refused("(;B\x0B)", STRICT, 3, 2),
+    accepted("(\x0B;B[aa])", STRICT, GO, ONE),
+    accepted("(;\x0BB[aa])", STRICT, GO, ONE),
+    accepted("(;\x0BGM[2])", STRICT, UNKNOWN, ONE),
+    accepted("(;GM\x0B[2])", STRICT, GO, ONE),
+    accepted("(;B[aa]\x0B;)", STRICT, GO, &[NONE, 0]),
+    accepted("(;B[aa]\x0B[bb])", STRICT, GO, ONE),
+    refused("(;)\x0BB", STRICT, 3, 4),
+    accepted("(;)\x0B;", STRICT, GO, ONE),
 ];
 
 /// Texts, and what is written of their strict reading, or the number of the refusal.
@@ -134,7 +135,7 @@ pub fn hold() -> bool {
 }
 
 fn is_read_otherwise(text: &str, expected: Result<&[u32], u32>) -> bool {
-    let trees = oracle::read_as_it_is(text, Options { lenient: false });
+    let trees = oracle::read_as_it_is(text, STRICT);
     let kinds: Result<Vec<u32>, u32> = trees.map(|trees| trees.iter().map(|tree| matches!(tree, GameTree::Unknown(_)) as u32).collect());
     let good = kinds.as_deref().map_err(|number| *number) == expected;
     if !good {
@@ -144,7 +145,7 @@ fn is_read_otherwise(text: &str, expected: Result<&[u32], u32>) -> bool {
 }
 
 fn is_written(text: &str, expected: Result<&str, u32>) -> bool {
-    let whole = Whole::read(text.as_bytes(), 0, 0).unwrap().expect("a text to be read");
+    let whole = Whole::read(text.as_bytes(), STRICT, 0).unwrap().expect("a text to be read");
     let mut out = [0; 100];
     let answer = held::write(&whole.held(), &mut out);
     let written = String::from_utf8_lossy(&out[..answer.length]);
@@ -156,7 +157,7 @@ fn is_written(text: &str, expected: Result<&str, u32>) -> bool {
 }
 
 fn is_edited((text, k, new, expected): &Edited) -> bool {
-    let mut whole = Whole::read(text.as_bytes(), 0, 4).unwrap().expect("a text to be read");
+    let mut whole = Whole::read(text.as_bytes(), STRICT, 4).unwrap().expect("a text to be read");
     let answer = held::edit(&mut whole.edited(), *k, new);
     let after = String::from_utf8_lossy(&whole.text.lent()[..answer.used]);
     let good = match expected {
@@ -169,17 +170,22 @@ fn is_edited((text, k, new, expected): &Edited) -> bool {
     good
 }
 
+/// With every setting: none changes the reading, and the answer tells those of the retired switches.
 fn holds(example: &Example) -> bool {
+    (0..8).all(|settings| holds_with(example, settings))
+}
+
+fn holds_with(example: &Example, settings: u32) -> bool {
     let (mut trees, mut nodes) = ([0; 16], [0; 40]);
     let (mut properties, mut values) = ([0; 32], [0; 16]);
     let tables = [&mut trees[..], &mut nodes[..], &mut properties[..], &mut values[..]];
-    let reading = library::read(example.text.as_bytes(), example.bits, tables);
+    let reading = library::read(example.text.as_bytes(), example.mode, settings, tables);
     let kinds: Vec<u32> = trees.chunks(2).take(reading.counts.trees).map(|row| row[1]).collect();
     let parents: Vec<u32> = nodes.chunks(STRIDES[1]).take(reading.counts.nodes).map(|row| row[0]).collect();
-    let good = reading.ignored == example.bits & KEEP_IDENTIFIERS
+    let good = reading.ignored == settings % 4
         && (reading.number, reading.place, &kinds[..], &parents[..]) == (example.number, example.place, example.kinds, example.parents);
     if !good {
-        println!("  {:?} with options {}: {reading:?}, game types {kinds:?}, parents {parents:?}", example.text, example.bits);
+        println!("  {:?}, {:?} with settings {settings}: {reading:?}, game types {kinds:?}, parents {parents:?}", example.text, example.mode);
     }
     good
 }

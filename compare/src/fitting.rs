@@ -1,5 +1,6 @@
 //! Damaged tables: the library's fitting check beside the scope's words, and what every operation answers where they do not fit.
 use crate::held::{self, Counts, Length, Span, STRIDES};
+use crate::library::Mode;
 use crate::plain_fit;
 use crate::plain_go::{self, shown, Go};
 use crate::report::{count, same};
@@ -14,7 +15,7 @@ const TRIED: u64 = 16;
 
 /// Compares the check on a reading of a text, and on damaged copies of its tables, counts and text.
 pub fn compare(text: &[u8]) -> Result<(), String> {
-    let Some(mut whole) = Whole::read(text, 1 + 2 * (text.len() as u32 % 2), 3)? else { return Ok(()) };
+    let Some(mut whole) = Whole::read(text, Mode::Lenient, 3)? else { return Ok(()) };
     same("a reading's own tables", held::fits(&whole.held()), 0)?;
     let mut rng = Rng::new(text.iter().fold(7, |h, b| h * 31 % 1_000_003 + u64::from(*b)));
     damage_cells(&mut whole, &mut rng)?;

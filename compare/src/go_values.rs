@@ -1,9 +1,9 @@
 //! Go values of every property of a text: the library beside the crate and beside the scope's words.
 use crate::held::{self, GoValue};
+use crate::library::Mode;
 use crate::oracle;
 use crate::plain_fit;
 use crate::plain_go::{self, shown, Go};
-use crate::plain_reader::Options;
 use crate::plain_write::raw_values;
 use crate::report::{count, same};
 use crate::whole::Whole;
@@ -16,10 +16,10 @@ const CHECKED: usize = 6;
 
 /// Compares the Go value of each property of a text that is accepted strictly.
 pub fn compare(text: &[u8]) -> Result<(), String> {
-    let Some(whole) = Whole::read(text, 0, 0)? else { return Ok(()) };
+    let Some(whole) = Whole::read(text, Mode::Strict, 0)? else { return Ok(()) };
     let h = whole.held();
     let read = std::str::from_utf8(text).expect("an accepted text is UTF-8");
-    let trees = oracle::read(read, Options { lenient: false }).map_err(|number| format!("crate refused {number}"))?;
+    let trees = oracle::read(read, Mode::Strict).map_err(|number| format!("crate refused {number}"))?;
     let theirs: Vec<Go> = trees.iter().flat_map(of_tree).collect();
     same("properties", h.counts.properties, theirs.len())?;
     count(theirs.len());

@@ -12,15 +12,25 @@ pub const NO_VALUE: u32 = 0;
 pub const VALUE: u32 = 1;
 pub const UNCLOSED: u32 = 2;
 
-/// Bit 0 of a reading's options.
-pub const LENIENT: u32 = 1;
-/// Bit 1 of a reading's options: the retired conversion switch, which is ignored.
-pub const KEEP_IDENTIFIERS: u32 = 2;
+/// Which of the two readings.
+#[derive(Debug, Clone, Copy, PartialEq, Eq)]
+pub enum Mode {
+    Strict,
+    Lenient,
+}
+
+/// A reading, with the settings that a profile stores; the answer gives back their lowest two bits, the retired switches.
+pub fn read(text: &[u8], mode: Mode, settings: u32, tables: [&mut [u32]; 4]) -> Reading {
+    match mode {
+        Mode::Strict => read_strict(text, settings, tables),
+        Mode::Lenient => read_lenient(text, settings, tables),
+    }
+}
 
 #[cfg(not(stand_in))]
 pub const NAME: &str = "libsgf.a";
 
 #[cfg(not(stand_in))]
-pub use crate::ffi::{next_value, read, token, trim};
+pub use crate::ffi::{next_value, read_lenient, read_strict, token, trim};
 #[cfg(stand_in)]
-pub use crate::stand_in::{next_value, read, token, trim, NAME};
+pub use crate::stand_in::{next_value, read_lenient, read_strict, token, trim, NAME};

@@ -1,5 +1,5 @@
 //! The crate sgf-parse: its tokens, by its private lexer, and its readings, by its public functions.
-use crate::plain_reader::Options;
+use crate::library::Mode;
 use sgf_parse::{GameTree, ParseOptions, SgfParseError};
 use std::borrow::Cow;
 
@@ -58,13 +58,13 @@ pub fn fault(error: LexerError) -> u32 {
 }
 
 /// The trees of a text, as it is asked, conversion on, or the number of the crate's error.
-pub fn read(text: &str, options: Options) -> Result<Vec<GameTree>, u32> {
-    read_as_it_is(&asked(text), options)
+pub fn read(text: &str, mode: Mode) -> Result<Vec<GameTree>, u32> {
+    read_as_it_is(&asked(text), mode)
 }
 
 /// The trees of this very text.
-pub fn read_as_it_is(text: &str, options: Options) -> Result<Vec<GameTree>, u32> {
-    let options = ParseOptions { convert_mixed_case_identifiers: true, lenient: options.lenient };
+pub fn read_as_it_is(text: &str, mode: Mode) -> Result<Vec<GameTree>, u32> {
+    let options = ParseOptions { convert_mixed_case_identifiers: true, lenient: mode == Mode::Lenient };
     sgf_parse::parse_with_options(text, &options).map_err(number)
 }
 

@@ -1,4 +1,5 @@
 //! The tree reader in plain Rust, written from the scope alone, over the plain token rules.
+use crate::library::Mode;
 use crate::plain::{self, Property, Refusal, Token};
 
 /// No node.
@@ -12,12 +13,6 @@ fn refused(number: u32) -> Refusal {
     Refusal { number, place: 0 }
 }
 
-/// How to read.
-#[derive(Debug, Clone, Copy, PartialEq, Eq)]
-pub struct Options {
-    pub lenient: bool,
-}
-
 /// The four tables.
 #[derive(Debug, Clone, Default, PartialEq, Eq)]
 pub struct Record {
@@ -28,22 +23,23 @@ pub struct Record {
 }
 
 /// The reading of a text when all rows are lent.
-pub fn read(text: &[u8], options: Options) -> Result<Record, Refusal> {
+pub fn read(text: &[u8], mode: Mode) -> Result<Record, Refusal> {
+    let lenient = mode == Mode::Lenient;
     if text.len() > TEXT_LIMIT {
         return Err(refused(1));
     }
     let (first, last) = plain::trim(text)?;
     let (tokens, fault) = tokens(&text[..last], first);
-    if let (Some(fault), false) = (fault, options.lenient) {
+    if let (Some(fault), false) = (fault, lenient) {
         return Err(fault);
     }
-    let slices = if options.lenient { split_lenient(&tokens) } else { split_strict(&tokens)? };
+    let slices = if lenient { split_lenient(&tokens) } else { split_strict(&tokens)? };
     if slices.iter().any(|slice| depth(slice) > DEPTH_LIMIT) {
         return Err(refused(9));
     }
     let mut record = Record::default();
     for slice in slices {
-        Tree::read(text, slice, options, &mut record)?;
+        Tree::read(text, slice, mode, &mut record)?;
     }
     link(&mut record.nodes);
     Ok(record)
@@ -171,20 +167,21 @@ enum Stop {
 
 impl Tree<'_> {
     /// Adds a slice's tree to the record.
-    fn read(text: &[u8], slice: &[Token], options: Options, record: &mut Record) -> Result<(), Refusal> {
+    fn read(text: &[u8], slice: &[Token], mode: Mode, record: &mut Record) -> Result<(), Refusal> {
+        let lenient = mode == Mode::Lenient;
         let kind = match game_type(text, slice) {
-            Err(refusal) if !options.lenient => return Err(refusal),
+            Err(refusal) if !lenient => return Err(refusal),
             kind => kind.unwrap_or(0),
         };
         let first = record.nodes.len();
         let mut tree = Tree { record, first, lists: vec![0], current: 0, stack: vec![] };
         match tree.walk(slice) {
-            Err(Stop::Start) if !options.lenient => return Err(refused(10)),
-            Err(Stop::Property) if !options.lenient => return Err(refused(11)),
+            Err(Stop::Start) if !lenient => return Err(refused(10)),
+            Err(Stop::Property) if !lenient => return Err(refused(11)),
             _ => {}
         }
         if tree.lists[0] == 0 {
-            if !options.lenient {
+            if !lenient {
                 return Err(refused(7));
             }
             tree.node();

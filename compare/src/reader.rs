@@ -1,9 +1,9 @@
-//! Readings of a text, strict and lenient, with the retired switch set and not: the library beside the scope's words and beside the crate.
+//! Readings of a text, strict and lenient, with every setting: the library beside the scope's words and beside the crate.
 use crate::held::{Counts, STRIDES};
-use crate::library::{self, Reading};
+use crate::library::{self, Mode, Reading};
 use crate::oracle;
 use crate::plain::{self, Refusal};
-use crate::plain_reader::{self, Options, Record, NONE};
+use crate::plain_reader::{self, Record, NONE};
 use crate::report::same;
 use crate::whole;
 use sgf_parse::{GameTree, SgfNode, SgfProp};
@@ -11,37 +11,37 @@ use sgf_parse::{GameTree, SgfNode, SgfProp};
 /// Numbers that stand behind each lent table and must stay.
 const GUARD: usize = 8;
 
-/// Compares the reading of a text, strict and lenient, with each of its settings and several lengths of tables.
+/// Compares the strict and the lenient reading of a text, with several lengths of tables; where the strict one is accepted the other is the same.
 pub fn compare(text: &[u8]) -> Result<(), String> {
-    for bits in 0..4 {
-        compare_with(text, bits).map_err(|e| format!("options {bits}, {e}"))?;
-    }
-    Ok(())
-}
-
-fn options(bits: u32) -> Options {
-    Options { lenient: bits & library::LENIENT != 0 }
-}
-
-fn compare_with(text: &[u8], bits: u32) -> Result<(), String> {
-    let expected = plain_reader::read(text, options(bits)).map(columns_of);
-    let need = expected.as_ref().map_or([0; 4], |columns| columns.each_ref().map(Vec::len));
-    same("published sizes suffice", (0..4).all(|k| need[k] <= sufficient(text.len(), bits)[k] * STRIDES[k]), true)?;
-    for lent in lengths(need, text.len()) {
-        compare_lent(&call(text, bits, lent), lent, bits & library::KEEP_IDENTIFIERS, &expected).map_err(|e| format!("tables of {lent:?}, {e}"))?;
-    }
-    match std::str::from_utf8(text) {
-        Ok(read) => compare_crate(read, options(bits), &record_of(&call(text, bits, need))),
+    let strict = compare_mode(text, Mode::Strict).map_err(|e| format!("strict, {e}"))?;
+    let lenient = compare_mode(text, Mode::Lenient).map_err(|e| format!("lenient, {e}"))?;
+    match strict {
+        Ok(record) => same("lenient beside strict", lenient, Ok(record)),
         Err(_) => Ok(()),
     }
 }
 
-/// Rows that are published to suffice for any text of n bytes, fewer for a strict reading.
-fn sufficient(n: usize, bits: u32) -> [usize; 4] {
-    if bits & library::LENIENT != 0 {
-        return whole::sufficient(n);
+fn compare_mode(text: &[u8], mode: Mode) -> Result<Result<Record, Refusal>, String> {
+    let expected = plain_reader::read(text, mode).map(columns_of);
+    let need = expected.as_ref().map_or([0; 4], |columns| columns.each_ref().map(Vec::len));
+    same("published sizes suffice", (0..4).all(|k| need[k] <= sufficient(text.len(), mode)[k] * STRIDES[k]), true)?;
+    for (k, lent) in lengths(need, text.len()).into_iter().enumerate() {
+        let settings = text.len() as u32 * 4 + k as u32;
+        compare_lent(&call(text, mode, settings, lent), lent, settings % 4, &expected).map_err(|e| format!("tables of {lent:?}, {e}"))?;
     }
-    [n / 3, n.saturating_sub(2), n.saturating_sub(2) / 3, n.saturating_sub(3) / 2]
+    let ours = record_of(&call(text, mode, 0, need));
+    if let Ok(read) = std::str::from_utf8(text) {
+        compare_crate(read, mode, &ours)?;
+    }
+    Ok(ours)
+}
+
+/// Rows that are published to suffice for any text of n bytes, fewer for a strict reading.
+fn sufficient(n: usize, mode: Mode) -> [usize; 4] {
+    match mode {
+        Mode::Lenient => whole::sufficient(n),
+        Mode::Strict => [n / 3, n.saturating_sub(2), n.saturating_sub(2) / 3, n.saturating_sub(3) / 2],
+    }
 }
 
 /// The tables as flat columns of numbers.
@@ -71,12 +71,12 @@ struct Answer {
     cells: Columns,
 }
 
-/// A call with the bits of leniency and of the retired switch; the further bits mean nothing, and vary with the text.
-fn call(text: &[u8], bits: u32, lent: [usize; 4]) -> Answer {
+/// A call; the settings change nothing but `ignored`, and vary with the text and the tables.
+fn call(text: &[u8], mode: Mode, settings: u32, lent: [usize; 4]) -> Answer {
     let mut cells = lent.map(|length| (0..length + GUARD).map(canary).collect::<Vec<u32>>());
     let [trees, nodes, properties, values] = &mut cells;
     let tables = [&mut trees[..lent[0]], &mut nodes[..lent[1]], &mut properties[..lent[2]], &mut values[..lent[3]]];
-    let reading = library::read(text, bits | (text.len() as u32) << 2, tables);
+    let reading = library::read(text, mode, settings, tables);
     Answer { reading, cells }
 }
 
@@ -126,11 +126,11 @@ fn rows<const N: usize>(cells: &[u32], count: usize) -> Vec<[u32; N]> {
     cells.chunks_exact(N).take(count).map(|row| row.try_into().unwrap()).collect()
 }
 
-fn compare_crate(text: &str, options: Options, ours: &Result<Record, Refusal>) -> Result<(), String> {
+fn compare_crate(text: &str, mode: Mode, ours: &Result<Record, Refusal>) -> Result<(), String> {
     if matches!(ours, Err(Refusal { number: 1 | 9, .. })) {
         return Ok(());
     }
-    match (ours, oracle::read(text, options)) {
+    match (ours, oracle::read(text, mode)) {
         (Err(refusal), Err(number)) => same("number beside the crate", refusal.number, number),
         (Ok(record), Ok(trees)) => compare_trees(text, record, &trees),
         (ours, theirs) => Err(format!("library {ours:?}, crate {theirs:?}")),

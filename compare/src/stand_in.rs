@@ -37,11 +37,18 @@ pub fn next_value(text: &[u8], at: usize) -> Value {
 }
 
 
-pub fn read(text: &[u8], options: u32, tables: [&mut [u32]; 4]) -> Reading {
-    let ignored = options & KEEP_IDENTIFIERS;
+pub fn read_strict(text: &[u8], settings: u32, tables: [&mut [u32]; 4]) -> Reading {
+    read_by(text, Mode::Strict, settings, tables)
+}
+
+pub fn read_lenient(text: &[u8], settings: u32, tables: [&mut [u32]; 4]) -> Reading {
+    read_by(text, Mode::Lenient, settings, tables)
+}
+
+fn read_by(text: &[u8], mode: Mode, settings: u32, tables: [&mut [u32]; 4]) -> Reading {
+    let ignored = settings % 4;
     let refusal = |number, place| Reading { number, ignored, place, counts: Counts::default() };
-    let options = plain_reader::Options { lenient: options & LENIENT != 0 };
-    let record = match plain_reader::read(text, options) {
+    let record = match plain_reader::read(text, mode) {
         Ok(record) => record,
         Err(refused) => return refusal(refused.number, refused.place),
     };

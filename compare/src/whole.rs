@@ -1,6 +1,6 @@
 //! Memory as it is lent: between fences that must stay, and a record in it.
 use crate::held::{Counts, Edited, Held, STRIDES};
-use crate::library;
+use crate::library::{self, Mode};
 
 /// Cells on either side of lent memory.
 const FENCE: usize = 16;
@@ -61,10 +61,10 @@ pub fn sufficient(n: usize) -> [usize; 4] {
 
 impl Whole {
     /// The library's reading of a text, lent `room` bytes more; none where it is refused. An error where sufficient rows do not suffice.
-    pub fn read(text: &[u8], options: u32, room: usize) -> Result<Option<Self>, String> {
+    pub fn read(text: &[u8], mode: Mode, room: usize) -> Result<Option<Self>, String> {
         let rows = sufficient(text.len());
         let [mut trees, mut nodes, mut properties, mut values] = [0, 1, 2, 3].map(|t| vec![0; rows[t] * STRIDES[t]]);
-        let reading = library::read(text, options, [&mut trees, &mut nodes, &mut properties, &mut values]);
+        let reading = library::read(text, mode, text.len() as u32, [&mut trees, &mut nodes, &mut properties, &mut values]);
         match reading.number {
             0 => {}
             14 => return Err(format!("rows that should suffice do not: {rows:?}")),

@@ -1,11 +1,12 @@
 //! Writings: the library beside the scope's words on any record, and beside the crate where the two write alike.
 use crate::go_values::in_order;
 use crate::held::{self, Held, Length};
+use crate::library::Mode;
 use crate::oracle;
 use crate::plain::{self, Token};
 use crate::plain_fit::identifier;
 use crate::plain_go::{self, Go};
-use crate::plain_reader::{self, Options};
+use crate::plain_reader;
 use crate::plain_write::{self, raw_values};
 use crate::report::{count, same};
 use crate::whole::{Fenced, Whole};
@@ -14,14 +15,14 @@ use sgf_parse::{GameTree, SgfNode, SgfProp};
 /// The reader's limits.
 const DEPTH_LIMIT: usize = 1_024;
 
-/// Compares the writing of a text's record, by each pair of options, beside the crate, and read back.
+/// Compares the writing of a text's record, read strictly and leniently, beside the crate, and read back.
 pub fn compare(text: &[u8]) -> Result<(), String> {
-    for options in 0..4 {
-        if let Some(whole) = Whole::read(text, options, 0)? {
-            compare_plain(&whole).map_err(|e| format!("options {options}, {e}"))?;
+    for mode in [Mode::Strict, Mode::Lenient] {
+        if let Some(whole) = Whole::read(text, mode, 0)? {
+            compare_plain(&whole).map_err(|e| format!("{mode:?}, {e}"))?;
         }
     }
-    let Some(whole) = Whole::read(text, 0, 0)? else { return Ok(()) };
+    let Some(whole) = Whole::read(text, Mode::Strict, 0)? else { return Ok(()) };
     let Ok(written) = plain_write::write(&whole.held()) else { return Ok(()) };
     compare_crate(text, &whole.held(), &written)?;
     if has_premises(text, &whole.held()) {
@@ -55,7 +56,7 @@ fn compare_plain(whole: &Whole) -> Result<(), String> {
 
 fn compare_crate(text: &[u8], h: &Held, written: &[u8]) -> Result<(), String> {
     let read = std::str::from_utf8(text).expect("an accepted text is UTF-8");
-    let trees = oracle::read(read, Options { lenient: false }).map_err(|number| format!("crate refused {number}"))?;
+    let trees = oracle::read(read, Mode::Strict).map_err(|number| format!("crate refused {number}"))?;
     let mut p = 0;
     let mut alike = Alike::Bytes;
     for (t, tree) in trees.iter().enumerate() {
@@ -179,7 +180,7 @@ fn is_within_limits(written: &[u8]) -> bool {
 
 /// A strict reading of the writing gives the same record, and that is written as the same bytes.
 fn compare_read_back(whole: &Whole, written: &[u8]) -> Result<(), String> {
-    let again = match Whole::read(written, 0, 0)? {
+    let again = match Whole::read(written, Mode::Strict, 0)? {
         Some(again) => again,
         None if is_within_limits(written) && whole.counts.nodes <= DEPTH_LIMIT => return Err("the writing is refused".to_string()),
         None => return Ok(()),

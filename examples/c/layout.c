@@ -25,16 +25,18 @@ static SgfCounts counts;
 #define TABLES trees, 2 * ROWS, nodes, SGF_NODE_STRIDE * ROWS, properties, 4 * ROWS, values, 2 * ROWS
 #define RECORD text, sizeof text, used, counts, TABLES
 
-static SgfReading read_bytes(size_t length, uint32_t options) {
-    SgfReading r = sgf_read(text, length, options, TABLES);
+typedef SgfReading Read(const uint8_t *, size_t, uint32_t, uint32_t *, size_t, uint32_t *, size_t, uint32_t *, size_t, uint32_t *, size_t);
+
+static SgfReading read_bytes(size_t length, Read *read, uint32_t settings) {
+    SgfReading r = read(text, length, settings, TABLES);
     used = length;
     counts = r.counts;
     return r;
 }
 
-static SgfReading read_text(const char *source, uint32_t options) {
+static SgfReading read_text(const char *source, Read *read, uint32_t settings) {
     memcpy(text, source, strlen(source));
-    return read_bytes(strlen(source), options);
+    return read_bytes(strlen(source), read, settings);
 }
 
 static SgfEdit edit(size_t k, const char *replacement) {
@@ -78,7 +80,7 @@ static void check_tokens(void) {
 }
 
 static void check_reading(void) {
-    SgfReading r = read_text("(;A[a][b]B[c](;)(;C[d]))(;GM[2])", SGF_STRICT);
+    SgfReading r = read_text("(;A[a][b]B[c](;)(;C[d]))(;GM[2])", sgf_read_strict, 0);
     CHECK(r.number == SGF_ACCEPTED && r.ignored == 0 && r.place == 0);
     CHECK(has(r.counts, 2, 4, 4, 5));
     CHECK(trees[SGF_TREE_ROOT] == 0 && trees[SGF_TREE_GAME_TYPE] == SGF_GO);
@@ -93,51 +95,57 @@ static void check_reading(void) {
     CHECK(property[SGF_PROPERTY_IDENTIFIER_START] == 9 && property[SGF_PROPERTY_IDENTIFIER_END] == 10);
     CHECK(property[SGF_PROPERTY_FIRST_VALUE] == 2 && property[SGF_PROPERTY_VALUE_COUNT] == 1);
     CHECK(values[SGF_VALUE_STRIDE + SGF_VALUE_START] == 7 && values[SGF_VALUE_STRIDE + SGF_VALUE_END] == 8);
-    r = read_text("(;\vGM[2]\v;)", SGF_STRICT);
+    r = read_text("(;\vGM[2]\v;)", sgf_read_strict, 0);
     CHECK(has(r.counts, 1, 2, 1, 1) && trees[SGF_TREE_GAME_TYPE] == SGF_UNKNOWN_GAME && properties[SGF_PROPERTY_IDENTIFIER_START] == 3);
     CHECK(edit(0, "1").number == SGF_GAME_TYPE_FIXED);
-    r = read_text("(;a[])", SGF_KEEP_IDENTIFIERS);
-    CHECK(r.number == SGF_ACCEPTED && r.ignored == SGF_KEEP_IDENTIFIERS && r.counts.properties == 1);
-    r = read_text("(;a[]B[aa])", SGF_KEEP_IDENTIFIERS | SGF_LENIENT);
-    CHECK(r.ignored == SGF_KEEP_IDENTIFIERS && r.counts.properties == 2);
-    CHECK(read_text("(", SGF_KEEP_IDENTIFIERS).ignored == SGF_KEEP_IDENTIFIERS && read_text("(", 4).ignored == 0);
-    CHECK(read_text("", SGF_LENIENT).counts.nodes == SGF_NODES_FOR(0) && SGF_TREES_FOR(0) == 1);
-    CHECK(sgf_read(NULL, 0, SGF_LENIENT, NULL, 0, NULL, 0, NULL, 0, NULL, 0).number == SGF_NO_ROOM);
+    CHECK(SGF_KEEP_IDENTIFIERS == SGF_IGNORED_CONVERSION);
+    for (uint32_t settings = 0; settings < 8; settings++) {
+        uint32_t ignored = settings & (SGF_IGNORED_LENIENCY | SGF_IGNORED_CONVERSION);
+        r = read_text("(;a[])", sgf_read_strict, settings);
+        CHECK(r.number == SGF_ACCEPTED && r.ignored == ignored && r.counts.properties == 1);
+        r = read_text("(;a[]B[aa]", sgf_read_lenient, settings);
+        CHECK(r.number == SGF_ACCEPTED && r.ignored == ignored && r.counts.properties == 2);
+        r = read_text("(;a[]B[aa]", sgf_read_strict, settings);
+        CHECK(r.number == SGF_UNEXPECTED_END_OF_DATA && r.ignored == ignored);
+        r = read_text("(;\xC3)", sgf_read_lenient, settings);
+        CHECK(r.number == SGF_NOT_UTF8 && r.place == 2 && r.ignored == ignored);
+    }
+    CHECK(read_text("", sgf_read_lenient, 0).counts.nodes == SGF_NODES_FOR(0) && SGF_TREES_FOR(0) == 1);
+    CHECK(sgf_read_lenient(NULL, 0, 0, NULL, 0, NULL, 0, NULL, 0, NULL, 0).number == SGF_NO_ROOM);
 }
 
 static void check_refused_readings(void) {
     static const struct {
         const char *source;
-        uint32_t options, number;
+        uint32_t number;
         size_t place;
     } cases[] = {
-        {"(;\xC3)", SGF_STRICT, SGF_NOT_UTF8, 2},
-        {"(;B)", SGF_STRICT, SGF_MISSING_PROPERTY_IDENTIFIER, 2},
-        {"(;B\xC3\xA9[])", SGF_STRICT, SGF_UNEXPECTED_END_OF_PROPERTY_IDENTIFIER, 2},
-        {"(;A[x][y", SGF_STRICT, SGF_UNEXPECTED_END_OF_PROPERTY_VALUE, 2},
-        {")", SGF_STRICT, SGF_UNEXPECTED_GAME_TREE_END, 0},
-        {"(;", SGF_STRICT, SGF_UNEXPECTED_END_OF_DATA, 0},
-        {"", SGF_STRICT, SGF_NO_GAME_TREES, 0},
-        {"((;))", SGF_STRICT, SGF_UNEXPECTED_GAME_TREE_START, 0},
-        {"(B[aa])", SGF_STRICT, SGF_UNEXPECTED_PROPERTY, 0},
-        {"(;GM[x])", SGF_STRICT, SGF_INVALID_GAME_TYPE, 0},
-        {"(", SGF_KEEP_IDENTIFIERS, SGF_UNEXPECTED_END_OF_DATA, 0},
+        {"(;\xC3)", SGF_NOT_UTF8, 2},
+        {"(;B)", SGF_MISSING_PROPERTY_IDENTIFIER, 2},
+        {"(;B\xC3\xA9[])", SGF_UNEXPECTED_END_OF_PROPERTY_IDENTIFIER, 2},
+        {"(;A[x][y", SGF_UNEXPECTED_END_OF_PROPERTY_VALUE, 2},
+        {")", SGF_UNEXPECTED_GAME_TREE_END, 0},
+        {"(;", SGF_UNEXPECTED_END_OF_DATA, 0},
+        {"", SGF_NO_GAME_TREES, 0},
+        {"((;))", SGF_UNEXPECTED_GAME_TREE_START, 0},
+        {"(B[aa])", SGF_UNEXPECTED_PROPERTY, 0},
+        {"(;GM[x])", SGF_INVALID_GAME_TYPE, 0},
     };
     for (size_t i = 0; i < sizeof cases / sizeof *cases; i++) {
-        SgfReading r = read_text(cases[i].source, cases[i].options);
+        SgfReading r = read_text(cases[i].source, sgf_read_strict, 0);
         CHECK(r.number == cases[i].number && r.place == cases[i].place && has(r.counts, 0, 0, 0, 0));
     }
     memset(text, ' ', sizeof text);
-    CHECK(read_bytes(SGF_TEXT_LIMIT, SGF_STRICT).number == SGF_NO_GAME_TREES);
-    CHECK(read_bytes(SGF_TEXT_LIMIT + 1, SGF_STRICT).number == SGF_TEXT_TOO_LONG);
+    CHECK(read_bytes(SGF_TEXT_LIMIT, sgf_read_strict, 0).number == SGF_NO_GAME_TREES);
+    CHECK(read_bytes(SGF_TEXT_LIMIT + 1, sgf_read_strict, 0).number == SGF_TEXT_TOO_LONG);
     memset(text, '(', SGF_DEPTH_LIMIT + 1);
-    CHECK(read_bytes(SGF_DEPTH_LIMIT, SGF_LENIENT).number == SGF_ACCEPTED);
-    CHECK(read_bytes(SGF_DEPTH_LIMIT + 1, SGF_LENIENT).number == SGF_TOO_DEEP);
+    CHECK(read_bytes(SGF_DEPTH_LIMIT, sgf_read_lenient, 0).number == SGF_ACCEPTED);
+    CHECK(read_bytes(SGF_DEPTH_LIMIT + 1, sgf_read_lenient, 0).number == SGF_TOO_DEEP);
 }
 
 static void check_record(void) {
     uint8_t out[64];
-    read_text("(;C[a\tb\nc]GM[1][x];AB[ZZ][ba];HA[+12];B[cZ];W[])", SGF_LENIENT);
+    read_text("(;C[a\tb\nc]GM[1][x];AB[ZZ][ba];HA[+12];B[cZ];W[])", sgf_read_lenient, 0);
     CHECK(sgf_fits(RECORD) == SGF_ACCEPTED);
     SgfSpan span = sgf_value(RECORD, 1);
     CHECK(span.number == SGF_ACCEPTED && span.reserved == 0 && span.from == 13 && span.to == 14);
@@ -174,16 +182,16 @@ static void check_record(void) {
 
 static void check_writing(void) {
     uint8_t out[64];
-    read_text("(;AB[ba][aa])", SGF_STRICT);
+    read_text("(;AB[ba][aa])", sgf_read_strict, 0);
     SgfWriting writing = sgf_write(RECORD, out, sizeof out);
     CHECK(writing.number == 0 && writing.reserved == 0 && writing.length == 13 && memcmp(out, "(;AB[aa][ba])", 13) == 0);
     CHECK(sgf_write(RECORD, out, 12).number == SGF_NO_ROOM && sgf_write(RECORD, out, 12).length == 0);
-    read_text("(;[x])", SGF_STRICT);
+    read_text("(;[x])", sgf_read_strict, 0);
     CHECK(sgf_write(RECORD, out, sizeof out).number == SGF_EMPTY_IDENTIFIER);
 }
 
 static void check_edit(void) {
-    read_text("(;C[ab](;B[cd])(;GM[2][]))(;)", SGF_STRICT);
+    read_text("(;C[ab](;B[cd])(;GM[2][]))(;)", sgf_read_strict, 0);
     SgfEdit e = edit(0, "x");
     CHECK(e.number == SGF_ACCEPTED && e.reserved == 0 && e.place == 0 && e.used == 28);
     CHECK(has(e.counts, 2, 4, 3, 4));

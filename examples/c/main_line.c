@@ -60,8 +60,8 @@ static void read_record(Record *r) {
     r->nodes = lend(r->nodes_len * sizeof(uint32_t));
     r->properties = lend(r->properties_len * sizeof(uint32_t));
     r->values = lend(r->values_len * sizeof(uint32_t));
-    SgfReading reading = sgf_read(r->text, r->used, SGF_STRICT, r->trees, r->trees_len, r->nodes, r->nodes_len,
-                                  r->properties, r->properties_len, r->values, r->values_len);
+    SgfReading reading = sgf_read_strict(r->text, r->used, 0, r->trees, r->trees_len, r->nodes, r->nodes_len,
+                                         r->properties, r->properties_len, r->values, r->values_len);
     if (reading.number != SGF_ACCEPTED) {
         fail("reading", reading.number, reading.place);
     }

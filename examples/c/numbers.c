@@ -6,6 +6,7 @@
 #include <string.h>
 
 enum { READ, FITS, VALUE, DISPLAY, GO_VALUE, WRITE, EDIT, TRIM, TOKEN, DISPLAY_VALUE, CALLS };
+enum { LENIENT = 1, SHORT = 4 };
 enum { FIT, DAMAGED, DEEPER }; /* the tables of a reading; with a game type that there is not; with a root of depth 1 */
 enum { ROOM = 64, ROWS = 1100, LONG = SGF_TEXT_LIMIT };
 
@@ -17,7 +18,7 @@ typedef struct {
     size_t place;
     int call;
     const char *text;
-    uint32_t options; /* of the reading; with 4 a row too few is lent */
+    uint32_t how; /* of the reading: LENIENT; with SHORT a row too few is lent */
     int state;
     size_t k;
     const char *given; /* the new value of an edit */
@@ -28,9 +29,9 @@ static const Row rows[] = {
     {0, 0, READ, "(;);", 0, FIT, 0, "", 0},
     {0, 0, READ, longest, 0, FIT, 0, "", 0},
     {1, 0, READ, too_long, 0, FIT, 0, "", 0},
-    {1, 0, READ, too_long, 1, FIT, 0, "", 0},
+    {1, 0, READ, too_long, LENIENT, FIT, 0, "", 0},
     {2, 4, READ, "(;B)\xFF", 0, FIT, 0, "", 0},
-    {2, 4, READ, "(;B)\xFF", 1, FIT, 0, "", 0},
+    {2, 4, READ, "(;B)\xFF", LENIENT, FIT, 0, "", 0},
     {3, 2, READ, "(;B)", 0, FIT, 0, "", 0},
     {4, 8, READ, "(;C[\xC3\xA9];B\xC3\xA9[aa", 0, FIT, 0, "", 0},
     {5, 2, READ, "(;A[x\\]", 0, FIT, 0, "", 0},
@@ -40,14 +41,14 @@ static const Row rows[] = {
     {8, 0, READ, "", 0, FIT, 0, "", 0},
     {0, 0, READ, deepest, 0, FIT, 0, "", 0},
     {9, 0, READ, too_deep, 0, FIT, 0, "", 0},
-    {9, 0, READ, too_deep, 1, FIT, 0, "", 0},
+    {9, 0, READ, too_deep, LENIENT, FIT, 0, "", 0},
     {10, 0, READ, "((;))", 0, FIT, 0, "", 0},
     {11, 0, READ, "(B[aa])", 0, FIT, 0, "", 0},
     {11, 0, READ, "(;GM[1]GM[x])", 0, FIT, 0, "", 0},
     {12, 0, READ, "(;GM[x])", 0, FIT, 0, "", 0},
     {0, 0, READ, "(;Black[aa])", 0, FIT, 0, "", 0},
-    {14, 0, READ, "(;B[aa])", 4, FIT, 0, "", 0},
-    {14, 0, READ, "(;B[aa])", 5, FIT, 0, "", 0},
+    {14, 0, READ, "(;B[aa])", SHORT, FIT, 0, "", 0},
+    {14, 0, READ, "(;B[aa])", LENIENT | SHORT, FIT, 0, "", 0},
     {0, 0, FITS, "(;C[ab])", 0, FIT, 0, "", 0},
     {19, 0, FITS, "(;C[ab])", 0, DAMAGED, 0, "", 0},
     {19, 0, FITS, "(;C[ab])", 0, DEEPER, 0, "", 0},
@@ -94,9 +95,12 @@ static struct Memory {
     uint32_t trees[2 * ROWS], nodes[SGF_NODE_STRIDE * ROWS], properties[4 * ROWS], values[2 * ROWS];
 } lent, before;
 
-static SgfReading reading(size_t length, uint32_t options, size_t value_rows) {
-    return sgf_read(lent.text, length, options, lent.trees, 2 * ROWS, lent.nodes, SGF_NODE_STRIDE * ROWS, lent.properties, 4 * ROWS,
-                    lent.values, 2 * value_rows);
+/* What a profile stores: it changes nothing but `ignored`. */
+static uint32_t settings;
+
+static SgfReading reading(size_t length, uint32_t how, size_t value_rows) {
+    return (how & LENIENT ? sgf_read_lenient : sgf_read_strict)(lent.text, length, settings, lent.trees, 2 * ROWS, lent.nodes, SGF_NODE_STRIDE * ROWS,
+                                                                lent.properties, 4 * ROWS, lent.values, 2 * value_rows);
 }
 
 static bool none(SgfCounts c) {
@@ -108,13 +112,13 @@ static bool none(SgfCounts c) {
     lent.values, 2 * ROWS
 
 /* Makes the call: its number and place, and whether all else that it answers is 0. */
-static uint32_t answer(const Row *r, uint32_t options, size_t *place, bool *is_zero) {
+static uint32_t answer(const Row *r, uint32_t how, size_t *place, bool *is_zero) {
     size_t length = strlen(r->text);
     SgfCounts counts = {0, 0, 0, 0};
     memset(&lent, 0xA5, sizeof lent);
     memcpy(lent.text, r->text, length);
     if (r->call != READ && r->call < TRIM) {
-        counts = reading(length, SGF_STRICT, ROWS).counts;
+        counts = reading(length, 0, ROWS).counts;
         lent.trees[SGF_TREE_GAME_TYPE] = r->state == DAMAGED ? 2 : lent.trees[SGF_TREE_GAME_TYPE];
         lent.nodes[SGF_NODE_DEPTH] += r->state == DEEPER;
     }
@@ -123,11 +127,11 @@ static uint32_t answer(const Row *r, uint32_t options, size_t *place, bool *is_z
     *is_zero = true;
     switch (r->call) {
     case READ: {
-        SgfReading a = reading(length, options, options & 4 ? 0 : ROWS);
+        SgfReading a = reading(length, how, how & SHORT ? 0 : ROWS);
         *place = a.place;
         *is_zero = none(a.counts);
-        /* The retired switch is ignored, and every answer says so. */
-        return a.ignored == (options & SGF_KEEP_IDENTIFIERS) ? a.number : SGF_INVALID_FF4_PROPERTY;
+        /* The retired switches are ignored, and every answer says so. */
+        return a.ignored == settings % 4 ? a.number : SGF_INVALID_FF4_PROPERTY;
     }
     case FITS: return sgf_fits(RECORD);
     case VALUE: {
@@ -177,10 +181,10 @@ static uint32_t answer(const Row *r, uint32_t options, size_t *place, bool *is_z
 
 static int failures;
 
-static void check(const Row *r, uint32_t options, uint32_t number, size_t place) {
+static void check(const Row *r, uint32_t how, uint32_t number, size_t place) {
     size_t found = 0;
     bool is_zero = false;
-    uint32_t given = answer(r, options, &found, &is_zero);
+    uint32_t given = answer(r, how, &found, &is_zero);
     bool stays = number == 0 || (is_zero && memcmp(&before, &lent, sizeof lent) == 0);
     if (given != number || found != place || !stays) {
         printf("row %d: %u at %zu instead of %u at %zu%s\n", (int)(r - rows), (unsigned)given, found, (unsigned)number, place,
@@ -208,15 +212,15 @@ int main(void) {
     unsigned seen = 0;
     make_texts();
     for (const Row *r = rows; r < rows + sizeof rows / sizeof *rows; r++) {
-        check(r, r->options, r->number, r->place);
+        for (settings = 0; settings < (r->call == READ ? 8u : 1u); settings++) {
+            check(r, r->how, r->number, r->place);
+            /* Lenient reading gives only 0, 1, 2, 9 and 14. */
+            if (r->call == READ && (r->how & SHORT) == 0 && r->number > 2 && r->number != 9) {
+                check(r, r->how | LENIENT, 0, 0);
+            }
+        }
+        settings = 0;
         seen |= 1u << r->number;
-        if (r->call == READ) {
-            check(r, r->options | SGF_KEEP_IDENTIFIERS, r->number, r->place);
-        }
-        /* Lenient reading gives only 0, 1, 2, 9 and 14. */
-        if (r->call == READ && (r->options & 4) == 0 && r->number > 2 && r->number != 9) {
-            check(r, r->options | SGF_LENIENT, 0, 0);
-        }
     }
     for (int n = 0; n < 20; n++) {
         /* 13 is given no more. */

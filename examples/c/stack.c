@@ -46,7 +46,8 @@ static volatile uintptr_t begin;
     }
 #define TABLE_TYPES uint32_t *a, size_t b, uint32_t *c, size_t d, uint32_t *e, size_t f, uint32_t *g, size_t h
 #pragma GCC diagnostic ignored "-Wunused-parameter"
-NOTE(SgfReading, note_read, const uint8_t *t, size_t n, uint32_t o, TABLE_TYPES)
+NOTE(SgfReading, note_read_strict, const uint8_t *t, size_t n, uint32_t o, TABLE_TYPES)
+NOTE(SgfReading, note_read_lenient, const uint8_t *t, size_t n, uint32_t o, TABLE_TYPES)
 NOTE(uint32_t, note_fits, SGF_RECORD)
 NOTE(SgfSpan, note_value, SGF_RECORD, size_t k)
 NOTE(SgfDisplay, note_display, SGF_RECORD, size_t k, uint32_t kind, uint8_t *to, size_t to_len)
@@ -62,7 +63,8 @@ NOTE(SgfValue, note_next_value, const uint8_t *t, size_t n, size_t at)
 
 static int noting;
 #define EITHER(name) (noting ? note_##name : sgf_##name)
-static void call_read(void) { reading = EITHER(read)(text, used, options, TABLES); }
+static void call_read_strict(void) { reading = EITHER(read_strict)(text, used, options, TABLES); }
+static void call_read_lenient(void) { reading = EITHER(read_lenient)(text, used, options, TABLES); }
 static void call_fits(void) { number = EITHER(fits)(RECORD); }
 static void call_value(void) { span = EITHER(value)(RECORD, asked); }
 static void call_display(void) { display = EITHER(display)(RECORD, asked, options, out, room); }
@@ -84,7 +86,8 @@ static struct function {
     void (*call)(void);
     size_t most, allowed; /* bytes */
 } functions[] = {
-    {"sgf_read", call_read, 0, 6144},
+    {"sgf_read_strict", call_read_strict, 0, 6144},
+    {"sgf_read_lenient", call_read_lenient, 0, 6144},
     {"sgf_fits", call_fits, 0, 1024},
     {"sgf_value", call_value, 0, 1024},
     {"sgf_display", call_display, 0, 1024},
@@ -136,7 +139,7 @@ static void measure(size_t i) {
 static void load(const char *source) {
     used = strlen(source);
     memcpy(text, source, used);
-    reading = sgf_read(text, used, SGF_STRICT, TABLES);
+    reading = sgf_read_strict(text, used, 0, TABLES);
     counts = reading.counts;
 }
 

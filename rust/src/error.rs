@@ -106,7 +106,7 @@ impl Error {
     /// ```
     /// use ekimorepa::{ParseOptions, parse_with_options};
     ///
-    /// let stored = ParseOptions { convert_mixed_case_identifiers: false, ..ParseOptions::default() };
+    /// let stored = ParseOptions { convert_mixed_case_identifiers: false };
     /// assert!(parse_with_options("(;", &stored).unwrap_err().ignored_settings());
     /// ```
     pub fn ignored_settings(&self) -> bool {

@@ -141,10 +141,23 @@ unsafe extern "C" {
     fn sgf_trim(text: *const u8, text_len: usize) -> Trimmed;
     fn sgf_token(text: *const u8, text_len: usize, at: usize) -> Token;
     fn sgf_next_value(text: *const u8, text_len: usize, at: usize) -> Value;
-    fn sgf_read(
+    fn sgf_read_strict(
         text: *const u8,
         text_len: usize,
-        options: u32,
+        settings: u32,
+        trees: *mut u32,
+        trees_len: usize,
+        nodes: *mut u32,
+        nodes_len: usize,
+        properties: *mut u32,
+        properties_len: usize,
+        values: *mut u32,
+        values_len: usize,
+    ) -> Reading;
+    fn sgf_read_lenient(
+        text: *const u8,
+        text_len: usize,
+        settings: u32,
         trees: *mut u32,
         trees_len: usize,
         nodes: *mut u32,
@@ -194,23 +207,23 @@ pub fn next_value(text: &[u8], at: usize) -> Value {
     unsafe { sgf_next_value(text.as_ptr(), text.len(), at) }
 }
 
-pub fn read(text: &[u8], options: u32, tables: [&mut [u32]; 4]) -> Reading {
-    let [trees, nodes, properties, values] = tables;
-    unsafe {
-        sgf_read(
-            text.as_ptr(),
-            text.len(),
-            options,
-            trees.as_mut_ptr(),
-            trees.len(),
-            nodes.as_mut_ptr(),
-            nodes.len(),
-            properties.as_mut_ptr(),
-            properties.len(),
-            values.as_mut_ptr(),
-            values.len(),
-        )
-    }
+/// Calls one of the two readings.
+macro_rules! reading {
+    ($f:ident, $text:expr, $settings:expr, $tables:expr) => {{
+        let (text, [trees, nodes, properties, values]) = ($text, $tables);
+        unsafe {
+            $f(text.as_ptr(), text.len(), $settings, trees.as_mut_ptr(), trees.len(), nodes.as_mut_ptr(), nodes.len(),
+                properties.as_mut_ptr(), properties.len(), values.as_mut_ptr(), values.len())
+        }
+    }};
+}
+
+pub fn read_strict(text: &[u8], settings: u32, tables: [&mut [u32]; 4]) -> Reading {
+    reading!(sgf_read_strict, text, settings, tables)
+}
+
+pub fn read_lenient(text: &[u8], settings: u32, tables: [&mut [u32]; 4]) -> Reading {
+    reading!(sgf_read_lenient, text, settings, tables)
 }
 
 pub fn fits(h: &Held) -> u32 {

@@ -3,27 +3,28 @@
 use crate::{Error, Node, Property, TEXT_LIMIT, Tables, Tree, Value, ffi};
 use std::borrow::Cow;
 
-/// How to read.
+/// Settings as profiles store them. None of them changes a reading.
 #[derive(Debug, Clone, Copy, PartialEq, Eq)]
 pub struct ParseOptions {
     /// Ignored, and kept for profiles that store it: an identifier is always read as its uppercase letters. Where it is
     /// false, the answer says that it was ignored.
     pub convert_mixed_case_identifiers: bool,
-    /// Whether to read as far as possible instead of refusing.
-    pub lenient: bool,
 }
 
 impl Default for ParseOptions {
     fn default() -> Self {
-        ParseOptions { convert_mixed_case_identifiers: true, lenient: false }
+        ParseOptions { convert_mixed_case_identifiers: true }
     }
 }
 
 impl ParseOptions {
-    fn bits(self) -> u32 {
-        u32::from(self.lenient) + 2 * u32::from(!self.convert_mixed_case_identifiers)
+    fn settings(self) -> u32 {
+        2 * u32::from(!self.convert_mixed_case_identifiers)
     }
 }
+
+/// One of the library's two readings.
+type Read = fn(&[u8], u32, [&mut [u32]; 4]) -> ffi::Reading;
 
 /// A collection of game trees: its text, borrowed or owned, and the tables of its trees, nodes, properties and values.
 ///
@@ -57,22 +58,27 @@ pub fn parse<T: AsRef<[u8]> + ?Sized>(text: &T) -> Result<Record<'_>, Error> {
 /// # Ok::<(), ekimorepa::Error>(())
 /// ```
 pub fn parse_lenient<T: AsRef<[u8]> + ?Sized>(text: &T) -> Result<Record<'_>, Error> {
-    parse_with_options(text, &ParseOptions { lenient: true, ..ParseOptions::default() })
+    parse_lenient_with_options(text, &ParseOptions::default())
 }
 
-/// Reads a text.
+/// Reads a text strictly, with settings that a profile stores.
 ///
 /// ```
 /// use ekimorepa::{ParseOptions, parse_with_options};
 ///
-/// let stored = ParseOptions { convert_mixed_case_identifiers: false, ..ParseOptions::default() };
+/// let stored = ParseOptions { convert_mixed_case_identifiers: false };
 /// let record = parse_with_options("(;Black[aa])", &stored)?;
 /// assert!(record.ignored_settings());
 /// assert_eq!(record.to_sgf()?, "(;B[aa])");
 /// # Ok::<(), ekimorepa::Error>(())
 /// ```
 pub fn parse_with_options<'t, T: AsRef<[u8]> + ?Sized>(text: &'t T, options: &ParseOptions) -> Result<Record<'t>, Error> {
-    Record::read(Cow::Borrowed(text.as_ref()), *options)
+    Record::read(Cow::Borrowed(text.as_ref()), ffi::read_strict, *options)
+}
+
+/// Reads a text leniently, with settings that a profile stores.
+pub fn parse_lenient_with_options<'t, T: AsRef<[u8]> + ?Sized>(text: &'t T, options: &ParseOptions) -> Result<Record<'t>, Error> {
+    Record::read(Cow::Borrowed(text.as_ref()), ffi::read_lenient, *options)
 }
 
 /// The record as text, in one form.
@@ -81,9 +87,9 @@ pub fn serialize(record: &Record) -> Result<String, Error> {
 }
 
 impl<'t> Record<'t> {
-    fn read(text: Cow<'t, [u8]>, options: ParseOptions) -> Result<Self, Error> {
+    fn read(text: Cow<'t, [u8]>, read: Read, options: ParseOptions) -> Result<Self, Error> {
         let mut tables = if text.len() <= TEXT_LIMIT { Tables::sufficient(&text) } else { Tables::default() };
-        let reading = ffi::read(&text, options.bits(), tables.lent());
+        let reading = read(&text, options.settings(), tables.lent());
         if reading.number != 0 {
             return Err(Error::new(reading.number, reading.place).ignoring(reading.ignored != 0));
         }
@@ -91,17 +97,22 @@ impl<'t> Record<'t> {
         Ok(Record { text, tables, ignored: reading.ignored != 0 })
     }
 
-    /// Reads a text and keeps it.
+    /// Reads a text strictly and keeps it.
     ///
     /// ```
-    /// use ekimorepa::{ParseOptions, Record};
+    /// use ekimorepa::Record;
     ///
-    /// let record = Record::from_owned(b"(;C[kept])".to_vec(), &ParseOptions::default())?;
+    /// let record = Record::from_owned(b"(;C[kept])".to_vec())?;
     /// assert_eq!(record.to_sgf()?, "(;C[kept])");
     /// # Ok::<(), ekimorepa::Error>(())
     /// ```
-    pub fn from_owned(text: impl Into<Vec<u8>>, options: &ParseOptions) -> Result<Record<'static>, Error> {
-        Record::read(Cow::Owned(text.into()), *options)
+    pub fn from_owned(text: impl Into<Vec<u8>>) -> Result<Record<'static>, Error> {
+        Record::read(Cow::Owned(text.into()), ffi::read_strict, ParseOptions::default())
+    }
+
+    /// Reads a text leniently and keeps it.
+    pub fn from_owned_lenient(text: impl Into<Vec<u8>>) -> Result<Record<'static>, Error> {
+        Record::read(Cow::Owned(text.into()), ffi::read_lenient, ParseOptions::default())
     }
 
     /// A text with tables that were made elsewhere, if they fit.

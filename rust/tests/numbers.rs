@@ -1,5 +1,5 @@
 //! Every number that this crate can give, 0 to 19 without 14: it lends enough rows and bytes itself.
-use ekimorepa::{DEPTH_LIMIT, Error, ErrorKind, ParseOptions, Record, TEXT_LIMIT, parse, parse_lenient, parse_with_options};
+use ekimorepa::{DEPTH_LIMIT, Error, ErrorKind, ParseOptions, Record, TEXT_LIMIT, parse, parse_lenient, parse_lenient_with_options, parse_with_options};
 
 type Answer = Result<(), Error>;
 
@@ -30,7 +30,7 @@ fn nested(depth: usize) -> String {
 
 #[test]
 fn every_number() {
-    let keep = ParseOptions { convert_mixed_case_identifiers: false, ..ParseOptions::default() };
+    let keep = ParseOptions { convert_mixed_case_identifiers: false };
     let mut deeper = parse("(;C[a])").unwrap().tables().clone();
     deeper.nodes[0][5] += 1;
     let rows: Vec<(u32, usize, Answer)> = vec![
@@ -75,12 +75,17 @@ fn every_number() {
 #[test]
 fn the_retired_switch_is_ignored_and_said() {
     let on = ParseOptions::default();
-    let keep = ParseOptions { convert_mixed_case_identifiers: false, ..on };
+    let keep = ParseOptions { convert_mixed_case_identifiers: false };
     for text in ["(;a[])", "(;Black[aa]b[])", "(;)", "(", "", "(;GM[x])", "(a[])"] {
-        let (with, without) = (parse_with_options(text, &keep), parse_with_options(text, &on));
-        assert_eq!(with.as_ref().map_err(Error::number).map(Record::tables), without.as_ref().map_err(Error::number).map(Record::tables));
         let said = |answer: &Result<Record, Error>| answer.as_ref().map_or_else(Error::ignored_settings, Record::ignored_settings);
-        assert_eq!((said(&with), said(&without)), (true, false), "{text}");
+        let readings = [
+            (parse_with_options(text, &keep), parse_with_options(text, &on)),
+            (parse_lenient_with_options(text, &keep), parse_lenient_with_options(text, &on)),
+        ];
+        for (with, without) in readings {
+            assert_eq!(with.as_ref().map_err(Error::number).map(Record::tables), without.as_ref().map_err(Error::number).map(Record::tables));
+            assert_eq!((said(&with), said(&without)), (true, false), "{text}");
+        }
     }
 }
 
@@ -88,5 +93,15 @@ fn the_retired_switch_is_ignored_and_said() {
 fn lenient_reading_refuses_none_of_the_others() {
     for text in ["(;B)", "(;\u{e9}[]", "(;A[", ")", "(;", "", "((;))", "(B[aa])", "(;GM[x])"] {
         assert!(parse(text).is_err() && parse_lenient(text).is_ok(), "{text}");
+    }
+}
+
+#[test]
+fn what_strict_reading_accepts_lenient_reading_accepts_alike() {
+    for text in ["(;)", "(;);", "(;(;);)", "(;GM[2]B[aa])(;)", " (;a[]) ", "(;C[x]) tail[", "(;AB[aa:cc])"] {
+        if let Ok(strict) = parse(text) {
+            assert_eq!(strict.tables(), parse_lenient(text).unwrap().tables(), "{text}");
+            assert_eq!(Record::from_owned(text).unwrap().tables(), Record::from_owned_lenient(text).unwrap().tables());
+        }
     }
 }

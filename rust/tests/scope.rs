@@ -1,5 +1,5 @@
 //! The examples of the scope, as a user of this crate sees them.
-use ekimorepa::{GameType, ParseOptions, Record, parse, parse_lenient};
+use ekimorepa::{GameType, Record, parse, parse_lenient};
 
 fn number(text: &str) -> u32 {
     parse(text).err().map_or(0, |error| error.number())
@@ -88,7 +88,7 @@ fn a_vertical_tab_is_white_space() {
 
 #[test]
 fn the_text_may_be_kept_or_borrowed() {
-    let kept = Record::from_owned("(;B[aa])", &ParseOptions::default()).unwrap();
+    let kept = Record::from_owned("(;B[aa])").unwrap();
     assert_eq!(kept, parse("(;B[aa])").unwrap().into_owned());
     let text = String::from("(;B[aa])");
     let record = parse(&text).unwrap();

@@ -6,9 +6,12 @@ use go::value::GoValue;
 use go_points::Value;
 use serialize::Written;
 use tables::Counts;
+use tables::Lenient;
 use tables::Reading;
+use tables::Reason;
 use value_display::Displayed;
 ghost use mathlib.Core.Path.{_≡_};
+ghost use Rattle.tables.specs.Lenient.{asReading};
 ghost use Rattle.go.specs.Value.{unmarked};
 ghost use Rattle.ask.specs.Ask.{shownFor};
 ghost use Rattle.c_answers.specs.Shown.{readingShown, spanShown, displayShown, figuresShown, goShown, writingShown, editShown};
@@ -44,6 +47,19 @@ pub fn reading_shown(ignored: u32, reading: Reading) -> SgfReading
                 values: 0,
             },
         },
+    }
+}
+
+// A lenient reading, and the settings that were ignored.
+pub fn lenient_shown(ignored: u32, lenient: Lenient) -> SgfReading
+    ensures { λ r. ⌜ r ≡ readingShown ignored (asReading lenient) ⌝ }
+{
+    match lenient {
+        Lenient::Accepted(c) => reading_shown(ignored, Reading::Accepted(c)),
+        Lenient::TextTooLong => reading_shown(ignored, Reading::Refused(Reason::TextTooLong, 0)),
+        Lenient::NotUtf8(place) => reading_shown(ignored, Reading::Refused(Reason::NotUtf8, place)),
+        Lenient::TooDeep => reading_shown(ignored, Reading::Refused(Reason::TooDeep, 0)),
+        Lenient::NoRoom => reading_shown(ignored, Reading::Refused(Reason::NoRoom, 0)),
     }
 }
 

@@ -46,7 +46,7 @@ fn on_text(
     values: &mut [u32],
 ) -> Used {
     let n = load(line, 2, text);
-    match reader::read(&text[..n], false, trees, nodes, properties, values) {
+    match reader::read_strict(&text[..n], trees, nodes, properties, values) {
         Reading::Refused(reason, place) => {
             say_refused(tables::number(reason), place);
             nothing()

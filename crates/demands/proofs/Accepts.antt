@@ -7,7 +7,7 @@ use Rattle.tables.specs.Numbers.{numberOf}
 use Rattle.tables.specs.Record.{Tree}
 use Rattle.tables.specs.declared.Reason.{Reason}
 use Rattle.tables.specs.declared.Reason.the-variants.{TextTooLong, NotUtf8, MissingPropertyIdentifier, UnexpectedEndOfPropertyIdentifier, UnexpectedEndOfPropertyValue, UnexpectedGameTreeEnd, UnexpectedEndOfData, NoGameTrees, TooDeep, UnexpectedGameTreeStart, UnexpectedProperty, InvalidGameType, NoRoom, EmptyIdentifier, NoSuchNumber, GameTypeFixed, NotClosed, NotFitting}
-use Rattle.parser.specs.Read.{Answer, refused, accepted, Growing, growing, failing, growAll, answer, read}
+use Rattle.parser.specs.Read.{Answer, refused, accepted, Growing, growing, failing, growAll, answer, read, readStrict, readLenient}
 use Rattle.parser.proofs.Texts.{text-long}
 use Rattle.reader.proofs.Reasons.{refused-with}
 use Rattle.reader_exactly.specs.Slicing.{Any, slicesFrom, Deep}
@@ -26,8 +26,8 @@ use Rattle.demands.specs.When.{Recorded, Sound}
 module _ (len : Bool) (t : List ℕ) (x : Reason) (p : ℕ) (e : read len t ≡ refused x p) where
   pub upto-12 : numberOf x ≤ 12
   upto-12 =
-      refused-with len (λ r. numberOf r ≤ 12) (omega arith) (omega arith) (omega arith)
-      (λ _. record { no3 = omega arith; no4 = omega arith; no5 = omega arith; no6 = omega arith; no7 = omega arith; no8 = omega arith; no10 = omega arith; no11 = omega arith; no12 = omega arith }) t e
+      refused-with len (λ r q. numberOf r ≤ 12) (omega arith) (λ q. omega arith) (omega arith)
+      (λ _. record { no3 = λ q. omega arith; no4 = λ q. omega arith; no5 = λ q. omega arith; no6 = omega arith; no7 = omega arith; no8 = omega arith; no10 = omega arith; no11 = omega arith; no12 = omega arith }) t e
 
 pub never-room : (len : Bool) (t : List ℕ) (p : ℕ) → read len t ≡ refused NoRoom p → ⊥
 never-room len t p e = omega (arith, upto-12 len t NoRoom p e)
@@ -42,7 +42,7 @@ module _ (t : List ℕ) where
   both : {X : Type 0} (len : Bool) (ts : List Tree) (r : Reason) (p : ℕ) → read len t ≡ accepted ts → read len t ≡ refused r p → X
   both len ts r p e h = let z : accepted ts ≡ refused r p = sym e ∙ h in never cc
 
-  accepted-splits : (ts : List Tree) → read false t ≡ accepted ts → Splits t
+  accepted-splits : (ts : List Tree) → readStrict t ≡ accepted ts → Splits t
   accepted-splits ts e =
       text-cases false t
       (λ h. both false ts TextTooLong 0 e (text-long false t h))
@@ -74,10 +74,10 @@ module _ (t : List ℕ) where
   sound-recorded : Sound t → Recorded false t
   sound-recorded s = go (growAll false (growing 0 []) (slicesFrom 0 toks)) reads (all-why (slicesFrom 0 toks) (slices-covered toks))
     where
-      reads : read false t ≡ answer (growAll false (growing 0 []) (slicesFrom 0 toks))
+      reads : readStrict t ≡ answer (growAll false (growing 0 []) (slicesFrom 0 toks))
       reads = split-read t (s .splits .lexes) (not-deep toks (s .splits .balanced) (s .splits .shallow))
 
-      none : (r : Reason) → read false t ≡ refused r 0 → AllWhy (slicesFrom 0 toks) (failing r) → ⊥
+      none : (r : Reason) → readStrict t ≡ refused r 0 → AllWhy (slicesFrom 0 toks) (failing r) → ⊥
       none TextTooLong e w = w .holds
       none NotUtf8 e w = w .holds
       none MissingPropertyIdentifier e w = w .holds
@@ -97,7 +97,7 @@ module _ (t : List ℕ) where
       none NotClosed e w = w .holds
       none NotFitting e w = w .holds
 
-      go : (x : Growing) → read false t ≡ answer x → AllWhy (slicesFrom 0 toks) x → Recorded false t
+      go : (x : Growing) → readStrict t ≡ answer x → AllWhy (slicesFrom 0 toks) x → Recorded false t
       go (growing n ts) e w = (_, e)
       go (failing r) e w = absurd (none r e w)
 
@@ -116,17 +116,17 @@ module _ (t : List ℕ) where
       (λ p h b. both true ts NotUtf8 p e (bad-read true t p h b))
       (λ v. (v, λ h. both true ts TooDeep 0 e (deep-read t v h)))
 
-  three : (x : Reason) (p : ℕ) → read true t ≡ refused x p → (x ≡ TextTooLong) ⊎ ((x ≡ NotUtf8) ⊎ (x ≡ TooDeep))
+  three : (x : Reason) (p : ℕ) → readLenient t ≡ refused x p → (x ≡ TextTooLong) ⊎ ((x ≡ NotUtf8) ⊎ (x ≡ TooDeep))
   three x p e =
-      refused-with true (λ r. (r ≡ TextTooLong) ⊎ ((r ≡ NotUtf8) ⊎ (r ≡ TooDeep))) (inl refl) (inr (inl refl)) (inr (inr refl)) (λ z. never cc) t e
+      refused-with true (λ r q. (r ≡ TextTooLong) ⊎ ((r ≡ NotUtf8) ⊎ (r ≡ TooDeep))) (inl refl) (λ q. inr (inl refl)) (inr (inr refl)) (λ z. never cc) t e
 
   shallow-recorded : Shallow → Recorded true t
-  shallow-recorded (v, n) = go (read true t) refl
+  shallow-recorded (v, n) = go (readLenient t) refl
     where
-      called : (x y : Reason) (p : ℕ) → read true t ≡ refused x p → x ≡ y → read true t ≡ refused y p
+      called : (x y : Reason) (p : ℕ) → readLenient t ≡ refused x p → x ≡ y → readLenient t ≡ refused y p
       called x y p e q = e ∙ ap (λ (r : Reason). refused r p) q
 
-      go : (a : Answer) → read true t ≡ a → Recorded true t
+      go : (a : Answer) → readLenient t ≡ a → Recorded true t
       go (accepted ts) e = (ts, e)
       go (refused x p) e =
           ⊎-elim (λ q. let l = lenient-1 t p .0 (called x TextTooLong p e q) .0 in absurd (omega (arith, l, v .short)))

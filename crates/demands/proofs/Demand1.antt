@@ -15,7 +15,7 @@ use Rattle.tables.specs.declared.Reason.{Reason}
 use Rattle.tables.specs.declared.Reason.the-variants.{NotUtf8, NotFitting}
 use Rattle.fit.specs.Fit.{Fit}
 use Rattle.ask_value.specs.Access.{accessed}
-use Rattle.parser.specs.Read.{read}
+use Rattle.parser.specs.Read.{read, readStrict}
 use Rattle.reader.specs.Lent.{Lent, ReadIs}
 use Rattle.ask.specs.Ask.{DisplayIs, goAnswer}
 use Rattle.ask.specs.declared.Shown.the-variants.{NotShown}
@@ -37,7 +37,7 @@ use Rattle.sgf.specs.Shown.{ReadShown}
 use Rattle.edit_laws.specs.Edits.{Allowed, Forbidden}
 use Rattle.demands.specs.Calls.{countsIn}
 use Rattle.demands.specs.Cells.{countsRead, noCounts}
-use Rattle.demands.specs.Lists.{OneOf, strictNumbers, lenientNumbers, writerNumbers, editNumbers, askedNumbers, displayNumbers, fitsNumbers, tokenNumbers}
+use Rattle.demands.specs.Lists.{OneOf, strictNumbers, writerNumbers, editNumbers, askedNumbers, displayNumbers, fitsNumbers, tokenNumbers}
 use Rattle.demands.specs.When.{Exactly, Reads, Unread, Writes, Unwritten, Asked, Unasked, Displays, Undisplayed}
 use Rattle.demands.proofs.Asked as asked
 use Rattle.demands.proofs.Edited as edit
@@ -53,6 +53,8 @@ pub use Rattle.reader_exactly.proofs.Exactly.{lenient-1, lenient-2, lenient-9}
 pub use Rattle.reader.proofs.Theorems.{no-thirteen}
 -- when it accepts: strict, and lenient; no reason above 12, so never 14 itself: 14 is too few rows alone
 pub use Rattle.demands.proofs.Accepts.{strict-0, lenient-0, upto-12, never-room}
+-- sgf_read_lenient
+pub use Rattle.demands.proofs.Demand1Lenient.{lenient-exactly, lenient-stays, lenient-zeros, lenient-ignored, lenient-numbers, lenient-case}
 -- sgf_trim, sgf_token, sgf_display_value
 pub use Rattle.demands.proofs.Demand1Texts.{trim-kept, trim-keeps, token-exactly, raw-exactly, raw-stays, raw-numbers}
 
@@ -64,30 +66,26 @@ number-some = numbers.number-some
 pub number-once : (r s : Reason) → numberOf r ≡ numberOf s → r ≡ s
 number-once = numbers.number-once
 
-module _ {i : ℕ} (len : Bool) (t : List ℕ) (before after : Lent) (r : SgfReading) (s : ReadShown i (read len t) before after r) where
-  -- sgf_read: 0 exactly where the text reads as a record whose rows are lent; each number, with its place, exactly where the definition refuses so, or, 14, rows are too few
-  pub reading-exactly : Exactly (r .number) (Reads len t before) (λ x. (p : ℕ) × Unread len t before x p × (r .place ≡ p))
-  reading-exactly = reading.reading-exactly len t before after r s
+module _ {i : ℕ} (t : List ℕ) (before after : Lent) (r : SgfReading) (s : ReadShown i (readStrict t) before after r) where
+  -- sgf_read_strict: 0 exactly where the text reads as a record whose rows are lent; each number, with its place, exactly where the definition refuses so, or, 14, rows are too few
+  pub reading-exactly : Exactly (r .number) (Reads false t before) (λ x. (p : ℕ) × Unread false t before x p × (r .place ≡ p))
+  reading-exactly = reading.reading-exactly false t before after r s
 
   -- any other number than 0 leaves every number of the four tables
   pub reading-stays : 0 < r .number → after ≡ before
-  reading-stays = reading.reading-stays len t before after r s
+  reading-stays = reading.reading-stays false t before after r s
 
   -- and gives no counts
   pub reading-zeros : 0 < r .number → countsRead r ≡ noCounts
-  reading-zeros = reading.reading-zeros len t before after r s
+  reading-zeros = reading.reading-zeros false t before after r s
 
   -- the settings that were ignored are said, on refusals too
   pub reading-ignored : r .ignored ≡ i
-  reading-ignored = reading.reading-ignored len t before after r s
+  reading-ignored = reading.reading-ignored false t before after r s
 
   -- 0 to 12 and 14 are its numbers
   pub reading-numbers : OneOf strictNumbers (r .number)
-  reading-numbers = reading.strict-listed len t before after r s
-
-  -- lenient: 0, 1, 2, 9, 14
-  pub lenient-numbers : len ≡ true → OneOf lenientNumbers (r .number)
-  lenient-numbers = reading.lenient-listed len t before after r s
+  reading-numbers = reading.strict-listed false t before after r s
 
 module _ (m : Memory) (out out′ : List ℕ) (r : SgfWriting) (s : WriteShown m out out′ r) where
   -- sgf_write: 19, 15, 14

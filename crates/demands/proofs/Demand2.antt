@@ -18,7 +18,7 @@ use Rattle.tables.specs.declared.Reading.the-variants.{Accepted, Refused}
 use Rattle.tables.specs.declared.Reason.the-variants.{TextTooLong, TooDeep, NoRoom}
 use Rattle.fit.specs.Fit.{Fit}
 use Rattle.fit.specs.Record.{rawsOf, recordOf, rowsIn, recordIn}
-use Rattle.parser.specs.Read.{refused, accepted, read}
+use Rattle.parser.specs.Read.{refused, accepted, read, readStrict}
 use Rattle.reader.specs.Lent.{Lent, ReadIs}
 use Rattle.reader.proofs.Theorems.{counts-are-lengths}
 use Rattle.reader_laws.specs.Enough.{strictRows, Lends}
@@ -39,7 +39,7 @@ use Rattle.serialize_laws.proofs.OneWriting as one
 use Rattle.serialize_laws.proofs.Theorem as theorem
 use Rattle.c_answers.specs.declared.SgfReading.{SgfReading}
 use Rattle.c_answers.specs.declared.SgfWriting.{SgfWriting}
-use Rattle.sgf.specs.Shown.{lenientOf, ignoredOf, ReadShown}
+use Rattle.sgf.specs.Shown.{ReadShown}
 use Rattle.sgf.specs.Changed.{WriteShown}
 use Rattle.demands.specs.Cells.{hasRoom, countsRead}
 use Rattle.demands.specs.Holding.{holding}
@@ -47,8 +47,8 @@ use Rattle.demands.proofs.Exported as exported
 use Rattle.demands.proofs.ExportedAgain as again
 use Rattle.demands.proofs.RoundTrip as trip
 use Rattle.demands.proofs.Writings as writings
--- the numbers of sgf_write and of the second sgf_read, by room
-pub use Rattle.demands.proofs.Demand2Exported.{exported-full, exported-first, exported-second}
+-- what strict reading accepts, lenient reading accepts with the same record; the numbers of sgf_write and of the second sgf_read_strict, by room
+pub use Rattle.demands.proofs.Demand2Exported.{lenient-accepts-more, exported-more, exported-full, exported-first, exported-second}
 
 -- ---- the viewer's question: one record, one writing
 
@@ -116,7 +116,7 @@ module _ (len : Bool) (t : List ℕ) (before after : Lent) (c : Counts) (x : Rea
 
 -- ---- read, write, read, write: a strict reading of a text whose trees each begin with `(` and whose raw identifiers are uppercase, not empty
 
-module _ (t : List ℕ) (before after : Lent) (k : Counts) (x : ReadIs (read false t) before after (Accepted k))
+module _ (t : List ℕ) (before after : Lent) (k : Counts) (x : ReadIs (readStrict t) before after (Accepted k))
     (b : BeginsAll t) (nm : All Named (allProps (allNodes (recordIn (holding t k after))))) where
   -- the writer writes it where the output has room, and refuses it with 14 where it has not: never 19 or 15
   pub named-writes : (out out′ : List ℕ) (r : Written) → WriteIs (holding t k after) out out′ r
@@ -127,24 +127,24 @@ module _ (t : List ℕ) (before after : Lent) (k : Counts) (x : ReadIs (read fal
 
   module _ (out out′ : List ℕ) (n : ℕ) (w : WriteIs (holding t k after) out out′ (Wrote n)) (l : n ≤ textLimit) where
     -- n bytes within the text limit: a strict reading of them is 9 where they are too deep
-    pub deep-nine : depthLimit < depthOf (take n out′) → (before₂ after₂ : Lent) (r : Reading) → ReadIs (read false (take n out′)) before₂ after₂ r → r ≡ Refused TooDeep 0
+    pub deep-nine : depthLimit < depthOf (take n out′) → (before₂ after₂ : Lent) (r : Reading) → ReadIs (readStrict (take n out′)) before₂ after₂ r → r ≡ Refused TooDeep 0
     deep-nine = trip.deep-nine t before after k x b nm out out′ n w l
 
     -- and only there
-    pub nine-deep : (before₂ after₂ : Lent) (p : ℕ) → ReadIs (read false (take n out′)) before₂ after₂ (Refused TooDeep p) → depthLimit < depthOf (take n out′)
+    pub nine-deep : (before₂ after₂ : Lent) (p : ℕ) → ReadIs (readStrict (take n out′)) before₂ after₂ (Refused TooDeep p) → depthLimit < depthOf (take n out′)
     nine-deep = trip.nine-deep t before after k x b nm out out′ n w l
 
     module _ (s : depthOf (take n out′) ≤ depthLimit) where
       -- within the depth it is accepted where the tables have room, which tables for n bytes have
-      pub read-again : (before₂ after₂ : Lent) (r : Reading) → ReadIs (read false (take n out′)) before₂ after₂ r → Lends (strictRows n) before₂ → (k₂ : Counts) × (r ≡ Accepted k₂)
+      pub read-again : (before₂ after₂ : Lent) (r : Reading) → ReadIs (readStrict (take n out′)) before₂ after₂ r → Lends (strictRows n) before₂ → (k₂ : Counts) × (r ≡ Accepted k₂)
       read-again before₂ after₂ r y h = (_, trip.room-enough t before after k x b nm out out′ n w l s before₂ after₂ r y h)
 
       -- it reads as a record, and is accepted, with its counts, where tables have room for these, else 14
-      pub read-room : (ts : List Tree) × (read false (take n out′) ≡ accepted ts) × ((before₂ after₂ : Lent) (r : Reading) → ReadIs (read false (take n out′)) before₂ after₂ r
+      pub read-room : (ts : List Tree) × (readStrict (take n out′) ≡ accepted ts) × ((before₂ after₂ : Lent) (r : Reading) → ReadIs (readStrict (take n out′)) before₂ after₂ r
           → (hasRoom (countsOf (tables ts)) before₂ ≡ true → r ≡ Accepted (countsOf (tables ts))) × (hasRoom (countsOf (tables ts)) before₂ ≡ false → r ≡ Refused NoRoom 0))
       read-room = (_, trip.reads-again t before after k x b nm out out′ n w l s, trip.room-exactly t before after k x b nm out out′ n w l s)
 
-      module _ (before₂ after₂ : Lent) (k₂ : Counts) (y : ReadIs (read false (take n out′)) before₂ after₂ (Accepted k₂)) where
+      module _ (before₂ after₂ : Lent) (k₂ : Counts) (y : ReadIs (readStrict (take n out′)) before₂ after₂ (Accepted k₂)) where
         -- with the same trees, game types, parents, identifiers and Go values, and other values as they were raw
         pub same-record : Pairs SameTree (recordIn (holding t k after)) (recordIn (holding (take n out′) k₂ after₂))
         same-record = trip.same-record t before after k x b nm out out′ n w l s before₂ after₂ k₂ y
@@ -163,10 +163,6 @@ module _ (t : List ℕ) (before after : Lent) (k : Counts) (x : ReadIs (read fal
 
 -- ---- all of this is so of the exported functions: number 0 is acceptance with what the struct shows
 
--- a strict reading: options whose lowest bit is not set
-pub exported-strict : (o : ℕ) (t : List ℕ) (before after : Lent) (a : SgfReading) → lenientOf o ≡ false → ReadShown (ignoredOf o) (read (lenientOf o) t) before after a → ReadShown (ignoredOf o) (read false t) before after a
-exported-strict = exported.strict-shown
-
 -- a reading, strict or lenient
 pub exported-reads : {i : ℕ} (len : Bool) (t : List ℕ) (before after : Lent) (a : SgfReading) → ReadShown i (read len t) before after a → a .number ≡ 0 → ReadIs (read len t) before after (Accepted (countsRead a))
 exported-reads len t = exported.shown-accepted (read len t)
@@ -176,10 +172,10 @@ pub exported-writes : (m : Memory) (out out′ : List ℕ) (r : SgfWriting) → 
 exported-writes = exported.shown-wrote
 
 -- read, write, read, write, under the scope's premises
-module _ {i i₂ : ℕ} (t : List ℕ) (before after : Lent) (a : SgfReading) (x : ReadShown i (read false t) before after a) (z : a .number ≡ 0)
+module _ {i i₂ : ℕ} (t : List ℕ) (before after : Lent) (a : SgfReading) (x : ReadShown i (readStrict t) before after a) (z : a .number ≡ 0)
     (b : BeginsAll t) (nm : All Named (allProps (allNodes (recordIn (holding t (countsRead a) after))))) (out out′ : List ℕ) (r : SgfWriting)
     (w : WriteShown (holding t (countsRead a) after) out out′ r) (v : r .number ≡ 0) (l : r .length ≤ textLimit)
-    (before₂ after₂ : Lent) (a₂ : SgfReading) (x₂ : ReadShown i₂ (read false (take (r .length) out′)) before₂ after₂ a₂) where
+    (before₂ after₂ : Lent) (a₂ : SgfReading) (x₂ : ReadShown i₂ (readStrict (take (r .length) out′)) before₂ after₂ a₂) where
   -- the second reading's number is 9 where the writing is too deep, and nowhere else
   pub exported-nine : (depthLimit < depthOf (take (r .length) out′) → a₂ .number ≡ 9) × (a₂ .number ≡ 9 → depthLimit < depthOf (take (r .length) out′))
   exported-nine = again.nine t before after a x z b nm out out′ r w v l before₂ after₂ a₂ x₂
@@ -195,6 +191,6 @@ pub long-one : (len : Bool) (t : List ℕ) (before after : Lent) (r : Reading) �
 long-one = trip.long-one
 
 -- the same of the definitions alone
-pub reads-back : (t : List ℕ) (ts : List Tree) → read false t ≡ accepted ts → BeginsAll t → All Named (allProps (allNodes ts)) → length (writing ts) ≤ textLimit
-    → (read false (writing ts) ≡ refused TooDeep 0) ⊎ ReadsBack ts
+pub reads-back : (t : List ℕ) (ts : List Tree) → readStrict t ≡ accepted ts → BeginsAll t → All Named (allProps (allNodes ts)) → length (writing ts) ≤ textLimit
+    → (readStrict (writing ts) ≡ refused TooDeep 0) ⊎ ReadsBack ts
 reads-back = theorem.reads-back

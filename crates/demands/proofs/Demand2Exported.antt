@@ -1,4 +1,4 @@
--- Demand 2 of sgf_read and sgf_write: after a strict reading under the scope's premises the writing is 0 or 14, and the second reading is 0 or 14 within the limits; passed on by Demand2.
+-- Demand 2 of the two readings and of sgf_write: what is accepted strictly is accepted leniently; after a strict reading under the scope's premises the writing is 0 or 14, and the second reading is 0 or 14 within the limits; passed on by Demand2.
 -- Assumes nothing.
 use Rattle.lists.proofs.Prelude.{ℕ, _≤_, _<_, true, false, List, _≡_, length, take}
 use Rattle.lists.specs.All.{All}
@@ -6,7 +6,8 @@ use Rattle.tables.specs.Numbers.{depthLimit, textLimit}
 use Rattle.tables.specs.Record.{Tree, allNodes, allProps}
 use Rattle.tables.specs.Rows.{tables, countsOf}
 use Rattle.fit.specs.Record.{recordIn}
-use Rattle.parser.specs.Read.{accepted, read}
+use Rattle.parser.specs.Read.{accepted, readStrict, readLenient}
+use Rattle.parser.proofs.More as more
 use Rattle.reader.specs.Lent.{Lent}
 use Rattle.serialize.specs.Form.{writing}
 use Rattle.serialize_laws.specs.Back.{Named, BeginsAll}
@@ -17,10 +18,20 @@ use Rattle.sgf.specs.Shown.{ReadShown}
 use Rattle.sgf.specs.Changed.{WriteShown}
 use Rattle.demands.specs.Cells.{hasRoom, countsRead}
 use Rattle.demands.specs.Holding.{holding}
+use Rattle.demands.proofs.Exported as exported
 use Rattle.demands.proofs.ExportedRoom as room
 
+-- what strict reading accepts, lenient reading accepts with the same record
+pub lenient-accepts-more : (t : List ℕ) (ts : List Tree) → readStrict t ≡ accepted ts → readLenient t ≡ accepted ts
+lenient-accepts-more = more.lenient-accepts-more
+
+-- what sgf_read_strict accepts, sgf_read_lenient accepts, with the same counts and tables
+pub exported-more : {i i′ : ℕ} (t : List ℕ) (before after after′ : Lent) (r r′ : SgfReading) → ReadShown i (readStrict t) before after r → r .number ≡ 0
+    → ReadShown i′ (readLenient t) before after′ r′ → (r′ .number ≡ 0) × (countsRead r′ ≡ countsRead r) × (after′ ≡ after)
+exported-more = exported.more-shown
+
 -- the first reading is strict and 0; trees begin with `(`, and raw identifiers are uppercase, not empty; its tables are written
-module _ {i : ℕ} (t : List ℕ) (before after : Lent) (a : SgfReading) (x : ReadShown i (read false t) before after a) (z : a .number ≡ 0)
+module _ {i : ℕ} (t : List ℕ) (before after : Lent) (a : SgfReading) (x : ReadShown i (readStrict t) before after a) (z : a .number ≡ 0)
     (b : BeginsAll t) (nm : All Named (allProps (allNodes (recordIn (holding t (countsRead a) after))))) (out out′ : List ℕ) (r : SgfWriting)
     (w : WriteShown (holding t (countsRead a) after) out out′ r) where
   -- 14 where the output is too short, and it stays
@@ -35,7 +46,7 @@ module _ {i : ℕ} (t : List ℕ) (before after : Lent) (a : SgfReading) (x : Re
 
     -- within the text limit and the depth the bytes read as a record: a strict reading of them is 0, with its counts, where tables have room for these, else 14
     pub exported-second : length (writing (recordIn (holding t (countsRead a) after))) ≤ textLimit → depthOf (writing (recordIn (holding t (countsRead a) after))) ≤ depthLimit
-        → (ts : List Tree) × (read false (take (r .length) out′) ≡ accepted ts)
-        × ((i₂ : ℕ) (before₂ after₂ : Lent) (a₂ : SgfReading) → ReadShown i₂ (read false (take (r .length) out′)) before₂ after₂ a₂
+        → (ts : List Tree) × (readStrict (take (r .length) out′) ≡ accepted ts)
+        × ((i₂ : ℕ) (before₂ after₂ : Lent) (a₂ : SgfReading) → ReadShown i₂ (readStrict (take (r .length) out′)) before₂ after₂ a₂
         → (hasRoom (countsOf (tables ts)) before₂ ≡ true → (a₂ .number ≡ 0) × (countsRead a₂ ≡ countsOf (tables ts))) × (hasRoom (countsOf (tables ts)) before₂ ≡ false → a₂ .number ≡ 14))
     exported-second = room.second t before after a x z b nm out out′ r w h

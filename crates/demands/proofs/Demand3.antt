@@ -1,7 +1,7 @@
 -- Demand 3, editable. "Take a record accepted by the strict reader, with its tables. Replace one value, not a GM value, by closed UTF-8 text that fits.
 -- The edited text and tables are then exactly what a strict reading of the new bytes, under the same options, gives; bytes before the value stay, later
 -- places move by the change in length. This holds after any run of edits, refused ones between them changing nothing." Assumes nothing.
-use Rattle.lists.proofs.Prelude.{ℕ, _+_, _-_, _≤_, _<_, true, List, _↔_, _≡_, length, false}
+use Rattle.lists.proofs.Prelude.{ℕ, _+_, _-_, _≤_, _<_, true, List, _↔_, _≡_, length}
 use Rattle.text_chars.specs.Table.{WellFormed}
 use Rattle.lexer.specs.Closed.{closed}
 use Rattle.tables.specs.Memory.{Memory}
@@ -14,7 +14,7 @@ use Rattle.tables.specs.declared.Reason.{Reason}
 use Rattle.fit.specs.Fit.{Fit}
 use Rattle.fit.specs.Record.{rowsOf, rowsIn, textIn}
 use Rattle.parser.specs.Kind.{GM}
-use Rattle.parser.specs.Read.{read}
+use Rattle.parser.specs.Read.{readStrict}
 use Rattle.reader.specs.Lent.{Lent, ReadIs}
 use Rattle.edit_answer.specs.declared.Edited.{Edited}
 use Rattle.edit_answer.specs.declared.Edited.the-variants.{Changed, Refused}
@@ -40,11 +40,11 @@ use Rattle.demands.proofs.Rereadings as again
 module _ (m : Memory) where
   -- memory as an accepted strict reading of the used text leaves it: the tables fit, and their rows are the record's
   pub reading-fresh : (before : Lent) → m .used ≤ length (m .text)
-      → ReadIs (read false (textIn m)) before (tablesIn m) (Accepted (m .counts)) → Fresh m
+      → ReadIs (readStrict (textIn m)) before (tablesIn m) (Accepted (m .counts)) → Fresh m
   reading-fresh = again.read-fresh m
 
-  -- the same of sgf_read: number 0, and the counts that it gives back
-  pub shown-fresh : {i : ℕ} (before : Lent) (r : SgfReading) → m .used ≤ length (m .text) → ReadShown i (read false (textIn m)) before (tablesIn m) r
+  -- the same of sgf_read_strict: number 0, and the counts that it gives back
+  pub shown-fresh : {i : ℕ} (before : Lent) (r : SgfReading) → m .used ≤ length (m .text) → ReadShown i (readStrict (textIn m)) before (tablesIn m) r
       → r .number ≡ 0 → countsRead r ≡ m .counts → Fresh m
   shown-fresh = again.shown-fresh m
 
@@ -65,17 +65,17 @@ module _ (m : Memory) where
     edits-fresh xs m′ = again.calls-fresh m m′ xs f
 
     -- a strict reading of the used bytes into tables with room is accepted, with the same counts, and leaves the same cells
-    pub fresh-reading : (before after : Lent) (r : Reading) → hasRoom (m .counts) before ≡ true → ReadIs (read false (textIn m)) before after r
+    pub fresh-reading : (before after : Lent) (r : Reading) → hasRoom (m .counts) before ≡ true → ReadIs (readStrict (textIn m)) before after r
         → (r ≡ Accepted (m .counts)) × SameCells (m .counts) after (tablesIn m)
     fresh-reading = again.reread m f
 
-    -- the same of sgf_read
-    pub shown-reading : {i : ℕ} (before after : Lent) (r : SgfReading) → hasRoom (m .counts) before ≡ true → ReadShown i (read false (textIn m)) before after r
+    -- the same of sgf_read_strict
+    pub shown-reading : {i : ℕ} (before after : Lent) (r : SgfReading) → hasRoom (m .counts) before ≡ true → ReadShown i (readStrict (textIn m)) before after r
         → (r .number ≡ 0) × (countsRead r ≡ m .counts) × SameCells (m .counts) after (tablesIn m)
     shown-reading = again.reread-shown m f
 
     -- the caller's own tables have room, and a reading into them leaves every number
-    pub own-reading : (after : Lent) (r : Reading) → ReadIs (read false (textIn m)) (tablesIn m) after r
+    pub own-reading : (after : Lent) (r : Reading) → ReadIs (readStrict (textIn m)) (tablesIn m) after r
         → (r ≡ Accepted (m .counts)) × (after ≡ tablesIn m)
     own-reading = again.reread-own m f
 
@@ -122,7 +122,7 @@ shown-run m m′ xs f k = calls-run m m′ xs f (calls-shown k)
 
 module _ (m : Memory) where
   -- an accepted strict reading leaves such rows
-  pub reading-reads : (before : Lent) → ReadIs (read false (textIn m)) before (tablesIn m) (Accepted (m .counts)) → Reads (edit.textRows m)
+  pub reading-reads : (before : Lent) → ReadIs (readStrict (textIn m)) before (tablesIn m) (Accepted (m .counts)) → Reads (edit.textRows m)
   reading-reads = again.read-reads m
 
   module _ (f : Reads (edit.textRows m)) where
@@ -135,6 +135,6 @@ module _ (m : Memory) where
     counts-reads = code.counts-reads m f
 
     -- whatever tables it is read into, an accepted reading has these rows
-    pub reads-rows : (before after : Lent) (k : Counts) → ReadIs (read false (textIn m)) before after (Accepted k)
+    pub reads-rows : (before after : Lent) (k : Counts) → ReadIs (readStrict (textIn m)) before after (Accepted k)
         → rowsOf k (after .trees) (after .nodes) (after .props) (after .vals) ≡ rowsIn m
     reads-rows = again.reread-rows m f

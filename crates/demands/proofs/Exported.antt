@@ -1,20 +1,22 @@
 -- The exported functions' structs against the contracts that Demand 2 speaks of. Assumes nothing.
-use Rattle.lists.proofs.Prelude.{ℕ, List, Bool, false, _≡_, refl, sym, ap, _∙_, subst, arith, length, take}
+use Rattle.lists.proofs.Prelude.{ℕ, List, Bool, _≡_, refl, sym, ap, _∙_, arith, length, take}
+use Rattle.lists.proofs.Tests.{never}
+use Rattle.parser.proofs.More.{lenient-accepts-more}
 use Rattle.tables.specs.Memory.{Memory}
 use Rattle.tables.specs.Record.{Tree}
 use Rattle.tables.specs.declared.Reading.{Reading}
 use Rattle.tables.specs.declared.Reading.the-variants as reading
 use Rattle.fit.specs.Record.{recordIn}
-use Rattle.parser.specs.Read.{Answer, accepted, read}
+use Rattle.parser.specs.Read.{Answer, refused, accepted, read, readStrict, readLenient}
 use Rattle.serialize_laws.specs.Alike.{Alike}
-use Rattle.reader.specs.Lent.{Lent, answers, ReadIs}
+use Rattle.reader.specs.Lent.{Lent, answers, leaves, ReadIs}
 use Rattle.serialize.specs.Form.{writing, written, output, WriteIs}
 use Rattle.serialize.specs.declared.Written.{Written}
 use Rattle.serialize.specs.declared.Written.the-variants.{Wrote, Refused}
 use Rattle.c_answers.specs.Shown.{readingShown, writingShown}
 use Rattle.c_answers.specs.declared.SgfReading.{SgfReading}
 use Rattle.c_answers.specs.declared.SgfWriting.{SgfWriting}
-use Rattle.sgf.specs.Shown.{lenientOf, ignoredOf, ReadShown}
+use Rattle.sgf.specs.Shown.{ReadShown}
 use Rattle.sgf.specs.Changed.{WriteShown}
 use Rattle.demands.specs.Cells.{countsRead}
 use Rattle.demands.specs.Holding.{holding}
@@ -39,10 +41,17 @@ shown-wrote m out out′ r x z = go (written m (length out)) refl (x .is)
         record { is = sym l ∙ sym e; bytes = x .bytes ∙ ap (λ (a : Written). output a (writing (recordIn m)) out) (e ∙ l) }
     go (Refused q) e h = absurd (omega (arith, number-some q, ap (λ (y : SgfWriting). y .number) h, z))
 
--- options whose lowest bit is not set ask for a strict reading
-pub strict-shown : (o : ℕ) (t : List ℕ) (before after : Lent) (a : SgfReading) → lenientOf o ≡ false → ReadShown (ignoredOf o) (read (lenientOf o) t) before after a
-    → ReadShown (ignoredOf o) (read false t) before after a
-strict-shown o t before after a e x = subst (λ (l : Bool). ReadShown (ignoredOf o) (read l t) before after a) e x
+-- what strict reading accepts, lenient reading accepts: number 0, the same counts, the same tables
+pub more-shown : {i i′ : ℕ} (t : List ℕ) (before after after′ : Lent) (r r′ : SgfReading) → ReadShown i (readStrict t) before after r → r .number ≡ 0
+    → ReadShown i′ (readLenient t) before after′ r′ → (r′ .number ≡ 0) × (countsRead r′ ≡ countsRead r) × (after′ ≡ after)
+more-shown {i} {i′} t before after after′ r r′ x z y = go (readStrict t) refl (shown-accepted (readStrict t) before after r x z)
+  where
+    go : (a : Answer) → readStrict t ≡ a → ReadIs (readStrict t) before after (reading.Accepted (countsRead r)) → (r′ .number ≡ 0) × (countsRead r′ ≡ countsRead r) × (after′ ≡ after)
+    go (refused q p) e h = let w : reading.Accepted (countsRead r) ≡ reading.Refused q p = h .answer ∙ ap (λ (a : Answer). answers a before) e in never cc
+    go (accepted ts) e h =
+        let m : readLenient t ≡ readStrict t = lenient-accepts-more t ts e ∙ sym e in
+        let f : r′ ≡ readingShown i′ (reading.Accepted (countsRead r)) = y .shown ∙ ap (λ (a : Answer). readingShown i′ (answers a before)) m ∙ ap (readingShown i′) (sym (h .answer)) in
+        (ap (λ (v : SgfReading). v .number) f, ap countsRead f, y .tables ∙ ap (λ (a : Answer). leaves a before) m ∙ sym (h .tables))
 
 -- one record, one writing
 pub one-writing : {i i′ : ℕ} (len len′ : Bool) (t u : List ℕ) (before after before′ after′ : Lent) (a a′ : SgfReading)

@@ -8,7 +8,7 @@ use Rattle.tables.specs.Rows.{tables, countsOf}
 use Rattle.tables.specs.declared.Reading.the-variants as reading
 use Rattle.tables.specs.declared.Reason.the-variants.{NoRoom}
 use Rattle.fit.specs.Record.{recordIn}
-use Rattle.parser.specs.Read.{accepted, read}
+use Rattle.parser.specs.Read.{accepted, readStrict}
 use Rattle.reader.specs.Lent.{Lent, answers, ReadIs}
 use Rattle.serialize.specs.Form.{writing, written, WriteIs}
 use Rattle.serialize.specs.declared.Written.the-variants.{Wrote}
@@ -25,7 +25,7 @@ use Rattle.demands.proofs.Exported.{shown-accepted, shown-wrote}
 use Rattle.demands.proofs.RoundTrip.{named-writes, back, reads-again, room-exactly}
 use Rattle.demands.proofs.Writings.{wrote-bytes}
 
-module _ {i : ℕ} (t : List ℕ) (before after : Lent) (a : SgfReading) (x : ReadShown i (read false t) before after a) (z : a .number ≡ 0)
+module _ {i : ℕ} (t : List ℕ) (before after : Lent) (a : SgfReading) (x : ReadShown i (readStrict t) before after a) (z : a .number ≡ 0)
     (b : BeginsAll t) (nm : All Named (allProps (allNodes (recordIn (holding t (countsRead a) after))))) (out out′ : List ℕ) (r : SgfWriting)
     (w : WriteShown (holding t (countsRead a) after) out out′ r) where
   abbrev M : Memory
@@ -34,8 +34,8 @@ module _ {i : ℕ} (t : List ℕ) (before after : Lent) (a : SgfReading) (x : Re
   abbrev W : List ℕ
   W = writing (recordIn (holding t (countsRead a) after))
 
-  reads : ReadIs (read false t) before after (reading.Accepted (countsRead a))
-  reads = shown-accepted (read false t) before after a x z
+  reads : ReadIs (readStrict t) before after (reading.Accepted (countsRead a))
+  reads = shown-accepted (readStrict t) before after a x z
 
   pub first-full : length out < length W → (r .number ≡ 14) × (out′ ≡ out)
   first-full h =
@@ -67,15 +67,15 @@ module _ {i : ℕ} (t : List ℕ) (before after : Lent) (a : SgfReading) (x : Re
       abbrev again : List Tree
       again = back t before after (countsRead a) reads b nm out out′ (r .length) wrote short low .again
 
-      reads-so : read false U ≡ accepted again
+      reads-so : readStrict U ≡ accepted again
       reads-so = reads-again t before after (countsRead a) reads b nm out out′ (r .length) wrote short low
 
-      module _ {i₂ : ℕ} (before₂ after₂ : Lent) (a₂ : SgfReading) (x₂ : ReadShown i₂ (read false U) before₂ after₂ a₂) where
-        is : (hasRoom (countsOf (tables again)) before₂ ≡ true → answers (read false U) before₂ ≡ reading.Accepted (countsOf (tables again)))
-            × (hasRoom (countsOf (tables again)) before₂ ≡ false → answers (read false U) before₂ ≡ reading.Refused NoRoom 0)
+      module _ {i₂ : ℕ} (before₂ after₂ : Lent) (a₂ : SgfReading) (x₂ : ReadShown i₂ (readStrict U) before₂ after₂ a₂) where
+        is : (hasRoom (countsOf (tables again)) before₂ ≡ true → answers (readStrict U) before₂ ≡ reading.Accepted (countsOf (tables again)))
+            × (hasRoom (countsOf (tables again)) before₂ ≡ false → answers (readStrict U) before₂ ≡ reading.Refused NoRoom 0)
         is =
             room-exactly t before after (countsRead a) reads b nm out out′ (r .length) wrote short low
-            before₂ after₂ (answers (read false U) before₂) (record { answer = refl; tables = x₂ .tables })
+            before₂ after₂ (answers (readStrict U) before₂) (record { answer = refl; tables = x₂ .tables })
 
         second-zero : hasRoom (countsOf (tables again)) before₂ ≡ true → (a₂ .number ≡ 0) × (countsRead a₂ ≡ countsOf (tables again))
         second-zero q = let f : a₂ ≡ readingShown i₂ (reading.Accepted (countsOf (tables again))) = x₂ .shown ∙ ap (readingShown i₂) (is .0 q) in (ap (λ (y : SgfReading). y .number) f, ap countsRead f)
@@ -83,6 +83,6 @@ module _ {i : ℕ} (t : List ℕ) (before after : Lent) (a : SgfReading) (x : Re
         second-full : hasRoom (countsOf (tables again)) before₂ ≡ false → a₂ .number ≡ 14
         second-full q = ap (λ (y : SgfReading). y .number) (x₂ .shown ∙ ap (readingShown i₂) (is .1 q))
 
-      pub second : (ts : List Tree) × (read false U ≡ accepted ts) × ((i₂ : ℕ) (before₂ after₂ : Lent) (a₂ : SgfReading) → ReadShown i₂ (read false U) before₂ after₂ a₂
+      pub second : (ts : List Tree) × (readStrict U ≡ accepted ts) × ((i₂ : ℕ) (before₂ after₂ : Lent) (a₂ : SgfReading) → ReadShown i₂ (readStrict U) before₂ after₂ a₂
           → (hasRoom (countsOf (tables ts)) before₂ ≡ true → (a₂ .number ≡ 0) × (countsRead a₂ ≡ countsOf (tables ts))) × (hasRoom (countsOf (tables ts)) before₂ ≡ false → a₂ .number ≡ 14))
       second = (again, reads-so, λ i₂ before₂ after₂ a₂ x₂. (second-zero before₂ after₂ a₂ x₂, second-full before₂ after₂ a₂ x₂))

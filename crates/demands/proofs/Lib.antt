@@ -2,6 +2,7 @@ pub mod Accepts
 pub mod Asked
 pub mod CallsShown
 pub mod Demand1
+pub mod Demand1Lenient
 pub mod Demand1Texts
 pub mod Demand2
 pub mod Demand2Exported

@@ -75,11 +75,11 @@ module _ (len : Bool) (t : List ℕ) (before : Lent) where
     strict-listed =
         numbers-in strictNumbers (one-of strictNumbers 0 refl) (one-of strictNumbers 14 refl)
         (λ x p e.
-        refused-with len (λ (z : Reason). OneOf strictNumbers (numberOf z)) (one-of strictNumbers 1 refl) (one-of strictNumbers 2 refl) (one-of strictNumbers 9 refl)
+        refused-with len (λ (z : Reason) (q : ℕ). OneOf strictNumbers (numberOf z)) (one-of strictNumbers 1 refl) (λ _. one-of strictNumbers 2 refl) (one-of strictNumbers 9 refl)
         (λ _. record {
-          no3 = one-of strictNumbers 3 refl;
-          no4 = one-of strictNumbers 4 refl;
-          no5 = one-of strictNumbers 5 refl;
+          no3 = λ _. one-of strictNumbers 3 refl;
+          no4 = λ _. one-of strictNumbers 4 refl;
+          no5 = λ _. one-of strictNumbers 5 refl;
           no6 = one-of strictNumbers 6 refl;
           no7 = one-of strictNumbers 7 refl;
           no8 = one-of strictNumbers 8 refl;
@@ -92,5 +92,5 @@ module _ (len : Bool) (t : List ℕ) (before : Lent) where
     lenient-listed h =
         numbers-in lenientNumbers (one-of lenientNumbers 0 refl) (one-of lenientNumbers 14 refl)
         (λ x p e.
-        refused-with len (λ (z : Reason). OneOf lenientNumbers (numberOf z)) (one-of lenientNumbers 1 refl) (one-of lenientNumbers 2 refl) (one-of lenientNumbers 9 refl)
+        refused-with len (λ (z : Reason) (q : ℕ). OneOf lenientNumbers (numberOf z)) (one-of lenientNumbers 1 refl) (λ _. one-of lenientNumbers 2 refl) (one-of lenientNumbers 9 refl)
         (λ f. true-false len h f) t e)

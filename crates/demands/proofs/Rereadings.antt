@@ -12,7 +12,7 @@ use Rattle.tables.specs.declared.Reason.the-variants.{NoRoom}
 use Rattle.fit.specs.Locals.{Held}
 use Rattle.fit.specs.Record.{rowsOf, rowsIn, textIn}
 use Rattle.fit.proofs.Whole.{fit-lent}
-use Rattle.parser.specs.Read.{Answer, accepted, read}
+use Rattle.parser.specs.Read.{Answer, accepted, readStrict}
 use Rattle.reader.specs.Lent.{Lent, lent, roomy, stored, answers, leaves, ReadIs}
 use Rattle.reader_laws.proofs.Lent.{read-rows, read-buffer-fits}
 use Rattle.c_answers.specs.Shown.{readingShown}
@@ -30,16 +30,16 @@ use Rattle.demands.specs.Cells.{tablesIn, hasRoom, countsRead, SameCells
 use Rattle.demands.specs.When.{Reads}
 use Rattle.demands.proofs.Readings.{reading-exactly, reads-answer}
 
-pub read-reads : (m : Memory) (before : Lent) → ReadIs (read false (textIn m)) before (tablesIn m) (Accepted (m .counts)) → rows.Reads (textRows m)
+pub read-reads : (m : Memory) (before : Lent) → ReadIs (readStrict (textIn m)) before (tablesIn m) (Accepted (m .counts)) → rows.Reads (textRows m)
 read-reads m before x = let r = read-rows false (textIn m) before (tablesIn m) (m .counts) x in record { trees = r .0; reads = r .1; same-rows = r .2 }
 
 pub read-fresh : (m : Memory) (before : Lent) → m .used ≤ length (m .text)
-    → ReadIs (read false (textIn m)) before (tablesIn m) (Accepted (m .counts)) → Fresh m
+    → ReadIs (readStrict (textIn m)) before (tablesIn m) (Accepted (m .counts)) → Fresh m
 read-fresh m before l x =
     record { fits = read-buffer-fits false (m .text) (m .used) before (tablesIn m) (m .counts) l x; reads = read-reads m before x }
 
 pub shown-fresh : {i : ℕ} (m : Memory) (before : Lent) (r : SgfReading) → m .used ≤ length (m .text)
-    → ReadShown i (read false (textIn m)) before (tablesIn m) r → r .number ≡ 0 → countsRead r ≡ m .counts → Fresh m
+    → ReadShown i (readStrict (textIn m)) before (tablesIn m) r → r .number ≡ 0 → countsRead r ≡ m .counts → Fresh m
 shown-fresh {i} m before r l s z k =
     let x : Reads false (textIn m) before = reading-exactly false (textIn m) before (tablesIn m) r s .zero .0 z in
     let a = reads-answer false (textIn m) before x in
@@ -54,7 +54,7 @@ calls-fresh m m′ xs f k = record { fits = calls-fit m m′ xs (f .fits) k; rea
 pub trees-once : {ts us : List Tree} → accepted ts ≡ accepted us → ts ≡ us
 trees-once e = cc
 
-pub reread-rows : (m : Memory) → rows.Reads (textRows m) → (before after : Lent) (k : Counts) → ReadIs (read false (textIn m)) before after (Accepted k)
+pub reread-rows : (m : Memory) → rows.Reads (textRows m) → (before after : Lent) (k : Counts) → ReadIs (readStrict (textIn m)) before after (Accepted k)
     → rowsOf k (after .trees) (after .nodes) (after .props) (after .vals) ≡ rowsIn m
 reread-rows m f before after k x =
     let r = read-rows false (textIn m) before after k x in
@@ -86,13 +86,13 @@ module _ (m : Memory) (f : Fresh m) where
     roomy-again : roomy T before ≡ true
     roomy-again = subst (λ (k : Counts). hasRoom k before ≡ true) fresh-counts h
 
-    answer-again : answers (read false (textIn m)) before ≡ Accepted (m .counts)
+    answer-again : answers (readStrict (textIn m)) before ≡ Accepted (m .counts)
     answer-again =
         ap (λ (a : Answer). answers a before) (f .reads .reads)
         ∙ ap (λ (b : Bool). pick b (Accepted (countsOf T)) (Refused NoRoom 0)) roomy-again
         ∙ ap Accepted (sym fresh-counts)
 
-    leaves-again : leaves (read false (textIn m)) before ≡ stored (rowsIn m) before
+    leaves-again : leaves (readStrict (textIn m)) before ≡ stored (rowsIn m) before
     leaves-again =
         ap (λ (a : Answer). leaves a before) (f .reads .reads)
         ∙ ap (λ (b : Bool). pick b (stored T before) before) roomy-again
@@ -128,19 +128,19 @@ module _ (m : Memory) (f : Fresh m) where
       (over-own _ (m .values) _ (value-cells (m .values) (m .counts .values) n-values) n-values)
 
   -- into tables with room: accepted with the same counts, and the same cells
-  pub reread : (before after : Lent) (r : Reading) → hasRoom (m .counts) before ≡ true → ReadIs (read false (textIn m)) before after r
+  pub reread : (before after : Lent) (r : Reading) → hasRoom (m .counts) before ≡ true → ReadIs (readStrict (textIn m)) before after r
       → (r ≡ Accepted (m .counts)) × SameCells (m .counts) after (tablesIn m)
   reread before after r h x =
       (x .answer ∙ answer-again before h, subst (λ (l : Lent). SameCells (m .counts) l (tablesIn m)) (sym (x .tables ∙ leaves-again before h)) (stored-cells before))
 
   -- into its own tables: every number stays
-  pub reread-own : (after : Lent) (r : Reading) → ReadIs (read false (textIn m)) (tablesIn m) after r → (r ≡ Accepted (m .counts)) × (after ≡ tablesIn m)
+  pub reread-own : (after : Lent) (r : Reading) → ReadIs (readStrict (textIn m)) (tablesIn m) after r → (r ≡ Accepted (m .counts)) × (after ≡ tablesIn m)
   reread-own after r x = (x .answer ∙ answer-again (tablesIn m) own-room, x .tables ∙ leaves-again (tablesIn m) own-room ∙ stored-own)
 
-  -- as sgf_read says it
-  pub reread-shown : {i : ℕ} (before after : Lent) (r : SgfReading) → hasRoom (m .counts) before ≡ true → ReadShown i (read false (textIn m)) before after r
+  -- as sgf_read_strict says it
+  pub reread-shown : {i : ℕ} (before after : Lent) (r : SgfReading) → hasRoom (m .counts) before ≡ true → ReadShown i (readStrict (textIn m)) before after r
       → (r .number ≡ 0) × (countsRead r ≡ m .counts) × SameCells (m .counts) after (tablesIn m)
   reread-shown {i} before after r h s =
       let e : r ≡ readingShown i (Accepted (m .counts)) = s .shown ∙ ap (readingShown i) (answer-again before h) in
-      let x = reread before after (answers (read false (textIn m)) before) h (record { answer = refl; tables = s .tables }) in
+      let x = reread before after (answers (readStrict (textIn m)) before) h (record { answer = refl; tables = s .tables }) in
       (ap (λ (z : SgfReading). z .number) e, ap countsRead e, x .1)

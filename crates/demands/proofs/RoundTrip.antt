@@ -15,7 +15,7 @@ use Rattle.tables.specs.declared.Reading.the-variants.{Accepted, Refused}
 use Rattle.tables.specs.declared.Reason.the-variants.{TextTooLong, TooDeep, NoRoom}
 use Rattle.fit.specs.Fit.{Fit}
 use Rattle.fit.specs.Record.{rowsIn, recordIn}
-use Rattle.parser.specs.Read.{Answer, refused, accepted, decoded, read}
+use Rattle.parser.specs.Read.{Answer, refused, accepted, decoded, read, readStrict}
 use Rattle.reader.specs.Lent.{Lent, roomy, answers, ReadIs}
 use Rattle.reader.proofs.Theorems.{counts-are-lengths}
 use Rattle.reader_laws.specs.Enough.{strictRows, Lends}
@@ -40,7 +40,7 @@ use Rattle.demands.proofs.Rereadings.{trees-once}
 use Rattle.demands.proofs.Writings.{wrote-bytes, fit-writes, left-rows, left-reads, left-fits}
 
 -- as many properties are counted as the record has
-properties-read : (t : List ℕ) (before after : Lent) (k : Counts) → ReadIs (read false t) before after (Accepted k)
+properties-read : (t : List ℕ) (before after : Lent) (k : Counts) → ReadIs (readStrict t) before after (Accepted k)
     → k .properties ≡ length (allProps (allNodes (recordIn (holding t k after))))
 properties-read t before after k x =
     let n = counts-are-lengths false t before after k x in
@@ -60,12 +60,12 @@ long-one len t before after r h y =
     y .answer
     ∙ ap (λ (b : Bool). answers (pick b (refused TextTooLong 0) (decoded len (utfs (whole blank) 0 t) t)) before) (lt-ltb textLimit (length t) h)
 
-module _ (t : List ℕ) (before after : Lent) (k : Counts) (x : ReadIs (read false t) before after (Accepted k))
+module _ (t : List ℕ) (before after : Lent) (k : Counts) (x : ReadIs (readStrict t) before after (Accepted k))
     (b : BeginsAll t) (nm : All Named (allProps (allNodes (recordIn (holding t k after))))) where
   abbrev M : Memory
   M = holding t k after
 
-  reads : read false t ≡ accepted (recordIn (holding t k after))
+  reads : readStrict t ≡ accepted (recordIn (holding t k after))
   reads = left-reads false t before after k x
 
   names : nameless (allProps (allNodes (recordIn (holding t k after)))) ≡ false
@@ -87,21 +87,21 @@ module _ (t : List ℕ) (before after : Lent) (k : Counts) (x : ReadIs (read fal
     short : length (writing (recordIn (holding t k after))) ≤ textLimit
     short = omega (arith, l, long)
 
-    pub deep-nine : depthLimit < depthOf (take n out′) → (before₂ after₂ : Lent) (r : Reading) → ReadIs (read false (take n out′)) before₂ after₂ r → r ≡ Refused TooDeep 0
+    pub deep-nine : depthLimit < depthOf (take n out′) → (before₂ after₂ : Lent) (r : Reading) → ReadIs (readStrict (take n out′)) before₂ after₂ r → r ≡ Refused TooDeep 0
     deep-nine h before₂ after₂ r y =
         y .answer
         ∙ ap (λ (a : Answer). answers a before₂)
-        (ap (read false) is ∙ too-deep t (recordIn (holding t k after)) reads b nm short (subst (λ (z : List ℕ). depthLimit < depthOf z) is h))
+        (ap (readStrict) is ∙ too-deep t (recordIn (holding t k after)) reads b nm short (subst (λ (z : List ℕ). depthLimit < depthOf z) is h))
 
     module _ (s : depthOf (take n out′) ≤ depthLimit) where
       pub back : ReadsBack (recordIn (holding t k after))
       back = reads-back-within t (recordIn (holding t k after)) reads b nm short (subst (λ (z : List ℕ). depthOf z ≤ depthLimit) is s)
 
-      pub reads-again : read false (take n out′) ≡ accepted (back .again)
-      reads-again = ap (read false) is ∙ back .accepts
+      pub reads-again : readStrict (take n out′) ≡ accepted (back .again)
+      reads-again = ap (readStrict) is ∙ back .accepts
 
       -- the rows of what is read are lent, or not
-      pub room-exactly : (before₂ after₂ : Lent) (r : Reading) → ReadIs (read false (take n out′)) before₂ after₂ r
+      pub room-exactly : (before₂ after₂ : Lent) (r : Reading) → ReadIs (readStrict (take n out′)) before₂ after₂ r
           → (roomy (tables (back .again)) before₂ ≡ true → r ≡ Accepted (countsOf (tables (back .again)))) × (roomy (tables (back .again)) before₂ ≡ false → r ≡ Refused NoRoom 0)
       room-exactly before₂ after₂ r y = (so true, so false)
         where
@@ -112,13 +112,13 @@ module _ (t : List ℕ) (before after : Lent) (k : Counts) (x : ReadIs (read fal
               ∙ ap (λ (g : Bool). pick g (Accepted (countsOf (tables (back .again)))) (Refused NoRoom 0)) h
 
       -- tables for n bytes have room
-      pub room-enough : (before₂ after₂ : Lent) (r : Reading) → ReadIs (read false (take n out′)) before₂ after₂ r → Lends (strictRows n) before₂
+      pub room-enough : (before₂ after₂ : Lent) (r : Reading) → ReadIs (readStrict (take n out′)) before₂ after₂ r → Lends (strictRows n) before₂
           → r ≡ Accepted (countsOf (tables (back .again)))
       room-enough before₂ after₂ r y h =
           y .answer
           ∙ strict-accepts false (take n out′) (back .again) reads-again refl before₂ (subst (λ (z : ℕ). Lends (strictRows z) before₂) (long ∙ sym (ap length is)) h)
 
-      module _ (before₂ after₂ : Lent) (k₂ : Counts) (y : ReadIs (read false (take n out′)) before₂ after₂ (Accepted k₂)) where
+      module _ (before₂ after₂ : Lent) (k₂ : Counts) (y : ReadIs (readStrict (take n out′)) before₂ after₂ (Accepted k₂)) where
         again-is : back .again ≡ recordIn (holding (take n out′) k₂ after₂)
         again-is = trees-once (sym reads-again ∙ left-reads false (take n out′) before₂ after₂ k₂ y)
 
@@ -158,7 +158,7 @@ module _ (t : List ℕ) (before after : Lent) (k : Counts) (x : ReadIs (read fal
             (q, wrote-bytes M₂ out₂ out₂′ n (subst (WriteIs M₂ out₂ out₂′) q v) .1 ∙ sym e ∙ sym is)
 
     -- 9, and 9 only, where it is too deep
-    pub nine-deep : (before₂ after₂ : Lent) (p : ℕ) → ReadIs (read false (take n out′)) before₂ after₂ (Refused TooDeep p) → depthLimit < depthOf (take n out′)
+    pub nine-deep : (before₂ after₂ : Lent) (p : ℕ) → ReadIs (readStrict (take n out′)) before₂ after₂ (Refused TooDeep p) → depthLimit < depthOf (take n out′)
     nine-deep before₂ after₂ p y =
         below-or depthLimit (depthOf (take n out′)) (λ h. h)
         (λ h. go (roomy (tables (back h .again)) before₂) (countsOf (tables (back h .again))) (y .answer ∙ ap (λ (a : Answer). answers a before₂) (reads-again h)))

@@ -21,7 +21,7 @@ version-once = once-is version
 
 -- sgf
 
--- all of the answer, and all lent tables
+-- all of the answer, and all lent tables: of sgf_read_strict and sgf_read_lenient
 pub read-once : (i : ℕ) (a : Answer) (before x y : Lent) (r s : SgfReading) → ReadShown i a before x r → ReadShown i a before y s → (r ≡ s) × (x ≡ y)
 read-once i a before x y r s p q = (p .shown ∙ sym (q .shown), p .tables ∙ sym (q .tables))
 

@@ -1,5 +1,5 @@
 -- No second answer: of each public function, two answers that meet its contract are equal. Assumes nothing.
-use Rattle.lists.proofs.Prelude.{_≡_, Bool, List, ℕ, sym, _∙_}
+use Rattle.lists.proofs.Prelude.{_≡_, refl, Bool, true, false, List, ℕ, sym, ap, _∙_, eqb, pick}
 use Rattle.lists.specs.Once.{Once}
 use Rattle.lists.proofs.Once.{once-is}
 use Rattle.lexer.specs.Token.{lexAt}
@@ -17,9 +17,14 @@ use Rattle.parser_census.specs.declared.Census.{Census}
 use Rattle.parser_step.specs.LocalsAsks.{asks}
 use Rattle.parser_step.specs.declared.State.{State}
 use Rattle.parser_step.specs.declared.Act.{Act}
+use Rattle.tables.specs.Lenient.{asReading}
+use Rattle.tables.specs.Numbers.{numberOf}
+use Rattle.tables.specs.declared.Lenient.{Lenient}
+use Rattle.tables.specs.declared.Lenient.the-variants as lenient
 use Rattle.tables.specs.declared.Reading.{Reading}
-use Rattle.parser.specs.Read.{Answer}
-use Rattle.reader.specs.Lent.{Lent, ReadIs}
+use Rattle.tables.specs.declared.Reading.the-variants.{Accepted, Refused}
+use Rattle.parser.specs.Read.{readStrict, readLenient}
+use Rattle.reader.specs.Lent.{Lent, ReadIs, LenientIs}
 
 -- parser
 
@@ -29,8 +34,11 @@ survey-once len s from = once-is (surveyOf len (lexAt s from))
 
 -- parser_split
 
-pub plan-text-once : (len : Bool) (t : List ℕ) → Once (λ (r : Plan). r ≡ planText len t)
-plan-text-once len t = once-is (planText len t)
+pub plan-strict-once : (t : List ℕ) → Once (λ (r : Plan). r ≡ planText false t)
+plan-strict-once t = once-is (planText false t)
+
+pub plan-lenient-once : (t : List ℕ) → Once (λ (r : Plan). r ≡ planText true t)
+plan-lenient-once t = once-is (planText true t)
 
 -- parser_game
 
@@ -52,6 +60,24 @@ look-once len u base st a = once-is (asks len u base st a)
 
 -- reader
 
--- of read
-pub read-once : (a : Answer) (before x y : Lent) (r s : Reading) → ReadIs a before x r → ReadIs a before y s → (r ≡ s) × (x ≡ y)
-read-once a before x y r s p q = (p .answer ∙ sym (q .answer), p .tables ∙ sym (q .tables))
+pub read-strict-once : (t : List ℕ) (before x y : Lent) (r s : Reading) → ReadIs (readStrict t) before x r → ReadIs (readStrict t) before y s → (r ≡ s) × (x ≡ y)
+read-strict-once t before x y r s p q = (p .answer ∙ sym (q .answer), p .tables ∙ sym (q .tables))
+
+-- a reading as a case of the lenient answer, by its number
+abbrev back : Reading → Lenient
+back (Accepted c) = lenient.Accepted c
+back (Refused r p) = pick (eqb (numberOf r) 1) lenient.TextTooLong (pick (eqb (numberOf r) 2) (lenient.NotUtf8 p) (pick (eqb (numberOf r) 9) lenient.TooDeep lenient.NoRoom))
+
+as-reading-back : (l : Lenient) → back (asReading l) ≡ l
+as-reading-back (lenient.Accepted c) = refl
+as-reading-back lenient.TextTooLong = refl
+as-reading-back (lenient.NotUtf8 p) = refl
+as-reading-back lenient.TooDeep = refl
+as-reading-back lenient.NoRoom = refl
+
+-- two lenient answers with one reading are equal
+pub as-reading-once : (r s : Lenient) → asReading r ≡ asReading s → r ≡ s
+as-reading-once r s e = sym (as-reading-back r) ∙ ap back e ∙ as-reading-back s
+
+pub read-lenient-once : (t : List ℕ) (before x y : Lent) (r s : Lenient) → LenientIs (readLenient t) before x r → LenientIs (readLenient t) before y s → (r ≡ s) × (x ≡ y)
+read-lenient-once t before x y r s p q = (as-reading-once r s (p .answer ∙ sym (q .answer)), p .tables ∙ sym (q .tables))

@@ -18,6 +18,8 @@ use Rattle.ask.specs.Ask.{shownFor}
 use Rattle.ask.specs.declared.Shown.{Shown}
 use Rattle.serialize.specs.declared.Written.{Written}
 use Rattle.edit_answer.specs.declared.Edited.{Edited}
+use Rattle.tables.specs.Lenient.{asReading}
+use Rattle.tables.specs.declared.Lenient.{Lenient}
 use Rattle.c_answers.specs.Shown.{readingShown, spanShown, displayShown, goShown, writingShown, editShown}
 use Rattle.c_answers.specs.declared.SgfDisplay.{SgfDisplay}
 use Rattle.c_answers.specs.declared.SgfEdit.{SgfEdit}
@@ -57,6 +59,9 @@ value-once at Unclosed p q = four p q
 
 pub reading-once : (i : ℕ) (a : Reading) → Once (λ (r : SgfReading). r ≡ readingShown i a)
 reading-once i a = once-is (readingShown i a)
+
+pub lenient-once : (i : ℕ) (l : Lenient) → Once (λ (r : SgfReading). r ≡ readingShown i (asReading l))
+lenient-once i l = once-is (readingShown i (asReading l))
 
 pub span-once : (a : Accessed) → Once (λ (r : SgfSpan). r ≡ spanShown a)
 span-once a = once-is (spanShown a)

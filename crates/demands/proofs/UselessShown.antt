@@ -39,7 +39,7 @@ use Rattle.sgf.specs.Shown.{ReadShown}
 use Rattle.demands.specs.Cells.{countsRead}
 use Rattle.demands.proofs.Useless.{rows, room, two-nodes, nothing, ten-first, first, second, first-edit, second-edit}
 
--- ---- sgf_read
+-- ---- sgf_read_strict
 
 module _ {i : ℕ} (after : Lent) (r : SgfReading) (x : ReadShown i (read strict (bytes "(;;)")) room after r) where
   is : r ≡ readingShown i (Accepted (rows 1 2 0 0))

@@ -8,7 +8,7 @@ use Rattle.lists.proofs.All.{all-mem}
 use Rattle.lists.specs.All.{All}
 use Rattle.parser.proofs.Answers.{not-both}
 use Rattle.parser.proofs.Lift.{OfAnswer, of-tokens, of-trees}
-use Rattle.parser.specs.Read.{Answer, accepted, decoded, lexing, parsed, read, refused}
+use Rattle.parser.specs.Read.{Answer, accepted, decoded, lexing, parsed, refused, readStrict}
 use Rattle.parser.specs.Split.{ended}
 use Rattle.tables.specs.Numbers.{reasonOf, textLimit}
 use Rattle.tables.specs.Record.{Tree, allNodes, allProps}
@@ -33,7 +33,7 @@ lexing-done : (e : End) (l : List Tok) (ts : List Tree) → lexing false e l ≡
 lexing-done done l ts h = (refl, h)
 lexing-done (broken f s) l ts h = not-both (reasonOf f) s ts h
 
-pub accepted-is : (t : List ℕ) (ts : List Tree) → read false t ≡ accepted ts → Accepted t ts
+pub accepted-is : (t : List ℕ) (ts : List Tree) → readStrict t ≡ accepted ts → Accepted t ts
 accepted-is t ts h = go (utfs (whole blank) 0 t) refl (short (ltb textLimit (length t)) (decoded false (utfs (whole blank) 0 t) t) ts h)
   where
     go : (u : Utf) → utfs (whole blank) 0 t ≡ u → decoded false u t ≡ accepted ts → Accepted t ts

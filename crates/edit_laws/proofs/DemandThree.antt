@@ -13,7 +13,7 @@ use Rattle.tables.specs.Record.{Tree, allNodes, allProps, allVals}
 use Rattle.tables.specs.Rows.{Tables, PropRow, ValRow, tables, propRows, valRows}
 use Rattle.tables.proofs.Moved.{tables-move}
 use Rattle.parser.specs.Kind.{GM}
-use Rattle.parser.specs.Read.{accepted, read}
+use Rattle.parser.specs.Read.{accepted, readStrict}
 use Rattle.parser.proofs.Denoted.{read-denotes}
 use Rattle.edit_splice.specs.Splice.{pasted}
 use Rattle.edit_answer.specs.Edit.{ownerRow, ownerName, spanAt, shifted, Outcome, edit}
@@ -53,7 +53,7 @@ name-of t (p ∷ ps) h f k = go (ltb k (length (p .vals))) refl (name-of t ps (h
 
 -- ---- the edit over rows is the edit over trees
 
-module _ (room : ℕ) (t : List ℕ) (ts : List Tree) (k : ℕ) (new : List ℕ) (h : read false t ≡ accepted ts) where
+module _ (room : ℕ) (t : List ℕ) (ts : List Tree) (k : ℕ) (new : List ℕ) (h : readStrict t ≡ accepted ts) where
   abbrev pub v : Val
   v = valueOf ts k
 

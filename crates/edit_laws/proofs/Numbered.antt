@@ -10,7 +10,7 @@ use Rattle.tables.specs.Numbers.{textLimit}
 use Rattle.tables.specs.Record.{Tree, allNodes, allProps, allVals}
 use Rattle.tables.specs.Move.{moveTree}
 use Rattle.parser.specs.Kind.{GM}
-use Rattle.parser.specs.Read.{accepted, read}
+use Rattle.parser.specs.Read.{accepted, readStrict}
 use Rattle.edit_laws.proofs.Accepted.{Accepted, accepted-is, on-trees, Between, all-between}
 use Rattle.edit_laws.proofs.Reread.{edit-reads}
 
@@ -86,11 +86,11 @@ inside-text t ts p v A mp mv =
     let b = on-trees (Between (A .f0) (place (A .f0) bs)) (lexFrom (A .f0) (A .l) bs .toks) ts p v (A .trees) (all-between (A .f0) (A .l) bs) mp mv in
     (b .1, omega (arith, b .0, b .1, b .2, place-is (A .f0) bs, length-drop (A .f0) (take (A .l) t), length-take (A .l) t))
 
-at-places : (t new : List ℕ) (ts : List Tree) (p : Prop) (v : Val) → read false t ≡ accepted ts
+at-places : (t new : List ℕ) (ts : List Tree) (p : Prop) (v : Val) → readStrict t ≡ accepted ts
     → List·Memᴰ p (allProps (allNodes ts)) → List·Memᴰ v (p .vals) → same (p .name) GM ≡ false
     → closed new ≡ true → (kn : Ink) → utfs (whole blank) 0 new ≡ whole kn → length (newText t v new) ≤ textLimit
     → (v .from ≤ v .to) × (v .to ≤ length t)
-    → read false (newText t v new)
+    → readStrict (newText t v new)
     ≡ accepted (newTrees ts v new)
 at-places t new ts p v h mp mv hg cn kn hn fits b =
     let pre : List ℕ = take (v .from) t in
@@ -99,14 +99,14 @@ at-places t new ts p v h mp mv hg cn kn hn fits b =
     let lp : length pre ≡ v .from = length-take-le (v .from) t (omega (arith, b .0, b .1)) in
     let lo : length pre + length old ≡ v .to =
     omega (arith, b .0, lp, length-drop (v .from) (take (v .to) t), length-take-le (v .to) t (b .1)) in
-    let r = edit-reads pre old new post ts p v (ap (read false) (cut-text (v .from) (v .to) t (b .0)) ∙ h) mp mv (sym lp) (sym lo) hg cn kn hn fits in
+    let r = edit-reads pre old new post ts p v (ap (readStrict) (cut-text (v .from) (v .to) t (b .0)) ∙ h) mp mv (sym lp) (sym lo) hg cn kn hn fits in
     r ∙ ap₂ (λ (x y : ℕ). accepted (map (moveTree (startsAt x y (length new)) (endsAt x y (length new)) (newRaw x new)) ts)) lp lo
 
 -- the edit of value k
-pub edit-number : (t new : List ℕ) (ts : List Tree) (k : ℕ) → read false t ≡ accepted ts
+pub edit-number : (t new : List ℕ) (ts : List Tree) (k : ℕ) → readStrict t ≡ accepted ts
     → k < length (allVals (allProps (allNodes ts))) → same (ownerOf (allProps (allNodes ts)) k) GM ≡ false
     → closed new ≡ true → (kn : Ink) → utfs (whole blank) 0 new ≡ whole kn
-    → length (newText t (valueOf ts k) new) ≤ textLimit → read false (newText t (valueOf ts k) new) ≡ accepted (newTrees ts (valueOf ts k) new)
+    → length (newText t (valueOf ts k) new) ≤ textLimit → readStrict (newText t (valueOf ts k) new) ≡ accepted (newTrees ts (valueOf ts k) new)
 edit-number t new ts k h lk hg cn kn hn fits =
     let o = owned (allProps (allNodes ts)) k lk in
     let v : Val = getD (allVals (allProps (allNodes ts))) k noVal in

@@ -17,7 +17,7 @@ use Rattle.lists.specs.Same.{same}
 use Rattle.parser.proofs.Moved.{move-tokens, moveAnswer}
 use Rattle.parser.proofs.MovedKind.{GmStays}
 use Rattle.parser.specs.Kind.{GM}
-use Rattle.parser.specs.Read.{Answer, accepted, decoded, lexing, parsed, read, refused}
+use Rattle.parser.specs.Read.{Answer, accepted, decoded, lexing, parsed, refused, readStrict}
 use Rattle.parser.specs.Split.{ended}
 use Rattle.tables.specs.Move.{moveTree}
 use Rattle.tables.specs.Numbers.{textLimit}
@@ -115,7 +115,7 @@ module _ (pre old new post : List ℕ) (ts : List Tree) (p : Prop) (v : Val) whe
       → parsed false (lexFrom f0 l (drop f0 (take l (pre ++ (old ++ post)))) .toks) ≡ accepted ts
       → Found f0 l pre old post (p .name) (lexFrom f0 l (drop f0 (take l (pre ++ (old ++ post)))) .toks)
       → same (p .name) GM ≡ false → closed new ≡ true → (kn : Ink) → utfs (whole blank) 0 new ≡ whole kn → length (pre ++ (new ++ post)) ≤ textLimit
-      → read false (pre ++ (new ++ post)) ≡ accepted (map (moveTree (startsAt q e (length new)) (endsAt q e (length new)) (newRaw q new)) ts)
+      → readStrict (pre ++ (new ++ post)) ≡ accepted (map (moveTree (startsAt q e (length new)) (endsAt q e (length new)) (newRaw q new)) ts)
   assemble f0 l m valid ended trees F hg cn kn hn fits =
       in-textLimit (ltb textLimit (length (pre ++ (new ++ post)))) (decoded false (utfs (whole blank) 0 (pre ++ (new ++ post))) (pre ++ (new ++ post)))
       (le-ltb textLimit (length (pre ++ (new ++ post))) fits)
@@ -145,15 +145,15 @@ module _ (pre old new post : List ℕ) (ts : List Tree) (p : Prop) (v : Val) whe
 
 -- the value edit, read again
 pub edit-reads : (pre old new post : List ℕ) (ts : List Tree) (p : Prop) (v : Val)
-    → read false (pre ++ (old ++ post)) ≡ accepted ts
+    → readStrict (pre ++ (old ++ post)) ≡ accepted ts
     → List·Memᴰ p (allProps (allNodes ts)) → List·Memᴰ v (p .vals) → v .from ≡ length pre → v .to ≡ length pre + length old
     → same (p .name) GM ≡ false
     → closed new ≡ true → (kn : Ink) → utfs (whole blank) 0 new ≡ whole kn → length (pre ++ (new ++ post)) ≤ textLimit
-    → read false (pre ++ (new ++ post))
+    → readStrict (pre ++ (new ++ post))
     ≡ accepted (map (moveTree (startsAt (length pre) (length pre + length old) (length new)) (endsAt (length pre) (length pre + length old) (length new)) (newRaw (length pre) new)) ts)
 edit-reads pre old new post ts p v h mp mv from to hg cn kn hn fits = go (accepted-is (pre ++ (old ++ post)) ts h)
   where
-    go : Accepted (pre ++ (old ++ post)) ts → read false (pre ++ (new ++ post))
+    go : Accepted (pre ++ (old ++ post)) ts → readStrict (pre ++ (new ++ post))
         ≡ accepted (map (moveTree (startsAt (length pre) (length pre + length old) (length new)) (endsAt (length pre) (length pre + length old) (length new)) (newRaw (length pre) new)) ts)
     go A =
         let b = bounds (A .f0) (A .l) pre old post ts p v (A .trees) mp mv from to in

@@ -16,7 +16,7 @@ use Rattle.tables.specs.Rows.{Tables, tables}
 use Rattle.tables.specs.Move.{moveTree}
 use Rattle.tables.proofs.Moved.{nodes-move, props-move, vals-move}
 use Rattle.parser.specs.Kind.{GM}
-use Rattle.parser.specs.Read.{Answer, refused, accepted, decoded, read}
+use Rattle.parser.specs.Read.{Answer, refused, accepted, decoded, readStrict}
 use Rattle.parser.proofs.Denoted.{read-denotes}
 use Rattle.parser.proofs.Lift.{OfAnswer, of-tokens, of-trees}
 use Rattle.tables.specs.declared.Reason.the-variants.{TextTooLong}
@@ -85,7 +85,7 @@ back t new q e qe et =
     ∙ ap (λ (z : List ℕ). take q t ++ (drop q (take e t) ++ z)) b
     ∙ cut-text q e t qe
 
-module _ (room : ℕ) (t : List ℕ) (ts : List Tree) (k : ℕ) (new : List ℕ) (h : read false t ≡ accepted ts) (roomy : length t ≤ room) where
+module _ (room : ℕ) (t : List ℕ) (ts : List Tree) (k : ℕ) (new : List ℕ) (h : readStrict t ≡ accepted ts) (roomy : length t ≤ room) where
   abbrev v : Val
   v = valueOf ts k
 
@@ -120,7 +120,7 @@ module _ (room : ℕ) (t : List ℕ) (ts : List Tree) (k : ℕ) (new : List ℕ)
     raw : v .raw ≡ old
     raw = all-mem (Stands t) (o .p .vals) (o .mv) (all-mem (Denotes t) ps (o .mp) (read-denotes false t ts h) .1)
 
-    rereads : read false U ≡ accepted US
+    rereads : readStrict U ≡ accepted US
     rereads = edit-number t new ts k h lk hg cn kn hn fits
 
     f : ℕ → ℕ
@@ -173,7 +173,7 @@ module _ (room : ℕ) (t : List ℕ) (ts : List Tree) (k : ℕ) (new : List ℕ)
     trees-back =
         let r = edit-number U old US k rereads (rw count-same lk) (ap (λ (z : List ℕ). same z GM) name-same ∙ hg) old-closed (proper .1 .0) old-valid
         (rw text-back (ltb-false textLimit (length t) short)) in
-        let e : accepted (newTrees US (valueOf US k) old) ≡ accepted ts = sym r ∙ ap (read false) text-back ∙ h in
+        let e : accepted (newTrees US (valueOf US k) old) ≡ accepted ts = sym r ∙ ap (readStrict) text-back ∙ h in
         cc
 
     undone : edit room U (tables US) k old ≡ gives t (tables ts)

@@ -1,8 +1,8 @@
 -- Runs of edits, and records that a strict reading gives.
-use Rattle.lists.specs.Prelude.{_≡_, false, ℕ, List, [], _∷_}
+use Rattle.lists.specs.Prelude.{_≡_, ℕ, List, [], _∷_}
 use Rattle.tables.specs.Record.{Tree}
 use Rattle.tables.specs.Rows.{Tables, tables}
-use Rattle.parser.specs.Read.{accepted, read}
+use Rattle.parser.specs.Read.{accepted, readStrict}
 use Rattle.edit_answer.specs.Edit.{Outcome, refuses, gives, edit}
 
 -- a used text and its rows
@@ -28,5 +28,5 @@ run room s (x ∷ xs) = run room (after s (edit room (s .text) (s .rows) (x .val
 -- text and rows are what a fresh strict reading gives
 pub record Reads (s : TextRows) : Type 0 where
   pub trees : List Tree
-  pub reads : read false (s .text) ≡ accepted trees
+  pub reads : readStrict (s .text) ≡ accepted trees
   pub same-rows : s .rows ≡ tables trees

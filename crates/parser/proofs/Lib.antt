@@ -4,6 +4,7 @@ pub mod Cuts
 pub mod Denoted
 pub mod Lift
 pub mod Meets
+pub mod More
 pub mod Moved
 pub mod MovedKind
 pub mod MovedSlices

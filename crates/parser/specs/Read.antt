@@ -82,6 +82,14 @@ decoded len (whole k) t = lexing len (lex k t .end) (lex k t .toks)
 decoded len (part k s n r c) t = refused NotUtf8 s
 decoded len (bad p) t = refused NotUtf8 p
 
--- a reading of a text
+-- a reading of a text: the rules that strict and lenient reading share, with the mode
 abbrev pub read : Bool → List ℕ → Answer
 read len t = pick (ltb textLimit (length t)) (refused TextTooLong 0) (decoded len (utfs (whole blank) 0 t) t)
+
+-- a strict reading
+abbrev pub readStrict : List ℕ → Answer
+readStrict t = read false t
+
+-- a lenient reading
+abbrev pub readLenient : List ℕ → Answer
+readLenient t = read true t

@@ -1,5 +1,6 @@
 // What is read of a text before any tree is: which slices, or why it is refused.
 ghost use mathlib.Core.Path.{_≡_};
+ghost use mathlib.Core.Bool.{true, false};
 ghost use Rattle.lexer.specs.Token.{lexAt};
 ghost use Rattle.parser.specs.LocalsSurvey.{surveyOf};
 ghost use Rattle.parser_split.specs.LocalsPlans.{planTokens, planText};
@@ -35,7 +36,7 @@ fn plan_tokens(s: &[u8], from: usize, lenient: bool) -> Plan
 }
 
 // The slices of a text: the limit, UTF-8, trimming, the first pass over the tokens.
-pub fn plan_text(text: &[u8], lenient: bool) -> Plan
+fn plan_text(text: &[u8], lenient: bool) -> Plan
     ensures { λ r. ⌜ r ≡ planText lenient (now (text .entry)) ⌝ }
 {
     if tables::TEXT_LIMIT < text.len() {
@@ -46,4 +47,18 @@ pub fn plan_text(text: &[u8], lenient: bool) -> Plan
         Trimmed::Blank => plan_tokens(&text[..0], 0, lenient),
         Trimmed::Kept(first, last) => plan_tokens(&text[..last], first, lenient),
     }
+}
+
+// The slices of a text that is read strictly.
+pub fn plan_strict(text: &[u8]) -> Plan
+    ensures { λ r. ⌜ r ≡ planText false (now (text .entry)) ⌝ }
+{
+    plan_text(text, false)
+}
+
+// The slices of a text that is read leniently.
+pub fn plan_lenient(text: &[u8]) -> Plan
+    ensures { λ r. ⌜ r ≡ planText true (now (text .entry)) ⌝ }
+{
+    plan_text(text, true)
 }

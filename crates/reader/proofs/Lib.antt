@@ -1,5 +1,6 @@
 pub mod Kinded
 pub mod Linked
+pub mod Milds
 pub mod Nexts
 pub mod Parents
 pub mod Plants

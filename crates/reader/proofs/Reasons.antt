@@ -1,4 +1,4 @@
--- Which reasons a reading can give, strict or lenient: a fact of the definition. Assumes nothing.
+-- Which reasons a reading can give, strict or lenient, and their places: a fact of the definition. Assumes nothing.
 use Rattle.lists.proofs.Prelude.{ℕ, zero, suc, _-_, _^_, _≡_, refl, subst, Bool, true, false, List, [], _∷_, length, drop, ltb, pick}
 use Rattle.lists.proofs.Pick.{pick-elim}
 use Rattle.text_utf8.specs.Text.{Utf, whole, part, bad, blank, utfs}
@@ -18,24 +18,24 @@ use Rattle.parser.specs.Kind.{Kind, is, unkind, numbered, kindVals, kindProps, 
 use Rattle.parser.specs.Read.{Answer, refused, accepted, Growing, growing, failing, rooted, grown, kinded, growAll, answer, planted, parsed, lexing, lex, decoded, read}
 
 -- the reasons that only strict reading gives, by their numbers
-pub record Strict (P : Reason → Type 0) : Type 0 where
-  pub no3 : P MissingPropertyIdentifier
-  pub no4 : P UnexpectedEndOfPropertyIdentifier
-  pub no5 : P UnexpectedEndOfPropertyValue
-  pub no6 : P UnexpectedGameTreeEnd
-  pub no7 : P UnexpectedEndOfData
-  pub no8 : P NoGameTrees
-  pub no10 : P UnexpectedGameTreeStart
-  pub no11 : P UnexpectedProperty
-  pub no12 : P InvalidGameType
+pub record Strict (P : Reason → ℕ → Type 0) : Type 0 where
+  pub no3 : (p : ℕ) → P MissingPropertyIdentifier p
+  pub no4 : (p : ℕ) → P UnexpectedEndOfPropertyIdentifier p
+  pub no5 : (p : ℕ) → P UnexpectedEndOfPropertyValue p
+  pub no6 : P UnexpectedGameTreeEnd 0
+  pub no7 : P UnexpectedEndOfData 0
+  pub no8 : P NoGameTrees 0
+  pub no10 : P UnexpectedGameTreeStart 0
+  pub no11 : P UnexpectedProperty 0
+  pub no12 : P InvalidGameType 0
 
-module _ (len : Bool) (P : Reason → Type 0) (long : P TextTooLong) (utf : P NotUtf8) (deep : P TooDeep) (strict : len ≡ false → Strict P) where
+module _ (len : Bool) (P : Reason → ℕ → Type 0) (long : P TextTooLong 0) (utf : (p : ℕ) → P NotUtf8 p) (deep : P TooDeep 0) (strict : len ≡ false → Strict P) where
   -- ---- splitting
 
   abbrev SplitOk : Splitting → Type 0
   SplitOk (splitting d m cur ss) = Unit {0}
   SplitOk (over m ss) = Unit {0}
-  SplitOk (wrong r) = P r
+  SplitOk (wrong r) = P r 0
 
   split-ended : (d m : ℕ) (t : Tok) (cur : List Tok) (ss : List (List Tok)) → SplitOk (ended len d m t cur ss)
   split-ended zero m t cur ss = pick-elim SplitOk len (λ _. tt) (λ e. strict e .no6)
@@ -52,7 +52,7 @@ module _ (len : Bool) (P : Reason → Type 0) (long : P TextTooLong) (utf : P No
   split-ok (wrong r) (t ∷ ts) h = split-ok (wrong r) ts h
 
   abbrev SlicesOk : Slices → Type 0
-  SlicesOk (no r) = P r
+  SlicesOk (no r) = P r 0
   SlicesOk (slices ss) = Unit {0}
 
   slices-filled : (l : Bool) → len ≡ l → (m : ℕ) (ss : List (List Tok)) → SlicesOk (filled l m ss)
@@ -72,9 +72,9 @@ module _ (len : Bool) (P : Reason → Type 0) (long : P TextTooLong) (utf : P No
   abbrev WalkOk : Walk → Type 0
   WalkOk (walk cur st g ns) = Unit {0}
   WalkOk (halted ns) = Unit {0}
-  WalkOk (stopped r) = P r
+  WalkOk (stopped r) = P r 0
 
-  walk-refuse : (l : Bool) → len ≡ l → (r : Reason) → (len ≡ false → P r) → (ns : List Node) → WalkOk (refuse l r ns)
+  walk-refuse : (l : Bool) → len ≡ l → (r : Reason) → (len ≡ false → P r 0) → (ns : List Node) → WalkOk (refuse l r ns)
   walk-refuse true e r h ns = tt
   walk-refuse false e r h ns = h e
 
@@ -107,7 +107,7 @@ module _ (len : Bool) (P : Reason → Type 0) (long : P TextTooLong) (utf : P No
 
   abbrev GrowOk : Growing → Type 0
   GrowOk (growing n ts) = Unit {0}
-  GrowOk (failing r) = P r
+  GrowOk (failing r) = P r 0
 
   grow-rooted : (l : Bool) → len ≡ l → (base k : ℕ) (ns : List Node) (ts : List Tree) → GrowOk (rooted l base k ns ts)
   grow-rooted l e base k (n ∷ ns) ts = tt
@@ -122,7 +122,7 @@ module _ (len : Bool) (P : Reason → Type 0) (long : P TextTooLong) (utf : P No
   -- the reasons that a game type is refused with
   abbrev KindOk : Kind → Type 0
   KindOk (is k) = Unit {0}
-  KindOk (unkind r) = len ≡ false → P r
+  KindOk (unkind r) = len ≡ false → P r 0
 
   kind-ok : (ps : List Prop) → KindOk (kindProps ps)
   kind-ok [] = tt
@@ -148,7 +148,7 @@ module _ (len : Bool) (P : Reason → Type 0) (long : P TextTooLong) (utf : P No
   -- ---- the whole
 
   abbrev AnswerOk : Answer → Type 0
-  AnswerOk (refused r p) = P r
+  AnswerOk (refused r p) = P r p
   AnswerOk (accepted ts) = Unit {0}
 
   answer-ok : (x : Growing) → GrowOk x → AnswerOk (answer x)
@@ -162,21 +162,21 @@ module _ (len : Bool) (P : Reason → Type 0) (long : P TextTooLong) (utf : P No
   parsed-ok : (ts : List Tok) → AnswerOk (parsed len ts)
   parsed-ok ts = planted-ok (slicesOf len ts) (slices-ok len refl (split len (splitting 0 0 [] []) ts) (split-ok (splitting 0 0 [] []) ts tt))
 
-  fault-ok : (f : Fault) → len ≡ false → P (reasonOf f)
-  fault-ok no-identifier e = strict e .no3
-  fault-ok foreign e = strict e .no4
-  fault-ok unclosed e = strict e .no5
+  fault-ok : (f : Fault) (p : ℕ) → len ≡ false → P (reasonOf f) p
+  fault-ok no-identifier p e = strict e .no3 p
+  fault-ok foreign p e = strict e .no4 p
+  fault-ok unclosed p e = strict e .no5 p
 
   lexing-ok : (l : Bool) → len ≡ l → (e : End) (ts : List Tok) → AnswerOk (lexing l e ts)
   lexing-ok true q e ts = subst (λ (z : Bool). AnswerOk (parsed z ts)) q (parsed-ok ts)
   lexing-ok false q done ts = subst (λ (z : Bool). AnswerOk (parsed z ts)) q (parsed-ok ts)
-  lexing-ok false q (broken f s) ts = fault-ok f q
+  lexing-ok false q (broken f s) ts = fault-ok f s q
 
   decoded-ok : (u : Utf) (t : List ℕ) → AnswerOk (decoded len u t)
   decoded-ok (whole k) t = lexing-ok len refl (lex k t .end) (lex k t .toks)
-  decoded-ok (part k s n r c) t = utf
-  decoded-ok (bad p) t = utf
+  decoded-ok (part k s n r c) t = utf s
+  decoded-ok (bad p) t = utf p
 
-  -- whatever a reading refuses with, P holds of it
-  pub refused-with : (t : List ℕ) {r : Reason} {p : ℕ} → read len t ≡ refused r p → P r
+  -- whatever a reading refuses with, P holds of it and of the place
+  pub refused-with : (t : List ℕ) {r : Reason} {p : ℕ} → read len t ≡ refused r p → P r p
   refused-with t e = subst AnswerOk e (pick-elim AnswerOk (ltb textLimit (length t)) (λ _. long) (λ _. decoded-ok (utfs (whole blank) 0 t) t))

@@ -1,37 +1,42 @@
 -- What follows from the contract of a reading: which numbers it can give, and the counts. Assumes nothing.
-use Rattle.lists.proofs.Prelude.{ℕ, _≡_, refl, ap, Bool, true, false, _⊎_, inl, inr, List, arith, pick}
+use Rattle.lists.proofs.Prelude.{ℕ, _≡_, refl, Bool, true, false, _⊎_, inl, inr, List, arith, pick}
 use Rattle.lists.proofs.Tests.{never}
+use Rattle.lists.proofs.Pick.{pick-elim}
+use Rattle.tables.specs.Lenient.{lenientNumber}
 use Rattle.tables.specs.Numbers.{numberOf}
 use Rattle.tables.specs.Record.{Tree}
 use Rattle.tables.specs.Rows.{tables, countsOf}
 use Rattle.tables.specs.declared.Counts.{Counts}
+use Rattle.tables.specs.declared.Lenient.{Lenient}
+use Rattle.tables.specs.declared.Lenient.the-variants as lenient
 use Rattle.tables.specs.declared.Reading.the-variants.{Accepted, Refused}
 use Rattle.tables.specs.declared.Reason.{Reason}
 use Rattle.tables.specs.declared.Reason.the-variants.{TextTooLong, NotUtf8, MissingPropertyIdentifier, UnexpectedEndOfPropertyIdentifier, UnexpectedEndOfPropertyValue, UnexpectedGameTreeEnd, UnexpectedEndOfData, NoGameTrees, TooDeep, UnexpectedGameTreeStart, UnexpectedProperty, InvalidGameType, NoRoom, EmptyIdentifier, NoSuchNumber, GameTypeFixed, NotClosed, NotFitting}
-use Rattle.parser.specs.Read.{Answer, refused, accepted, read}
+use Rattle.parser.specs.Read.{Answer, refused, accepted, read, readLenient}
 use Rattle.reader.specs.Lent.{Lent, roomy, answers, ReadIs}
+use Rattle.reader.specs.LocalsMild.{Mild}
 use Rattle.reader.proofs.Reasons.{refused-with}
 
--- a refusal is the definition's, or there is no room
-refusal-is : (a : Answer) (b : Lent) (r : Reason) (p : ℕ) → Refused r p ≡ answers a b → (a ≡ refused r p) ⊎ (r ≡ NoRoom)
-refusal-is (refused q o) b r p e = let x : q ≡ r = cc in let y : o ≡ p = cc in inl (rw (x, y))
-refusal-is (accepted ts) b r p e = go (roomy (tables ts) b) e
-  where
-    go : (t : Bool) → Refused r p ≡ pick t (Accepted (countsOf (tables ts))) (Refused NoRoom 0) → (accepted ts ≡ refused r p) ⊎ (r ≡ NoRoom)
-    go true w = never (cc)
-    go false w = inr (cc)
+-- the definition's refusal of a lenient reading is one of three cases
+refused-mild : (t : List ℕ) (r : Reason) (p : ℕ) → readLenient t ≡ refused r p → Mild (Refused r p)
+refused-mild t r p e =
+    refused-with true (λ (x : Reason) (q : ℕ). Mild (Refused x q)) (lenient.TextTooLong, refl) (λ q. (lenient.NotUtf8 q, refl)) (lenient.TooDeep, refl) (λ z. never (cc)) t e
 
--- 1, 2, 9 or 14
-abbrev pub Mild : Reason → Type 0
-Mild r = (numberOf r ≡ 1) ⊎ ((numberOf r ≡ 2) ⊎ ((numberOf r ≡ 9) ⊎ (numberOf r ≡ 14)))
-
--- lenient reading gives only 0, 1, 2, 9 and 14
-pub lenient-numbers : (t : List ℕ) (b a : Lent) (r : Reason) (p : ℕ) → ReadIs (read true t) b a (Refused r p) → Mild r
-lenient-numbers t b a r p x = go (refusal-is (read true t) b r p (x .answer))
+-- every lenient answer is one of five cases
+pub answer-mild : (t : List ℕ) (b : Lent) → Mild (answers (readLenient t) b)
+answer-mild t b = go (readLenient t) refl
   where
-    go : (read true t ≡ refused r p) ⊎ (r ≡ NoRoom) → Mild r
-    go (inl e) = refused-with true Mild (inl refl) (inr (inl refl)) (inr (inr (inl refl))) (λ z. never (cc)) t e
-    go (inr e) = inr (inr (inr (ap numberOf e)))
+    go : (a : Answer) → readLenient t ≡ a → Mild (answers a b)
+    go (refused r p) e = refused-mild t r p e
+    go (accepted ts) e = pick-elim Mild (roomy (tables ts) b) (λ _. (lenient.Accepted (countsOf (tables ts)), refl)) (λ _. (lenient.NoRoom, refl))
+
+-- their numbers: 0, 1, 2, 9 and 14
+pub lenient-list : (r : Lenient) → (lenientNumber r ≡ 0) ⊎ ((lenientNumber r ≡ 1) ⊎ ((lenientNumber r ≡ 2) ⊎ ((lenientNumber r ≡ 9) ⊎ (lenientNumber r ≡ 14))))
+lenient-list (lenient.Accepted c) = inl refl
+lenient-list lenient.TextTooLong = inr (inl refl)
+lenient-list (lenient.NotUtf8 p) = inr (inr (inl refl))
+lenient-list lenient.TooDeep = inr (inr (inr (inl refl)))
+lenient-list lenient.NoRoom = inr (inr (inr (inr refl)))
 
 -- no reason has the number 13, whoever gives it
 pub no-thirteen : (r : Reason) → numberOf r ≡ 13 → ⊥

@@ -3,7 +3,9 @@ use Rattle.lists.specs.Prelude.{ℕ, _/_, _≡_, Bool, _&&_, List, leb, length,
 use Rattle.tables.specs.Columns.{treeStride, nodeStride, propertyStride, valueStride}
 use Rattle.tables.specs.Rows.{Tables, countsOf, tables}
 use Rattle.tables.specs.Flat.{flatTrees, flatNodes, flatProps, flatVals, over}
+use Rattle.tables.specs.Lenient.{asReading}
 use Rattle.tables.specs.declared.Counts.{Counts}
+use Rattle.tables.specs.declared.Lenient.{Lenient}
 use Rattle.tables.specs.declared.Reading.{Reading}
 use Rattle.tables.specs.declared.Reading.the-variants.{Accepted, Refused}
 use Rattle.tables.specs.declared.Reason.the-variants.{NoRoom}
@@ -51,4 +53,9 @@ leaves (accepted ts) l = pick (roomy (tables ts) l) (stored (tables ts) l) l
 -- both
 pub record ReadIs (a : Answer) (before after : Lent) (r : Reading) : Type 0 where
   pub answer : r ≡ answers a before
+  pub tables : after ≡ leaves a before
+
+-- the same of a lenient reading, whose answer has a type of its own
+pub record LenientIs (a : Answer) (before after : Lent) (r : Lenient) : Type 0 where
+  pub answer : asReading r ≡ answers a before
   pub tables : after ≡ leaves a before

@@ -1,3 +1,4 @@
 pub mod Lent
 pub mod LocalsKnown
+pub mod LocalsMild
 pub mod LocalsSlices

@@ -1,16 +1,21 @@
-// The reader: a text into the four lent tables, strict or lenient.
+// The reader: a text into the four lent tables. Two operations, strict and lenient, each with its own definition; below them one walk with the mode as an argument.
 mod slices; // slices.rt: the trees of all slices
 
 ghost use mathlib.Core.Path.{_≡_};
 ghost use Rattle.lexer.specs.Token.{lexAt};
 ghost use Rattle.parser.specs.Read as definition;
+ghost use Rattle.tables.specs.Lenient.{asReading};
+ghost use Rattle.parser_split.specs.LocalsPlans.{planText};
 ghost use Rattle.parser_census.specs.LocalsCensus.{censusOf};
-ghost use Rattle.reader.specs.Lent.{lent, ReadIs};
+ghost use Rattle.reader.specs.Lent.{lent, ReadIs, LenientIs};
 ghost use Rattle.reader.specs.LocalsKnown.{knownBy, knownOf};
+ghost use Rattle.reader.specs.LocalsMild.{Mild};
 use parser_census::Census;
 use parser_split::Plan;
 use tables::Counts;
+use tables::Lenient;
 use tables::Reading;
+use tables::Reason;
 use text_utf8::Trimmed;
 
 // What the census says of a text: the place of the first token, the end of what trimming keeps, and how many rows there are, all trees Go; or nothing.
@@ -52,6 +57,16 @@ fn known_text(text: &[u8]) -> Known
     }
 }
 
+// Which slices of a text are read, strictly or leniently.
+fn plan_text(text: &[u8], lenient: bool) -> Plan
+    ensures { λ r. ⌜ r ≡ planText lenient (now (text .entry)) ⌝ }
+{
+    if lenient {
+        return parser_split::plan_lenient(text);
+    }
+    parser_split::plan_strict(text)
+}
+
 // Reads a text of which nothing is known.
 fn read_odd(
     text: &[u8],
@@ -66,7 +81,7 @@ fn read_odd(
         (lent (now (trees .exit)) (now (nodes .exit)) (now (properties .exit)) (now (values .exit)))
         r ⌝ }
 {
-    match parser_split::plan_text(text, lenient) {
+    match plan_text(text, lenient) {
         Plan::Refused(reason, place) => Reading::Refused(reason, place),
         Plan::Slices(first, last, count) => slices::read_slices(
             &text[..last],
@@ -81,8 +96,8 @@ fn read_odd(
     }
 }
 
-// Reads a text into the lent tables, strictly or leniently: the counts, or why it is refused and the place. Most texts have nothing odd, and are then walked twice only.
-pub fn read(
+// Reads a text, strictly or leniently. Most texts have nothing odd, and are then walked twice only.
+fn read(
     text: &[u8],
     lenient: bool,
     trees: &mut [u32],
@@ -109,4 +124,54 @@ pub fn read(
             values,
         ),
     }
+}
+
+// Reads a text into the lent tables, strictly: the counts, or why it is refused and the place.
+pub fn read_strict(
+    text: &[u8],
+    trees: &mut [u32],
+    nodes: &mut [u32],
+    properties: &mut [u32],
+    values: &mut [u32],
+) -> Reading
+    ensures { λ r. ⌜ ReadIs (definition.readStrict (now (text .entry)))
+        (lent (now (trees .entry)) (now (nodes .entry)) (now (properties .entry)) (now (values .entry)))
+        (lent (now (trees .exit)) (now (nodes .exit)) (now (properties .exit)) (now (values .exit)))
+        r ⌝ }
+{
+    read(text, false, trees, nodes, properties, values)
+}
+
+// The case of a lenient reading. No other reason comes from one.
+fn mild(reading: Reading) -> Lenient
+    requires { ⌜ Mild reading ⌝ }
+    ensures { λ r. ⌜ asReading r ≡ reading ⌝ }
+{
+    match reading {
+        Reading::Accepted(counts) => Lenient::Accepted(counts),
+        Reading::Refused(reason, place) => {
+            match reason {
+                Reason::TextTooLong => Lenient::TextTooLong,
+                Reason::NotUtf8 => Lenient::NotUtf8(place),
+                Reason::TooDeep => Lenient::TooDeep,
+                _ => Lenient::NoRoom,
+            }
+        }
+    }
+}
+
+// Reads a text into the lent tables, leniently: the counts, or one of four refusals.
+pub fn read_lenient(
+    text: &[u8],
+    trees: &mut [u32],
+    nodes: &mut [u32],
+    properties: &mut [u32],
+    values: &mut [u32],
+) -> Lenient
+    ensures { λ r. ⌜ LenientIs (definition.readLenient (now (text .entry)))
+        (lent (now (trees .entry)) (now (nodes .entry)) (now (properties .entry)) (now (values .entry)))
+        (lent (now (trees .exit)) (now (nodes .exit)) (now (properties .exit)) (now (values .exit)))
+        r ⌝ }
+{
+    mild(read(text, true, trees, nodes, properties, values))
 }

@@ -11,7 +11,7 @@ use Rattle.tables.specs.declared.Reason.the-variants.{TextTooLong, NotUtf8, Mis
 use Rattle.parser.specs.Split.{Splitting, splitting, over, wrong, split, Slices, no as unsplit, slices, deep, sliced, slicesOf}
 use Rattle.parser.specs.Kind.{Kind, is, unkind, kind}
 use Rattle.parser.specs.Walk.{Walk, walk, halted, stopped, children, adds, walked}
-use Rattle.parser.specs.Read.{Answer, refused, accepted, Growing, growing, failing, rooted, grown, kinded, growAll, answer, planted, parsed, read}
+use Rattle.parser.specs.Read.{Answer, refused, accepted, Growing, growing, failing, rooted, grown, kinded, growAll, answer, planted, parsed, readLenient}
 use Rattle.parser.proofs.Surveys.{over-stays}
 use Rattle.parser.proofs.Cuts.{standing, deepest, Right}
 use Rattle.parser.proofs.Texts.{text-long}
@@ -147,7 +147,7 @@ module _ (t : List ℕ) where
   tree-mild (growing n ts) h = tt
   tree-mild (failing r) h = absurd h
 
-  pub deep-read : Valid t → Any (Deep 0) (slicesFrom 0 (tokensOf t .toks)) → read true t ≡ refused TooDeep 0
+  pub deep-read : Valid t → Any (Deep 0) (slicesFrom 0 (tokensOf t .toks)) → readLenient t ≡ refused TooDeep 0
   deep-read v h = valid-read true t v ∙ ap (planted true) (lax-deep (tokensOf t .toks) h)
 
   valid-mild : Valid t → AnswerMild (parsed true (tokensOf t .toks))
@@ -158,7 +158,7 @@ module _ (t : List ℕ) where
       said : {x : Slices} → slicesOf true (tokensOf t .toks) ≡ x → AnswerMild (planted true x) → AnswerMild (parsed true (tokensOf t .toks))
       said {x} e h = subst (λ (z : Slices). AnswerMild (planted true z)) (sym e) h
 
-  read-mild : AnswerMild (read true t)
+  read-mild : AnswerMild (readLenient t)
   read-mild =
       text-cases true t
       (λ h. subst AnswerMild (sym (text-long true t h)) (h, refl))
@@ -166,5 +166,5 @@ module _ (t : List ℕ) where
       (λ v. subst AnswerMild (sym (valid-read true t v)) (valid-mild v))
 
   -- what a refusal says
-  pub only-mild : {r : Reason} {p : ℕ} → read true t ≡ refused r p → Mild r p
+  pub only-mild : {r : Reason} {p : ℕ} → readLenient t ≡ refused r p → Mild r p
   only-mild e = subst AnswerMild e read-mild

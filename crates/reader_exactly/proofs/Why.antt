@@ -8,7 +8,7 @@ use Rattle.tables.specs.Numbers.{textLimit, reasonOf}
 use Rattle.tables.specs.declared.Reason.{Reason}
 use Rattle.tables.specs.declared.Reason.the-variants.{TextTooLong, NotUtf8 as notUtf8, MissingPropertyIdentifier, UnexpectedEndOfPropertyIdentifier, UnexpectedEndOfPropertyValue, UnexpectedGameTreeEnd, UnexpectedEndOfData, NoGameTrees, TooDeep, UnexpectedGameTreeStart, UnexpectedProperty, InvalidGameType, NoRoom, EmptyIdentifier, NoSuchNumber, GameTypeFixed, NotClosed, NotFitting}
 use Rattle.parser.specs.Split.{Slices, slicesOf}
-use Rattle.parser.specs.Read.{Answer, refused, accepted, Growing, growing, failing, growAll, answer, planted, parsed, lexing, read}
+use Rattle.parser.specs.Read.{Answer, refused, accepted, Growing, growing, failing, growAll, answer, planted, parsed, lexing, readStrict}
 use Rattle.parser.specs.Balance.{Balanced}
 use Rattle.parser.proofs.Texts.{text-long}
 use Rattle.reader_exactly.specs.Slicing.{Any, slicesFrom, Uncovered, Deep}
@@ -98,7 +98,7 @@ module _ (t : List ℕ) where
   lexing-why v done q = parsed-why (record { valid = v; calm = q })
   lexing-why v (broken f p) q = fault-why v f p (broken-fails t f p q)
 
-  pub read-why : AnswerWhy (read false t)
+  pub read-why : AnswerWhy (readStrict t)
   read-why =
       text-cases false t
       (λ h. subst AnswerWhy (sym (text-long false t h)) (h, refl))
@@ -106,5 +106,5 @@ module _ (t : List ℕ) where
       (λ v. subst AnswerWhy (sym (valid-read false t v)) (lexing-why v (tokensOf t .end) refl))
 
   -- what a refusal says
-  pub only : {r : Reason} {p : ℕ} → read false t ≡ refused r p → Why r p
+  pub only : {r : Reason} {p : ℕ} → readStrict t ≡ refused r p → Why r p
   only e = subst AnswerWhy e read-why

@@ -4,7 +4,7 @@ use Rattle.edit_laws.proofs.Reread.{in-textLimit}
 use Rattle.lexer.specs.Token.{End, Lexed, Tok, lexFrom}
 use Rattle.lists.proofs.Tests.{never}
 use Rattle.parser.proofs.Moved.{move-tokens, moveAnswer}
-use Rattle.parser.specs.Read.{Answer, accepted, decoded, lexing, planted, read, refused}
+use Rattle.parser.specs.Read.{Answer, accepted, decoded, lexing, planted, refused, readStrict}
 use Rattle.parser.specs.Split.{Splitting, no, sliced, slices, split, splitting}
 use Rattle.serialize_laws.proofs.ReadBack.{Back, Form, gm-same, read-back-again, walk-writes}
 use Rattle.serialize_laws.proofs.Deep.{written-depth}
@@ -22,7 +22,7 @@ use Rattle.serialize_laws.specs.Depth.{depthOf}
 
 -- the answer for a writing is the answer for its tokens, places aside
 read-tokens : (ts : List Tree) → Form ts → length (writeTrees ts) ≤ textLimit
-    → moveAnswer Z Z K (read false (writeTrees ts)) ≡ planted false (sliced false (split false (splitting 0 0 [] []) (tokTrees ts)))
+    → moveAnswer Z Z K (readStrict (writeTrees ts)) ≡ planted false (sliced false (split false (splitting 0 0 [] []) (tokTrees ts)))
 read-tokens ts f s =
     let W : List ℕ = writeTrees ts in
     let n : ℕ = length W in
@@ -43,16 +43,16 @@ too-deep m ss x e d n b =
     ∙ ap (λ (q : Bool). planted false (pick q (no TooDeep) (slices (reverse ss)))) b
 
 nine : (ts : List Tree) → Form ts → length (writeTrees ts) ≤ textLimit → ltb depthLimit (deepest (split false (splitting 0 0 [] []) (tokTrees ts))) ≡ true
-    → read false (writeTrees ts) ≡ refused TooDeep 0
+    → readStrict (writeTrees ts) ≡ refused TooDeep 0
 nine ts f s b =
     let x = split-trees ts 0 [] (f .few) in
     let X : List (List Tok) = reverseAux (map tokTree ts) [] in
     let ne : 0 < length X = omega (arith, f .some, length-reverseAux (map tokTree ts) [], length-map ts tokTree) in
     let dm : deepest (split false (splitting 0 0 [] []) (tokTrees ts)) ≡ x .0 = ap deepest (x .1) in
-    go (read false (writeTrees ts)) refl
+    go (readStrict (writeTrees ts)) refl
     (read-tokens ts f s ∙ too-deep (x .0) X (split false (splitting 0 0 [] []) (tokTrees ts)) (x .1) (ltb-true depthLimit (deepest (split false (splitting 0 0 [] []) (tokTrees ts))) b) ne (ap (ltb depthLimit) (sym dm) ∙ b))
   where
-    go : (a : Answer) → read false (writeTrees ts) ≡ a → moveAnswer Z Z K a ≡ refused TooDeep 0 → read false (writeTrees ts) ≡ refused TooDeep 0
+    go : (a : Answer) → readStrict (writeTrees ts) ≡ a → moveAnswer Z Z K a ≡ refused TooDeep 0 → readStrict (writeTrees ts) ≡ refused TooDeep 0
     go (refused n p) e h = e ∙ h
     go (accepted us) e h = never cc
 
@@ -67,10 +67,10 @@ module _ (ts : List Tree) (f : Form ts) (s : length (treesText ts) ≤ textLimit
   depth = ap depthOf (sym walked) ∙ written-depth ts f
 
   -- 9 where the writing is too deep
-  pub deep-nine : depthLimit < depthOf (treesText ts) → read false (treesText ts) ≡ refused TooDeep 0
+  pub deep-nine : depthLimit < depthOf (treesText ts) → readStrict (treesText ts) ≡ refused TooDeep 0
   deep-nine d =
       let D : ℕ = deepest (split false (splitting 0 0 [] []) (tokTrees ts)) in
-      ap (read false) (sym walked) ∙ nine ts f short (lt-ltb depthLimit D (omega (arith, d, depth)))
+      ap (readStrict) (sym walked) ∙ nine ts f short (lt-ltb depthLimit D (omega (arith, d, depth)))
 
   -- else it is read back
   pub shallow-back : depthOf (treesText ts) ≤ depthLimit → Back ts

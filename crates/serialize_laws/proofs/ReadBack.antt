@@ -8,7 +8,7 @@ use Rattle.lists.specs.All.{All}
 use Rattle.lists.proofs.Tests.{never}
 use Rattle.parser.proofs.Moved.{move-tokens, moveAnswer}
 use Rattle.parser.proofs.MovedKind.{GmStays}
-use Rattle.parser.specs.Read.{Answer, accepted, decoded, lexing, planted, read, refused}
+use Rattle.parser.specs.Read.{Answer, accepted, decoded, lexing, planted, refused, readStrict}
 use Rattle.parser.specs.Split.{sliced, split, splitting}
 use Rattle.serialize_laws.proofs.Resplit.{Few, deepest, planted-written}
 use Rattle.serialize_laws.proofs.Regrow.{SoundNodes, SoundTrees, raws-stay}
@@ -56,7 +56,7 @@ lexed-written X ts w e t =
     ∙ planted-written ts (w .form .some) (w .form .sound) (w .form .few) (w .shallow)
 
 -- strict reading of a writing gives the trees, places aside
-pub read-back : (ts : List Tree) → Writable ts → moveAnswer Z Z K (read false (writeTrees ts)) ≡ accepted (map zTree ts)
+pub read-back : (ts : List Tree) → Writable ts → moveAnswer Z Z K (readStrict (writeTrees ts)) ≡ accepted (map zTree ts)
 read-back ts w =
     let W : List ℕ = writeTrees ts in
     let n : ℕ = length W in
@@ -102,12 +102,12 @@ walk-writes ts f = walk-trees 0 ts (f .sound)
 -- a strict reading of the writing, values as they are raw, is accepted with trees that are the same but for places
 pub record Back (ts : List Tree) : Type 0 where
   pub again : List Tree
-  pub accepts : read false (treesText ts) ≡ accepted again
+  pub accepts : readStrict (treesText ts) ≡ accepted again
   pub alike : map zTree again ≡ map zTree ts
 
 pub read-back-again : (ts : List Tree) → Writable ts → Back ts
-read-back-again ts w = go (read false (writeTrees ts)) refl (read-back ts w)
+read-back-again ts w = go (readStrict (writeTrees ts)) refl (read-back ts w)
   where
-    go : (a : Answer) → read false (writeTrees ts) ≡ a → moveAnswer Z Z K a ≡ accepted (map zTree ts) → Back ts
+    go : (a : Answer) → readStrict (writeTrees ts) ≡ a → moveAnswer Z Z K a ≡ accepted (map zTree ts) → Back ts
     go (refused n p) e h = never cc
-    go (accepted us) e h = record { again = us; accepts = ap (read false) (sym (walk-writes ts (w .form))) ∙ e; alike = cc }
+    go (accepted us) e h = record { again = us; accepts = ap (readStrict) (sym (walk-writes ts (w .form))) ∙ e; alike = cc }

@@ -6,7 +6,7 @@ use Rattle.lexer.specs.Token.{Prop, Tok, Val, lexFrom}
 use Rattle.lists.proofs.All.{all-map}
 use Rattle.lists.specs.All.{All}
 use Rattle.parser.proofs.Lift.{OfAnswer, OfNode, OfTree, of-tokens}
-use Rattle.parser.specs.Read.{Answer, Growing, accepted, answer, decoded, failing, growAll, growing, planted, read, refused}
+use Rattle.parser.specs.Read.{Answer, Growing, accepted, answer, decoded, failing, growAll, growing, planted, refused, readStrict}
 use Rattle.parser.specs.Split.{Slices, Splitting, filled, no, over, sliced, slices, split, splitting, wrong}
 use Rattle.serialize_laws.proofs.Closing.{OkSlices, SliceOk, ok-tokens}
 use Rattle.serialize_laws.proofs.Opening.{Leads, leads-all}
@@ -114,7 +114,7 @@ within-up n m (no k) l h = tt
 within-up n m (slices ss) l h = omega arith
 
 -- what strict reading accepts, with trees that begin with `(` and upper case identifiers, can be written and read back, limits aside
-pub writable : (t : List ℕ) (ts : List Tree) → read false t ≡ accepted ts → BeginsAll t → All (OfTree Named) ts
+pub writable : (t : List ℕ) (ts : List Tree) → readStrict t ≡ accepted ts → BeginsAll t → All (OfTree Named) ts
     → Form ts
 writable t ts h b nm = go (accepted-is t ts h)
   where

@@ -1,10 +1,10 @@
 -- The scope's "Reading back". Assumes nothing.
-use Rattle.lists.proofs.Prelude.{_≡_, sym, _∙_, _⊎_, inl, inr, ℕ, _≤_, _<_, List, [], _∷_, map, length, false}
+use Rattle.lists.proofs.Prelude.{_≡_, sym, _∙_, _⊎_, inl, inr, ℕ, _≤_, _<_, List, [], _∷_, map, length}
 use Rattle.lists.proofs.All.{all-left, all-right}
 use Rattle.lists.specs.All.{All}
 use Rattle.parser.proofs.Answers.{not-both}
 use Rattle.parser.proofs.Lift.{OfNode, OfTree}
-use Rattle.parser.specs.Read.{accepted, read, refused}
+use Rattle.parser.specs.Read.{accepted, refused, readStrict}
 use Rattle.serialize_laws.proofs.Aside.{written-alike, written-twice}
 use Rattle.serialize_laws.proofs.BackOrNine.{deep-nine, shallow-back}
 use Rattle.serialize_laws.proofs.Kept.{same-trees, same-tree-rows, same-node-rows}
@@ -30,7 +30,7 @@ named-trees [] h = tt
 named-trees (t ∷ ts) h = (all-left (OfNode Named) (t .nodes) (allNodes ts) h, named-trees ts (all-right (OfNode Named) (t .nodes) (allNodes ts) h))
 
 -- a text that is strictly accepted, whose trees each begin with `(` and whose raw identifiers are non-empty and uppercase; its writing, within the text limit, is read
-module _ (t : List ℕ) (ts : List Tree) (h : read false t ≡ accepted ts) (b : BeginsAll t) (nm : All Named (allProps (allNodes ts)))
+module _ (t : List ℕ) (ts : List Tree) (h : readStrict t ≡ accepted ts) (b : BeginsAll t) (nm : All Named (allProps (allNodes ts)))
     (s : length (writing ts) ≤ textLimit) where
   form : Form (map formTree ts)
   form = normal-form ts (writable t ts h b (named-trees ts (named-nodes (allNodes ts) nm)))
@@ -50,12 +50,12 @@ module _ (t : List ℕ) (ts : List Tree) (h : read false t ≡ accepted ts) (b :
       }
 
   -- above it, and only there, it is 9
-  pub too-deep : depthLimit < depthOf (writing ts) → read false (writing ts) ≡ refused TooDeep 0
+  pub too-deep : depthLimit < depthOf (writing ts) → readStrict (writing ts) ≡ refused TooDeep 0
   too-deep = deep-nine (map formTree ts) form s
 
-  pub only-too-deep : (r : Reason) (p : ℕ) → read false (writing ts) ≡ refused r p → depthLimit < depthOf (writing ts)
+  pub only-too-deep : (r : Reason) (p : ℕ) → readStrict (writing ts) ≡ refused r p → depthLimit < depthOf (writing ts)
   only-too-deep r p e = below-or depthLimit (depthOf (writing ts)) (λ l. l) (λ l. not-both r p (reads-back-within l .again) (sym e ∙ reads-back-within l .accepts))
 
   -- so one of the two
-  pub reads-back : (read false (writing ts) ≡ refused TooDeep 0) ⊎ ReadsBack ts
+  pub reads-back : (readStrict (writing ts) ≡ refused TooDeep 0) ⊎ ReadsBack ts
   reads-back = below-or depthLimit (depthOf (writing ts)) (λ l. inl (too-deep l)) (λ l. inr (reads-back-within l))

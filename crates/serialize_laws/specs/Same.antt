@@ -8,7 +8,7 @@ use Rattle.go_points.specs.declared.Value.{Value}
 use Rattle.go_points.specs.declared.Value.the-variants.{Other, Invalid, Pass, Move, Handicap, Points}
 use Rattle.tables.specs.Record.{Node, Tree}
 use Rattle.tables.specs.Rows.{tables}
-use Rattle.parser.specs.Read.{accepted, read}
+use Rattle.parser.specs.Read.{accepted, readStrict}
 use Rattle.fit.specs.Record.{rawsOf}
 use Rattle.serialize.specs.Form.{writing}
 
@@ -49,7 +49,7 @@ pub record SameTree (t u : Tree) : Type 0 where
 -- a strict reading of the writing: accepted with the same trees, the same tree and node rows; and writing these gives the same bytes
 pub record ReadsBack (ts : List Tree) : Type 0 where
   pub again : List Tree
-  pub accepts : read false (writing ts) ≡ accepted again
+  pub accepts : readStrict (writing ts) ≡ accepted again
   pub same : Pairs SameTree ts again
   pub tree-rows : tables again .trees ≡ tables ts .trees
   pub node-rows : tables again .nodes ≡ tables ts .nodes

@@ -1,11 +1,16 @@
 -- A reading shown as numbers. Assumes nothing.
 use Rattle.lists.proofs.Prelude.{ℕ, _≡_, ap, _∙_}
+use Rattle.tables.specs.Lenient.{asReading}
+use Rattle.tables.specs.declared.Lenient.{Lenient}
 use Rattle.tables.specs.declared.Reading.{Reading}
 use Rattle.parser.specs.Read.{Answer}
-use Rattle.reader.specs.Lent.{Lent, ReadIs}
+use Rattle.reader.specs.Lent.{Lent, ReadIs, LenientIs}
 use Rattle.c_answers.specs.Shown.{readingShown}
 use Rattle.sgf.specs.Shown.{ReadShown}
 use Rattle.c_answers.specs.declared.SgfReading.{SgfReading}
 
 pub read-shown : {a : Answer} {before after : Lent} {r : Reading} {s : SgfReading} {ignored : ℕ} → ReadIs a before after r → s ≡ readingShown ignored r → ReadShown ignored a before after s
 read-shown {ignored = ignored} i s = record { shown = s ∙ ap (readingShown ignored) (i .answer); tables = i .tables }
+
+pub lenient-shown : {a : Answer} {before after : Lent} {r : Lenient} {s : SgfReading} {ignored : ℕ} → LenientIs a before after r → s ≡ readingShown ignored (asReading r) → ReadShown ignored a before after s
+lenient-shown {ignored = ignored} i s = record { shown = s ∙ ap (readingShown ignored) (i .answer); tables = i .tables }

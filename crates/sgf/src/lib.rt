@@ -18,7 +18,7 @@ ghost use Rattle.lists.specs.Pick.{pick};
 ghost use Rattle.lexer_scan.specs.Scan.{valueAt};
 ghost use Rattle.lexer.specs.Step.{nextAt};
 ghost use Rattle.text_utf8.specs.Trim.{trimmed};
-ghost use Rattle.parser.specs.Read.{read};
+ghost use Rattle.parser.specs.Read.{readStrict, readLenient};
 ghost use Rattle.reader.specs.Lent.{lent};
 ghost use Rattle.fit.specs.Fit.{Fit};
 ghost use Rattle.ask_value.specs.Access.{accessed};
@@ -31,7 +31,7 @@ ghost use Rattle.values.specs.Read.{readIdentifier};
 ghost use Rattle.c_answers.specs.Shown.{spanShown, goShown};
 ghost use Rattle.sgf.specs.Changed.{WriteShown, EditShown};
 ghost use Rattle.sgf.specs.Asked.{kindOf, fitsShown, answerShown, DisplayShown, RawShown};
-ghost use Rattle.sgf.specs.Shown.{lenientOf, ignoredOf, ReadShown};
+ghost use Rattle.sgf.specs.Shown.{ignoredOf, ReadShown};
 ghost use Rattle.c_tokens.specs.Tokens.{TrimIs, TokenIs, ValueIs};
 ghost use Rattle.tables.specs.Memory.{memory};
 ghost use Rattle.c_version.specs.Version.{version};
@@ -68,26 +68,45 @@ pub extern "C" fn sgf_next_value(text: &[u8], at: usize) -> SgfValue
     c_tokens::next_value(text, at)
 }
 
-// Reads a text into the lent tables. Options: 1 lenient; 2, the retired conversion switch, is ignored, and the answer says so; further bits mean nothing.
+// Reads a text into the lent tables, strictly. Settings that a profile stores change no reading: those of the two retired switches come back in the answer.
 #[no_mangle]
-pub extern "C" fn sgf_read(
+pub extern "C" fn sgf_read_strict(
     text: &[u8],
-    options: u32,
+    settings: u32,
     trees: &mut [u32],
     nodes: &mut [u32],
     properties: &mut [u32],
     values: &mut [u32],
 ) -> SgfReading
-    ensures { λ r. ⌜ ReadShown (ignoredOf options) (read (lenientOf options) (now (text .entry)))
+    ensures { λ r. ⌜ ReadShown (ignoredOf settings) (readStrict (now (text .entry)))
         (lent (now (trees .entry)) (now (nodes .entry)) (now (properties .entry)) (now (values .entry)))
         (lent (now (trees .exit)) (now (nodes .exit)) (now (properties .exit)) (now (values .exit)))
         r ⌝ }
 {
-    let lenient = options % 2 == 1;
-    let ignored = options / 2 % 2 * 2;
     c_answers::reading_shown(
-        ignored,
-        reader::read(text, lenient, trees, nodes, properties, values),
+        settings % 4,
+        reader::read_strict(text, trees, nodes, properties, values),
+    )
+}
+
+// Reads a text into the lent tables, leniently: as far as the text can be read. Settings that a profile stores change no reading: those of the two retired switches come back in the answer.
+#[no_mangle]
+pub extern "C" fn sgf_read_lenient(
+    text: &[u8],
+    settings: u32,
+    trees: &mut [u32],
+    nodes: &mut [u32],
+    properties: &mut [u32],
+    values: &mut [u32],
+) -> SgfReading
+    ensures { λ r. ⌜ ReadShown (ignoredOf settings) (readLenient (now (text .entry)))
+        (lent (now (trees .entry)) (now (nodes .entry)) (now (properties .entry)) (now (values .entry)))
+        (lent (now (trees .exit)) (now (nodes .exit)) (now (properties .exit)) (now (values .exit)))
+        r ⌝ }
+{
+    c_answers::lenient_shown(
+        settings % 4,
+        reader::read_lenient(text, trees, nodes, properties, values),
     )
 }
 

@@ -56,9 +56,8 @@ fn write_text(name: &[u8], text: &[u8], out: &mut [u8]) -> Outcome {
     let mut nodes = tool::node_rows();
     let mut properties = tool::property_rows();
     let mut values = tool::pair_rows();
-    match reader::read(
+    match reader::read_strict(
         text,
-        false,
         &mut trees,
         &mut nodes,
         &mut properties,

@@ -1,10 +1,11 @@
-// What is in a record: reads standard input strictly and says its counts, its trees with their greatest depths and the moves of each main line, or why it is refused and where.
+// What is in a record: reads standard input and says its counts, its trees with their greatest depths and the moves of each main line, or why it is refused and where. Strictly; by the one word --lenient as far as it can be read.
 mod moves; // moves.rt: the moves of a tree
 mod rows; // rows.rt: cells of the tables
 mod words; // words.rt: refusals in words
 
 ghost use Prim.Native.Nat.{_<_};
 use tables::Counts;
+use tables::Lenient;
 use tables::Reading;
 use tables::Reason;
 
@@ -106,9 +107,8 @@ fn show(text: &[u8]) {
     let mut nodes = tool::node_rows();
     let mut properties = tool::property_rows();
     let mut values = tool::pair_rows();
-    match reader::read(
+    match reader::read_strict(
         text,
-        false,
         &mut trees,
         &mut nodes,
         &mut properties,
@@ -123,11 +123,71 @@ fn show(text: &[u8]) {
     }
 }
 
+// What a lenient reading has.
+fn show_lenient(text: &[u8]) {
+    let mut trees = tool::pair_rows();
+    let mut nodes = tool::node_rows();
+    let mut properties = tool::property_rows();
+    let mut values = tool::pair_rows();
+    match reader::read_lenient(
+        text,
+        &mut trees,
+        &mut nodes,
+        &mut properties,
+        &mut values,
+    ) {
+        Lenient::Accepted(counts) => {
+            say_record(text, counts, &trees, &nodes, &properties, &values);
+        }
+        Lenient::TextTooLong => words::say_refused(text, Reason::TextTooLong, 0),
+        Lenient::NotUtf8(place) => words::say_refused(text, Reason::NotUtf8, place),
+        Lenient::TooDeep => words::say_refused(text, Reason::TooDeep, 0),
+        Lenient::NoRoom => words::say_refused(text, Reason::NoRoom, 0),
+    }
+}
+
+fn wide(b: u8) -> u32 {
+    b as u32
+}
+
+// The byte at a place; 256 behind the last.
+fn byte_at(bytes: &[u8], at: usize) -> u32 {
+    if bytes.len() <= at {
+        return 256;
+    }
+    wide(bytes[at])
+}
+
+fn is_word(given: &[u8], word: &[u8]) -> bool {
+    let mut at = 0;
+    while at < word.len() {
+        if byte_at(given, at) != byte_at(word, at) {
+            return false;
+        }
+        at += 1;
+    }
+    given.len() == word.len()
+}
+
+// Is the program's one word --lenient.
+fn is_lenient() -> bool {
+    if os::arg_count() != 2 {
+        return false;
+    }
+    let mut word = io::buffer();
+    let n = os::arg(1, &mut word);
+    is_word(&word[..n], b"--lenient")
+}
+
 fn main() {
     let mut text = tool::text_room();
     let n = io::read_full(0, &mut text);
     if 65536 < n {
         words::say_refused(&text[..n], Reason::TextTooLong, 0);
+        return;
+    }
+    if is_lenient() {
+        show_lenient(&text[..n]);
         return;
     }
     show(&text[..n]);

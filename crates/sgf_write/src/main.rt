@@ -44,9 +44,8 @@ fn say_text(text: &[u8]) {
     let mut nodes = tool::node_rows();
     let mut properties = tool::property_rows();
     let mut values = tool::pair_rows();
-    match reader::read(
+    match reader::read_strict(
         text,
-        false,
         &mut trees,
         &mut nodes,
         &mut properties,

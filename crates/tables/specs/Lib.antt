@@ -1,6 +1,7 @@
 pub mod Columns
 pub mod Each
 pub mod Flat
+pub mod Lenient
 pub mod LocalsDepths
 pub mod LocalsLinks
 pub mod Memory

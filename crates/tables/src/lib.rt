@@ -59,6 +59,15 @@ pub enum Reading {
     Refused(Reason, usize),
 }
 
+// A lenient reading: the counts, or one of the four refusals that it has, with the place of the one that has a place.
+pub enum Lenient {
+    Accepted(Counts),
+    TextTooLong,
+    NotUtf8(usize),
+    TooDeep,
+    NoRoom,
+}
+
 // The number of a refusal.
 pub fn number(reason: Reason) -> u32
     ensures { λ r. ⌜ r ≡ numberOf reason ⌝ }
