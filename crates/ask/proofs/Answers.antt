@@ -11,9 +11,10 @@ use Rattle.fit.specs.Fit.{Fit}
 use Rattle.fit.proofs.Clauses.{Clauses, fit-clauses, name-in}
 use Rattle.fit.proofs.RootRows.{root-in}
 use Rattle.ask.specs.Ask.{given, refuses, goAnswer}
-use Rattle.ask.specs.Locals.{Rooted, Named, kindFrom, nameAt}
+use Rattle.ask.specs.Locals.{Rooted, gameFrom, nameAt}
 use Rattle.ask.proofs.Goes.{trees-some, go-of-rows}
 use Rattle.fit.specs.Record.{textIn}
+use Rattle.tables.specs.LocalsNames.{NameHeld}
 
 module _ (m : Memory) (p : ℕ) where
   pub go-unfit : Fit m ≡ false → refuses NotFitting ≡ goAnswer m p
@@ -33,14 +34,14 @@ module _ (m : Memory) (p : ℕ) where
       go-rooted =
           record {
             some = trees-some f p l;
-            rows = f .held .trees;
+            lent = f .held .trees;
             roots = λ r b. omega (arith, root-in (m .trees) (m .nodes) (m .counts .trees) (m .counts .nodes) (f .roots) r b .0, f .held .nodes);
           }
 
-      pub go-named : Named p (textIn m) (m .properties)
+      pub go-named : NameHeld (textIn m) (m .properties) p
       go-named = record { row = omega (arith, f .held .properties); rises = name-in f p l .0; inside = name-in f p l .1 }
 
-      pub go-yes : {k : ℕ} {g : GoValue} → k ≡ kindFrom (m .trees) (m .nodes) p 0 (m .counts .trees - 1) → g ≡ goValue k (readIdentifier (nameAt (textIn m) (m .properties) p)) (valuesAt (textIn m) (m .values) (firstValAt (m .properties) p) (valCountAt (m .properties) p))
+      pub go-yes : {k : ℕ} {g : GoValue} → k ≡ gameFrom (m .trees) (m .nodes) p 0 (m .counts .trees - 1) → g ≡ goValue k (readIdentifier (nameAt (textIn m) (m .properties) p)) (valuesAt (textIn m) (m .values) (firstValAt (m .properties) p) (valCountAt (m .properties) p))
           → given g ≡ goAnswer m p
       unfolding goAnswer
       go-yes x e = rw (h, lt-ltb p (m .counts .properties) l) (ap given (e ∙ ap (λ (z : ℕ). goValue z (readIdentifier (nameAt (textIn m) (m .properties) p)) (valuesAt (textIn m) (m .values) (firstValAt (m .properties) p) (valCountAt (m .properties) p))) x ∙ sym (go-of-rows f p l)))

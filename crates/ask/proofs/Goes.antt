@@ -7,7 +7,7 @@ use Rattle.go.specs.Value.{goValue}
 use Rattle.go.specs.declared.value.GoValue.{GoValue}
 use Rattle.tables.specs.Record.{Node, allProps}
 use Rattle.tables.specs.declared.Counts.{Counts}
-use Rattle.tables.specs.Columns.{rootAt, kindAt, firstPropAt, propCountAt, firstValAt, valCountAt}
+use Rattle.tables.specs.Columns.{rootAt, gameAt, firstPropAt, propCountAt, firstValAt, valCountAt}
 use Rattle.tables.specs.Each.{sum, tabulate}
 use Rattle.fit.specs.Record.{treeRow, nodeRow, propRow, propOf, nodeOf, treesOf, recordOf, rowsOf}
 use Rattle.tables.proofs.Cases.{below-or}
@@ -17,7 +17,7 @@ use Rattle.fit_spans.proofs.Ranges.{gapless-first, gapless-sum, sum-up}
 use Rattle.fit.proofs.RecordRows.{valsIn, propsIn, props-part, first-root, no-trees}
 use Rattle.fit.proofs.RootRows.{root-in, root-rises}
 use Rattle.ask.specs.Ask.{noProp, goOf, goAt}
-use Rattle.ask.specs.Locals.{kindFrom, nameAt}
+use Rattle.ask.specs.Locals.{gameFrom, nameAt}
 use Rattle.ask.proofs.Values.{values-raw}
 
 module _ (tr nd : List ℕ) (M N P : ℕ) (ps : List Prop) (whole : length ps ≡ P) (total : sum (propCountAt nd) N ≡ P)
@@ -61,13 +61,13 @@ module _ (tr nd : List ℕ) (M N P : ℕ) (ps : List Prop) (whole : length ps �
         (λ c. rw (part-length, le-ltb (p - S a) (S e - S a) (omega arith), le-ltb p (S e) c))
 
   go-from : (m r p : ℕ) → r + suc m ≡ M → S (rootAt tr r) ≤ p → p < P
-      → goAt (treesOf nodes (tabulate (treeRow tr) r (suc m))) (p - S (rootAt tr r)) ≡ goOf (kindFrom tr nd p r m) (getD ps p noProp)
-  unfolding kindFrom tabulate
+      → goAt (treesOf nodes (tabulate (treeRow tr) r (suc m))) (p - S (rootAt tr r)) ≡ goOf (gameFrom tr nd p r m) (getD ps p noProp)
+  unfolding gameFrom tabulate
   go-from zero r p e b h =
       let a : ℕ = rootAt tr r in
       let d : drop a nodes ≡ tabulate nodeFor a (N - a) = (let o : 0 + a ≡ a = omega arith in tabulate-drop nodeFor a 0 N ∙ ap (λ (z : ℕ). tabulate nodeFor z (N - a)) o) in
       let i = inside r (omega arith) in
-      rw d (part-go a N (omega arith) (omega arith) (kindAt tr r) p _ b ∙ rw (lt-ltb p (S N) (omega (arith, total))))
+      rw d (part-go a N (omega arith) (omega arith) (gameAt tr r) p _ b ∙ rw (lt-ltb p (S N) (omega (arith, total))))
   go-from (suc m) r p e b h =
       let a : ℕ = rootAt tr r in
       let z : ℕ = rootAt tr (suc r) in
@@ -76,9 +76,9 @@ module _ (tr nd : List ℕ) (M N P : ℕ) (ps : List Prop) (whole : length ps �
       let f : firstPropAt nd z ≡ S z = first z i in
       let d : take (z - a) (drop a nodes) ≡ tabulate nodeFor a (z - a) = tabulate-part nodeFor a (z - a) N (omega arith) in
       let n : length (part a z l (omega arith)) ≡ S z - S a = part-length a z l (omega arith) in
-      let x : GoValue = goOf (kindAt tr r) (getD ps p noProp) in
+      let x : GoValue = goOf (gameAt tr r) (getD ps p noProp) in
       let y : GoValue = goAt (treesOf nodes (tabulate (treeRow tr) (suc r) (suc m))) (p - S a - length (part a z l (omega arith))) in
-      rw d (part-go a z l (omega arith) (kindAt tr r) p y b
+      rw d (part-go a z l (omega arith) (gameAt tr r) p y b
       ∙ below-or p (S z) (λ c. rw (f, lt-ltb p (S z) c))
       (λ c.
       let o : p - S a - (S z - S a) ≡ p - S z = (let u = sum-up (firstPropAt nd) (propCountAt nd) a z l in omega arith) in
@@ -106,7 +106,7 @@ module _ {t : List ℕ} {c : Counts} {tr nd pr vl : List ℕ} (f : Clauses t c t
 
 -- property p of fitting tables over the used text t
 pub go-of-rows : {t : List ℕ} {c : Counts} {tr nd pr vl : List ℕ} → Clauses t c tr nd pr vl → (p : ℕ) → p < c .properties
-    → goAt (recordOf t (rowsOf c tr nd pr vl)) p ≡ goValue (kindFrom tr nd p 0 (c .trees - 1)) (readIdentifier (nameAt t pr p)) (valuesAt t vl (firstValAt pr p) (valCountAt pr p))
+    → goAt (recordOf t (rowsOf c tr nd pr vl)) p ≡ goValue (gameFrom tr nd p 0 (c .trees - 1)) (readIdentifier (nameAt t pr p)) (valuesAt t vl (firstValAt pr p) (valCountAt pr p))
 go-of-rows {t} {c} {tr} {nd} {pr} {vl} f p h =
     let M : ℕ = c .trees in
     let N : ℕ = c .nodes in
@@ -117,7 +117,7 @@ go-of-rows {t} {c} {tr} {nd} {pr} {vl} f p h =
     let zero-root : rootAt tr 0 ≡ 0 = first-root f (trees-some f p h) in
     let z : S-zero nd (rootAt tr 0) = sum-zero nd (rootAt tr 0) zero-root in
     let one : M ≡ suc (M - 1) = omega (arith, trees-some f p h) in
-    let k : ℕ = kindFrom tr nd p 0 (M - 1) in
+    let k : ℕ = gameFrom tr nd p 0 (M - 1) in
     ap (λ (ns : List Node). goAt (treesOf ns (tabulate (treeRow tr) 0 M)) p) (map-tabulate (nodeRow nd) (nodeOf ps) 0 N)
     ∙ ap₂ (λ (m q : ℕ). goAt (treesOf (tabulate (λ i. nodeOf ps (nodeRow nd i)) 0 N) (tabulate (treeRow tr) 0 m)) q) one (omega (arith, z))
     ∙ go-from tr nd M N P ps (length-map (tabulate (propRow pr) 0 P) (propOf t vs) ∙ tabulate-length (propRow pr) 0 P) total

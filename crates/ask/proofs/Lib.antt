@@ -1,5 +1,5 @@
 pub mod Answers
+pub mod Game
 pub mod Goes
-pub mod Kind
 pub mod Shows
 pub mod Values

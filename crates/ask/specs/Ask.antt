@@ -2,7 +2,7 @@
 use Rattle.lists.specs.Prelude.{ℕ, _-_, _≡_, List, [], _∷_, ltb, length, getD, slice, pick}
 use Rattle.lexer.specs.Token.{Prop}
 use Rattle.values.specs.Read.{readValue, readIdentifier}
-use Rattle.value_display.specs.Display.{shown, displayed, displayedIn}
+use Rattle.value_display.specs.Display.{displayText, displayed, displayedIn}
 use Rattle.value_display.specs.declared.Kind.{Kind}
 use Rattle.value_display.specs.declared.Displayed.{Displayed}
 use Rattle.value_display.specs.declared.Displayed.the-variants.{Length, NoRoom}
@@ -19,37 +19,37 @@ use Rattle.fit.specs.Fit.{Fit}
 use Rattle.fit.specs.Record.{rawsOf, recordIn}
 use Rattle.ask_value.specs.declared.Accessed.{Accessed}
 use Rattle.ask_value.specs.declared.Accessed.the-variants.{Part, Refused}
-use Rattle.ask.specs.declared.Shown.{Shown}
-use Rattle.ask.specs.declared.Shown.the-variants.{Shows, NotShown}
+use Rattle.ask.specs.declared.DisplayAnswer.{DisplayAnswer}
+use Rattle.ask.specs.declared.DisplayAnswer.the-variants.{DisplayLength, NoDisplay}
 use Rattle.ask.specs.declared.Refusal.{Refusal}
 use Rattle.ask.specs.declared.Refusal.the-variants.{Not, Because}
 use Rattle.ask.specs.declared.GoAnswer.{GoAnswer}
 
--- the length of what is displayed, or 14
-abbrev pub shownFor : Displayed → Shown
-shownFor (Length n) = Shows n
-shownFor NoRoom = NotShown reason.NoRoom
+-- the length of what is displayed, or 14 (SCOPE 45)
+abbrev pub displayFor : Displayed → DisplayAnswer
+displayFor (Length n) = DisplayLength n
+displayFor NoRoom = NoDisplay reason.NoRoom
 
 -- a raw value displayed in the bytes lent
-abbrev pub shownAs : Kind → (raw out : List ℕ) → Shown
-shownAs kind raw out = shownFor (displayed (shown kind (readValue raw)) out)
+abbrev pub displayRaw : Kind → (raw out : List ℕ) → DisplayAnswer
+displayRaw kind raw out = displayFor (displayed (displayText kind (readValue raw)) out)
 
 -- these bytes then
-abbrev pub shownIn : Kind → (raw out : List ℕ) → List ℕ
-shownIn kind raw out = displayedIn (shown kind (readValue raw)) out
+abbrev pub displayRawIn : Kind → (raw out : List ℕ) → List ℕ
+displayRawIn kind raw out = displayedIn (displayText kind (readValue raw)) out
 
--- the display of a value that is accessed: 19, 16, then 14
-abbrev pub display : List ℕ → Accessed → Kind → (out : List ℕ) → Shown
-display t (Part a e) kind out = shownAs kind (slice a e t) out
-display t (Refused r) kind out = NotShown r
+-- the display of a value that is accessed: 19, 16, then 14 (SCOPE 47, 65)
+abbrev pub display : List ℕ → Accessed → Kind → (out : List ℕ) → DisplayAnswer
+display t (Part a e) kind out = displayRaw kind (slice a e t) out
+display t (Refused r) kind out = NoDisplay r
 
 -- the lent bytes then; a refusal changes none
 abbrev pub displayIn : List ℕ → Accessed → Kind → (out : List ℕ) → List ℕ
-displayIn t (Part a e) kind out = shownIn kind (slice a e t) out
+displayIn t (Part a e) kind out = displayRawIn kind (slice a e t) out
 displayIn t (Refused r) kind out = out
 
 -- the display of value k: the answer and the lent bytes
-pub record DisplayIs (m : Memory) (k : ℕ) (kind : Kind) (out out′ : List ℕ) (r : Shown) : Type 0 where
+pub record DisplayIs (m : Memory) (k : ℕ) (kind : Kind) (out out′ : List ℕ) (r : DisplayAnswer) : Type 0 where
   pub is : r ≡ display (m .text) (accessed m k) kind out
   pub bytes : out′ ≡ displayIn (m .text) (accessed m k) kind out
 
@@ -57,24 +57,24 @@ pub record DisplayIs (m : Memory) (k : ℕ) (kind : Kind) (out out′ : List ℕ
 abbrev pub noProp : Prop
 noProp = record { from = 0; to = 0; name = []; vals = [] }
 
--- the Go value of a property of a tree with game type k
+-- the Go value of a property of a tree with game type k (SCOPE 96)
 abbrev pub goOf : (k : ℕ) → Prop → GoValue
 goOf k p = goValue k (readIdentifier (p .name)) (rawsOf p)
 
--- property p of these trees, numbered from 0
+-- property p of these trees, numbered from 0 (SCOPE 97)
 abbrev pub goAt : List Tree → ℕ → GoValue
 goAt [] p = unmarked Other
-goAt (t ∷ ts) p = let n = length (allProps (t .nodes)) in pick (ltb p n) (goOf (t .kind) (getD (allProps (t .nodes)) p noProp)) (goAt ts (p - n))
+goAt (t ∷ ts) p = let n = length (allProps (t .nodes)) in pick (ltb p n) (goOf (t .game) (getD (allProps (t .nodes)) p noProp)) (goAt ts (p - n))
 
 -- a Go value that is given
 abbrev pub given : GoValue → GoAnswer
 given g = record { refusal = Not; go = g }
 
--- "other" and no points
+-- "other" and no points (SCOPE 66)
 abbrev pub refuses : Reason → GoAnswer
 refuses r = record { refusal = Because r; go = unmarked Other }
 
--- 19 where the tables don't fit the text; then 16 where p is not below the count; else the Go value of property p
+-- 19 where the tables don't fit the text; then 16 where p is not below the count; else the Go value of property p (SCOPE 47, 50, 66, 97)
 unfoldable pub goAnswer : Memory → ℕ → GoAnswer
 goAnswer m p =
     pick (Fit m)

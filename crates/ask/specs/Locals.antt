@@ -1,23 +1,17 @@
 -- What the steps of a question promise each other.
 use Rattle.lists.specs.Prelude.{ℕ, zero, suc, _/_, _<_, _≤_, List, ltb, length, slice, pick}
-use Rattle.tables.specs.Columns.{treeStride, nodeStride, propertyStride, rootAt, kindAt, firstPropAt, nameFromAt, nameToAt}
+use Rattle.tables.specs.Columns.{treeStride, nodeStride, rootAt, gameAt, firstPropAt, nameFromAt, nameToAt}
 
 -- there are m trees, at least one, and each root is a row
 pub record Rooted (m : ℕ) (tr nd : List ℕ) : Type 0 where
   pub some : 0 < m
-  pub rows : m ≤ length tr / treeStride
+  pub lent : m ≤ length tr / treeStride
   pub roots : (r : ℕ) → r < m → rootAt tr r < length nd / nodeStride
 
 -- of tree r and the m behind it: the game type of the last whose root's first property is not behind p
-unfoldable pub kindFrom : (tr nd : List ℕ) → (p r m : ℕ) → ℕ
-kindFrom tr nd p r zero = kindAt tr r
-kindFrom tr nd p r (suc m) = pick (ltb p (firstPropAt nd (rootAt tr (suc r)))) (kindAt tr r) (kindFrom tr nd p (suc r) m)
-
--- property p is a row, and its identifier lies in the text
-pub record Named (p : ℕ) (t pr : List ℕ) : Type 0 where
-  pub row : p < length pr / propertyStride
-  pub rises : nameFromAt pr p ≤ nameToAt pr p
-  pub inside : nameToAt pr p ≤ length t
+unfoldable pub gameFrom : (tr nd : List ℕ) → (p r m : ℕ) → ℕ
+gameFrom tr nd p r zero = gameAt tr r
+gameFrom tr nd p r (suc m) = pick (ltb p (firstPropAt nd (rootAt tr (suc r)))) (gameAt tr r) (gameFrom tr nd p (suc r) m)
 
 -- its identifier
 abbrev pub nameAt : (t pr : List ℕ) → ℕ → List ℕ

@@ -11,25 +11,26 @@ ghost use Prim.Native.Nat.{_-_, _<_};
 ghost use Rattle.parts.specs.Rows.{valuesAt};
 ghost use Rattle.go.specs.Value.{goValue};
 ghost use Rattle.values.specs.Read.{readIdentifier};
-ghost use Rattle.ask.specs.Ask.{shownAs, shownIn, DisplayIs, refuses, goAnswer};
-ghost use Rattle.ask.specs.Locals.{Rooted, Named, kindFrom, nameAt};
+ghost use Rattle.ask.specs.Ask.{displayRaw, displayRawIn, DisplayIs, refuses, goAnswer};
+ghost use Rattle.ask.specs.Locals.{Rooted, gameFrom, nameAt};
 ghost use Rattle.tables.specs.Columns.{firstValAt, valCountAt};
 ghost use Rattle.tables.specs.Memory.{memory};
+ghost use Rattle.tables.specs.LocalsNames.{NameHeld};
 
 // A display: its number of bytes, or why it is refused.
-pub enum Shown {
-    Shows(usize),
-    NotShown(Reason),
+pub enum DisplayAnswer {
+    DisplayLength(usize),
+    NoDisplay(Reason),
 }
 
 // What a raw value shows, put into the output.
-fn show(kind: Kind, raw: &[u8], out: &mut [u8]) -> Shown
-    ensures { λ r. ⌜ r ≡ shownAs kind (now (raw .entry)) (now (out .entry)) ⌝ }
-    ensures { λ _. ⌜ now (out .exit) ≡ shownIn kind (now (raw .entry)) (now (out .entry)) ⌝ }
+fn display_raw(kind: Kind, raw: &[u8], out: &mut [u8]) -> DisplayAnswer
+    ensures { λ r. ⌜ r ≡ displayRaw kind (now (raw .entry)) (now (out .entry)) ⌝ }
+    ensures { λ _. ⌜ now (out .exit) ≡ displayRawIn kind (now (raw .entry)) (now (out .entry)) ⌝ }
 {
     match value_display::display(kind, raw, out) {
-        Displayed::Length(n) => Shown::Shows(n),
-        Displayed::NoRoom => Shown::NotShown(Reason::NoRoom),
+        Displayed::Length(n) => DisplayAnswer::DisplayLength(n),
+        Displayed::NoRoom => DisplayAnswer::NoDisplay(Reason::NoRoom),
     }
 }
 
@@ -45,14 +46,14 @@ pub fn display(
     k: usize,
     kind: Kind,
     out: &mut [u8],
-) -> Shown
+) -> DisplayAnswer
     ensures { λ r. ⌜ DisplayIs
         (memory (now (text .entry)) used counts (now (trees .entry)) (now (nodes .entry)) (now (properties .entry)) (now (values .entry)))
         k kind (now (out .entry)) (now (out .exit)) r ⌝ }
 {
     match ask_value::access(text, used, counts, trees, nodes, properties, values, k) {
-        Accessed::Part(start, end) => show(kind, &text[start..end], out),
-        Accessed::Refused(reason) => Shown::NotShown(reason),
+        Accessed::Part(start, end) => display_raw(kind, &text[start..end], out),
+        Accessed::Refused(reason) => DisplayAnswer::NoDisplay(reason),
     }
 }
 
@@ -83,9 +84,9 @@ fn refused(reason: Reason) -> GoAnswer
 }
 
 // The game type of the tree that has property p: of the last whose root's first property is not behind it.
-fn kind_over(trees: &[u32], m: usize, nodes: &[u32], p: usize) -> u32
+fn property_game(trees: &[u32], m: usize, nodes: &[u32], p: usize) -> u32
     requires { ⌜ Rooted m (now trees) (now nodes) ⌝ }
-    ensures { λ r. ⌜ r ≡ kindFrom (now (trees .entry)) (now (nodes .entry)) p 0 (m - 1) ⌝ }
+    ensures { λ r. ⌜ r ≡ gameFrom (now (trees .entry)) (now (nodes .entry)) p 0 (m - 1) ⌝ }
 {
     let mut r: usize = 0;
     while r + 1 < m {
@@ -99,16 +100,16 @@ fn kind_over(trees: &[u32], m: usize, nodes: &[u32], p: usize) -> u32
 }
 
 // The Go value of property p in a tree with this game type.
-fn value_of(kind: u32, text: &[u8], properties: &[u32], values: &[u32], p: usize) -> GoValue
-    requires { ⌜ Named p (now text) (now properties) ⌝ }
-    ensures { λ r. ⌜ r ≡ goValue kind (readIdentifier (nameAt (now (text .entry)) (now (properties .entry)) p))
+fn value_of(game: u32, text: &[u8], properties: &[u32], values: &[u32], p: usize) -> GoValue
+    requires { ⌜ NameHeld (now text) (now properties) p ⌝ }
+    ensures { λ r. ⌜ r ≡ goValue game (readIdentifier (nameAt (now (text .entry)) (now (properties .entry)) p))
         (valuesAt (now (text .entry)) (now (values .entry)) (firstValAt (now (properties .entry)) p) (valCountAt (now (properties .entry)) p)) ⌝ }
 {
     let start = lists::wide(properties[p * tables::PROPERTY_STRIDE]);
     let end = lists::wide(properties[p * tables::PROPERTY_STRIDE + 1]);
     let first = lists::wide(properties[p * tables::PROPERTY_STRIDE + 2]);
     let count = lists::wide(properties[p * tables::PROPERTY_STRIDE + 3]);
-    go::value::go_value(kind, &text[start..end], text, values, first, count)
+    go::value::go_value(game, &text[start..end], text, values, first, count)
 }
 
 // The Go value of property p, or why it is not given: 19, 16.
@@ -131,8 +132,8 @@ pub fn go_value(
     if counts.properties <= p {
         return refused(Reason::NoSuchNumber);
     }
-    let kind = kind_over(trees, counts.trees, nodes, p);
-    let go = value_of(kind, &text[..used], properties, values, p);
+    let game = property_game(trees, counts.trees, nodes, p);
+    let go = value_of(game, &text[..used], properties, values, p);
     GoAnswer {
         refusal: Refusal::Not,
         go: go,

@@ -8,7 +8,7 @@ use Rattle.fit.specs.Fit.{Fit}
 use Rattle.ask_value.specs.declared.Accessed.{Accessed}
 use Rattle.ask_value.specs.declared.Accessed.the-variants.{Part, Refused}
 
--- 19 where the tables don't fit the text; then 16 where k is not below the count; else the span of value k
+-- 19 where the tables don't fit the text; then 16 where k is not below the count; else the span of value k (SCOPE 47, 50, 64)
 unfoldable pub accessed : Memory → ℕ → Accessed
 accessed m k =
     pick (Fit m)
@@ -20,11 +20,11 @@ abbrev pub accessNumber : Accessed → ℕ
 accessNumber (Part a e) = 0
 accessNumber (Refused r) = numberOf r
 
--- the part of the text that is handed out; a refusal hands out the empty part
+-- the part of the text that is handed out; a refusal hands out the empty part (SCOPE 64)
 abbrev pub handed : List ℕ → Accessed → List ℕ
 handed t (Part a e) = slice a e t
 handed t (Refused r) = []
 
--- the raw bytes of value k
+-- the raw bytes of value k (SCOPE 15)
 abbrev pub rawValue : Memory → ℕ → List ℕ
 rawValue m k = handed (m .text) (accessed m k)

@@ -8,7 +8,7 @@ use Rattle.board_play.specs.Play.{Player, otherOf, playable, Plays, PlaysNear}
 use Rattle.board_play.specs.Steps.{Pos, Act, sets, plays, puts, played, Step, set-step, play-step, Steps, done, next}
 use Rattle.board_play.proofs.Acts.{settled-plays, near-acts}
 use Rattle.board_play.proofs.Playing.{playable-player, playable-board}
-use Rattle.board_acts.specs.Acts.{posOf, StepBy, set-by, whole-by, near-by, StepsBy, done-by, next-by, ActIs, KnownSettled}
+use Rattle.board_acts.specs.Acts.{posOf, StepBy, set-by, whole-by, near-by, StepsBy, done-by, next-by, BoardActIs, KnownSettled}
 use Rattle.board_acts.specs.declared.State.{State}
 
 -- for a player c, black and white are c and the other

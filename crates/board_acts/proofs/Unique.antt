@@ -1,7 +1,7 @@
 -- No second answer of a public function: two boards and sums that meet its contract are equal. Assumes nothing.
 use Rattle.lists.proofs.Prelude.{ℕ, Bool, true, false, _≡_, refl, sym, ap, ap₂, _∙_, List}
 use Rattle.board_play.specs.Steps.{Sum, Pos, Act}
-use Rattle.board_acts.specs.Acts.{posOf, ActIs}
+use Rattle.board_acts.specs.Acts.{posOf, BoardActIs}
 use Rattle.board_acts.specs.declared.Sums.{Sums}
 use Rattle.board_acts.specs.declared.State.{State}
 use Rattle.board_acts.proofs.Exact.{step-by-once}
@@ -16,7 +16,7 @@ pos-once b c s t e f = (ap (λ (p : Pos). p .stones) f, ap₂ (λ (p : Pos) (v :
 
 module _ (can : Bool) (w h : ℕ) (a : Act) (b : List ℕ) (s : State) (x y : List ℕ) (m n : State) where
   -- of set_act and play_act
-  pub act-once : ActIs can w h a b s x m → ActIs can w h a b s y n → (x ≡ y) × (m ≡ n)
+  pub act-once : BoardActIs can w h a b s x m → BoardActIs can w h a b s y n → (x ≡ y) × (m ≡ n)
   act-once f g = go can refl
     where
       go : (t : Bool) → can ≡ t → (x ≡ y) × (m ≡ n)

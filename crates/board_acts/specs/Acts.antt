@@ -3,7 +3,7 @@ use lib.ListN.{set}
 use Rattle.lists.specs.Prelude.{ℕ, Bool, true, false, _≡_, List, [], _∷_, eqb, pick}
 use Rattle.board_groups.specs.Groups.{Takes, TakesBeside, TakesGroup, Settled}
 use Rattle.board_play.specs.Play.{otherOf, settable, playable}
-use Rattle.board_play.specs.Steps.{Sum, Pos, Act, sets, plays, same, counted, puts, played}
+use Rattle.board_play.specs.Steps.{Sum, Pos, Act, sets, plays, oneIf, sumUpTo, puts, played}
 use Rattle.board_acts.specs.declared.State.{State}
 use Rattle.board_acts.specs.declared.Sums.{Sums}
 
@@ -15,11 +15,11 @@ posOf b s =
 -- the sums of colour x where c was set in place of `stood`
 abbrev pub setSums : (x c stood : ℕ) → Sums → Sums
 setSums x c stood s =
-    record { on = counted (s .on) (pick (eqb stood c) 0 (same c x)); off = counted (s .off) (pick (eqb stood c) 0 (same stood x)) }
+    record { on = sumUpTo (s .on) (pick (eqb stood c) 0 (oneIf c x)); off = sumUpTo (s .off) (pick (eqb stood c) 0 (oneIf stood x)) }
 
 -- the sums of colour x where a stone of colour c took n stones and k of its own
 abbrev pub takeSums : (x c n k : ℕ) → Sums → Sums
-takeSums x c n k s = record { on = s .on; off = counted (s .off) (pick (eqb x c) k n) }
+takeSums x c n k s = record { on = s .on; off = sumUpTo (s .off) (pick (eqb x c) k n) }
 
 -- of both colours, where c was set
 abbrev pub setCounts : (c stood : ℕ) → State → State
@@ -45,7 +45,7 @@ pub data StepsBy (w h : ℕ) : Bool → Pos → List Act → Bool → Pos → Ty
       → StepsBy w h t s (a ∷ rest) t″ s″
 
 -- an act that cannot be done changes nothing; else it is done
-pub record ActIs (can : Bool) (w h : ℕ) (a : Act) (b : List ℕ) (s : State) (b′ : List ℕ) (s′ : State) : Type 0 where
+pub record BoardActIs (can : Bool) (w h : ℕ) (a : Act) (b : List ℕ) (s : State) (b′ : List ℕ) (s′ : State) : Type 0 where
   pub not-done : can ≡ false → (b′ ≡ b) × (s′ ≡ s)
   pub act : can ≡ true → StepBy w h (s .settled) (posOf b s) a (s′ .settled) (posOf b′ s′)
 

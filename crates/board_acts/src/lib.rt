@@ -4,8 +4,8 @@ ghost use mathlib.Core.Bool.{true, false};
 ghost use lib.Dec.{eqb};
 ghost use Rattle.lists.specs.Pick.{pick};
 ghost use Rattle.board_play.specs.Play.{settable, playable};
-ghost use Rattle.board_play.specs.Steps.{sets, plays, same, counted};
-ghost use Rattle.board_acts.specs.Acts.{setSums, takeSums, setCounts, takeCounts, ActIs};
+ghost use Rattle.board_play.specs.Steps.{sets, plays, oneIf, sumUpTo};
+ghost use Rattle.board_acts.specs.Acts.{setSums, takeSums, setCounts, takeCounts, BoardActIs};
 
 // Of one colour, how many stones were put on and taken off.
 pub struct Sums {
@@ -22,7 +22,7 @@ pub struct State {
 
 // A sum with n more, which stops at the greatest number.
 fn count(s: u64, n: u64) -> u64
-    ensures { λ r. ⌜ r ≡ counted s n ⌝ }
+    ensures { λ r. ⌜ r ≡ sumUpTo s n ⌝ }
 {
     let left = 0xffff_ffff_ffff_ffff - s;
     if left < n {
@@ -33,7 +33,7 @@ fn count(s: u64, n: u64) -> u64
 
 // 1 where what is set differs from what stood there and `what` is the colour x, else 0.
 fn counts_for(stood: u8, colour: u8, what: u8, x: u8) -> u64
-    ensures { λ r. ⌜ r ≡ pick (eqb stood colour) 0 (same what x) ⌝ }
+    ensures { λ r. ⌜ r ≡ pick (eqb stood colour) 0 (oneIf what x) ⌝ }
 {
     if stood == colour {
         return 0;
@@ -123,7 +123,7 @@ pub fn set_act(
     p: usize,
     colour: u8,
 ) -> State
-    ensures { λ r. ⌜ ActIs (settable columns rows colour p) columns rows (sets colour p) (now (stones .entry)) state (now (stones .exit)) r ⌝ }
+    ensures { λ r. ⌜ BoardActIs (settable columns rows colour p) columns rows (sets colour p) (now (stones .entry)) state (now (stones .exit)) r ⌝ }
 {
     if !can_set(columns, rows, p, colour) {
         return state;
@@ -141,7 +141,7 @@ pub fn play_act(
     p: usize,
     colour: u8,
 ) -> State
-    ensures { λ r. ⌜ ActIs (playable columns rows colour p) columns rows (plays colour p) (now (stones .entry)) state (now (stones .exit)) r ⌝ }
+    ensures { λ r. ⌜ BoardActIs (playable columns rows colour p) columns rows (plays colour p) (now (stones .entry)) state (now (stones .exit)) r ⌝ }
 {
     if !can_play(columns, rows, p, colour) {
         return state;

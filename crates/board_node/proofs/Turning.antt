@@ -5,7 +5,7 @@ use Rattle.board_groups.specs.Board.{onBoard}
 use Rattle.board_groups.proofs.Beside.{board-on}
 use Rattle.board_play.specs.Play.{Player, settable, playable}
 use Rattle.board_play.specs.Steps.{Pos, Act, sets, plays}
-use Rattle.board_acts.specs.Acts.{posOf, StepBy, StepsBy, done-by, next-by, ActIs}
+use Rattle.board_acts.specs.Acts.{posOf, StepBy, StepsBy, done-by, next-by, BoardActIs}
 use Rattle.board_acts.specs.declared.State.{State}
 use Rattle.board_node.specs.Node.{among, rightActs}
 use Rattle.board_node.specs.LocalsTurn.{rightBy, Leads, LeadsOn, TurnIs}

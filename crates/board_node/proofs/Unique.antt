@@ -1,7 +1,7 @@
 -- No second answer; what a node's acts are on a board of which nothing false is known; stones conserved. Assumes nothing.
 use Rattle.lists.proofs.Prelude.{ℕ, Bool, true, false, true≢false, _≡_, refl, sym, ap, ap₂, _∙_, List, length}
 use Rattle.parts_props.specs.Props.{Property}
-use Rattle.board_play.specs.Steps.{Steps, Balanced}
+use Rattle.board_play.specs.Steps.{Steps, SumsRight}
 use Rattle.board_play.proofs.Sums.{stones-conserved}
 use Rattle.board_acts.specs.Acts.{posOf, KnownSettled}
 use Rattle.board_acts.specs.declared.State.{State}
@@ -35,6 +35,6 @@ module _ (w h : ℕ) (ps : List Property) (x : Position) where
         go true k = steps-exact w h (f .acts k) long known
         go false k = absurd (true≢false (sym (ap (λ (z : NodeAnswer). z .refused) (f .wrong k)) ∙ e))
 
-    pub node-conserved : r .refused ≡ false → KnownSettled w h (x .state .settled) (x .stones) → Balanced (posOf (x .stones) (x .state))
-        → Balanced (posOf (r .position .stones) (r .position .state))
+    pub node-conserved : r .refused ≡ false → KnownSettled w h (x .state .settled) (x .stones) → SumsRight (posOf (x .stones) (x .state))
+        → SumsRight (posOf (r .position .stones) (r .position .state))
     node-conserved e known even = stones-conserved w h (node-exact e (even .long) known .steps) even

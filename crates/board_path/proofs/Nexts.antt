@@ -6,7 +6,7 @@ use Rattle.tables.specs.Columns.{nodeStride, parentAt, childAt, siblingAt}
 use Rattle.tables.specs.Each.{each}
 use Rattle.tables.proofs.Each.{each-at}
 use Rattle.fit_nodes.specs.Locals.{Ruled}
-use Rattle.fit_nodes.specs.Nodes.{hasParent, onPath, firstUnder, childRight, siblingRight, nextOf}
+use Rattle.fit_nodes.specs.Nodes.{hasParent, onPath, firstUnder, childRight, siblingRight, nextSibling}
 use Rattle.fit_nodes.proofs.Path.{has-before, path-self, path-up, path-down, path-le}
 use Rattle.fit_nodes.proofs.Rule.{on-between}
 use Rattle.board_path.specs.LocalsNext.{isRow, follows, Along, stays, goes, NextIs}
@@ -90,7 +90,7 @@ module _ {nd : List ℕ} {n : ℕ} (x : Linked nd n) (at k : ℕ) (inside : k < 
   sibling-is : (c : ℕ) → c < n → parentAt nd c ≡ at → siblingAt nd c ≡ firstUnder nd at (suc c) (n - suc c)
   sibling-is c l e =
       let p : parentAt nd c ≡ none → ⊥ = λ z. known (sym e ∙ z) in
-      eqb-true (siblingAt nd c) (nextOf nd n c) (each-at (siblingRight nd n) n c (x .siblings) l)
+      eqb-true (siblingAt nd c) (nextSibling nd n c) (each-at (siblingRight nd n) n c (x .siblings) l)
       ∙ (ap (λ (t : Bool). pick t none (firstUnder nd (parentAt nd c) (suc c) (n - suc c))) (ne-eqb (parentAt nd c) none p)
       ∙ ap (λ (z : ℕ). firstUnder nd z (suc c) (n - suc c)) e)
 

@@ -5,7 +5,7 @@ use Rattle.board_groups.specs.Board.{at, standing}
 use Rattle.board_groups.specs.Groups.{Takes}
 use Rattle.board_groups.proofs.Count.{one, standing-set, standing-alike}
 use Rattle.board_play.specs.Play.{Player, otherOf, settable, playable, SetIs, Plays}
-use Rattle.board_play.specs.Steps.{Sum, sumMost, counted, Pos, Act, sets, plays, same, sumPut, sumOff, puts, played, Step, set-step, play-step, Steps, done, next, emptyPos, Even, Balanced, differing}
+use Rattle.board_play.specs.Steps.{Sum, sumMost, sumUpTo, Pos, Act, sets, plays, oneIf, sumPut, sumOff, puts, played, Step, set-step, play-step, Steps, done, next, emptyPos, Even, SumsRight, differing}
 use Rattle.board_play.proofs.Playing.{playable-player, playable-place, settable-place}
 
 -- taking stones of one colour leaves the number of another
@@ -23,8 +23,8 @@ takes-others w h o c b b′ n differ colour t =
 put-even : (x c p : ℕ) (b : List ℕ) (s : Sum) → p < length b → Even x b s → Even x (set b p c) (sumPut x c (at b p) s)
 put-even x c p b s l e = go (eqb (at b p) c) refl
   where
-    go : (t : Bool) → eqb (at b p) c ≡ t → counted (s .on) (pick t 0 (same c x)) < sumMost
-        → counted (s .on) (pick t 0 (same c x)) ≡ standing x (set b p c) + counted (s .off) (pick t 0 (same (at b p) x))
+    go : (t : Bool) → eqb (at b p) c ≡ t → sumUpTo (s .on) (pick t 0 (oneIf c x)) < sumMost
+        → sumUpTo (s .on) (pick t 0 (oneIf c x)) ≡ standing x (set b p c) + sumUpTo (s .off) (pick t 0 (oneIf (at b p) x))
     go true f m =
         let k : one (at b p) x ≡ one c x = ap (λ (z : ℕ). one z x) (eqb-true (at b p) c f) in
         let below : s .on < sumMost = omega arith in
@@ -60,7 +60,7 @@ white : Player 2
 white = record { most = omega arith; least = omega arith }
 
 module _ (w h : ℕ) where
-  pub step-balanced : (s : Pos) (a : Act) (s′ : Pos) → Step w h s a s′ → Balanced s → Balanced s′
+  pub step-balanced : (s : Pos) (a : Act) (s′ : Pos) → Step w h s a s′ → SumsRight s → SumsRight s′
   step-balanced s (sets c p) s′ (set-step on) x =
       let l : p < length (s .stones) = omega (arith, x .long, settable-place w h c p on) in
       record {
@@ -81,7 +81,7 @@ module _ (w h : ℕ) where
             (put-even 2 c p (s .stones) (s .white) l (x .white-even));
       }
 
-  pub stones-conserved : {s s′ : Pos} {rest : List Act} → Steps w h s rest s′ → Balanced s → Balanced s′
+  pub stones-conserved : {s s′ : Pos} {rest : List Act} → Steps w h s rest s′ → SumsRight s → SumsRight s′
   stones-conserved done x = x
   stones-conserved (next {s = s} {s′ = s′} {a = a} t ts) x = stones-conserved ts (step-balanced s a s′ t x)
 
@@ -99,7 +99,7 @@ none-stand : (x n : ℕ) → (x ≡ 0 → ⊥) → standing x (replicate n 0) �
 none-stand x zero f = refl
 none-stand x (suc n) f = rw (ne-eqb 0 x (λ e. f (sym e))) (none-stand x n f)
 
-pub empty-balanced : Balanced emptyPos
+pub empty-balanced : SumsRight emptyPos
 empty-balanced =
     record {
       long = length-replicate {A = ℕ} 2704 0;

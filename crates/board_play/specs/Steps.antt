@@ -15,8 +15,8 @@ abbrev pub sumMost : ℕ
 sumMost = 18446744073709551615
 
 -- a sum with n more
-abbrev pub counted : ℕ → ℕ → ℕ
-counted s n = min (s + n) sumMost
+abbrev pub sumUpTo : ℕ → ℕ → ℕ
+sumUpTo s n = min (s + n) sumMost
 
 -- what stands, and the sums of black and of white
 pub record Pos : Type 0 where
@@ -30,17 +30,17 @@ pub data Act : Type 0 where
   plays : ℕ → ℕ → Act
 
 -- 1 where the colours are equal, else 0
-abbrev pub same : ℕ → ℕ → ℕ
-same x c = pick (eqb x c) 1 0
+abbrev pub oneIf : ℕ → ℕ → ℕ
+oneIf x c = pick (eqb x c) 1 0
 
 -- the sums of colour x where c is set in place of `stood`: nothing where they are equal, else c is put on and `stood` is taken off
 abbrev pub sumPut : (x c stood : ℕ) → Sum → Sum
 sumPut x c stood s =
-    record { on = counted (s .on) (pick (eqb stood c) 0 (same c x)); off = counted (s .off) (pick (eqb stood c) 0 (same stood x)) }
+    record { on = sumUpTo (s .on) (pick (eqb stood c) 0 (oneIf c x)); off = sumUpTo (s .off) (pick (eqb stood c) 0 (oneIf stood x)) }
 
 -- the sums of colour x where a stone of colour c is played, n of the other colour are taken and k of its own
 abbrev pub sumOff : (x c n k : ℕ) → Sum → Sum
-sumOff x c n k s = record { on = s .on; off = counted (s .off) (pick (eqb x c) k n) }
+sumOff x c n k s = record { on = s .on; off = sumUpTo (s .off) (pick (eqb x c) k n) }
 
 -- c at p
 abbrev pub puts : (c p : ℕ) → Pos → Pos
@@ -77,7 +77,7 @@ abbrev pub Even : ℕ → List ℕ → Sum → Type 0
 Even x b s = s .on < sumMost → s .on ≡ standing x b + s .off
 
 -- both colours' sums are right
-pub record Balanced (s : Pos) : Type 0 where
+pub record SumsRight (s : Pos) : Type 0 where
   pub long : length (s .stones) ≡ 2704
   pub black-even : Even 1 (s .stones) (s .black)
   pub white-even : Even 2 (s .stones) (s .white)

@@ -5,12 +5,12 @@ use Rattle.board_groups.specs.Board.{at, onBoard, beside}
 use Rattle.board_groups.specs.Groups.{Stone, Joined, self, more}
 use Rattle.board_groups.proofs.Others.{joined-last}
 use Rattle.board_take.specs.LocalsSides.{Free}
-use Rattle.board_take.specs.LocalsFlood.{Marked, Held, Went, Around, Reached, Grown, Lives}
+use Rattle.board_take.specs.LocalsFlood.{Marked, Queued, Went, Around, Reached, Grown, Lives}
 use Rattle.board_take.proofs.Queue.{held-most}
 
 -- marked places are joined with the ones at the start, and those before i in the queue have all their neighbours marked
 pub record Flooding (w h : ℕ) (b : List ℕ) (c : ℕ) (stop : Bool) (m₀ m : List Bool) (q : List ℕ) (n i : ℕ) : Type 0 where
-  pub held : Held m q n
+  pub held : Queued m q n
   pub within : i ≤ n
   pub most : n ≤ 2704
   pub kept : (p : ℕ) → Marked m₀ p → Marked m p
@@ -18,7 +18,7 @@ pub record Flooding (w h : ℕ) (b : List ℕ) (c : ℕ) (stop : Bool) (m₀ m :
   pub closed : (k : ℕ) → k < i → (r : ℕ) → Around w h b c (getD q k 0) r → Marked m r
   pub none : stop ≡ true → (k : ℕ) → k < i → Free w h b (getD q k 0) → ⊥
 
-pub flood-start : (w h : ℕ) (b : List ℕ) (c : ℕ) (stop : Bool) (m : List Bool) (q : List ℕ) (n : ℕ) → Held m q n
+pub flood-start : (w h : ℕ) (b : List ℕ) (c : ℕ) (stop : Bool) (m : List Bool) (q : List ℕ) (n : ℕ) → Queued m q n
     → ((p : ℕ) → Marked m p → Stone w h b c p) → Flooding w h b c stop m m q n 0
 flood-start w h b c stop m q n x s =
     record {

@@ -1,28 +1,28 @@
 -- Marks and queue: a place put, and one part of a flood after another. Assumes nothing.
 use Rattle.lists.proofs.Prelude.{ℕ, zero, suc, _+_, _<_, _≤_, Bool, true, false, true≢false, false≢true, _⊎_, inl, inr, ⊎-elim, _≡_, refl, sym, ap, _∙_, List, [], _∷_, length, getD, pick, replicate, set, arith, add-one, not-suc-le-zero, le-of-suc-le-suc, length-set, length-replicate, getD-set-same, getD-set-other}
 use Rattle.lists.proofs.Tests.{same-or}
-use Rattle.board_take.specs.LocalsFlood.{Marked, marked, Found, Held, Went}
+use Rattle.board_take.specs.LocalsFlood.{Marked, markCount, Found, Queued, Went}
 
 counted : (x : Bool) (n : ℕ) → pick x (suc n) n ≡ pick x 1 0 + n
 counted true n = omega arith
 counted false n = omega arith
 
-pub marked-most : (m : List Bool) → marked m ≤ length m
-unfolding marked
+pub marked-most : (m : List Bool) → markCount m ≤ length m
+unfolding markCount
 marked-most [] = omega arith
 marked-most (true ∷ m) = omega (arith, marked-most m)
 marked-most (false ∷ m) = omega (arith, marked-most m)
 
-pub marked-set : (m : List Bool) (p : ℕ) → p < length m → getD m p false ≡ false → marked (set m p true) ≡ suc (marked m)
-unfolding marked
+pub marked-set : (m : List Bool) (p : ℕ) → p < length m → getD m p false ≡ false → markCount (set m p true) ≡ suc (markCount m)
+unfolding markCount
 marked-set [] p l e = absurd (not-suc-le-zero l)
 marked-set (true ∷ m) zero l e = absurd (true≢false e)
 marked-set (false ∷ m) zero l e = refl
 marked-set (true ∷ m) (suc p) l e = ap suc (marked-set m p (le-of-suc-le-suc l) e)
 marked-set (false ∷ m) (suc p) l e = marked-set m p (le-of-suc-le-suc l) e
 
-pub marked-none : (n : ℕ) → marked (replicate n false) ≡ 0
-unfolding marked
+pub marked-none : (n : ℕ) → markCount (replicate n false) ≡ 0
+unfolding markCount
 marked-none zero = refl
 marked-none (suc n) = marked-none n
 
@@ -38,20 +38,20 @@ marked-below (x ∷ m) zero e = omega arith
 marked-below (x ∷ m) (suc p) e = omega (arith, marked-below m p e)
 
 -- nothing marked, nothing queued
-held-start : (m : List Bool) (q : List ℕ) → m ≡ replicate 2704 false → length q ≡ 2704 → Held m q 0
+held-start : (m : List Bool) (q : List ℕ) → m ≡ replicate 2704 false → length q ≡ 2704 → Queued m q 0
 held-start m q e l =
     record {
       m-long = ap length e ∙ length-replicate 2704 false;
       q-long = l;
-      many = ap marked e ∙ marked-none 2704;
+      many = ap markCount e ∙ marked-none 2704;
       listed = λ k h. absurd (not-suc-le-zero h);
       found = λ p x. absurd (true≢false (sym x ∙ (ap (λ (y : List Bool). getD y p false) e ∙ unmarked 2704 p)));
     }
 
-pub held-new : Held (replicate 2704 false) (replicate 2704 0) 0
+pub held-new : Queued (replicate 2704 false) (replicate 2704 0) 0
 held-new = held-start (replicate 2704 false) (replicate 2704 0) refl (length-replicate {A = ℕ} 2704 0)
 
-module _ (m : List Bool) (q : List ℕ) (n : ℕ) (x : Held m q n) where
+module _ (m : List Bool) (q : List ℕ) (n : ℕ) (x : Queued m q n) where
   -- there is room while a place is not marked
   pub held-most : n ≤ 2704
   held-most = omega (arith, marked-most m, x .m-long, x .many)
@@ -65,7 +65,7 @@ module _ (m : List Bool) (q : List ℕ) (n : ℕ) (x : Held m q n) where
   went-none P f =
       record { held = x; grows = omega arith; same = λ k l. refl; kept = λ p y. y; new = λ p y. inl y; done = f }
 
-module _ (m : List Bool) (q : List ℕ) (n : ℕ) (x : Held m q n) (p : ℕ) (l : p < 2704) (e : getD m p false ≡ false) where
+module _ (m : List Bool) (q : List ℕ) (n : ℕ) (x : Queued m q n) (p : ℕ) (l : p < 2704) (e : getD m p false ≡ false) where
   in-marks : p < length m
   in-marks = omega (arith, l, x .m-long)
 

@@ -4,7 +4,7 @@ use Rattle.board_groups.specs.Groups.{Stone, Joined, self, Liberty, Dead, Takes
 use Rattle.board_groups.proofs.Beside.{board-on}
 use Rattle.board_groups.proofs.Others.{joined-last, joined-sym, liberty-shared}
 use Rattle.board_take.specs.LocalsSides.{Free}
-use Rattle.board_take.specs.LocalsFlood.{Marked, Found, Held, Went, Here, Seed, Unmarked, Coloured, Reached, Grown, Lives, Swept}
+use Rattle.board_take.specs.LocalsFlood.{Marked, Found, Queued, Went, Here, Seed, Unmarked, Coloured, Reached, Grown, Lives, Swept}
 
 pub not-above : (r : ℕ) → (2704 < r → ⊥) → r ≤ 2704
 not-above r f = lt-or (leb r 2704) refl
@@ -14,7 +14,7 @@ not-above r f = lt-or (leb r 2704) refl
     lt-or false e = absurd (f (leb-false r 2704 e))
 
 -- the marks are the stones with a liberty, and the others go
-module _ (w h c : ℕ) (b : List ℕ) {m₀ m₁ : List Bool} {q₀ q₁ : List ℕ} {k : ℕ} (start : Held m₀ q₀ 0) (s : Went (Seed w h b c 2704) m₀ q₀ 0 m₁ q₁ k) where
+module _ (w h c : ℕ) (b : List ℕ) {m₀ m₁ : List Bool} {q₀ q₁ : List ℕ} {k : ℕ} (start : Queued m₀ q₀ 0) (s : Went (Seed w h b c 2704) m₀ q₀ 0 m₁ q₁ k) where
   seeded : (p : ℕ) → Marked m₁ p → Seed w h b c 2704 p
   seeded p y = ⊎-elim (λ z. absurd (none (start .found p z))) (λ z. z) (s .new p y)
     where
@@ -61,7 +61,7 @@ module _ (w h c p : ℕ) (b : List ℕ) where
   pub free-lives : Free w h b p → Stone w h b c p → Liberty w h b c p
   free-lives f s = record { stone = p; point = f .point; joined = self s; near = f .near; empty = f .empty }
 
-  module _ {m₀ m₁ : List Bool} {q₀ q₁ : List ℕ} {k : ℕ} (start : Held m₀ q₀ 0) (stone : Stone w h b c p)
+  module _ {m₀ m₁ : List Bool} {q₀ q₁ : List ℕ} {k : ℕ} (start : Queued m₀ q₀ 0) (stone : Stone w h b c p)
       (s : Went (Here b c p) m₀ q₀ 0 m₁ q₁ k) where
     only : (r : ℕ) → Marked m₁ r → r ≡ p
     only r y = ⊎-elim (λ z. absurd (none (start .found r z))) (λ z. z .0) (s .new r y)

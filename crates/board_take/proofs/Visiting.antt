@@ -5,7 +5,7 @@ use Rattle.board_groups.specs.Board.{at, onBoard}
 use Rattle.board_groups.specs.Groups.{Stone}
 use Rattle.board_groups.proofs.Beside.{On, board-on, beside-step}
 use Rattle.board_take.specs.LocalsSides.{rightOf, leftOf, downOf, upOf, standsAt, Free}
-use Rattle.board_take.specs.LocalsFlood.{Held, Went, Here, Around, Seed, SeedAt}
+use Rattle.board_take.specs.LocalsFlood.{Queued, Went, Here, Around, Seed, SeedAt}
 use Rattle.board_take.proofs.Sides.{Side, right-side, left-side, down-side, up-side, Four, is-right, is-left, is-down, is-up, four}
 use Rattle.board_take.proofs.Queue.{went-none, went-as, went-on}
 
@@ -53,7 +53,7 @@ module _ (w h : ℕ) (b : List ℕ) (c : ℕ) where
     visited x y z u = went-as (went-on (went-on (went-on x y) z) u) around pushed
 
   -- the place p is no seed
-  pub seed-not : (m : List Bool) (q : List ℕ) (n p : ℕ) → Held m q n → (Stone w h b c p → Free w h b p → ⊥) → Went (SeedAt w h b c p) m q n m q n
+  pub seed-not : (m : List Bool) (q : List ℕ) (n p : ℕ) → Queued m q n → (Stone w h b c p → Free w h b p → ⊥) → Went (SeedAt w h b c p) m q n m q n
   seed-not m q n p x f =
       went-none m q n x (SeedAt w h b c p)
       (λ r y. absurd (f (subst (λ (z : ℕ). Stone w h b c z) (y .0) (y .1)) (subst (λ (z : ℕ). Free w h b z) (y .0) (y .2))))

@@ -10,9 +10,9 @@ abbrev pub Marked : List Bool → ℕ → Type 0
 Marked m p = getD m p false ≡ true
 
 -- how many places are marked
-unfoldable pub marked : List Bool → ℕ
-marked [] = 0
-marked (x ∷ m) = pick x (suc (marked m)) (marked m)
+unfoldable pub markCount : List Bool → ℕ
+markCount [] = 0
+markCount (x ∷ m) = pick x (suc (markCount m)) (markCount m)
 
 -- p is one of the first n numbers of the queue
 pub record Found (q : List ℕ) (n p : ℕ) : Type 0 where
@@ -21,16 +21,16 @@ pub record Found (q : List ℕ) (n p : ℕ) : Type 0 where
   pub is : getD q place 0 ≡ p
 
 -- the first n numbers of the queue are the marked places, each once
-pub record Held (m : List Bool) (q : List ℕ) (n : ℕ) : Type 0 where
+pub record Queued (m : List Bool) (q : List ℕ) (n : ℕ) : Type 0 where
   pub m-long : length m ≡ 2704
   pub q-long : length q ≡ 2704
-  pub many : marked m ≡ n
+  pub many : markCount m ≡ n
   pub listed : (k : ℕ) → k < n → Marked m (getD q k 0)
   pub found : (p : ℕ) → Marked m p → Found q n p
 
 -- exactly the places of which P holds were marked besides, and stand behind the others in the queue
 pub record Went (P : ℕ → Type 0) (m : List Bool) (q : List ℕ) (n : ℕ) (m′ : List Bool) (q′ : List ℕ) (n′ : ℕ) : Type 0 where
-  pub held : Held m′ q′ n′
+  pub held : Queued m′ q′ n′
   pub grows : n ≤ n′
   pub same : (k : ℕ) → k < n → getD q′ k 0 ≡ getD q k 0
   pub kept : (p : ℕ) → Marked m p → Marked m′ p
@@ -61,7 +61,7 @@ pub record Reached (w h : ℕ) (b : List ℕ) (c : ℕ) (m : List Bool) (p : ℕ
 
 -- exactly the places joined with a marked one are marked; where the flood looks for liberties, none of them has an empty point beside it
 pub record Grown (w h : ℕ) (b : List ℕ) (c : ℕ) (stop : Bool) (m m′ : List Bool) (q′ : List ℕ) (n′ : ℕ) : Type 0 where
-  pub held : Held m′ q′ n′
+  pub held : Queued m′ q′ n′
   pub sound : (p : ℕ) → Marked m′ p → Reached w h b c m p
   pub whole : (p : ℕ) → Reached w h b c m p → Marked m′ p
   pub none : stop ≡ true → (p : ℕ) → Marked m′ p → Free w h b p → ⊥

@@ -31,7 +31,7 @@ pub record FreeIs (w h : ℕ) (b : List ℕ) (p : ℕ) (r : Bool) : Type 0 where
   pub no-free : r ≡ false → Free w h b p → ⊥
 
 -- the same answer, where it is asked
-pub record StopIs (w h : ℕ) (b : List ℕ) (p : ℕ) (stop r : Bool) : Type 0 where
+pub record FreeAsked (w h : ℕ) (b : List ℕ) (p : ℕ) (stop r : Bool) : Type 0 where
   pub asked : r ≡ true → stop ≡ true
   pub yes-free : r ≡ true → Free w h b p
   pub no-free : stop ≡ true → r ≡ false → Free w h b p → ⊥

@@ -5,8 +5,8 @@ ghost use Prim.Native.Nat.{ℕ, _≤_, _<_};
 ghost use lib.ListN.{length, getD};
 ghost use Rattle.board_groups.specs.Board.{at, onBoard};
 ghost use Rattle.board_groups.specs.Groups.{Stone};
-ghost use Rattle.board_take.specs.LocalsSides.{rightOf, leftOf, downOf, upOf, emptyAt, standsAt, FreeIs, StopIs};
-ghost use Rattle.board_take.specs.LocalsFlood.{Marked, Found, Held, Went, Here, Around, Seed, SeedAt, Unmarked, Coloured, GrowIs, Swept};
+ghost use Rattle.board_take.specs.LocalsSides.{rightOf, leftOf, downOf, upOf, emptyAt, standsAt, FreeIs, FreeAsked};
+ghost use Rattle.board_take.specs.LocalsFlood.{Marked, Found, Queued, Went, Here, Around, Seed, SeedAt, Unmarked, Coloured, GrowIs, Swept};
 ghost use Rattle.board_take.specs.Take.{TakesAll, TakesOne, TakesNear};
 
 // The place in the next column, or 2704.
@@ -94,7 +94,7 @@ fn push(
     q: usize,
     colour: u8,
 ) -> usize
-    requires { ⌜ Held (now marks) (now queue) n ⌝ }
+    requires { ⌜ Queued (now marks) (now queue) n ⌝ }
     ensures { λ r. ⌜ Went (Here (now (stones .entry)) colour q) (now (marks .entry)) (now (queue .entry)) n (now (marks .exit)) (now (queue .exit)) r ⌝ }
 {
     if 2704 <= q {
@@ -122,7 +122,7 @@ fn visit(
     rows: usize,
     colour: u8,
 ) -> usize
-    requires { ⌜ Held (now marks) (now queue) n × (onBoard columns rows p ≡ true) ⌝ }
+    requires { ⌜ Queued (now marks) (now queue) n × (onBoard columns rows p ≡ true) ⌝ }
     ensures { λ r. ⌜ Went (Around columns rows (now (stones .entry)) colour p)
         (now (marks .entry)) (now (queue .entry)) n (now (marks .exit)) (now (queue .exit)) r ⌝ }
 {
@@ -135,7 +135,7 @@ fn visit(
 // A point beside p is empty, where that is asked.
 fn stops(stones: &[u8; 2704], p: usize, columns: usize, rows: usize, stop: bool) -> bool
     requires { ⌜ onBoard columns rows p ≡ true ⌝ }
-    ensures { λ r. ⌜ StopIs columns rows (now (stones .entry)) p stop r ⌝ }
+    ensures { λ r. ⌜ FreeAsked columns rows (now (stones .entry)) p stop r ⌝ }
 {
     if stop {
         return free(stones, p, columns, rows);
@@ -154,7 +154,7 @@ fn grow(
     colour: u8,
     stop: bool,
 ) -> usize
-    requires { ⌜ Held (now marks) (now queue) from × ((p : ℕ) → Marked (now marks) p → Stone columns rows (now stones) colour p) ⌝ }
+    requires { ⌜ Queued (now marks) (now queue) from × ((p : ℕ) → Marked (now marks) p → Stone columns rows (now stones) colour p) ⌝ }
     ensures { λ r. ⌜ GrowIs columns rows (now (stones .entry)) colour stop (now (marks .entry)) (now (marks .exit)) (now (queue .exit)) r ⌝ }
 {
     let mut n = from;
@@ -181,7 +181,7 @@ fn push_free(
     rows: usize,
     colour: u8,
 ) -> usize
-    requires { ⌜ Held (now marks) (now queue) n ⌝ }
+    requires { ⌜ Queued (now marks) (now queue) n ⌝ }
     ensures { λ r. ⌜ Went (SeedAt columns rows (now (stones .entry)) colour p)
         (now (marks .entry)) (now (queue .entry)) n (now (marks .exit)) (now (queue .exit)) r ⌝ }
 {
@@ -203,7 +203,7 @@ fn seed(
     rows: usize,
     colour: u8,
 ) -> usize
-    requires { ⌜ Held (now marks) (now queue) 0 ⌝ }
+    requires { ⌜ Queued (now marks) (now queue) 0 ⌝ }
     ensures { λ r. ⌜ Went (Seed columns rows (now (stones .entry)) colour 2704)
         (now (marks .entry)) (now (queue .entry)) 0 (now (marks .exit)) (now (queue .exit)) r ⌝ }
 {

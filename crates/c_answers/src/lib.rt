@@ -1,5 +1,5 @@
 // Answers of the operations as the structs of the C header.
-use ask::Shown;
+use ask::DisplayAnswer;
 use ask_value::Accessed;
 use edit_answer::Edited;
 use go::value::GoValue;
@@ -13,8 +13,8 @@ use value_display::Displayed;
 ghost use mathlib.Core.Path.{_≡_};
 ghost use Rattle.tables.specs.Lenient.{asReading};
 ghost use Rattle.go.specs.Value.{unmarked};
-ghost use Rattle.ask.specs.Ask.{shownFor};
-ghost use Rattle.c_answers.specs.Shown.{readingShown, spanShown, displayShown, figuresShown, goShown, writingShown, editShown};
+ghost use Rattle.ask.specs.Ask.{displayFor};
+ghost use Rattle.c_answers.specs.Structs.{readingInC, spanInC, displayInC, figuresInC, goInC, writingInC, editInC};
 
 // Number 0 and the counts of used rows; or the number of a refusal and its place, the counts 0. In both cases the settings that were ignored.
 #[repr(C)]
@@ -26,8 +26,8 @@ pub struct SgfReading {
 }
 
 // A reading, and the settings that were ignored.
-pub fn reading_shown(ignored: u32, reading: Reading) -> SgfReading
-    ensures { λ r. ⌜ r ≡ readingShown ignored reading ⌝ }
+pub fn reading_in_c(ignored: u32, reading: Reading) -> SgfReading
+    ensures { λ r. ⌜ r ≡ readingInC ignored reading ⌝ }
 {
     match reading {
         Reading::Accepted(c) => SgfReading {
@@ -51,15 +51,15 @@ pub fn reading_shown(ignored: u32, reading: Reading) -> SgfReading
 }
 
 // A lenient reading, and the settings that were ignored.
-pub fn lenient_shown(ignored: u32, lenient: Lenient) -> SgfReading
-    ensures { λ r. ⌜ r ≡ readingShown ignored (asReading lenient) ⌝ }
+pub fn lenient_in_c(ignored: u32, lenient: Lenient) -> SgfReading
+    ensures { λ r. ⌜ r ≡ readingInC ignored (asReading lenient) ⌝ }
 {
     match lenient {
-        Lenient::Accepted(c) => reading_shown(ignored, Reading::Accepted(c)),
-        Lenient::TextTooLong => reading_shown(ignored, Reading::Refused(Reason::TextTooLong, 0)),
-        Lenient::NotUtf8(place) => reading_shown(ignored, Reading::Refused(Reason::NotUtf8, place)),
-        Lenient::TooDeep => reading_shown(ignored, Reading::Refused(Reason::TooDeep, 0)),
-        Lenient::NoRoom => reading_shown(ignored, Reading::Refused(Reason::NoRoom, 0)),
+        Lenient::Accepted(c) => reading_in_c(ignored, Reading::Accepted(c)),
+        Lenient::TextTooLong => reading_in_c(ignored, Reading::Refused(Reason::TextTooLong, 0)),
+        Lenient::NotUtf8(place) => reading_in_c(ignored, Reading::Refused(Reason::NotUtf8, place)),
+        Lenient::TooDeep => reading_in_c(ignored, Reading::Refused(Reason::TooDeep, 0)),
+        Lenient::NoRoom => reading_in_c(ignored, Reading::Refused(Reason::NoRoom, 0)),
     }
 }
 
@@ -73,8 +73,8 @@ pub struct SgfSpan {
 }
 
 // A value that is accessed.
-pub fn span_shown(accessed: Accessed) -> SgfSpan
-    ensures { λ r. ⌜ r ≡ spanShown accessed ⌝ }
+pub fn span_in_c(accessed: Accessed) -> SgfSpan
+    ensures { λ r. ⌜ r ≡ spanInC accessed ⌝ }
 {
     match accessed {
         Accessed::Part(a, e) => SgfSpan {
@@ -101,16 +101,16 @@ pub struct SgfDisplay {
 }
 
 // A display.
-pub fn display_shown(shown: Shown) -> SgfDisplay
-    ensures { λ r. ⌜ r ≡ displayShown shown ⌝ }
+pub fn display_in_c(shown: DisplayAnswer) -> SgfDisplay
+    ensures { λ r. ⌜ r ≡ displayInC shown ⌝ }
 {
     match shown {
-        Shown::Shows(n) => SgfDisplay {
+        DisplayAnswer::DisplayLength(n) => SgfDisplay {
             number: 0,
             reserved: 0,
             length: n,
         },
-        Shown::NotShown(reason) => SgfDisplay {
+        DisplayAnswer::NoDisplay(reason) => SgfDisplay {
             number: tables::number(reason),
             reserved: 0,
             length: 0,
@@ -119,8 +119,8 @@ pub fn display_shown(shown: Shown) -> SgfDisplay
 }
 
 // A raw value displayed without a record.
-pub fn value_shown(displayed: Displayed) -> SgfDisplay
-    ensures { λ r. ⌜ r ≡ displayShown (shownFor displayed) ⌝ }
+pub fn value_in_c(displayed: Displayed) -> SgfDisplay
+    ensures { λ r. ⌜ r ≡ displayInC (displayFor displayed) ⌝ }
 {
     match displayed {
         Displayed::Length(n) => SgfDisplay {
@@ -170,7 +170,7 @@ struct Figures {
 
 // A Go value without its marks, as the header's figures.
 fn figures_of(value: Value) -> Figures
-    ensures { λ r. ⌜ r ≡ figuresShown value ⌝ }
+    ensures { λ r. ⌜ r ≡ figuresInC value ⌝ }
 {
     match value {
         Value::Other => Figures {
@@ -213,8 +213,8 @@ fn figures_of(value: Value) -> Figures
 }
 
 // A Go value, its number beside it.
-pub fn go_shown(number: u32, go: GoValue) -> SgfGoValue
-    ensures { λ r. ⌜ r ≡ goShown number go ⌝ }
+pub fn go_in_c(number: u32, go: GoValue) -> SgfGoValue
+    ensures { λ r. ⌜ r ≡ goInC number go ⌝ }
 {
     let value = go.value;
     let marks = go.marks;
@@ -230,8 +230,8 @@ pub fn go_shown(number: u32, go: GoValue) -> SgfGoValue
 }
 
 // A value that is no set, number 0 beside it: no point marked.
-pub fn unmarked_shown(value: Value) -> SgfGoValue
-    ensures { λ r. ⌜ r ≡ goShown 0 (unmarked value) ⌝ }
+pub fn unmarked_in_c(value: Value) -> SgfGoValue
+    ensures { λ r. ⌜ r ≡ goInC 0 (unmarked value) ⌝ }
 {
     let f = figures_of(value);
     SgfGoValue {
@@ -253,8 +253,8 @@ pub struct SgfWriting {
 }
 
 // A writing.
-pub fn writing_shown(written: Written) -> SgfWriting
-    ensures { λ r. ⌜ r ≡ writingShown written ⌝ }
+pub fn writing_in_c(written: Written) -> SgfWriting
+    ensures { λ r. ⌜ r ≡ writingInC written ⌝ }
 {
     match written {
         Written::Wrote(n) => SgfWriting {
@@ -281,8 +281,8 @@ pub struct SgfEdit {
 }
 
 // An edit of a record with these counts.
-pub fn edit_shown(c: Counts, edited: Edited) -> SgfEdit
-    ensures { λ r. ⌜ r ≡ editShown c edited ⌝ }
+pub fn edit_in_c(c: Counts, edited: Edited) -> SgfEdit
+    ensures { λ r. ⌜ r ≡ editInC c edited ⌝ }
 {
     match edited {
         Edited::Changed(n) => SgfEdit {

@@ -4,7 +4,7 @@ use lexer_scan::ValueStep;
 use text_utf8::Trimmed;
 ghost use mathlib.Core.Path.{_≡_};
 ghost use Rattle.text_utf8.specs.Trim.{trimmed};
-ghost use Rattle.lexer_scan.specs.Scan.{valueAt};
+ghost use Rattle.lexer_scan.specs.Scan.{valueStepAt};
 ghost use Rattle.lexer.specs.Step.{nextAt};
 ghost use Rattle.c_tokens.specs.Tokens.{TrimIs, TokenIs, ValueIs};
 
@@ -110,7 +110,7 @@ pub struct SgfValue {
 
 // The value of a property whose `[` stands at a place.
 pub fn next_value(text: &[u8], at: usize) -> SgfValue
-    ensures { λ r. ⌜ ValueIs at (valueAt (now (text .entry)) at) (r .kind) (r .from) (r .to) (r .next) ⌝ }
+    ensures { λ r. ⌜ ValueIs at (valueStepAt (now (text .entry)) at) (r .kind) (r .from) (r .to) (r .next) ⌝ }
 {
     match lexer_scan::next_value(text, at) {
         ValueStep::Value(a, e, n) => SgfValue {

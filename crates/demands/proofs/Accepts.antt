@@ -7,7 +7,7 @@ use Rattle.tables.specs.Numbers.{numberOf}
 use Rattle.tables.specs.Record.{Tree}
 use Rattle.tables.specs.declared.Reason.{Reason}
 use Rattle.tables.specs.declared.Reason.the-variants.{TextTooLong, NotUtf8, MissingPropertyIdentifier, UnexpectedEndOfPropertyIdentifier, UnexpectedEndOfPropertyValue, UnexpectedGameTreeEnd, UnexpectedEndOfData, NoGameTrees, TooDeep, UnexpectedGameTreeStart, UnexpectedProperty, InvalidGameType, NoRoom, EmptyIdentifier, NoSuchNumber, GameTypeFixed, NotClosed, NotFitting}
-use Rattle.parser.specs.Read.{Answer, refused, accepted, Growing, growing, failing, growAll, answer, read, readStrict, readLenient}
+use Rattle.parser.specs.Read.{Answer, refused, accepted, Trees, treesSoFar, noTrees, parseGametrees, answer, read, readStrict, readLenient}
 use Rattle.parser.proofs.Texts.{text-long}
 use Rattle.reader.proofs.Reasons.{refused-with}
 use Rattle.reader_exactly.specs.Slicing.{Any, slicesFrom, Deep}
@@ -51,7 +51,7 @@ module _ (t : List ℕ) where
     where
       go : Valid t → (z : End) → tokensOf t .end ≡ z → Splits t
       go v done q =
-          let l : Lexes t = record { valid = v; calm = q } in
+          let l : Lexes t = record { valid = v; faultless = q } in
           split-cases toks
           (λ u. both false ts UnexpectedGameTreeEnd 0 e (split-read t l (uncovered-six toks u)))
           (λ u. both false ts UnexpectedEndOfData 0 e (split-read t l (unclosed-seven toks u)))
@@ -72,12 +72,12 @@ module _ (t : List ℕ) where
       }
 
   sound-recorded : Sound t → Recorded false t
-  sound-recorded s = go (growAll false (growing 0 []) (slicesFrom 0 toks)) reads (all-why (slicesFrom 0 toks) (slices-covered toks))
+  sound-recorded s = go (parseGametrees false (treesSoFar 0 []) (slicesFrom 0 toks)) reads (all-why (slicesFrom 0 toks) (slices-covered toks))
     where
-      reads : readStrict t ≡ answer (growAll false (growing 0 []) (slicesFrom 0 toks))
+      reads : readStrict t ≡ answer (parseGametrees false (treesSoFar 0 []) (slicesFrom 0 toks))
       reads = split-read t (s .splits .lexes) (not-deep toks (s .splits .balanced) (s .splits .shallow))
 
-      none : (r : Reason) → readStrict t ≡ refused r 0 → AllWhy (slicesFrom 0 toks) (failing r) → ⊥
+      none : (r : Reason) → readStrict t ≡ refused r 0 → AllWhy (slicesFrom 0 toks) (noTrees r) → ⊥
       none TextTooLong e w = w .holds
       none NotUtf8 e w = w .holds
       none MissingPropertyIdentifier e w = w .holds
@@ -97,9 +97,9 @@ module _ (t : List ℕ) where
       none NotClosed e w = w .holds
       none NotFitting e w = w .holds
 
-      go : (x : Growing) → readStrict t ≡ answer x → AllWhy (slicesFrom 0 toks) x → Recorded false t
-      go (growing n ts) e w = (_, e)
-      go (failing r) e w = absurd (none r e w)
+      go : (x : Trees) → readStrict t ≡ answer x → AllWhy (slicesFrom 0 toks) x → Recorded false t
+      go (treesSoFar n ts) e w = (_, e)
+      go (noTrees r) e w = absurd (none r e w)
 
   pub strict-0 : Recorded false t ↔ Sound t
   strict-0 = (recorded-sound, sound-recorded)

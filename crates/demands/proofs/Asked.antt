@@ -16,26 +16,26 @@ use Rattle.ask_value.specs.declared.Accessed.{Accessed}
 use Rattle.ask_value.specs.declared.Accessed.the-variants.{Part, Refused}
 use Rattle.ask.specs.Ask as ask
 use Rattle.ask.specs.declared.GoAnswer.{GoAnswer}
-use Rattle.ask.specs.declared.Shown.the-variants.{Shows, NotShown}
-use Rattle.c_answers.specs.Shown.{spanShown, displayShown}
+use Rattle.ask.specs.declared.DisplayAnswer.the-variants.{DisplayLength, NoDisplay}
+use Rattle.c_answers.specs.Structs.{spanInC, displayInC}
 use Rattle.c_answers.specs.declared.SgfDisplay.{SgfDisplay}
 use Rattle.c_answers.specs.declared.SgfGoValue.{SgfGoValue}
 use Rattle.c_answers.specs.declared.SgfSpan.{SgfSpan}
-use Rattle.sgf.specs.Asked.{fitsShown, DisplayShown, answerShown}
-use Rattle.demands.specs.When.{Exactly, Asked, Unasked, misfit, beyond, display, Displays, Undisplayed, unasked, full}
-use Rattle.demands.specs.Lists.{OneOf, fitsNumbers, askedNumbers, displayNumbers}
+use Rattle.sgf.specs.AskInC.{fitsInC, DisplayInC, goAnswerInC}
+use Rattle.demands.specs.When.{Exactly, Answered, Unanswered, misfit, beyond, displayOf, Displays, Undisplayed, unanswered, full}
+use Rattle.demands.specs.Lists.{OneOf, fitsNumbers, accessNumbers, displayNumbers}
 use Rattle.demands.proofs.Listed.{one-of}
 use Rattle.demands.proofs.Numbers.{exactly}
 use Rattle.demands.proofs.Refusals.{display-leaves}
 
 -- ---- do tables fit
 
-module _ (m : Memory) (n : ℕ) (s : n ≡ fitsShown (Fit m)) where
+module _ (m : Memory) (n : ℕ) (s : n ≡ fitsInC (Fit m)) where
   fits-zero : Fit m ≡ true → n ≡ 0
-  fits-zero f = s ∙ ap fitsShown f
+  fits-zero f = s ∙ ap fitsInC f
 
   fits-not : Fit m ≡ false → n ≡ 19
-  fits-not f = s ∙ ap fitsShown f
+  fits-not f = s ∙ ap fitsInC f
 
   pub fits-exactly : Exactly n (Fit m ≡ true) (λ x. (x ≡ NotFitting) × (Fit m ≡ false))
   fits-exactly =
@@ -48,23 +48,23 @@ module _ (m : Memory) (n : ℕ) (s : n ≡ fitsShown (Fit m)) where
 
 -- ---- a number asked for
 
-asked-decided : (m : Memory) (count k : ℕ) → Asked m count k ⊎ ((x : Reason) × Unasked m count k x)
+asked-decided : (m : Memory) (count k : ℕ) → Answered m count k ⊎ ((x : Reason) × Unanswered m count k x)
 asked-decided m count k =
     either-bool (Fit m) (λ f. below-or k count (λ b. inl (record { fits = f; below = b })) (λ b. inr (NoSuchNumber, beyond f b))) (λ f. inr (NotFitting, misfit f))
 
-unasked-listed : {m : Memory} {count k : ℕ} {x : Reason} → Unasked m count k x → OneOf askedNumbers (numberOf x)
-unasked-listed (misfit f) = one-of askedNumbers 19 refl
-unasked-listed (beyond f b) = one-of askedNumbers 16 refl
+unasked-listed : {m : Memory} {count k : ℕ} {x : Reason} → Unanswered m count k x → OneOf accessNumbers (numberOf x)
+unasked-listed (misfit f) = one-of accessNumbers 19 refl
+unasked-listed (beyond f b) = one-of accessNumbers 16 refl
 
 -- an answer by such a number
-module _ (m : Memory) (count k n : ℕ) (zero-if : Asked m count k → n ≡ 0) (each-if : (x : Reason) → Unasked m count k x → n ≡ numberOf x) where
-  asked-exactly : Exactly n (Asked m count k) (Unasked m count k)
-  asked-exactly = exactly n (Asked m count k) (Unasked m count k) (asked-decided m count k) zero-if each-if
+module _ (m : Memory) (count k n : ℕ) (zero-if : Answered m count k → n ≡ 0) (each-if : (x : Reason) → Unanswered m count k x → n ≡ numberOf x) where
+  asked-exactly : Exactly n (Answered m count k) (Unanswered m count k)
+  asked-exactly = exactly n (Answered m count k) (Unanswered m count k) (asked-decided m count k) zero-if each-if
 
-  asked-listed : OneOf askedNumbers n
+  asked-listed : OneOf accessNumbers n
   asked-listed =
-      ⊎-elim (λ a. subst⁻¹ (OneOf askedNumbers) (zero-if a) (one-of askedNumbers 0 refl))
-      (λ u. subst⁻¹ (OneOf askedNumbers) (each-if (u .0) (u .1)) (unasked-listed (u .1))) (asked-decided m count k)
+      ⊎-elim (λ a. subst⁻¹ (OneOf accessNumbers) (zero-if a) (one-of accessNumbers 0 refl))
+      (λ u. subst⁻¹ (OneOf accessNumbers) (each-if (u .0) (u .1)) (unasked-listed (u .1))) (asked-decided m count k)
 
 -- ---- value access
 
@@ -72,61 +72,61 @@ module _ (m : Memory) (k : ℕ) where
   abbrev Span : Accessed
   Span = Part (valFromAt (m .values) k) (valToAt (m .values) k)
 
-  accessed-asked : Asked m (m .counts .values) k → accessed m k ≡ Span
+  accessed-asked : Answered m (m .counts .values) k → accessed m k ≡ Span
   unfolding accessed
   accessed-asked a =
       ap (λ (b : Bool). pick b (pick (ltb k (m .counts .values)) Span (Refused NoSuchNumber)) (Refused NotFitting)) (a .fits)
       ∙ ap (λ (b : Bool). pick b Span (Refused NoSuchNumber)) (lt-ltb k (m .counts .values) (a .below))
 
-  accessed-unasked : {x : Reason} → Unasked m (m .counts .values) k x → accessed m k ≡ Refused x
+  accessed-unasked : {x : Reason} → Unanswered m (m .counts .values) k x → accessed m k ≡ Refused x
   unfolding accessed
   accessed-unasked (misfit f) = ap (λ (b : Bool). pick b (pick (ltb k (m .counts .values)) Span (Refused NoSuchNumber)) (Refused NotFitting)) f
   accessed-unasked (beyond f l) =
       ap (λ (b : Bool). pick b (pick (ltb k (m .counts .values)) Span (Refused NoSuchNumber)) (Refused NotFitting)) f
       ∙ ap (λ (b : Bool). pick b Span (Refused NoSuchNumber)) (le-ltb k (m .counts .values) l)
 
-  module _ (r : SgfSpan) (s : r ≡ spanShown (accessed m k)) where
-    span-zero : Asked m (m .counts .values) k → r .number ≡ 0
-    span-zero a = ap (λ (z : SgfSpan). z .number) (s ∙ ap spanShown (accessed-asked a))
+  module _ (r : SgfSpan) (s : r ≡ spanInC (accessed m k)) where
+    span-zero : Answered m (m .counts .values) k → r .number ≡ 0
+    span-zero a = ap (λ (z : SgfSpan). z .number) (s ∙ ap spanInC (accessed-asked a))
 
-    span-each : (x : Reason) → Unasked m (m .counts .values) k x → r .number ≡ numberOf x
-    span-each x u = ap (λ (z : SgfSpan). z .number) (s ∙ ap spanShown (accessed-unasked u))
+    span-each : (x : Reason) → Unanswered m (m .counts .values) k x → r .number ≡ numberOf x
+    span-each x u = ap (λ (z : SgfSpan). z .number) (s ∙ ap spanInC (accessed-unasked u))
 
-    pub value-exactly : Exactly (r .number) (Asked m (m .counts .values) k) (Unasked m (m .counts .values) k)
+    pub value-exactly : Exactly (r .number) (Answered m (m .counts .values) k) (Unanswered m (m .counts .values) k)
     value-exactly = asked-exactly m (m .counts .values) k (r .number) span-zero span-each
 
-    pub value-listed : OneOf askedNumbers (r .number)
+    pub value-listed : OneOf accessNumbers (r .number)
     value-listed = asked-listed m (m .counts .values) k (r .number) span-zero span-each
 
   -- ---- display
 
-  module _ (kind : Kind) (out out′ : List ℕ) (r : SgfDisplay) (s : DisplayShown m k kind out out′ r) where
+  module _ (kind : Kind) (out out′ : List ℕ) (r : SgfDisplay) (s : DisplayInC m k kind out out′ r) where
     abbrev D : List ℕ
-    D = display m k kind
+    D = displayOf m k kind
 
-    displays-answer : Displays m k kind (length out) → ask.display (m .text) (accessed m k) kind out ≡ Shows (length D)
+    displays-answer : Displays m k kind (length out) → ask.display (m .text) (accessed m k) kind out ≡ DisplayLength (length D)
     unfolding displayed
     displays-answer x =
         ap (λ (a : Accessed). ask.display (m .text) a kind out) (accessed-asked (x .asked))
-        ∙ ap (λ (b : Bool). ask.shownFor (pick b (Length (length D)) Full)) (le-leb (length D) (length out) (x .long))
+        ∙ ap (λ (b : Bool). ask.displayFor (pick b (Length (length D)) Full)) (le-leb (length D) (length out) (x .long))
 
-    undisplayed-answer : {x : Reason} → Undisplayed m k kind (length out) x → ask.display (m .text) (accessed m k) kind out ≡ NotShown x
+    undisplayed-answer : {x : Reason} → Undisplayed m k kind (length out) x → ask.display (m .text) (accessed m k) kind out ≡ NoDisplay x
     unfolding displayed
-    undisplayed-answer (unasked u) = ap (λ (a : Accessed). ask.display (m .text) a kind out) (accessed-unasked u)
+    undisplayed-answer (unanswered u) = ap (λ (a : Accessed). ask.display (m .text) a kind out) (accessed-unasked u)
     undisplayed-answer (full a l) =
         ap (λ (z : Accessed). ask.display (m .text) z kind out) (accessed-asked a)
-        ∙ ap (λ (b : Bool). ask.shownFor (pick b (Length (length D)) Full)) (lt-leb (length D) (length out) l)
+        ∙ ap (λ (b : Bool). ask.displayFor (pick b (Length (length D)) Full)) (lt-leb (length D) (length out) l)
 
     display-decided : Displays m k kind (length out) ⊎ ((x : Reason) × Undisplayed m k kind (length out) x)
     display-decided =
-        ⊎-elim (λ a. below-or (length out) (length D) (λ l. inr (NoRoom, full a l)) (λ l. inl (record { asked = a; long = l }))) (λ u. inr (u .0, unasked (u .1)))
+        ⊎-elim (λ a. below-or (length out) (length D) (λ l. inr (NoRoom, full a l)) (λ l. inl (record { asked = a; long = l }))) (λ u. inr (u .0, unanswered (u .1)))
         (asked-decided m (m .counts .values) k)
 
     display-zero : Displays m k kind (length out) → r .number ≡ 0
-    display-zero x = ap (λ (z : SgfDisplay). z .number) (s .is ∙ ap displayShown (displays-answer x))
+    display-zero x = ap (λ (z : SgfDisplay). z .number) (s .is ∙ ap displayInC (displays-answer x))
 
     display-each : (x : Reason) → Undisplayed m k kind (length out) x → r .number ≡ numberOf x
-    display-each x u = ap (λ (z : SgfDisplay). z .number) (s .is ∙ ap displayShown (undisplayed-answer u))
+    display-each x u = ap (λ (z : SgfDisplay). z .number) (s .is ∙ ap displayInC (undisplayed-answer u))
 
     pub display-exactly : Exactly (r .number) (Displays m k kind (length out)) (Undisplayed m k kind (length out))
     display-exactly = exactly (r .number) (Displays m k kind (length out)) (Undisplayed m k kind (length out)) display-decided display-zero display-each
@@ -137,8 +137,8 @@ module _ (m : Memory) (k : ℕ) where
         (λ u. display-leaves (m .text) (accessed m k) kind out out′ (u .0) (sym (undisplayed-answer (u .1))) (s .bytes)) display-decided
 
     undisplayed-listed : {x : Reason} → Undisplayed m k kind (length out) x → OneOf displayNumbers (numberOf x)
-    undisplayed-listed (unasked (misfit f)) = one-of displayNumbers 19 refl
-    undisplayed-listed (unasked (beyond f b)) = one-of displayNumbers 16 refl
+    undisplayed-listed (unanswered (misfit f)) = one-of displayNumbers 19 refl
+    undisplayed-listed (unanswered (beyond f b)) = one-of displayNumbers 16 refl
     undisplayed-listed (full a l) = one-of displayNumbers 14 refl
 
     pub display-listed : OneOf displayNumbers (r .number)
@@ -148,29 +148,29 @@ module _ (m : Memory) (k : ℕ) where
 
 -- ---- Go value
 
-module _ (m : Memory) (p : ℕ) (r : SgfGoValue) (s : r ≡ answerShown (ask.goAnswer m p)) where
+module _ (m : Memory) (p : ℕ) (r : SgfGoValue) (s : r ≡ goAnswerInC (ask.goAnswer m p)) where
   abbrev Go : GoAnswer
   Go = ask.given (ask.goAt (recordIn m) p)
 
-  go-asked : Asked m (m .counts .properties) p → r .number ≡ 0
+  go-asked : Answered m (m .counts .properties) p → r .number ≡ 0
   unfolding ask.goAnswer
   go-asked a =
       ap (λ (z : SgfGoValue). z .number) s
-      ∙ ap (λ (b : Bool). answerShown (pick b (pick (ltb p (m .counts .properties)) Go (ask.refuses NoSuchNumber)) (ask.refuses NotFitting)) .number) (a .fits)
-      ∙ ap (λ (b : Bool). answerShown (pick b Go (ask.refuses NoSuchNumber)) .number) (lt-ltb p (m .counts .properties) (a .below))
+      ∙ ap (λ (b : Bool). goAnswerInC (pick b (pick (ltb p (m .counts .properties)) Go (ask.refuses NoSuchNumber)) (ask.refuses NotFitting)) .number) (a .fits)
+      ∙ ap (λ (b : Bool). goAnswerInC (pick b Go (ask.refuses NoSuchNumber)) .number) (lt-ltb p (m .counts .properties) (a .below))
 
-  go-unasked : (x : Reason) → Unasked m (m .counts .properties) p x → r .number ≡ numberOf x
+  go-unasked : (x : Reason) → Unanswered m (m .counts .properties) p x → r .number ≡ numberOf x
   unfolding ask.goAnswer
   go-unasked x (misfit f) =
       ap (λ (z : SgfGoValue). z .number) s
-      ∙ ap (λ (b : Bool). answerShown (pick b (pick (ltb p (m .counts .properties)) Go (ask.refuses NoSuchNumber)) (ask.refuses NotFitting)) .number) f
+      ∙ ap (λ (b : Bool). goAnswerInC (pick b (pick (ltb p (m .counts .properties)) Go (ask.refuses NoSuchNumber)) (ask.refuses NotFitting)) .number) f
   go-unasked x (beyond f l) =
       ap (λ (z : SgfGoValue). z .number) s
-      ∙ ap (λ (b : Bool). answerShown (pick b (pick (ltb p (m .counts .properties)) Go (ask.refuses NoSuchNumber)) (ask.refuses NotFitting)) .number) f
-      ∙ ap (λ (b : Bool). answerShown (pick b Go (ask.refuses NoSuchNumber)) .number) (le-ltb p (m .counts .properties) l)
+      ∙ ap (λ (b : Bool). goAnswerInC (pick b (pick (ltb p (m .counts .properties)) Go (ask.refuses NoSuchNumber)) (ask.refuses NotFitting)) .number) f
+      ∙ ap (λ (b : Bool). goAnswerInC (pick b Go (ask.refuses NoSuchNumber)) .number) (le-ltb p (m .counts .properties) l)
 
-  pub go-exactly : Exactly (r .number) (Asked m (m .counts .properties) p) (Unasked m (m .counts .properties) p)
+  pub go-exactly : Exactly (r .number) (Answered m (m .counts .properties) p) (Unanswered m (m .counts .properties) p)
   go-exactly = asked-exactly m (m .counts .properties) p (r .number) go-asked go-unasked
 
-  pub go-listed : OneOf askedNumbers (r .number)
+  pub go-listed : OneOf accessNumbers (r .number)
   go-listed = asked-listed m (m .counts .properties) p (r .number) go-asked go-unasked

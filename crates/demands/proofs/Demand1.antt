@@ -18,27 +18,27 @@ use Rattle.ask_value.specs.Access.{accessed}
 use Rattle.parser.specs.Read.{read, readStrict}
 use Rattle.reader.specs.Lent.{Lent, ReadIs}
 use Rattle.ask.specs.Ask.{DisplayIs, goAnswer}
-use Rattle.ask.specs.declared.Shown.the-variants.{NotShown}
+use Rattle.ask.specs.declared.DisplayAnswer.the-variants.{NoDisplay}
 use Rattle.serialize.specs.Form.{WriteIs}
 use Rattle.serialize.specs.declared.Written.the-variants as written
 use Rattle.edit_answer.specs.Answer.{outcomeOf}
 use Rattle.edit_answer.specs.declared.Edited.the-variants as edited
 use Rattle.edit.specs.Lent.{EditIs}
-use Rattle.c_answers.specs.Shown.{spanShown, goShown}
+use Rattle.c_answers.specs.Structs.{spanInC, goInC}
 use Rattle.c_answers.specs.declared.SgfDisplay.{SgfDisplay}
 use Rattle.c_answers.specs.declared.SgfEdit.{SgfEdit}
 use Rattle.c_answers.specs.declared.SgfGoValue.{SgfGoValue}
 use Rattle.c_answers.specs.declared.SgfReading.{SgfReading}
 use Rattle.c_answers.specs.declared.SgfSpan.{SgfSpan}
 use Rattle.c_answers.specs.declared.SgfWriting.{SgfWriting}
-use Rattle.sgf.specs.Asked.{fitsShown, DisplayShown, answerShown}
-use Rattle.sgf.specs.Changed.{WriteShown, EditShown}
-use Rattle.sgf.specs.Shown.{ReadShown}
+use Rattle.sgf.specs.AskInC.{fitsInC, DisplayInC, goAnswerInC}
+use Rattle.sgf.specs.ChangeInC.{WriteInC, EditInC}
+use Rattle.sgf.specs.ReadInC.{ReadInC}
 use Rattle.edit_laws.specs.Edits.{Allowed, Forbidden}
 use Rattle.demands.specs.Calls.{countsIn}
 use Rattle.demands.specs.Cells.{countsRead, noCounts}
-use Rattle.demands.specs.Lists.{OneOf, strictNumbers, writerNumbers, editNumbers, askedNumbers, displayNumbers, fitsNumbers, tokenNumbers}
-use Rattle.demands.specs.When.{Exactly, Reads, Unread, Writes, Unwritten, Asked, Unasked, Displays, Undisplayed}
+use Rattle.demands.specs.Lists.{OneOf, strictNumbers, writerNumbers, editNumbers, accessNumbers, displayNumbers, fitsNumbers, tokenNumbers}
+use Rattle.demands.specs.When.{Exactly, ReadsInto, Unread, Writes, Unwritten, Answered, Unanswered, Displays, Undisplayed}
 use Rattle.demands.proofs.Asked as asked
 use Rattle.demands.proofs.Edited as edit
 use Rattle.demands.proofs.Numbers as numbers
@@ -66,9 +66,9 @@ number-some = numbers.number-some
 pub number-once : (r s : Reason) → numberOf r ≡ numberOf s → r ≡ s
 number-once = numbers.number-once
 
-module _ {i : ℕ} (t : List ℕ) (before after : Lent) (r : SgfReading) (s : ReadShown i (readStrict t) before after r) where
+module _ {i : ℕ} (t : List ℕ) (before after : Lent) (r : SgfReading) (s : ReadInC i (readStrict t) before after r) where
   -- sgf_read_strict: 0 exactly where the text reads as a record whose rows are lent; each number, with its place, exactly where the definition refuses so, or, 14, rows are too few
-  pub reading-exactly : Exactly (r .number) (Reads false t before) (λ x. (p : ℕ) × Unread false t before x p × (r .place ≡ p))
+  pub reading-exactly : Exactly (r .number) (ReadsInto false t before) (λ x. (p : ℕ) × Unread false t before x p × (r .place ≡ p))
   reading-exactly = reading.reading-exactly false t before after r s
 
   -- any other number than 0 leaves every number of the four tables
@@ -87,7 +87,7 @@ module _ {i : ℕ} (t : List ℕ) (before after : Lent) (r : SgfReading) (s : Re
   pub reading-numbers : OneOf strictNumbers (r .number)
   reading-numbers = reading.strict-listed false t before after r s
 
-module _ (m : Memory) (out out′ : List ℕ) (r : SgfWriting) (s : WriteShown m out out′ r) where
+module _ (m : Memory) (out out′ : List ℕ) (r : SgfWriting) (s : WriteInC m out out′ r) where
   -- sgf_write: 19, 15, 14
   pub writing-exactly : Exactly (r .number) (Writes m (length out)) (Unwritten m (length out))
   writing-exactly = writing.writing-exactly m out out′ r s
@@ -99,7 +99,7 @@ module _ (m : Memory) (out out′ : List ℕ) (r : SgfWriting) (s : WriteShown m
   pub writing-numbers : OneOf writerNumbers (r .number)
   writing-numbers = writing.writing-listed m out out′ r s
 
-module _ (m m′ : Memory) (k : ℕ) (new : List ℕ) (r : SgfEdit) (s : EditShown m m′ k new r) where
+module _ (m m′ : Memory) (k : ℕ) (new : List ℕ) (r : SgfEdit) (s : EditInC m m′ k new r) where
   -- sgf_edit: 19, 16, 17, 2, 18, 1, 14, with the place
   pub edit-exactly : Exactly (r .number) (Allowed m k new) (λ x. (p : ℕ) × Forbidden m k new x p × (r .place ≡ p))
   edit-exactly = edit.edit-exactly m m′ k new r s
@@ -115,15 +115,15 @@ module _ (m m′ : Memory) (k : ℕ) (new : List ℕ) (r : SgfEdit) (s : EditSho
   pub edit-numbers : OneOf editNumbers (r .number)
   edit-numbers = edit.edit-listed m m′ k new r s
 
-module _ (m : Memory) (k : ℕ) (r : SgfSpan) (s : r ≡ spanShown (accessed m k)) where
+module _ (m : Memory) (k : ℕ) (r : SgfSpan) (s : r ≡ spanInC (accessed m k)) where
   -- sgf_value: 19, 16; lent memory is read only
-  pub value-exactly : Exactly (r .number) (Asked m (m .counts .values) k) (Unasked m (m .counts .values) k)
+  pub value-exactly : Exactly (r .number) (Answered m (m .counts .values) k) (Unanswered m (m .counts .values) k)
   value-exactly = asked.value-exactly m k r s
 
-  pub value-numbers : OneOf askedNumbers (r .number)
+  pub value-numbers : OneOf accessNumbers (r .number)
   value-numbers = asked.value-listed m k r s
 
-module _ (m : Memory) (k : ℕ) (kind : Kind) (out out′ : List ℕ) (r : SgfDisplay) (s : DisplayShown m k kind out out′ r) where
+module _ (m : Memory) (k : ℕ) (kind : Kind) (out out′ : List ℕ) (r : SgfDisplay) (s : DisplayInC m k kind out out′ r) where
   -- sgf_display: 19, 16, 14
   pub display-exactly : Exactly (r .number) (Displays m k kind (length out)) (Undisplayed m k kind (length out))
   display-exactly = asked.display-exactly m k kind out out′ r s
@@ -135,15 +135,15 @@ module _ (m : Memory) (k : ℕ) (kind : Kind) (out out′ : List ℕ) (r : SgfDi
   pub display-numbers : OneOf displayNumbers (r .number)
   display-numbers = asked.display-listed m k kind out out′ r s
 
-module _ (m : Memory) (p : ℕ) (r : SgfGoValue) (s : r ≡ answerShown (goAnswer m p)) where
+module _ (m : Memory) (p : ℕ) (r : SgfGoValue) (s : r ≡ goAnswerInC (goAnswer m p)) where
   -- sgf_go_value: 19, 16; lent memory is read only
-  pub go-exactly : Exactly (r .number) (Asked m (m .counts .properties) p) (Unasked m (m .counts .properties) p)
+  pub go-exactly : Exactly (r .number) (Answered m (m .counts .properties) p) (Unanswered m (m .counts .properties) p)
   go-exactly = asked.go-exactly m p r s
 
-  pub go-numbers : OneOf askedNumbers (r .number)
+  pub go-numbers : OneOf accessNumbers (r .number)
   go-numbers = asked.go-listed m p r s
 
-module _ (m : Memory) (n : ℕ) (s : n ≡ fitsShown (Fit m)) where
+module _ (m : Memory) (n : ℕ) (s : n ≡ fitsInC (Fit m)) where
   -- sgf_fits: 19; lent memory is read only
   pub fits-exactly : Exactly n (Fit m ≡ true) (λ x. (x ≡ NotFitting) × (Fit m ≡ false))
   fits-exactly = asked.fits-exactly m n s
@@ -160,7 +160,7 @@ pub token-numbers : (at k n f o to : ℕ) (x : Step) → TokenIs at x k n f o to
 token-numbers = texts.token-listed
 
 -- sgf_go_property: 0
-pub property-numbers : (g : GoValue) (r : SgfGoValue) → r ≡ goShown 0 g → r .number ≡ 0
+pub property-numbers : (g : GoValue) (r : SgfGoValue) → r ≡ goInC 0 g → r .number ≡ 0
 property-numbers g r e = ap (λ (z : SgfGoValue). z .number) e
 
 -- ---- what a refusal leaves, of the functions below these
@@ -179,5 +179,5 @@ module _ (m : Memory) (out out′ : List ℕ) (r : Reason) where
   writing-refused x = x .bytes
 
   -- a refused display too
-  pub display-refused : (k : ℕ) (kind : Kind) → DisplayIs m k kind out out′ (NotShown r) → out′ ≡ out
+  pub display-refused : (k : ℕ) (kind : Kind) → DisplayIs m k kind out out′ (NoDisplay r) → out′ ≡ out
   display-refused k kind x = display-leaves (m .text) (accessed m k) kind out out′ r (x .is) (x .bytes)

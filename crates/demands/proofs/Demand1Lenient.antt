@@ -5,17 +5,17 @@ use Rattle.tables.specs.declared.Lenient.{Lenient}
 use Rattle.tables.specs.declared.Lenient.the-variants.{Accepted, TextTooLong, NotUtf8, TooDeep, NoRoom}
 use Rattle.parser.specs.Read.{readLenient}
 use Rattle.reader.specs.Lent.{Lent}
-use Rattle.c_answers.specs.Shown.{readingShown}
+use Rattle.c_answers.specs.Structs.{readingInC}
 use Rattle.c_answers.specs.declared.SgfReading.{SgfReading}
-use Rattle.sgf.specs.Shown.{ReadShown}
+use Rattle.sgf.specs.ReadInC.{ReadInC}
 use Rattle.demands.specs.Cells.{countsRead, noCounts}
 use Rattle.demands.specs.Lists.{OneOf, lenientNumbers}
-use Rattle.demands.specs.When.{Exactly, Reads, Unread}
+use Rattle.demands.specs.When.{Exactly, ReadsInto, Unread}
 use Rattle.demands.proofs.Readings as reading
 
-module _ {i : ℕ} (t : List ℕ) (before after : Lent) (r : SgfReading) (s : ReadShown i (readLenient t) before after r) where
+module _ {i : ℕ} (t : List ℕ) (before after : Lent) (r : SgfReading) (s : ReadInC i (readLenient t) before after r) where
   -- 0 exactly where the text reads as a record whose rows are lent; each number, with its place, exactly where the definition refuses so, or, 14, rows are too few
-  pub lenient-exactly : Exactly (r .number) (Reads true t before) (λ x. (p : ℕ) × Unread true t before x p × (r .place ≡ p))
+  pub lenient-exactly : Exactly (r .number) (ReadsInto true t before) (λ x. (p : ℕ) × Unread true t before x p × (r .place ≡ p))
   lenient-exactly = reading.reading-exactly true t before after r s
 
   -- any other number than 0 leaves every number of the four tables
@@ -35,7 +35,7 @@ module _ {i : ℕ} (t : List ℕ) (before after : Lent) (r : SgfReading) (s : Re
   lenient-numbers = reading.lenient-listed true t before after r s refl
 
 -- the list is the type: each case of a lenient answer is shown with its number
-pub lenient-case : (i : ℕ) (l : Lenient) → readingShown i (asReading l) .number ≡ lenientNumber l
+pub lenient-case : (i : ℕ) (l : Lenient) → readingInC i (asReading l) .number ≡ lenientNumber l
 lenient-case i (Accepted c) = refl
 lenient-case i TextTooLong = refl
 lenient-case i (NotUtf8 p) = refl

@@ -2,7 +2,7 @@
 use Rattle.lists.proofs.Prelude.{ℕ, _≤_, _<_, List, _⊎_, _≡_, length}
 use Rattle.text_utf8.specs.Trim.{trimmed}
 use Rattle.values.specs.Read.{readValue}
-use Rattle.value_display.specs.Display.{shown}
+use Rattle.value_display.specs.Display.{displayText}
 use Rattle.value_display.specs.declared.Kind.{Kind}
 use Rattle.lexer.specs.Step.{nextAt}
 use Rattle.lexer.specs.declared.Fault.{Fault}
@@ -11,7 +11,7 @@ use Rattle.c_tokens.specs.Tokens.{TrimIs, TokenIs}
 use Rattle.tables.specs.Numbers.{reasonOf}
 use Rattle.tables.specs.declared.Reason.the-variants.{NoRoom}
 use Rattle.c_answers.specs.declared.SgfDisplay.{SgfDisplay}
-use Rattle.sgf.specs.Asked.{RawShown}
+use Rattle.sgf.specs.AskInC.{RawInC}
 use Rattle.reader_exactly.specs.Kept.{Blanks, Keeps}
 use Rattle.demands.specs.Lists.{OneOf, rawNumbers}
 use Rattle.demands.specs.When.{Exactly}
@@ -31,9 +31,9 @@ pub token-exactly : (t : List ℕ) (at k n f o to : ℕ) → TokenIs at (nextAt 
     → Exactly n ((y : Fault) (i : ℕ) → nextAt t at ≡ Refused y i → ⊥) (λ x. (y : Fault) × (nextAt t at ≡ Refused y f) × (x ≡ reasonOf y))
 token-exactly = texts.token-exactly
 
-module _ (kind : Kind) (raw out out′ : List ℕ) (r : SgfDisplay) (s : RawShown kind raw out out′ r) where
+module _ (kind : Kind) (raw out out′ : List ℕ) (r : SgfDisplay) (s : RawInC kind raw out out′ r) where
   -- sgf_display_value: 0 exactly where the output has room for what the value shows, else 14
-  pub raw-exactly : Exactly (r .number) (length (shown kind (readValue raw)) ≤ length out) (λ x. (x ≡ NoRoom) × (length out < length (shown kind (readValue raw))))
+  pub raw-exactly : Exactly (r .number) (length (displayText kind (readValue raw)) ≤ length out) (λ x. (x ≡ NoRoom) × (length out < length (displayText kind (readValue raw))))
   raw-exactly = texts.raw-exactly kind raw out out′ r s
 
   -- any other number than 0 leaves every byte of the output

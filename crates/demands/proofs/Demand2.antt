@@ -30,7 +30,7 @@ use Rattle.serialize.specs.declared.Written.{Written}
 use Rattle.serialize.specs.declared.Written.the-variants as written
 use Rattle.serialize.specs.declared.Written.the-variants.{Wrote}
 use Rattle.serialize_laws.specs.Alike.{AlikeProp, Alike, OneSet, Among}
-use Rattle.serialize_laws.specs.Back.{Named, BeginsAll, zTree}
+use Rattle.serialize_laws.specs.Back.{Named, BeginsAll, placelessTree}
 use Rattle.serialize_laws.specs.Depth.{depthOf}
 use Rattle.serialize_laws.specs.Same.{Pairs, SameTree, ReadsBack}
 use Rattle.serialize_laws.proofs.Aside as aside
@@ -39,8 +39,8 @@ use Rattle.serialize_laws.proofs.OneWriting as one
 use Rattle.serialize_laws.proofs.Theorem as theorem
 use Rattle.c_answers.specs.declared.SgfReading.{SgfReading}
 use Rattle.c_answers.specs.declared.SgfWriting.{SgfWriting}
-use Rattle.sgf.specs.Shown.{ReadShown}
-use Rattle.sgf.specs.Changed.{WriteShown}
+use Rattle.sgf.specs.ReadInC.{ReadInC}
+use Rattle.sgf.specs.ChangeInC.{WriteInC}
 use Rattle.demands.specs.Cells.{hasRoom, countsRead}
 use Rattle.demands.specs.Holding.{holding}
 use Rattle.demands.proofs.Exported as exported
@@ -71,9 +71,9 @@ module _ (len len′ : Bool) (t u : List ℕ) (before after before′ after′ :
 
 -- so it is of the exported function, however it reads: number 0 everywhere gives the same length and the same bytes
 pub exported-written : {i i′ : ℕ} (len len′ : Bool) (t u : List ℕ) (before after before′ after′ : Lent) (a a′ : SgfReading)
-    → ReadShown i (read len t) before after a → a .number ≡ 0 → ReadShown i′ (read len′ u) before′ after′ a′ → a′ .number ≡ 0
+    → ReadInC i (read len t) before after a → a .number ≡ 0 → ReadInC i′ (read len′ u) before′ after′ a′ → a′ .number ≡ 0
     → (ts us : List Tree) → read len t ≡ accepted ts → read len′ u ≡ accepted us → Alike ts us → (out out₁ out′ out₁′ : List ℕ) (r r′ : SgfWriting)
-    → WriteShown (holding t (countsRead a) after) out out₁ r → r .number ≡ 0 → WriteShown (holding u (countsRead a′) after′) out′ out₁′ r′ → r′ .number ≡ 0
+    → WriteInC (holding t (countsRead a) after) out out₁ r → r .number ≡ 0 → WriteInC (holding u (countsRead a′) after′) out′ out₁′ r′ → r′ .number ≡ 0
     → (r .length ≡ r′ .length) × (take (r .length) out₁ ≡ take (r′ .length) out₁′)
 exported-written = exported.one-writing
 
@@ -92,7 +92,7 @@ pub order-one : (p q : Prop) → readIdentifier (q .name) ≡ readIdentifier (p 
 order-one = sets.order-one
 
 -- records that differ in nothing but places are written alike
-pub written-alike : (ts us : List Tree) → map zTree ts ≡ map zTree us → writing ts ≡ writing us
+pub written-alike : (ts us : List Tree) → map placelessTree ts ≡ map placelessTree us → writing ts ≡ writing us
 written-alike = aside.written-alike
 
 -- ---- an accepted reading, strict or lenient
@@ -164,25 +164,25 @@ module _ (t : List ℕ) (before after : Lent) (k : Counts) (x : ReadIs (readStri
 -- ---- all of this is so of the exported functions: number 0 is acceptance with what the struct shows
 
 -- a reading, strict or lenient
-pub exported-reads : {i : ℕ} (len : Bool) (t : List ℕ) (before after : Lent) (a : SgfReading) → ReadShown i (read len t) before after a → a .number ≡ 0 → ReadIs (read len t) before after (Accepted (countsRead a))
+pub exported-reads : {i : ℕ} (len : Bool) (t : List ℕ) (before after : Lent) (a : SgfReading) → ReadInC i (read len t) before after a → a .number ≡ 0 → ReadIs (read len t) before after (Accepted (countsRead a))
 exported-reads len t = exported.shown-accepted (read len t)
 
 -- a writing
-pub exported-writes : (m : Memory) (out out′ : List ℕ) (r : SgfWriting) → WriteShown m out out′ r → r .number ≡ 0 → WriteIs m out out′ (Wrote (r .length))
+pub exported-writes : (m : Memory) (out out′ : List ℕ) (r : SgfWriting) → WriteInC m out out′ r → r .number ≡ 0 → WriteIs m out out′ (Wrote (r .length))
 exported-writes = exported.shown-wrote
 
 -- read, write, read, write, under the scope's premises
-module _ {i i₂ : ℕ} (t : List ℕ) (before after : Lent) (a : SgfReading) (x : ReadShown i (readStrict t) before after a) (z : a .number ≡ 0)
+module _ {i i₂ : ℕ} (t : List ℕ) (before after : Lent) (a : SgfReading) (x : ReadInC i (readStrict t) before after a) (z : a .number ≡ 0)
     (b : BeginsAll t) (nm : All Named (allProps (allNodes (recordIn (holding t (countsRead a) after))))) (out out′ : List ℕ) (r : SgfWriting)
-    (w : WriteShown (holding t (countsRead a) after) out out′ r) (v : r .number ≡ 0) (l : r .length ≤ textLimit)
-    (before₂ after₂ : Lent) (a₂ : SgfReading) (x₂ : ReadShown i₂ (readStrict (take (r .length) out′)) before₂ after₂ a₂) where
+    (w : WriteInC (holding t (countsRead a) after) out out′ r) (v : r .number ≡ 0) (l : r .length ≤ textLimit)
+    (before₂ after₂ : Lent) (a₂ : SgfReading) (x₂ : ReadInC i₂ (readStrict (take (r .length) out′)) before₂ after₂ a₂) where
   -- the second reading's number is 9 where the writing is too deep, and nowhere else
   pub exported-nine : (depthLimit < depthOf (take (r .length) out′) → a₂ .number ≡ 9) × (a₂ .number ≡ 9 → depthLimit < depthOf (take (r .length) out′))
   exported-nine = again.nine t before after a x z b nm out out′ r w v l before₂ after₂ a₂ x₂
 
   -- where it is 0 the second writing's is 0 if it has room, with the same length and the same bytes
   pub exported-again : depthOf (take (r .length) out′) ≤ depthLimit → a₂ .number ≡ 0 → (out₂ out₂′ : List ℕ) (r₂ : SgfWriting)
-      → WriteShown (holding (take (r .length) out′) (countsRead a₂) after₂) out₂ out₂′ r₂ → r .length ≤ length out₂
+      → WriteInC (holding (take (r .length) out′) (countsRead a₂) after₂) out₂ out₂′ r₂ → r .length ≤ length out₂
       → (r₂ .number ≡ 0) × (r₂ .length ≡ r .length) × (take (r .length) out₂′ ≡ take (r .length) out′)
   exported-again = again.again t before after a x z b nm out out′ r w v l before₂ after₂ a₂ x₂
 

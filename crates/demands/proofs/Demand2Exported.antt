@@ -14,8 +14,8 @@ use Rattle.serialize_laws.specs.Back.{Named, BeginsAll}
 use Rattle.serialize_laws.specs.Depth.{depthOf}
 use Rattle.c_answers.specs.declared.SgfReading.{SgfReading}
 use Rattle.c_answers.specs.declared.SgfWriting.{SgfWriting}
-use Rattle.sgf.specs.Shown.{ReadShown}
-use Rattle.sgf.specs.Changed.{WriteShown}
+use Rattle.sgf.specs.ReadInC.{ReadInC}
+use Rattle.sgf.specs.ChangeInC.{WriteInC}
 use Rattle.demands.specs.Cells.{hasRoom, countsRead}
 use Rattle.demands.specs.Holding.{holding}
 use Rattle.demands.proofs.Exported as exported
@@ -26,14 +26,14 @@ pub lenient-accepts-more : (t : List ℕ) (ts : List Tree) → readStrict t ≡ 
 lenient-accepts-more = more.lenient-accepts-more
 
 -- what sgf_read_strict accepts, sgf_read_lenient accepts, with the same counts and tables
-pub exported-more : {i i′ : ℕ} (t : List ℕ) (before after after′ : Lent) (r r′ : SgfReading) → ReadShown i (readStrict t) before after r → r .number ≡ 0
-    → ReadShown i′ (readLenient t) before after′ r′ → (r′ .number ≡ 0) × (countsRead r′ ≡ countsRead r) × (after′ ≡ after)
+pub exported-more : {i i′ : ℕ} (t : List ℕ) (before after after′ : Lent) (r r′ : SgfReading) → ReadInC i (readStrict t) before after r → r .number ≡ 0
+    → ReadInC i′ (readLenient t) before after′ r′ → (r′ .number ≡ 0) × (countsRead r′ ≡ countsRead r) × (after′ ≡ after)
 exported-more = exported.more-shown
 
 -- the first reading is strict and 0; trees begin with `(`, and raw identifiers are uppercase, not empty; its tables are written
-module _ {i : ℕ} (t : List ℕ) (before after : Lent) (a : SgfReading) (x : ReadShown i (readStrict t) before after a) (z : a .number ≡ 0)
+module _ {i : ℕ} (t : List ℕ) (before after : Lent) (a : SgfReading) (x : ReadInC i (readStrict t) before after a) (z : a .number ≡ 0)
     (b : BeginsAll t) (nm : All Named (allProps (allNodes (recordIn (holding t (countsRead a) after))))) (out out′ : List ℕ) (r : SgfWriting)
-    (w : WriteShown (holding t (countsRead a) after) out out′ r) where
+    (w : WriteInC (holding t (countsRead a) after) out out′ r) where
   -- 14 where the output is too short, and it stays
   pub exported-full : length out < length (writing (recordIn (holding t (countsRead a) after))) → (r .number ≡ 14) × (out′ ≡ out)
   exported-full = room.first-full t before after a x z b nm out out′ r w
@@ -47,6 +47,6 @@ module _ {i : ℕ} (t : List ℕ) (before after : Lent) (a : SgfReading) (x : Re
     -- within the text limit and the depth the bytes read as a record: a strict reading of them is 0, with its counts, where tables have room for these, else 14
     pub exported-second : length (writing (recordIn (holding t (countsRead a) after))) ≤ textLimit → depthOf (writing (recordIn (holding t (countsRead a) after))) ≤ depthLimit
         → (ts : List Tree) × (readStrict (take (r .length) out′) ≡ accepted ts)
-        × ((i₂ : ℕ) (before₂ after₂ : Lent) (a₂ : SgfReading) → ReadShown i₂ (readStrict (take (r .length) out′)) before₂ after₂ a₂
+        × ((i₂ : ℕ) (before₂ after₂ : Lent) (a₂ : SgfReading) → ReadInC i₂ (readStrict (take (r .length) out′)) before₂ after₂ a₂
         → (hasRoom (countsOf (tables ts)) before₂ ≡ true → (a₂ .number ≡ 0) × (countsRead a₂ ≡ countsOf (tables ts))) × (hasRoom (countsOf (tables ts)) before₂ ≡ false → a₂ .number ≡ 14))
     exported-second = room.second t before after a x z b nm out out′ r w h

@@ -13,7 +13,7 @@ use Rattle.tables.specs.declared.Reading.the-variants.{Accepted}
 use Rattle.tables.specs.declared.Reason.{Reason}
 use Rattle.fit.specs.Fit.{Fit}
 use Rattle.fit.specs.Record.{rowsOf, rowsIn, textIn}
-use Rattle.parser.specs.Kind.{GM}
+use Rattle.parser.specs.Game.{GM}
 use Rattle.parser.specs.Read.{readStrict}
 use Rattle.reader.specs.Lent.{Lent, ReadIs}
 use Rattle.edit_answer.specs.declared.Edited.{Edited}
@@ -21,16 +21,16 @@ use Rattle.edit_answer.specs.declared.Edited.the-variants.{Changed, Refused}
 use Rattle.edit.specs.Lent.{EditIs}
 use Rattle.c_answers.specs.declared.SgfEdit.{SgfEdit}
 use Rattle.c_answers.specs.declared.SgfReading.{SgfReading}
-use Rattle.sgf.specs.Changed.{EditShown}
-use Rattle.sgf.specs.Shown.{ReadShown}
+use Rattle.sgf.specs.ChangeInC.{EditInC}
+use Rattle.sgf.specs.ReadInC.{ReadInC}
 use Rattle.edit_laws.specs.Calls as edit
 use Rattle.edit_laws.specs.Edits.{owner, newLength, Allowed, Forbidden, Moves, Edits}
 use Rattle.edit_laws.specs.Fresh.{Fresh}
-use Rattle.edit_laws.specs.Run.{Order, Reads, run}
+use Rattle.edit_laws.specs.Run.{Order, Reads, runEdits}
 use Rattle.edit_laws.proofs.Bare as bare
 use Rattle.edit_laws.proofs.CallsRun as fitting
 use Rattle.edit_laws.proofs.OnCode as code
-use Rattle.demands.specs.Calls.{countsIn, goesOn, Calls}
+use Rattle.demands.specs.Calls.{countsIn, goesOn, ExportedCalls}
 use Rattle.demands.specs.Cells.{tablesIn, hasRoom, countsRead, SameCells}
 use Rattle.demands.proofs.CallsShown.{calls-shown}
 use Rattle.demands.proofs.Edited as edited
@@ -44,20 +44,20 @@ module _ (m : Memory) where
   reading-fresh = again.read-fresh m
 
   -- the same of sgf_read_strict: number 0, and the counts that it gives back
-  pub shown-fresh : {i : ℕ} (before : Lent) (r : SgfReading) → m .used ≤ length (m .text) → ReadShown i (readStrict (textIn m)) before (tablesIn m) r
+  pub shown-fresh : {i : ℕ} (before : Lent) (r : SgfReading) → m .used ≤ length (m .text) → ReadInC i (readStrict (textIn m)) before (tablesIn m) r
       → r .number ≡ 0 → countsRead r ≡ m .counts → Fresh m
   shown-fresh = again.shown-fresh m
 
   module _ (f : Fresh m) where
     -- the sentence, of sgf_edit: accepted; what it leaves, byte by byte and place by place; and that is what a strict reading gives
-    pub edit-fresh : (m′ : Memory) (k : ℕ) (new : List ℕ) (r : SgfEdit) → EditShown m m′ k new r
+    pub edit-fresh : (m′ : Memory) (k : ℕ) (new : List ℕ) (r : SgfEdit) → EditInC m m′ k new r
         → k < m .counts .values → (owner m k ≡ GM → ⊥) → WellFormed new → closed new ≡ true
         → newLength m k (length new) ≤ textLimit → newLength m k (length new) ≤ length (m .text)
         → (r .number ≡ 0) × (r .used ≡ newLength m k (length new)) × (countsIn r ≡ m .counts) × Edits m k new m′ × Fresh (goesOn m′ r)
     edit-fresh = editing.edit-fresh m f
 
     -- after any run of calls of sgf_edit, refused ones between them
-    pub calls-fresh : (xs : List Order) (m′ : Memory) → Calls m xs m′ → Fresh m′
+    pub calls-fresh : (xs : List Order) (m′ : Memory) → ExportedCalls m xs m′ → Fresh m′
     calls-fresh xs m′ k = again.calls-fresh m m′ xs f (calls-shown k)
 
     -- or of the edit itself
@@ -70,7 +70,7 @@ module _ (m : Memory) where
     fresh-reading = again.reread m f
 
     -- the same of sgf_read_strict
-    pub shown-reading : {i : ℕ} (before after : Lent) (r : SgfReading) → hasRoom (m .counts) before ≡ true → ReadShown i (readStrict (textIn m)) before after r
+    pub shown-reading : {i : ℕ} (before after : Lent) (r : SgfReading) → hasRoom (m .counts) before ≡ true → ReadInC i (readStrict (textIn m)) before after r
         → (r .number ≡ 0) × (countsRead r ≡ m .counts) × SameCells (m .counts) after (tablesIn m)
     shown-reading = again.reread-shown m f
 
@@ -100,7 +100,7 @@ module _ (m m′ : Memory) (k : ℕ) (new : List ℕ) (r : Edited) (s : EditIs m
   edit-refused-exactly = edited.edit-refuses m m′ k new r s
 
 -- the same of sgf_edit; when it is refused: Demand1's edit-exactly
-pub shown-accepted : (m m′ : Memory) (k : ℕ) (new : List ℕ) (r : SgfEdit) → EditShown m m′ k new r → Allowed m k new
+pub shown-accepted : (m m′ : Memory) (k : ℕ) (new : List ℕ) (r : SgfEdit) → EditInC m m′ k new r → Allowed m k new
     → (r .number ≡ 0) × (r .used ≡ newLength m k (length new)) × (countsIn r ≡ m .counts) × Edits m k new m′
 shown-accepted = edited.edit-changes
 
@@ -110,12 +110,12 @@ places-moved = edited.places-said
 
 -- tables that fit, fit all along, and the calls do what the definition's run of edits does
 pub calls-run : (m m′ : Memory) (xs : List Order) → Fit m ≡ true → edit.Calls m xs m′
-    → (Fit m′ ≡ true) × (edit.textRows m′ ≡ run (length (m .text)) (edit.textRows m) xs)
+    → (Fit m′ ≡ true) × (edit.textRows m′ ≡ runEdits (length (m .text)) (edit.textRows m) xs)
 calls-run m m′ xs f k = (fitting.calls-fit m m′ xs f k, fitting.calls-run m m′ xs f k)
 
 -- the same of calls of sgf_edit
-pub shown-run : (m m′ : Memory) (xs : List Order) → Fit m ≡ true → Calls m xs m′
-    → (Fit m′ ≡ true) × (edit.textRows m′ ≡ run (length (m .text)) (edit.textRows m) xs)
+pub shown-run : (m m′ : Memory) (xs : List Order) → Fit m ≡ true → ExportedCalls m xs m′
+    → (Fit m′ ≡ true) × (edit.textRows m′ ≡ runEdits (length (m .text)) (edit.textRows m) xs)
 shown-run m m′ xs f k = calls-run m m′ xs f (calls-shown k)
 
 -- ---- of rows that read as the used text, whether the tables are lent or not

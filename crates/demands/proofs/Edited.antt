@@ -7,9 +7,9 @@ use Rattle.edit_answer.specs.Answer.{outcomeOf}
 use Rattle.edit_answer.specs.declared.Edited.{Edited}
 use Rattle.edit_answer.specs.declared.Edited.the-variants.{Changed, Refused}
 use Rattle.edit.specs.Lent.{EditIs}
-use Rattle.c_answers.specs.Shown.{editShown}
+use Rattle.c_answers.specs.Structs.{editInC}
 use Rattle.c_answers.specs.declared.SgfEdit.{SgfEdit}
-use Rattle.sgf.specs.Changed.{EditShown}
+use Rattle.sgf.specs.ChangeInC.{EditInC}
 use Rattle.edit_laws.specs.Edits.{newLength, Allowed, Forbidden, misfit, beyond, fixed, garbled, open-ended, long, full, Moves, Edits}
 use Rattle.edit_laws.proofs.EditAccepted.{allowed-leaves}
 use Rattle.edit_laws.proofs.Judging.{allowed-given, forbidden-given, given-allowed, given-forbidden, judged}
@@ -44,15 +44,15 @@ forbidden-listed (open-ended f b g w c) = one-of editNumbers 18 refl
 forbidden-listed (long f b g w c l) = one-of editNumbers 1 refl
 forbidden-listed (full f b g w c l o) = one-of editNumbers 14 refl
 
-module _ (m m′ : Memory) (k : ℕ) (new : List ℕ) (r : SgfEdit) (s : EditShown m m′ k new r) where
+module _ (m m′ : Memory) (k : ℕ) (new : List ℕ) (r : SgfEdit) (s : EditInC m m′ k new r) where
   abbrev Because : Reason → Type 0
   Because x = (p : ℕ) × Forbidden m k new x p × (r .place ≡ p)
 
-  shown-allowed : Allowed m k new → r ≡ editShown (m .counts) (Changed (newLength m k (length new)))
-  shown-allowed a = s .is ∙ ap (editShown (m .counts)) (allowed-given m k new a)
+  shown-allowed : Allowed m k new → r ≡ editInC (m .counts) (Changed (newLength m k (length new)))
+  shown-allowed a = s .is ∙ ap (editInC (m .counts)) (allowed-given m k new a)
 
-  shown-forbidden : {x : Reason} {p : ℕ} → Forbidden m k new x p → r ≡ editShown (m .counts) (Refused x p)
-  shown-forbidden f = s .is ∙ ap (editShown (m .counts)) (forbidden-given m k new f)
+  shown-forbidden : {x : Reason} {p : ℕ} → Forbidden m k new x p → r ≡ editInC (m .counts) (Refused x p)
+  shown-forbidden f = s .is ∙ ap (editInC (m .counts)) (forbidden-given m k new f)
 
   pub edit-exactly : Exactly (r .number) (Allowed m k new) Because
   edit-exactly =

@@ -4,9 +4,9 @@ use Rattle.text_chars.specs.Table.{WellFormed}
 use Rattle.lexer.specs.Closed.{closed}
 use Rattle.tables.specs.Memory.{Memory}
 use Rattle.tables.specs.Numbers.{textLimit}
-use Rattle.parser.specs.Kind.{GM}
+use Rattle.parser.specs.Game.{GM}
 use Rattle.c_answers.specs.declared.SgfEdit.{SgfEdit}
-use Rattle.sgf.specs.Changed.{EditShown}
+use Rattle.sgf.specs.ChangeInC.{EditInC}
 use Rattle.edit_laws.specs.Edits.{owner, newLength, Edits}
 use Rattle.edit_laws.specs.Fresh.{Fresh}
 use Rattle.demands.specs.Calls.{countsIn, goesOn, none, call}
@@ -14,7 +14,7 @@ use Rattle.demands.proofs.CallsShown.{calls-shown}
 use Rattle.demands.proofs.Edited.{edit-changes}
 use Rattle.demands.proofs.Rereadings.{calls-fresh}
 
-pub edit-fresh : (m : Memory) → Fresh m → (m′ : Memory) (k : ℕ) (new : List ℕ) (r : SgfEdit) → EditShown m m′ k new r
+pub edit-fresh : (m : Memory) → Fresh m → (m′ : Memory) (k : ℕ) (new : List ℕ) (r : SgfEdit) → EditInC m m′ k new r
     → k < m .counts .values → (owner m k ≡ GM → ⊥) → WellFormed new → closed new ≡ true → newLength m k (length new) ≤ textLimit → newLength m k (length new) ≤ length (m .text)
     → (r .number ≡ 0) × (r .used ≡ newLength m k (length new)) × (countsIn r ≡ m .counts) × Edits m k new m′ × Fresh (goesOn m′ r)
 edit-fresh m f m′ k new r s below free valid shut short room =

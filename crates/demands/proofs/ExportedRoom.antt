@@ -14,20 +14,20 @@ use Rattle.serialize.specs.Form.{writing, written, WriteIs}
 use Rattle.serialize.specs.declared.Written.the-variants.{Wrote}
 use Rattle.serialize_laws.specs.Back.{Named, BeginsAll}
 use Rattle.serialize_laws.specs.Depth.{depthOf}
-use Rattle.c_answers.specs.Shown.{readingShown, writingShown}
+use Rattle.c_answers.specs.Structs.{readingInC, writingInC}
 use Rattle.c_answers.specs.declared.SgfReading.{SgfReading}
 use Rattle.c_answers.specs.declared.SgfWriting.{SgfWriting}
-use Rattle.sgf.specs.Shown.{ReadShown}
-use Rattle.sgf.specs.Changed.{WriteShown}
+use Rattle.sgf.specs.ReadInC.{ReadInC}
+use Rattle.sgf.specs.ChangeInC.{WriteInC}
 use Rattle.demands.specs.Cells.{hasRoom, countsRead}
 use Rattle.demands.specs.Holding.{holding}
 use Rattle.demands.proofs.Exported.{shown-accepted, shown-wrote}
 use Rattle.demands.proofs.RoundTrip.{named-writes, back, reads-again, room-exactly}
 use Rattle.demands.proofs.Writings.{wrote-bytes}
 
-module _ {i : ℕ} (t : List ℕ) (before after : Lent) (a : SgfReading) (x : ReadShown i (readStrict t) before after a) (z : a .number ≡ 0)
+module _ {i : ℕ} (t : List ℕ) (before after : Lent) (a : SgfReading) (x : ReadInC i (readStrict t) before after a) (z : a .number ≡ 0)
     (b : BeginsAll t) (nm : All Named (allProps (allNodes (recordIn (holding t (countsRead a) after))))) (out out′ : List ℕ) (r : SgfWriting)
-    (w : WriteShown (holding t (countsRead a) after) out out′ r) where
+    (w : WriteInC (holding t (countsRead a) after) out out′ r) where
   abbrev M : Memory
   M = holding t (countsRead a) after
 
@@ -40,13 +40,13 @@ module _ {i : ℕ} (t : List ℕ) (before after : Lent) (a : SgfReading) (x : Re
   pub first-full : length out < length W → (r .number ≡ 14) × (out′ ≡ out)
   first-full h =
       let q = named-writes t before after (countsRead a) reads b nm out out′ (written M (length out)) (record { is = refl; bytes = w .bytes }) .1 h in
-      (ap (λ (y : SgfWriting). y .number) (w .is ∙ ap writingShown (q .0)), q .1)
+      (ap (λ (y : SgfWriting). y .number) (w .is ∙ ap writingInC (q .0)), q .1)
 
   module _ (h : length W ≤ length out) where
     first-zero : r .number ≡ 0
     first-zero =
         let q = named-writes t before after (countsRead a) reads b nm out out′ (written M (length out)) (record { is = refl; bytes = w .bytes }) .0 h in
-        ap (λ (y : SgfWriting). y .number) (w .is ∙ ap writingShown (q .0))
+        ap (λ (y : SgfWriting). y .number) (w .is ∙ ap writingInC (q .0))
 
     wrote : WriteIs (holding t (countsRead a) after) out out′ (Wrote (r .length))
     wrote = shown-wrote M out out′ r w first-zero
@@ -70,7 +70,7 @@ module _ {i : ℕ} (t : List ℕ) (before after : Lent) (a : SgfReading) (x : Re
       reads-so : readStrict U ≡ accepted again
       reads-so = reads-again t before after (countsRead a) reads b nm out out′ (r .length) wrote short low
 
-      module _ {i₂ : ℕ} (before₂ after₂ : Lent) (a₂ : SgfReading) (x₂ : ReadShown i₂ (readStrict U) before₂ after₂ a₂) where
+      module _ {i₂ : ℕ} (before₂ after₂ : Lent) (a₂ : SgfReading) (x₂ : ReadInC i₂ (readStrict U) before₂ after₂ a₂) where
         is : (hasRoom (countsOf (tables again)) before₂ ≡ true → answers (readStrict U) before₂ ≡ reading.Accepted (countsOf (tables again)))
             × (hasRoom (countsOf (tables again)) before₂ ≡ false → answers (readStrict U) before₂ ≡ reading.Refused NoRoom 0)
         is =
@@ -78,11 +78,11 @@ module _ {i : ℕ} (t : List ℕ) (before after : Lent) (a : SgfReading) (x : Re
             before₂ after₂ (answers (readStrict U) before₂) (record { answer = refl; tables = x₂ .tables })
 
         second-zero : hasRoom (countsOf (tables again)) before₂ ≡ true → (a₂ .number ≡ 0) × (countsRead a₂ ≡ countsOf (tables again))
-        second-zero q = let f : a₂ ≡ readingShown i₂ (reading.Accepted (countsOf (tables again))) = x₂ .shown ∙ ap (readingShown i₂) (is .0 q) in (ap (λ (y : SgfReading). y .number) f, ap countsRead f)
+        second-zero q = let f : a₂ ≡ readingInC i₂ (reading.Accepted (countsOf (tables again))) = x₂ .is ∙ ap (readingInC i₂) (is .0 q) in (ap (λ (y : SgfReading). y .number) f, ap countsRead f)
 
         second-full : hasRoom (countsOf (tables again)) before₂ ≡ false → a₂ .number ≡ 14
-        second-full q = ap (λ (y : SgfReading). y .number) (x₂ .shown ∙ ap (readingShown i₂) (is .1 q))
+        second-full q = ap (λ (y : SgfReading). y .number) (x₂ .is ∙ ap (readingInC i₂) (is .1 q))
 
-      pub second : (ts : List Tree) × (readStrict U ≡ accepted ts) × ((i₂ : ℕ) (before₂ after₂ : Lent) (a₂ : SgfReading) → ReadShown i₂ (readStrict U) before₂ after₂ a₂
+      pub second : (ts : List Tree) × (readStrict U ≡ accepted ts) × ((i₂ : ℕ) (before₂ after₂ : Lent) (a₂ : SgfReading) → ReadInC i₂ (readStrict U) before₂ after₂ a₂
           → (hasRoom (countsOf (tables ts)) before₂ ≡ true → (a₂ .number ≡ 0) × (countsRead a₂ ≡ countsOf (tables ts))) × (hasRoom (countsOf (tables ts)) before₂ ≡ false → a₂ .number ≡ 14))
       second = (again, reads-so, λ i₂ before₂ after₂ a₂ x₂. (second-zero before₂ after₂ a₂ x₂, second-full before₂ after₂ a₂ x₂))

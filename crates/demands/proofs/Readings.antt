@@ -9,44 +9,44 @@ use Rattle.tables.proofs.Cases.{either-bool, true-false}
 use Rattle.parser.specs.Read.{Answer, refused, accepted, read}
 use Rattle.reader.specs.Lent.{Lent, roomy, answers}
 use Rattle.reader.proofs.Reasons.{refused-with}
-use Rattle.c_answers.specs.Shown.{readingShown}
+use Rattle.c_answers.specs.Structs.{readingInC}
 use Rattle.c_answers.specs.declared.SgfReading.{SgfReading}
-use Rattle.sgf.specs.Shown.{ReadShown}
+use Rattle.sgf.specs.ReadInC.{ReadInC}
 use Rattle.demands.specs.Cells.{countsRead, noCounts}
-use Rattle.demands.specs.When.{Exactly, Reads, Unread, unread, few}
+use Rattle.demands.specs.When.{Exactly, ReadsInto, Unread, unread, few}
 use Rattle.demands.specs.Lists.{OneOf, strictNumbers, lenientNumbers}
 use Rattle.demands.proofs.Listed.{one-of}
 use Rattle.demands.proofs.Numbers.{exactly}
 use Rattle.demands.proofs.Refusals.{reading-leaves}
 
 module _ (len : Bool) (t : List ℕ) (before : Lent) where
-  read-decided : Reads len t before ⊎ ((x : Reason) × (p : ℕ) × Unread len t before x p)
+  read-decided : ReadsInto len t before ⊎ ((x : Reason) × (p : ℕ) × Unread len t before x p)
   read-decided = go (read len t) refl
     where
-      go : (a : Answer) → read len t ≡ a → Reads len t before ⊎ ((x : Reason) × (p : ℕ) × Unread len t before x p)
+      go : (a : Answer) → read len t ≡ a → ReadsInto len t before ⊎ ((x : Reason) × (p : ℕ) × Unread len t before x p)
       go (refused x p) e = inr (x, p, unread e)
       go (accepted ts) e = either-bool (roomy (tables ts) before) (λ f. inl (record { trees = ts; is = e; room = f })) (λ f. inr (NoRoom, 0, few ts e f))
 
-  pub reads-answer : (x : Reads len t before) → answers (read len t) before ≡ Accepted (countsOf (tables (x .trees)))
+  pub reads-answer : (x : ReadsInto len t before) → answers (read len t) before ≡ Accepted (countsOf (tables (x .trees)))
   reads-answer x = ap (λ (a : Answer). answers a before) (x .is) ∙ ap (λ (b : Bool). pick b (Accepted (countsOf (tables (x .trees)))) (Refused NoRoom 0)) (x .room)
 
   unread-answer : {x : Reason} {p : ℕ} → Unread len t before x p → answers (read len t) before ≡ Refused x p
   unread-answer (unread e) = ap (λ (a : Answer). answers a before) e
   unread-answer (few ts e f) = ap (λ (a : Answer). answers a before) e ∙ ap (λ (b : Bool). pick b (Accepted (countsOf (tables ts))) (Refused NoRoom 0)) f
 
-  module _ {i : ℕ} (after : Lent) (r : SgfReading) (s : ReadShown i (read len t) before after r) where
+  module _ {i : ℕ} (after : Lent) (r : SgfReading) (s : ReadInC i (read len t) before after r) where
     abbrev Because : Reason → Type 0
     Because x = (p : ℕ) × Unread len t before x p × (r .place ≡ p)
 
-    shown-read : (x : Reads len t before) → r ≡ readingShown i (Accepted (countsOf (tables (x .trees))))
-    shown-read x = s .shown ∙ ap (readingShown i) (reads-answer x)
+    shown-read : (x : ReadsInto len t before) → r ≡ readingInC i (Accepted (countsOf (tables (x .trees))))
+    shown-read x = s .is ∙ ap (readingInC i) (reads-answer x)
 
-    shown-unread : {x : Reason} {p : ℕ} → Unread len t before x p → r ≡ readingShown i (Refused x p)
-    shown-unread u = s .shown ∙ ap (readingShown i) (unread-answer u)
+    shown-unread : {x : Reason} {p : ℕ} → Unread len t before x p → r ≡ readingInC i (Refused x p)
+    shown-unread u = s .is ∙ ap (readingInC i) (unread-answer u)
 
-    pub reading-exactly : Exactly (r .number) (Reads len t before) Because
+    pub reading-exactly : Exactly (r .number) (ReadsInto len t before) Because
     reading-exactly =
-        exactly (r .number) (Reads len t before) Because
+        exactly (r .number) (ReadsInto len t before) Because
         (⊎-elim (λ a. inl a) (λ u. inr (u .0, (u .1, u .2, ap (λ (z : SgfReading). z .place) (shown-unread (u .2))))) read-decided)
         (λ a. ap (λ (z : SgfReading). z .number) (shown-read a)) (λ x u. ap (λ (z : SgfReading). z .number) (shown-unread (u .1)))
 

@@ -9,15 +9,15 @@ use Rattle.tables.specs.declared.Counts.{Counts}
 use Rattle.tables.specs.declared.Reading.{Reading}
 use Rattle.tables.specs.declared.Reading.the-variants.{Accepted, Refused}
 use Rattle.tables.specs.declared.Reason.the-variants.{NoRoom}
-use Rattle.fit.specs.Locals.{Held}
+use Rattle.fit.specs.Locals.{RowsLent}
 use Rattle.fit.specs.Record.{rowsOf, rowsIn, textIn}
 use Rattle.fit.proofs.Whole.{fit-lent}
 use Rattle.parser.specs.Read.{Answer, accepted, readStrict}
 use Rattle.reader.specs.Lent.{Lent, lent, roomy, stored, answers, leaves, ReadIs}
 use Rattle.reader_laws.proofs.Lent.{read-rows, read-buffer-fits}
-use Rattle.c_answers.specs.Shown.{readingShown}
+use Rattle.c_answers.specs.Structs.{readingInC}
 use Rattle.c_answers.specs.declared.SgfReading.{SgfReading}
-use Rattle.sgf.specs.Shown.{ReadShown}
+use Rattle.sgf.specs.ReadInC.{ReadInC}
 use Rattle.edit_laws.specs.Calls.{textRows}
 use Rattle.edit_laws.specs.Calls as edit
 use Rattle.edit_laws.specs.Fresh.{Fresh}
@@ -27,7 +27,7 @@ use Rattle.edit_laws.proofs.CallsRun.{calls-fit}
 use Rattle.edit_laws.proofs.Cells.{tree-cells, node-cells, property-cells, value-cells}
 use Rattle.edit_laws.proofs.OnCode.{calls-reads, counts-reads}
 use Rattle.demands.specs.Cells.{tablesIn, hasRoom, countsRead, SameCells}
-use Rattle.demands.specs.When.{Reads}
+use Rattle.demands.specs.When.{ReadsInto}
 use Rattle.demands.proofs.Readings.{reading-exactly, reads-answer}
 
 pub read-reads : (m : Memory) (before : Lent) → ReadIs (readStrict (textIn m)) before (tablesIn m) (Accepted (m .counts)) → rows.Reads (textRows m)
@@ -39,11 +39,11 @@ read-fresh m before l x =
     record { fits = read-buffer-fits false (m .text) (m .used) before (tablesIn m) (m .counts) l x; reads = read-reads m before x }
 
 pub shown-fresh : {i : ℕ} (m : Memory) (before : Lent) (r : SgfReading) → m .used ≤ length (m .text)
-    → ReadShown i (readStrict (textIn m)) before (tablesIn m) r → r .number ≡ 0 → countsRead r ≡ m .counts → Fresh m
+    → ReadInC i (readStrict (textIn m)) before (tablesIn m) r → r .number ≡ 0 → countsRead r ≡ m .counts → Fresh m
 shown-fresh {i} m before r l s z k =
-    let x : Reads false (textIn m) before = reading-exactly false (textIn m) before (tablesIn m) r s .zero .0 z in
+    let x : ReadsInto false (textIn m) before = reading-exactly false (textIn m) before (tablesIn m) r s .zero .0 z in
     let a = reads-answer false (textIn m) before x in
-    let e : countsOf (tables (x .trees)) ≡ m .counts = sym (ap countsRead (s .shown ∙ ap (readingShown i) a)) ∙ k in
+    let e : countsOf (tables (x .trees)) ≡ m .counts = sym (ap countsRead (s .is ∙ ap (readingInC i) a)) ∙ k in
     read-fresh m before l (record { answer = ap Accepted (sym e) ∙ sym a; tables = s .tables })
 
 pub calls-fresh : (m m′ : Memory) (xs : List Order) → Fresh m → edit.Calls m xs m′ → Fresh m′
@@ -73,7 +73,7 @@ module _ (m : Memory) (f : Fresh m) where
   abbrev T : Tables
   T = tables (f .reads .trees)
 
-  held : Held (m .counts) (m .trees) (m .nodes) (m .properties) (m .values)
+  held : RowsLent (m .counts) (m .trees) (m .nodes) (m .properties) (m .values)
   held = fit-lent m (f .fits) .1
 
   fresh-counts : m .counts ≡ countsOf T
@@ -138,9 +138,9 @@ module _ (m : Memory) (f : Fresh m) where
   reread-own after r x = (x .answer ∙ answer-again (tablesIn m) own-room, x .tables ∙ leaves-again (tablesIn m) own-room ∙ stored-own)
 
   -- as sgf_read_strict says it
-  pub reread-shown : {i : ℕ} (before after : Lent) (r : SgfReading) → hasRoom (m .counts) before ≡ true → ReadShown i (readStrict (textIn m)) before after r
+  pub reread-shown : {i : ℕ} (before after : Lent) (r : SgfReading) → hasRoom (m .counts) before ≡ true → ReadInC i (readStrict (textIn m)) before after r
       → (r .number ≡ 0) × (countsRead r ≡ m .counts) × SameCells (m .counts) after (tablesIn m)
   reread-shown {i} before after r h s =
-      let e : r ≡ readingShown i (Accepted (m .counts)) = s .shown ∙ ap (readingShown i) (answer-again before h) in
+      let e : r ≡ readingInC i (Accepted (m .counts)) = s .is ∙ ap (readingInC i) (answer-again before h) in
       let x = reread before after (answers (readStrict (textIn m)) before) h (record { answer = refl; tables = s .tables }) in
       (ap (λ (z : SgfReading). z .number) e, ap countsRead e, x .1)

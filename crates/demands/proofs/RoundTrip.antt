@@ -15,7 +15,7 @@ use Rattle.tables.specs.declared.Reading.the-variants.{Accepted, Refused}
 use Rattle.tables.specs.declared.Reason.the-variants.{TextTooLong, TooDeep, NoRoom}
 use Rattle.fit.specs.Fit.{Fit}
 use Rattle.fit.specs.Record.{rowsIn, recordIn}
-use Rattle.parser.specs.Read.{Answer, refused, accepted, decoded, read, readStrict}
+use Rattle.parser.specs.Read.{Answer, refused, accepted, parseUtf8, read, readStrict}
 use Rattle.reader.specs.Lent.{Lent, roomy, answers, ReadIs}
 use Rattle.reader.proofs.Theorems.{counts-are-lengths}
 use Rattle.reader_laws.specs.Enough.{strictRows, Lends}
@@ -58,7 +58,7 @@ go-same m m′ f g n a p =
 pub long-one : (len : Bool) (t : List ℕ) (before after : Lent) (r : Reading) → textLimit < length t → ReadIs (read len t) before after r → r ≡ Refused TextTooLong 0
 long-one len t before after r h y =
     y .answer
-    ∙ ap (λ (b : Bool). answers (pick b (refused TextTooLong 0) (decoded len (utfs (whole blank) 0 t) t)) before) (lt-ltb textLimit (length t) h)
+    ∙ ap (λ (b : Bool). answers (pick b (refused TextTooLong 0) (parseUtf8 len (utfs (whole blank) 0 t) t)) before) (lt-ltb textLimit (length t) h)
 
 module _ (t : List ℕ) (before after : Lent) (k : Counts) (x : ReadIs (readStrict t) before after (Accepted k))
     (b : BeginsAll t) (nm : All Named (allProps (allNodes (recordIn (holding t k after))))) where

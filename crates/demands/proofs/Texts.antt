@@ -7,10 +7,10 @@ use Rattle.text_utf8.specs.declared.Trimmed.{Trimmed}
 use Rattle.text_utf8.specs.declared.Trimmed.the-variants as trim
 use Rattle.text_utf8.proofs.WellFormed.{well-or-bad, bad-trimmed, well-formed-trimmed}
 use Rattle.values.specs.Read.{readValue}
-use Rattle.value_display.specs.Display.{shown, displayed, displayedIn}
+use Rattle.value_display.specs.Display.{displayText, displayed, displayedIn}
 use Rattle.value_display.specs.declared.Kind.{Kind}
 use Rattle.value_display.specs.declared.Displayed.the-variants.{Length, NoRoom as Full}
-use Rattle.lexer.specs.Token.{numberOf as faultNumber}
+use Rattle.lexer.specs.Token.{faultNumber as faultNumber}
 use Rattle.lexer.specs.Step.{nextAt}
 use Rattle.lexer.specs.declared.Fault.{Fault}
 use Rattle.lexer.specs.declared.Fault.the-variants.{MissingPropertyIdentifier, UnexpectedEndOfPropertyIdentifier, UnexpectedEndOfPropertyValue}
@@ -21,10 +21,10 @@ use Rattle.tables.specs.Numbers.{numberOf, reasonOf}
 use Rattle.tables.specs.declared.Reason.{Reason}
 use Rattle.tables.specs.declared.Reason.the-variants.{NotUtf8, NoRoom}
 use Rattle.tables.proofs.Cases.{below-or}
-use Rattle.ask.specs.Ask.{shownFor}
-use Rattle.c_answers.specs.Shown.{displayShown}
+use Rattle.ask.specs.Ask.{displayFor}
+use Rattle.c_answers.specs.Structs.{displayInC}
 use Rattle.c_answers.specs.declared.SgfDisplay.{SgfDisplay}
-use Rattle.sgf.specs.Asked.{RawShown}
+use Rattle.sgf.specs.AskInC.{RawInC}
 use Rattle.reader_exactly.specs.Kept.{Blanks, Keeps}
 use Rattle.reader_exactly.proofs.Trims.{trimmed-blank-exactly, trimmed-kept-exactly}
 use Rattle.demands.specs.When.{Exactly}
@@ -125,21 +125,21 @@ module _ (t : List ℕ) (at k n f o to : ℕ) (s : TokenIs at (nextAt t at) k n 
 
 -- ---- the display of a value that is lent by itself
 
-module _ (kind : Kind) (raw out out′ : List ℕ) (r : SgfDisplay) (s : RawShown kind raw out out′ r) where
+module _ (kind : Kind) (raw out out′ : List ℕ) (r : SgfDisplay) (s : RawInC kind raw out out′ r) where
   abbrev W : List ℕ
-  W = shown kind (readValue raw)
+  W = displayText kind (readValue raw)
 
   raw-zero : length W ≤ length out → r .number ≡ 0
   unfolding displayed
   raw-zero l =
       ap (λ (z : SgfDisplay). z .number) (s .is)
-      ∙ ap (λ (b : Bool). displayShown (shownFor (pick b (Length (length W)) Full)) .number) (le-leb (length W) (length out) l)
+      ∙ ap (λ (b : Bool). displayInC (displayFor (pick b (Length (length W)) Full)) .number) (le-leb (length W) (length out) l)
 
   raw-full : length out < length W → r .number ≡ 14
   unfolding displayed
   raw-full l =
       ap (λ (z : SgfDisplay). z .number) (s .is)
-      ∙ ap (λ (b : Bool). displayShown (shownFor (pick b (Length (length W)) Full)) .number) (lt-leb (length W) (length out) l)
+      ∙ ap (λ (b : Bool). displayInC (displayFor (pick b (Length (length W)) Full)) .number) (lt-leb (length W) (length out) l)
 
   pub raw-exactly : Exactly (r .number) (length W ≤ length out) (λ x. (x ≡ NoRoom) × (length out < length W))
   raw-exactly =

@@ -6,13 +6,13 @@ use Rattle.lists.proofs.Once.{once-is}
 use Rattle.lists.specs.Once.{Once}
 use Rattle.tables.specs.Memory.{Memory}
 use Rattle.value_display.specs.declared.Kind.{Kind}
-use Rattle.sgf.specs.Asked.{fitsShown, DisplayShown, RawShown}
-use Rattle.sgf.specs.Changed.{WriteShown, EditShown}
+use Rattle.sgf.specs.AskInC.{fitsInC, DisplayInC, RawInC}
+use Rattle.sgf.specs.ChangeInC.{WriteInC, EditInC}
 use Rattle.c_version.specs.Version.{version}
 use Rattle.c_answers.specs.declared.SgfDisplay.{SgfDisplay}
 use Rattle.c_answers.specs.declared.SgfEdit.{SgfEdit}
 use Rattle.c_answers.specs.declared.SgfWriting.{SgfWriting}
-use Rattle.sgf.specs.Shown.{ReadShown}
+use Rattle.sgf.specs.ReadInC.{ReadInC}
 use Rattle.c_answers.specs.declared.SgfReading.{SgfReading}
 
 -- c_version, and sgf_version by it
@@ -22,24 +22,24 @@ version-once = once-is version
 -- sgf
 
 -- all of the answer, and all lent tables: of sgf_read_strict and sgf_read_lenient
-pub read-once : (i : ℕ) (a : Answer) (before x y : Lent) (r s : SgfReading) → ReadShown i a before x r → ReadShown i a before y s → (r ≡ s) × (x ≡ y)
-read-once i a before x y r s p q = (p .shown ∙ sym (q .shown), p .tables ∙ sym (q .tables))
+pub read-once : (i : ℕ) (a : Answer) (before x y : Lent) (r s : SgfReading) → ReadInC i a before x r → ReadInC i a before y s → (r ≡ s) × (x ≡ y)
+read-once i a before x y r s p q = (p .is ∙ sym (q .is), p .tables ∙ sym (q .tables))
 
 -- said by one equation
-pub fits-once : (x : Bool) → Once (λ (n : ℕ). n ≡ fitsShown x)
-fits-once x = once-is (fitsShown x)
+pub fits-once : (x : Bool) → Once (λ (n : ℕ). n ≡ fitsInC x)
+fits-once x = once-is (fitsInC x)
 
 -- the answer and the bytes lent
-pub display-once : (m : Memory) (k : ℕ) (kind : Kind) (out x y : List ℕ) (r s : SgfDisplay) → DisplayShown m k kind out x r → DisplayShown m k kind out y s → (r ≡ s) × (x ≡ y)
+pub display-once : (m : Memory) (k : ℕ) (kind : Kind) (out x y : List ℕ) (r s : SgfDisplay) → DisplayInC m k kind out x r → DisplayInC m k kind out y s → (r ≡ s) × (x ≡ y)
 display-once m k kind out x y r s p q = (p .is ∙ sym (q .is), p .bytes ∙ sym (q .bytes))
 
 -- of one raw value
-pub display-value-once : (kind : Kind) (raw out x y : List ℕ) (r s : SgfDisplay) → RawShown kind raw out x r → RawShown kind raw out y s → (r ≡ s) × (x ≡ y)
+pub display-value-once : (kind : Kind) (raw out x y : List ℕ) (r s : SgfDisplay) → RawInC kind raw out x r → RawInC kind raw out y s → (r ≡ s) × (x ≡ y)
 display-value-once kind raw out x y r s p q = (p .is ∙ sym (q .is), p .bytes ∙ sym (q .bytes))
 
-pub write-once : (m : Memory) (out x y : List ℕ) (r s : SgfWriting) → WriteShown m out x r → WriteShown m out y s → (r ≡ s) × (x ≡ y)
+pub write-once : (m : Memory) (out x y : List ℕ) (r s : SgfWriting) → WriteInC m out x r → WriteInC m out y s → (r ≡ s) × (x ≡ y)
 write-once m out x y r s p q = (p .is ∙ sym (q .is), p .bytes ∙ sym (q .bytes))
 
 -- the answer, and all lent memory
-pub edit-once : (m x y : Memory) (k : ℕ) (new : List ℕ) (r s : SgfEdit) → EditShown m x k new r → EditShown m y k new s → (r ≡ s) × (x ≡ y)
+pub edit-once : (m x y : Memory) (k : ℕ) (new : List ℕ) (r s : SgfEdit) → EditInC m x k new r → EditInC m y k new s → (r ≡ s) × (x ≡ y)
 edit-once m x y k new r s p q = (p .is ∙ sym (q .is), p .memory ∙ sym (q .memory))

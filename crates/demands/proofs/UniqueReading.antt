@@ -7,14 +7,14 @@ use Rattle.parser.specs.LocalsSurvey.{surveyOf}
 use Rattle.parser.specs.declared.Survey.{Survey}
 use Rattle.parser_split.specs.LocalsPlans.{planText}
 use Rattle.parser_split.specs.declared.Plan.{Plan}
-use Rattle.parser.specs.Kind.{kindVals, kind}
+use Rattle.parser.specs.Game.{gameVals, findGametype}
 use Rattle.parser.specs.LocalsSlice.{sliceFrom}
 use Rattle.lexer.specs.Step.{valsAt}
 use Rattle.parser_game.specs.LocalsGame.{typeOf}
 use Rattle.parser_game.specs.declared.GameType.{GameType}
 use Rattle.parser_census.specs.LocalsCensus.{censusOf}
 use Rattle.parser_census.specs.declared.Census.{Census}
-use Rattle.parser_step.specs.LocalsAsks.{asks}
+use Rattle.parser_step.specs.LocalsActs.{nextAct}
 use Rattle.parser_step.specs.declared.State.{State}
 use Rattle.parser_step.specs.declared.Act.{Act}
 use Rattle.tables.specs.Lenient.{asReading}
@@ -42,11 +42,11 @@ plan-lenient-once t = once-is (planText true t)
 
 -- parser_game
 
-pub game-type-once : (s : List ℕ) (from : ℕ) → Once (λ (r : GameType). r ≡ typeOf (kind (sliceFrom 0 (lexAt s from .toks))))
-game-type-once s from = once-is (typeOf (kind (sliceFrom 0 (lexAt s from .toks))))
+pub game-type-once : (s : List ℕ) (from : ℕ) → Once (λ (r : GameType). r ≡ typeOf (findGametype (sliceFrom 0 (lexAt s from .toks))))
+game-type-once s from = once-is (typeOf (findGametype (sliceFrom 0 (lexAt s from .toks))))
 
-pub kind-values-once : (s : List ℕ) (k : ℕ) → Once (λ (r : GameType). r ≡ typeOf (kindVals (valsAt s k)))
-kind-values-once s k = once-is (typeOf (kindVals (valsAt s k)))
+pub kind-values-once : (s : List ℕ) (k : ℕ) → Once (λ (r : GameType). r ≡ typeOf (gameVals (valsAt s k)))
+kind-values-once s k = once-is (typeOf (gameVals (valsAt s k)))
 
 -- parser_census
 
@@ -55,8 +55,8 @@ take-census-once s from = once-is (censusOf (lexAt s from))
 
 -- parser_step
 
-pub look-once : (len : Bool) (u : List ℕ) (base : ℕ) (st : State) (a : List ℕ) → Once (λ (r : Act). r ≡ asks len u base st a)
-look-once len u base st a = once-is (asks len u base st a)
+pub look-once : (len : Bool) (u : List ℕ) (base : ℕ) (st : State) (a : List ℕ) → Once (λ (r : Act). r ≡ nextAct len u base st a)
+look-once len u base st a = once-is (nextAct len u base st a)
 
 -- reader
 

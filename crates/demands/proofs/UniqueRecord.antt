@@ -11,7 +11,7 @@ use Rattle.ask_value.specs.Access.{accessed, rawValue}
 use Rattle.ask_value.specs.declared.Accessed.{Accessed}
 use Rattle.value_display.specs.declared.Kind.{Kind}
 use Rattle.ask.specs.Ask.{DisplayIs, goAnswer}
-use Rattle.ask.specs.declared.Shown.{Shown}
+use Rattle.ask.specs.declared.DisplayAnswer.{DisplayAnswer}
 use Rattle.ask.specs.declared.GoAnswer.{GoAnswer}
 use Rattle.fit.specs.Record.{recordIn}
 use Rattle.serialize.specs.Form.{writing, output, WriteIs}
@@ -53,7 +53,7 @@ module _ (m : Memory) where
 
 module _ (m : Memory) where
   -- of the answer and the bytes lent
-  pub display-once : (k : ℕ) (kind : Kind) (out out1 out2 : List ℕ) (r1 r2 : Shown) → DisplayIs m k kind out out1 r1
+  pub display-once : (k : ℕ) (kind : Kind) (out out1 out2 : List ℕ) (r1 r2 : DisplayAnswer) → DisplayIs m k kind out out1 r1
       → DisplayIs m k kind out out2 r2 → (r1 ≡ r2) × (out1 ≡ out2)
   display-once k kind out out1 out2 r1 r2 x y = (x .is ∙ sym (y .is), x .bytes ∙ sym (y .bytes))
 

@@ -14,13 +14,13 @@ use Rattle.tables.specs.declared.Reading.{Reading}
 use Rattle.ask_value.specs.declared.Accessed.{Accessed}
 use Rattle.go.specs.declared.value.GoValue.{GoValue}
 use Rattle.value_display.specs.declared.Displayed.{Displayed}
-use Rattle.ask.specs.Ask.{shownFor}
-use Rattle.ask.specs.declared.Shown.{Shown}
+use Rattle.ask.specs.Ask.{displayFor}
+use Rattle.ask.specs.declared.DisplayAnswer.{DisplayAnswer}
 use Rattle.serialize.specs.declared.Written.{Written}
 use Rattle.edit_answer.specs.declared.Edited.{Edited}
 use Rattle.tables.specs.Lenient.{asReading}
 use Rattle.tables.specs.declared.Lenient.{Lenient}
-use Rattle.c_answers.specs.Shown.{readingShown, spanShown, displayShown, goShown, writingShown, editShown}
+use Rattle.c_answers.specs.Structs.{readingInC, spanInC, displayInC, goInC, writingInC, editInC}
 use Rattle.c_answers.specs.declared.SgfDisplay.{SgfDisplay}
 use Rattle.c_answers.specs.declared.SgfEdit.{SgfEdit}
 use Rattle.c_answers.specs.declared.SgfGoValue.{SgfGoValue}
@@ -57,26 +57,26 @@ value-once at Unclosed p q = four p q
 
 -- c_answers
 
-pub reading-once : (i : ℕ) (a : Reading) → Once (λ (r : SgfReading). r ≡ readingShown i a)
-reading-once i a = once-is (readingShown i a)
+pub reading-once : (i : ℕ) (a : Reading) → Once (λ (r : SgfReading). r ≡ readingInC i a)
+reading-once i a = once-is (readingInC i a)
 
-pub lenient-once : (i : ℕ) (l : Lenient) → Once (λ (r : SgfReading). r ≡ readingShown i (asReading l))
-lenient-once i l = once-is (readingShown i (asReading l))
+pub lenient-once : (i : ℕ) (l : Lenient) → Once (λ (r : SgfReading). r ≡ readingInC i (asReading l))
+lenient-once i l = once-is (readingInC i (asReading l))
 
-pub span-once : (a : Accessed) → Once (λ (r : SgfSpan). r ≡ spanShown a)
-span-once a = once-is (spanShown a)
+pub span-once : (a : Accessed) → Once (λ (r : SgfSpan). r ≡ spanInC a)
+span-once a = once-is (spanInC a)
 
-pub display-once : (a : Shown) → Once (λ (r : SgfDisplay). r ≡ displayShown a)
-display-once a = once-is (displayShown a)
+pub display-once : (a : DisplayAnswer) → Once (λ (r : SgfDisplay). r ≡ displayInC a)
+display-once a = once-is (displayInC a)
 
-pub display-value-once : (d : Displayed) → Once (λ (r : SgfDisplay). r ≡ displayShown (shownFor d))
-display-value-once d = once-is (displayShown (shownFor d))
+pub display-value-once : (d : Displayed) → Once (λ (r : SgfDisplay). r ≡ displayInC (displayFor d))
+display-value-once d = once-is (displayInC (displayFor d))
 
-pub go-once : (n : ℕ) (g : GoValue) → Once (λ (r : SgfGoValue). r ≡ goShown n g)
-go-once n g = once-is (goShown n g)
+pub go-once : (n : ℕ) (g : GoValue) → Once (λ (r : SgfGoValue). r ≡ goInC n g)
+go-once n g = once-is (goInC n g)
 
-pub writing-once : (a : Written) → Once (λ (r : SgfWriting). r ≡ writingShown a)
-writing-once a = once-is (writingShown a)
+pub writing-once : (a : Written) → Once (λ (r : SgfWriting). r ≡ writingInC a)
+writing-once a = once-is (writingInC a)
 
-pub edit-once : (c : Counts) (a : Edited) → Once (λ (r : SgfEdit). r ≡ editShown c a)
-edit-once c a = once-is (editShown c a)
+pub edit-once : (c : Counts) (a : Edited) → Once (λ (r : SgfEdit). r ≡ editInC c a)
+edit-once c a = once-is (editInC c a)

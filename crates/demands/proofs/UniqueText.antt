@@ -10,10 +10,10 @@ use Rattle.text_utf8.specs.declared.Trimmed.{Trimmed}
 use Rattle.text_utf8.specs.Trim.{trimmed}
 use Rattle.lexer_close.specs.Close.{closeAt}
 use Rattle.lexer_close.specs.declared.Close.{Close}
-use Rattle.lexer_scan.specs.Scan.{space, skipAt, identAt, valueAt, valuesAt}
+use Rattle.lexer_scan.specs.Scan.{space, skipAt, identAt, valueStepAt, valuesEndAt}
 use Rattle.lexer_scan.specs.declared.Ident.{Ident}
 use Rattle.lexer_scan.specs.declared.ValueStep.{ValueStep}
-use Rattle.lexer.specs.Token.{numberOf}
+use Rattle.lexer.specs.Token.{faultNumber}
 use Rattle.lexer.specs.Step.{headAt, nextAt, SteppedIs}
 use Rattle.lexer.specs.declared.Fault.{Fault}
 use Rattle.lexer.specs.declared.Head.{Head}
@@ -72,16 +72,16 @@ module _ (s : List ℕ) (i : ℕ) where
   pub ident-end-once : Once (λ (r : Ident). r ≡ identAt s i)
   ident-end-once = once-is (identAt s i)
 
-  pub next-value-once : Once (λ (r : ValueStep). r ≡ valueAt s i)
-  next-value-once = once-is (valueAt s i)
+  pub next-value-once : Once (λ (r : ValueStep). r ≡ valueStepAt s i)
+  next-value-once = once-is (valueStepAt s i)
 
-  pub values-end-once : Once (λ (r : Close). r ≡ valuesAt s i)
-  values-end-once = once-is (valuesAt s i)
+  pub values-end-once : Once (λ (r : Close). r ≡ valuesEndAt s i)
+  values-end-once = once-is (valuesEndAt s i)
 
 -- lexer
 
-pub number-once : (f : Fault) → Once (λ (r : ℕ). r ≡ numberOf f)
-number-once f = once-is (numberOf f)
+pub number-once : (f : Fault) → Once (λ (r : ℕ). r ≡ faultNumber f)
+number-once f = once-is (faultNumber f)
 
 module _ (s : List ℕ) (i : ℕ) where
   pub next-head-once : Once (λ (r : Head). r ≡ headAt s i)

@@ -4,7 +4,7 @@ use Rattle.text_chars.specs.White.{white}
 use Rattle.text_utf8.specs.Trim.{trimmed}
 use Rattle.lexer_scan.specs.Scan.{space}
 use Rattle.values.specs.Read.{readFrom, readIdentifier}
-use Rattle.value_display.specs.Display.{plain, escaped, itemOf, formatFrom, shown, displayed, displayedIn}
+use Rattle.value_display.specs.Display.{plain, escaped, itemOf, formatFrom, displayText, displayed, displayedIn}
 use Rattle.value_display.specs.declared.Kind.the-variants.{Text}
 use Rattle.go.specs.Normal as go
 use Rattle.go.specs.Normal.{normal}
@@ -21,29 +21,29 @@ use Rattle.fit_spans.specs.Ranges.{rangesFit}
 use Rattle.fit_spans.specs.Spans.{spans, ascending, plainName, spansFit}
 use Rattle.ask_value.specs.Access.{accessed}
 use Rattle.ask.specs.Ask.{display, displayIn}
-use Rattle.ask.specs.declared.Shown.the-variants.{Shows}
+use Rattle.ask.specs.declared.DisplayAnswer.the-variants.{DisplayLength}
 use Rattle.parser.specs.Examples.{bytes, strict}
 use Rattle.parser.specs.Read.{read}
 use Rattle.reader.specs.Lent.{Lent}
 use Rattle.serialize.specs.Form.{writing, written, output}
 use Rattle.serialize.specs.declared.Written.{Written}
 use Rattle.serialize.specs.declared.Written.the-variants.{Wrote}
-use Rattle.c_answers.specs.Shown.{readingShown, editShown, writingShown, displayShown}
+use Rattle.c_answers.specs.Structs.{readingInC, editInC, writingInC, displayInC}
 use Rattle.c_answers.specs.declared.SgfDisplay.{SgfDisplay}
 use Rattle.c_answers.specs.declared.SgfEdit.{SgfEdit}
 use Rattle.c_answers.specs.declared.SgfReading.{SgfReading}
 use Rattle.c_answers.specs.declared.SgfWriting.{SgfWriting}
-use Rattle.sgf.specs.Asked.{DisplayShown}
-use Rattle.sgf.specs.Changed.{WriteShown, EditShown}
-use Rattle.sgf.specs.Shown.{ReadShown}
+use Rattle.sgf.specs.AskInC.{DisplayInC}
+use Rattle.sgf.specs.ChangeInC.{WriteInC, EditInC}
+use Rattle.sgf.specs.ReadInC.{ReadInC}
 use Rattle.demands.specs.Cells.{countsRead}
 use Rattle.demands.proofs.Useless.{rows, room, two-nodes, nothing, ten-first, first, second, first-edit, second-edit}
 
 -- ---- sgf_read_strict
 
-module _ {i : ℕ} (after : Lent) (r : SgfReading) (x : ReadShown i (read strict (bytes "(;;)")) room after r) where
-  is : r ≡ readingShown i (Accepted (rows 1 2 0 0))
-  is = x .shown ∙ ap (readingShown i) two-nodes
+module _ {i : ℕ} (after : Lent) (r : SgfReading) (x : ReadInC i (read strict (bytes "(;;)")) room after r) where
+  is : r ≡ readingInC i (Accepted (rows 1 2 0 0))
+  is = x .is ∙ ap (readingInC i) two-nodes
 
   -- a reader that refuses everything
   pub refusing-reader : 0 < r .number → ⊥
@@ -54,21 +54,21 @@ module _ {i : ℕ} (after : Lent) (r : SgfReading) (x : ReadShown i (read strict
   inventing-reader = ap countsRead is
 
 -- one that looks for room before it looks at the trees
-pub hasty-reader : {i : ℕ} (after : Lent) (r : SgfReading) → ReadShown i (read strict (bytes "((;))")) nothing after r → r .number ≡ 14 → ⊥
-hasty-reader {i} after r x e = omega (arith, e, ap (λ (y : SgfReading). y .number) (x .shown ∙ ap (readingShown i) ten-first))
+pub hasty-reader : {i : ℕ} (after : Lent) (r : SgfReading) → ReadInC i (read strict (bytes "((;))")) nothing after r → r .number ≡ 14 → ⊥
+hasty-reader {i} after r x e = omega (arith, e, ap (λ (y : SgfReading). y .number) (x .is ∙ ap (readingInC i) ten-first))
 
 -- ---- sgf_edit
 
 -- an edit that always refuses
-pub refusing-edit : (after : Memory) (r : SgfEdit) → EditShown first after 0 (bytes "x") r → 0 < r .number → ⊥
-refusing-edit after r x l = omega (arith, l, ap (λ (y : SgfEdit). y .number) (x .is ∙ ap (editShown (first .counts)) (first-edit .0)))
+pub refusing-edit : (after : Memory) (r : SgfEdit) → EditInC first after 0 (bytes "x") r → 0 < r .number → ⊥
+refusing-edit after r x l = omega (arith, l, ap (λ (y : SgfEdit). y .number) (x .is ∙ ap (editInC (first .counts)) (first-edit .0)))
 
 -- one that does nothing, whatever it says
-pub idle-edit : (r : SgfEdit) → EditShown first first 0 (bytes "x") r → ⊥
+pub idle-edit : (r : SgfEdit) → EditInC first first 0 (bytes "x") r → ⊥
 idle-edit r x = let e : _≡_ {A = ℕ} 6 5 = ap (λ (m : Memory). getD (m .values) 1 0) (x .memory ∙ first-edit .1) in omega (arith, e)
 
 -- one that mends the first call and merely says yes later
-pub later-idle-edit : (r : SgfEdit) → EditShown (second 13) (second 13) 1 (bytes "y") r → ⊥
+pub later-idle-edit : (r : SgfEdit) → EditInC (second 13) (second 13) 1 (bytes "y") r → ⊥
 later-idle-edit r x = let e : _≡_ {A = ℕ} 11 10 = ap (λ (m : Memory). getD (m .values) 3 0) (x .memory ∙ second-edit) in omega (arith, e)
 
 -- ---- sgf_write and sgf_display
@@ -82,12 +82,12 @@ abbrev eight : List ℕ
 eight = 0 ∷ 0 ∷ 0 ∷ 0 ∷ 0 ∷ 0 ∷ 0 ∷ 0 ∷ []
 
 one-written : (written one 8 ≡ Wrote 8) × (writing (recordIn one) ≡ bytes "(;C[ab])")
-unfolding white space readFrom readIdentifier normal go.written goValue shapeOf valueBy Fit fitText nodesFit rangesFit spansFit trimmed each sum tabulate orphans upward onPath firstUnder spans ascending plainName
+unfolding white space readFrom readIdentifier normal go.normalBy goValue shapeOf valueBy Fit fitText nodesFit rangesFit spansFit trimmed each sum tabulate orphans upward onPath firstUnder spans ascending plainName
 one-written = (refl, refl)
 
-module _ (out′ : List ℕ) (r : SgfWriting) (x : WriteShown one eight out′ r) where
-  wrote : r ≡ writingShown (Wrote 8)
-  wrote = x .is ∙ ap writingShown (one-written .0)
+module _ (out′ : List ℕ) (r : SgfWriting) (x : WriteInC one eight out′ r) where
+  wrote : r ≡ writingInC (Wrote 8)
+  wrote = x .is ∙ ap writingInC (one-written .0)
 
   -- a writer that refuses everything
   pub refusing-writer : 0 < r .number → ⊥
@@ -107,13 +107,13 @@ module _ (out′ : List ℕ) (r : SgfWriting) (x : WriteShown one eight out′ r
 abbrev two : List ℕ
 two = 0 ∷ 0 ∷ []
 
-one-shown : (display (one .text) (accessed one 0) Text two ≡ Shows 2) × (displayIn (one .text) (accessed one 0) Text two ≡ bytes "ab")
-unfolding white readFrom accessed plain escaped itemOf formatFrom shown displayed displayedIn Fit fitText nodesFit rangesFit spansFit trimmed each sum tabulate orphans upward onPath firstUnder spans ascending plainName
+one-shown : (display (one .text) (accessed one 0) Text two ≡ DisplayLength 2) × (displayIn (one .text) (accessed one 0) Text two ≡ bytes "ab")
+unfolding white readFrom accessed plain escaped itemOf formatFrom displayText displayed displayedIn Fit fitText nodesFit rangesFit spansFit trimmed each sum tabulate orphans upward onPath firstUnder spans ascending plainName
 one-shown = (refl, refl)
 
-module _ (out′ : List ℕ) (r : SgfDisplay) (x : DisplayShown one 0 Text two out′ r) where
-  shows : r ≡ displayShown (Shows 2)
-  shows = x .is ∙ ap displayShown (one-shown .0)
+module _ (out′ : List ℕ) (r : SgfDisplay) (x : DisplayInC one 0 Text two out′ r) where
+  shows : r ≡ displayInC (DisplayLength 2)
+  shows = x .is ∙ ap displayInC (one-shown .0)
 
   -- a display that refuses everything
   pub refusing-display : 0 < r .number → ⊥

@@ -12,7 +12,7 @@ use Rattle.parser.specs.Read.{accepted, read}
 use Rattle.reader.specs.Lent.{Lent, ReadIs}
 use Rattle.reader_laws.proofs.Lent.{read-fits, read-rows}
 use Rattle.serialize.specs.Form.{writing, written, output, WriteIs}
-use Rattle.serialize.specs.Locals.{answer}
+use Rattle.serialize.specs.Locals.{writeAnswer}
 use Rattle.serialize.specs.Branch.{nameless}
 use Rattle.serialize.proofs.Room.{answer-length}
 use Rattle.serialize.specs.declared.Written.{Written}
@@ -36,11 +36,11 @@ pub fit-writes : (m : Memory) → Fit m ≡ true → nameless (allProps (allNode
     × (length out < length (writing (recordIn m)) → (r ≡ Refused NoRoom) × (out′ ≡ out))
 fit-writes m f e out out′ r w = (
   λ l. (
-      let q : r ≡ Wrote (length W) = is ∙ ap (λ (s : Bool). answer true false s W) (le-ltb (length out) (length W) l) in
+      let q : r ≡ Wrote (length W) = is ∙ ap (λ (s : Bool). writeAnswer true false s W) (le-ltb (length out) (length W) l) in
       (q, w .bytes ∙ ap (λ (a : Written). output a W out) q)
       ),
   λ l. (
-      let q : r ≡ Refused NoRoom = is ∙ ap (λ (s : Bool). answer true false s W) (lt-ltb (length out) (length W) l) in
+      let q : r ≡ Refused NoRoom = is ∙ ap (λ (s : Bool). writeAnswer true false s W) (lt-ltb (length out) (length W) l) in
       (q, w .bytes ∙ ap (λ (a : Written). output a W out) q)
       ),
 )
@@ -48,8 +48,8 @@ fit-writes m f e out out′ r w = (
     W : List ℕ
     W = writing (recordIn m)
 
-    is : r ≡ answer true false (ltb (length out) (length W)) W
-    is = w .is ∙ ap₂ (λ (a b : Bool). answer a b (ltb (length out) (length W)) W) f e
+    is : r ≡ writeAnswer true false (ltb (length out) (length W)) W
+    is = w .is ∙ ap₂ (λ (a b : Bool). writeAnswer a b (ltb (length out) (length W)) W) f e
 
 -- two memories that hold one record
 module _ (m m′ : Memory) (a : Alike (recordIn m) (recordIn m′)) where
@@ -63,8 +63,8 @@ module _ (m m′ : Memory) (a : Alike (recordIn m) (recordIn m′)) where
   -- and both fit: the writer gives one answer
   pub one-answer : Fit m ≡ true → Fit m′ ≡ true → (room : ℕ) → written m room ≡ written m′ room
   one-answer f g room =
-      ap₂ (λ (x y : Bool). answer x y (ltb room (length (writing (recordIn m)))) (writing (recordIn m))) (f ∙ sym g) (sym (alike-names (recordIn m) (recordIn m′) a))
-      ∙ ap (λ (w : List ℕ). answer (Fit m′) (nameless (allProps (allNodes (recordIn m′)))) (ltb room (length w)) w) (one.same-written (recordIn m) (recordIn m′) a)
+      ap₂ (λ (x y : Bool). writeAnswer x y (ltb room (length (writing (recordIn m)))) (writing (recordIn m))) (f ∙ sym g) (sym (alike-names (recordIn m) (recordIn m′) a))
+      ∙ ap (λ (w : List ℕ). writeAnswer (Fit m′) (nameless (allProps (allNodes (recordIn m′)))) (ltb room (length w)) w) (one.same-written (recordIn m) (recordIn m′) a)
 
 module _ (len : Bool) (t : List ℕ) (before after : Lent) (c : Counts) (x : ReadIs (read len t) before after (Accepted c)) where
   -- what memory holds after a reading is the record that was read

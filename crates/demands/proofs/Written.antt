@@ -9,13 +9,13 @@ use Rattle.tables.proofs.Cases.{either-bool, below-or}
 use Rattle.fit.specs.Fit.{Fit}
 use Rattle.fit.specs.Record.{recordIn}
 use Rattle.serialize.specs.Form.{writing, written, output}
-use Rattle.serialize.specs.Locals.{answer}
+use Rattle.serialize.specs.Locals.{writeAnswer}
 use Rattle.serialize.specs.Branch.{nameless}
 use Rattle.serialize.specs.declared.Written as written-type
 use Rattle.serialize.specs.declared.Written.the-variants.{Wrote, Refused}
-use Rattle.c_answers.specs.Shown.{writingShown}
+use Rattle.c_answers.specs.Structs.{writingInC}
 use Rattle.c_answers.specs.declared.SgfWriting.{SgfWriting}
-use Rattle.sgf.specs.Changed.{WriteShown}
+use Rattle.sgf.specs.ChangeInC.{WriteInC}
 use Rattle.demands.specs.When.{Exactly, Writes, Unwritten, unfit, unnamed, narrow}
 use Rattle.demands.specs.Lists.{OneOf, writerNumbers}
 use Rattle.demands.proofs.Listed.{one-of}
@@ -38,29 +38,29 @@ module _ (m : Memory) (room : ℕ) where
 
   writes-answer : Writes m room → written m room ≡ Wrote (length W)
   writes-answer x =
-      ap (λ (b : Bool). answer b N (ltb room (length W)) W) (x .fits)
-      ∙ ap (λ (b : Bool). answer true b (ltb room (length W)) W) (x .named)
-      ∙ ap (λ (b : Bool). answer true false b W) (le-ltb room (length W) (x .long))
+      ap (λ (b : Bool). writeAnswer b N (ltb room (length W)) W) (x .fits)
+      ∙ ap (λ (b : Bool). writeAnswer true b (ltb room (length W)) W) (x .named)
+      ∙ ap (λ (b : Bool). writeAnswer true false b W) (le-ltb room (length W) (x .long))
 
   unwritten-answer : {x : Reason} → Unwritten m room x → written m room ≡ Refused x
-  unwritten-answer (unfit f) = ap (λ (b : Bool). answer b N (ltb room (length W)) W) f
-  unwritten-answer (unnamed f n) = ap (λ (b : Bool). answer b N (ltb room (length W)) W) f ∙ ap (λ (b : Bool). answer true b (ltb room (length W)) W) n
+  unwritten-answer (unfit f) = ap (λ (b : Bool). writeAnswer b N (ltb room (length W)) W) f
+  unwritten-answer (unnamed f n) = ap (λ (b : Bool). writeAnswer b N (ltb room (length W)) W) f ∙ ap (λ (b : Bool). writeAnswer true b (ltb room (length W)) W) n
   unwritten-answer (narrow f n l) =
-      ap (λ (b : Bool). answer b N (ltb room (length W)) W) f
-      ∙ ap (λ (b : Bool). answer true b (ltb room (length W)) W) n
-      ∙ ap (λ (b : Bool). answer true false b W) (lt-ltb room (length W) l)
+      ap (λ (b : Bool). writeAnswer b N (ltb room (length W)) W) f
+      ∙ ap (λ (b : Bool). writeAnswer true b (ltb room (length W)) W) n
+      ∙ ap (λ (b : Bool). writeAnswer true false b W) (lt-ltb room (length W) l)
 
   unwritten-listed : {x : Reason} → Unwritten m room x → OneOf writerNumbers (numberOf x)
   unwritten-listed (unfit f) = one-of writerNumbers 19 refl
   unwritten-listed (unnamed f n) = one-of writerNumbers 15 refl
   unwritten-listed (narrow f n l) = one-of writerNumbers 14 refl
 
-module _ (m : Memory) (out out′ : List ℕ) (r : SgfWriting) (s : WriteShown m out out′ r) where
+module _ (m : Memory) (out out′ : List ℕ) (r : SgfWriting) (s : WriteInC m out out′ r) where
   number-wrote : Writes m (length out) → r .number ≡ 0
-  number-wrote x = ap (λ (z : SgfWriting). z .number) (s .is ∙ ap writingShown (writes-answer m (length out) x))
+  number-wrote x = ap (λ (z : SgfWriting). z .number) (s .is ∙ ap writingInC (writes-answer m (length out) x))
 
   number-refused : (x : Reason) → Unwritten m (length out) x → r .number ≡ numberOf x
-  number-refused x u = ap (λ (z : SgfWriting). z .number) (s .is ∙ ap writingShown (unwritten-answer m (length out) u))
+  number-refused x u = ap (λ (z : SgfWriting). z .number) (s .is ∙ ap writingInC (unwritten-answer m (length out) u))
 
   pub writing-exactly : Exactly (r .number) (Writes m (length out)) (Unwritten m (length out))
   writing-exactly = exactly (r .number) (Writes m (length out)) (Unwritten m (length out)) (written-decided m (length out)) number-wrote number-refused

@@ -23,8 +23,8 @@ abbrev pub editNumbers : List ℕ
 editNumbers = 0 ∷ 19 ∷ 16 ∷ 17 ∷ 2 ∷ 18 ∷ 1 ∷ 14 ∷ []
 
 -- value access and Go value
-abbrev pub askedNumbers : List ℕ
-askedNumbers = 0 ∷ 19 ∷ 16 ∷ []
+abbrev pub accessNumbers : List ℕ
+accessNumbers = 0 ∷ 19 ∷ 16 ∷ []
 
 -- display
 abbrev pub displayNumbers : List ℕ

@@ -1,7 +1,7 @@
 -- When each exported function accepts, and when it gives each number: in the scope's order, each where none before it applies.
 use Rattle.lists.specs.Prelude.{ℕ, _≤_, _<_, true, false, List, _↔_, _≡_, length, slice, Bool}
 use Rattle.values.specs.Read.{readValue}
-use Rattle.value_display.specs.Display.{shown}
+use Rattle.value_display.specs.Display.{displayText}
 use Rattle.value_display.specs.declared.Kind.{Kind}
 use Rattle.tables.specs.Columns.{valFromAt, valToAt}
 use Rattle.tables.specs.Memory.{Memory}
@@ -37,7 +37,7 @@ pub record Sound (t : List ℕ) : Type 0 where
   pub typed : First (λ _ s. WrongGame s) (slicesFrom 0 (tokensOf t .toks)) → ⊥
 
 -- a reading is accepted: the text reads as a record, whose rows are lent
-pub record Reads (len : Bool) (t : List ℕ) (before : Lent) : Type 0 where
+pub record ReadsInto (len : Bool) (t : List ℕ) (before : Lent) : Type 0 where
   pub trees : List Tree
   pub is : read len t ≡ accepted trees
   pub room : roomy (tables trees) before ≡ true
@@ -60,25 +60,25 @@ pub data Unwritten (m : Memory) (room : ℕ) : Reason → Type 0 where
   narrow : Fit m ≡ true → nameless (allProps (allNodes (recordIn m))) ≡ false → room < length (writing (recordIn m)) → Unwritten m room NoRoom
 
 -- number k, of so many, is answered: the tables fit, and it is below the count
-pub record Asked (m : Memory) (count k : ℕ) : Type 0 where
+pub record Answered (m : Memory) (count k : ℕ) : Type 0 where
   pub fits : Fit m ≡ true
   pub below : k < count
 
 -- or not: 19, 16
-pub data Unasked (m : Memory) (count k : ℕ) : Reason → Type 0 where
-  misfit : Fit m ≡ false → Unasked m count k NotFitting
-  beyond : Fit m ≡ true → count ≤ k → Unasked m count k NoSuchNumber
+pub data Unanswered (m : Memory) (count k : ℕ) : Reason → Type 0 where
+  misfit : Fit m ≡ false → Unanswered m count k NotFitting
+  beyond : Fit m ≡ true → count ≤ k → Unanswered m count k NoSuchNumber
 
 -- what value k shows
-abbrev pub display : Memory → ℕ → Kind → List ℕ
-display m k kind = shown kind (readValue (slice (valFromAt (m .values) k) (valToAt (m .values) k) (m .text)))
+abbrev pub displayOf : Memory → ℕ → Kind → List ℕ
+displayOf m k kind = displayText kind (readValue (slice (valFromAt (m .values) k) (valToAt (m .values) k) (m .text)))
 
 -- value k is displayed in `room` bytes
 pub record Displays (m : Memory) (k : ℕ) (kind : Kind) (room : ℕ) : Type 0 where
-  pub asked : Asked m (m .counts .values) k
-  pub long : length (display m k kind) ≤ room
+  pub asked : Answered m (m .counts .values) k
+  pub long : length (displayOf m k kind) ≤ room
 
 -- or not: 19, 16, 14
 pub data Undisplayed (m : Memory) (k : ℕ) (kind : Kind) (room : ℕ) : Reason → Type 0 where
-  unasked : {x : Reason} → Unasked m (m .counts .values) k x → Undisplayed m k kind room x
-  full : Asked m (m .counts .values) k → room < length (display m k kind) → Undisplayed m k kind room NoRoom
+  unanswered : {x : Reason} → Unanswered m (m .counts .values) k x → Undisplayed m k kind room x
+  full : Answered m (m .counts .values) k → room < length (displayOf m k kind) → Undisplayed m k kind room NoRoom

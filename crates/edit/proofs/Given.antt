@@ -8,7 +8,7 @@ use Rattle.tables.specs.Flat.{over}
 use Rattle.tables.specs.Numbers.{textLimit}
 use Rattle.tables.specs.Rows.{Tables}
 use Rattle.tables.specs.declared.Reason.{Reason}
-use Rattle.parser.specs.Kind.{GM}
+use Rattle.parser.specs.Game.{GM}
 use Rattle.tables.specs.Columns.{valFromAt, valToAt}
 use Rattle.tables.specs.Each.{tabulate}
 use Rattle.tables.specs.Memory.{Memory, memory}
@@ -24,7 +24,7 @@ use Rattle.edit_answer.specs.Edit.{ownerName, Outcome, refuses, gives}
 use Rattle.edit_answer.specs.Locals.{outcome, NamesLie}
 use Rattle.edit_answer.specs.declared.Edited.the-variants.{Changed, Refused}
 use Rattle.edit_answer.proofs.Fitting.{fit-within}
-use Rattle.edit_answer.proofs.Judged.{newText, newRows, decided-misfit, decided-beyond, tests-are, length-new}
+use Rattle.edit_answer.proofs.Judged.{newText, newRows, answer-misfit, answer-beyond, tests-are, length-new}
 use Rattle.edit.specs.Lent.{memoryAfter, EditIs}
 use Rattle.edit.specs.Locals.{ValuesLie, propertiesMoved, valuesMoved}
 
@@ -82,8 +82,8 @@ module _ (m : Memory) (k : ℕ) (new : List ℕ) where
       let e = tests-are m k new f below in
       let p = passed n _ _ _ _ _ Text Rows (h ∙ ap editedFor e) in
       record { fit = f; below = below; is = e ∙ p .is; tests = p })
-      (λ l. not-both n _ _ (h ∙ sym (decided-beyond m k new f (ltb-false k (m .counts .values) l)))))
-      (λ f. not-both n _ _ (h ∙ sym (decided-misfit m k new f)))
+      (λ l. not-both n _ _ (h ∙ sym (answer-beyond m k new f (ltb-false k (m .counts .values) l)))))
+      (λ f. not-both n _ _ (h ∙ sym (answer-misfit m k new f)))
 
   -- ---- what the steps of the change ask for
 

@@ -7,7 +7,7 @@ use Rattle.edit_answer.specs.Answer.{outcomeOf, editedFor}
 use Rattle.edit_answer.specs.Edit.{Outcome, refuses, gives}
 use Rattle.edit_answer.specs.declared.Edited.{Edited}
 
--- what lent memory holds after it: a refusal leaves every byte and every number. The used length that the caller goes on with is in the answer
+-- what lent memory holds after it: a refusal leaves every byte and every number. The used length that the caller goes on with is in the answer (SCOPE 57, 58, 128)
 abbrev pub memoryAfter : Outcome → Memory → Memory
 memoryAfter (refuses r p) m = m
 memoryAfter (gives t T) m =

@@ -23,7 +23,7 @@ pub fn edit(
         (memory (now (text .exit)) used counts (now (trees .entry)) (now (nodes .entry)) (now (properties .exit)) (now (values .exit)))
         k (now (new .entry)) r ⌝ }
 {
-    match edit_answer::decided(text, used, counts, trees, nodes, properties, values, k, new) {
+    match edit_answer::answer(text, used, counts, trees, nodes, properties, values, k, new) {
         Edited::Refused(reason, place) => Edited::Refused(reason, place),
         Edited::Changed(length) => {
             let span = rows::span_of(values, k);

@@ -4,7 +4,7 @@ use Rattle.lists.specs.Same.{same}
 use Rattle.lists.proofs.Places.{drop-next}
 use Rattle.lexer.specs.Closed.{closedFrom, closed}
 use Rattle.tables.specs.Rows.{PropRow}
-use Rattle.parser.specs.Kind.{GM}
+use Rattle.parser.specs.Game.{GM}
 use Rattle.tables.specs.Columns.{nameFromAt, nameToAt, firstValAt, valCountAt}
 use Rattle.tables.specs.Each.{tabulate}
 use Rattle.fit.specs.Record.{propRow}

@@ -8,7 +8,7 @@ use Rattle.edit_answer.specs.Edit.{Outcome, refuses, gives, edit}
 use Rattle.edit_answer.specs.declared.Edited.{Edited}
 use Rattle.edit_answer.specs.declared.Edited.the-variants.{Changed, Refused}
 
--- 19 where the tables don't fit the first `used` bytes; else the edit of these and their rows
+-- 19 where the tables don't fit the first `used` bytes; else the edit of these and their rows (SCOPE 50, 63)
 unfoldable pub outcomeOf : Memory → (k : ℕ) → (new : List ℕ) → Outcome
 outcomeOf m k new = pick (Fit m) (edit (length (m .text)) (textIn m) (rowsIn m) k new) (refuses NotFitting 0)
 

@@ -7,7 +7,7 @@ use Rattle.lexer.specs.Move.{startsAt, endsAt}
 use Rattle.tables.specs.Numbers.{textLimit}
 use Rattle.tables.specs.Rows.{PropRow, ValRow, Tables}
 use Rattle.tables.specs.Move.{moveTables}
-use Rattle.parser.specs.Kind.{GM}
+use Rattle.parser.specs.Game.{GM}
 use Rattle.edit_splice.specs.Splice.{pasted}
 use Rattle.tables.specs.declared.Reason.{Reason}
 use Rattle.tables.specs.declared.Reason.the-variants.{TextTooLong, NotUtf8, NoRoom, NoSuchNumber, GameTypeFixed, NotClosed}
@@ -17,7 +17,7 @@ abbrev pub ownerRow : List PropRow → ℕ → PropRow
 ownerRow [] k = record { from = 0; to = 0; first = 0; count = 0 }
 ownerRow (r ∷ rs) k = let z = ownerRow rs k in pick (ltb k (r .first + r .count)) r z
 
--- its raw identifier
+-- its raw identifier (SCOPE 48, 141)
 abbrev pub ownerName : List ℕ → List PropRow → ℕ → List ℕ
 ownerName t rs k = slice (ownerRow rs k .from) (ownerRow rs k .to) t
 
@@ -25,7 +25,7 @@ ownerName t rs k = slice (ownerRow rs k .from) (ownerRow rs k .to) t
 abbrev pub spanAt : List ValRow → ℕ → ValRow
 spanAt vs k = getD vs k (record { from = 0; to = 0 })
 
--- row places after the value move by the change in length
+-- row places after the value move by the change in length (SCOPE 129)
 abbrev pub shifted : Tables → ValRow → ℕ → Tables
 shifted T v n = moveTables (startsAt (v .from) (v .to) n) (endsAt (v .from) (v .to) n) T
 
@@ -40,7 +40,7 @@ unlessBad (bad p) o = refuses NotUtf8 p
 unlessBad (part k s n r x) o = refuses NotUtf8 s
 unlessBad (whole k) o = o
 
--- the edit of value k, where `room` bytes are lent: the first refusal that applies, else the new text and rows
+-- the edit of value k, where `room` bytes are lent: the first refusal that applies, else the new text and rows (SCOPE 5, 32, 45, 47, 52, 63, 133)
 abbrev pub edit : (room : ℕ) → List ℕ → Tables → (k : ℕ) → (new : List ℕ) → Outcome
 edit room t T k new =
     let u = pasted t (spanAt (T .vals) k .from) (spanAt (T .vals) k .to) new in

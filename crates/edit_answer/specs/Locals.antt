@@ -22,7 +22,7 @@ outcome known fixed u shut long over t T =
     (unlessBad u (pick (not shut) (refuses NotClosed 0) (pick long (refuses TextTooLong 0) (pick over (refuses NoRoom 0) (gives t T))))))
 
 -- the answer for a value that may be changed, where `kept` bytes of the text stay: 2, 18, 1, 14 in this order
-abbrev pub Weighed : List ℕ → (kept room : ℕ) → Edited → Type 0
-Weighed new kept room r =
+abbrev pub AnswersBytes : List ℕ → (kept room : ℕ) → Edited → Type 0
+AnswersBytes new kept room r =
     (t : List ℕ) (T : Tables) → length t ≡ kept + length new
     → r ≡ editedFor (outcome true false (utfs (whole blank) 0 new) (closed new) (ltb textLimit (length t)) (ltb room (length t)) t T)

@@ -5,14 +5,14 @@ ghost use lib.ListN.{length};
 ghost use Rattle.lists.specs.Same.{same};
 ghost use Rattle.lexer.specs.Closed.{closed};
 ghost use Rattle.tables.specs.Numbers.{none, textLimit};
-ghost use Rattle.parser.specs.Kind.{GM};
+ghost use Rattle.parser.specs.Game.{GM};
 ghost use Rattle.tables.specs.Columns.{propertyStride, valueStride, valFromAt, valToAt};
 ghost use Rattle.tables.specs.Each.{tabulate};
 ghost use Rattle.tables.specs.Memory.{memory};
 ghost use Rattle.fit.specs.Record.{propRow};
 ghost use Rattle.edit_answer.specs.Answer.{outcomeOf, editedFor};
 ghost use Rattle.edit_answer.specs.Edit.{ownerName};
-ghost use Rattle.edit_answer.specs.Locals.{NamesLie, Weighed};
+ghost use Rattle.edit_answer.specs.Locals.{NamesLie, AnswersBytes};
 use tables::Counts;
 use tables::Reason;
 
@@ -86,9 +86,9 @@ fn size_of(values: &[u32], k: usize) -> usize
 }
 
 // Whether the new bytes may stand where `kept` bytes of the text stay and `room` are lent.
-fn weighed(new: &[u8], kept: usize, room: usize) -> Edited
+fn answer_bytes(new: &[u8], kept: usize, room: usize) -> Edited
     requires { ⌜ kept ≤ textLimit ⌝ }
-    ensures { λ r. ⌜ Weighed (now (new .entry)) kept room r ⌝ }
+    ensures { λ r. ⌜ AnswersBytes (now (new .entry)) kept room r ⌝ }
 {
     if let text_utf8::Trimmed::NotUtf8(place) = text_utf8::trim(new) {
         return Edited::Refused(Reason::NotUtf8, place);
@@ -107,7 +107,7 @@ fn weighed(new: &[u8], kept: usize, room: usize) -> Edited
 }
 
 // What an edit answers.
-pub fn decided(
+pub fn answer(
     text: &[u8],
     used: usize,
     counts: Counts,
@@ -131,5 +131,5 @@ pub fn decided(
     if is_fixed(&text[..used], properties, counts.properties, k) {
         return Edited::Refused(Reason::GameTypeFixed, 0);
     }
-    weighed(new, used - size_of(values, k), text.len())
+    answer_bytes(new, used - size_of(values, k), text.len())
 }

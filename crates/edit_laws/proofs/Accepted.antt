@@ -8,7 +8,7 @@ use Rattle.lists.proofs.All.{all-mem}
 use Rattle.lists.specs.All.{All}
 use Rattle.parser.proofs.Answers.{not-both}
 use Rattle.parser.proofs.Lift.{OfAnswer, of-tokens, of-trees}
-use Rattle.parser.specs.Read.{Answer, accepted, decoded, lexing, parsed, refused, readStrict}
+use Rattle.parser.specs.Read.{Answer, accepted, parseUtf8, lexing, parsed, refused, readStrict}
 use Rattle.parser.specs.Split.{ended}
 use Rattle.tables.specs.Numbers.{reasonOf, textLimit}
 use Rattle.tables.specs.Record.{Tree, allNodes, allProps}
@@ -34,9 +34,9 @@ lexing-done done l ts h = (refl, h)
 lexing-done (broken f s) l ts h = not-both (reasonOf f) s ts h
 
 pub accepted-is : (t : List ℕ) (ts : List Tree) → readStrict t ≡ accepted ts → Accepted t ts
-accepted-is t ts h = go (utfs (whole blank) 0 t) refl (short (ltb textLimit (length t)) (decoded false (utfs (whole blank) 0 t) t) ts h)
+accepted-is t ts h = go (utfs (whole blank) 0 t) refl (short (ltb textLimit (length t)) (parseUtf8 false (utfs (whole blank) 0 t) t) ts h)
   where
-    go : (u : Utf) → utfs (whole blank) 0 t ≡ u → decoded false u t ≡ accepted ts → Accepted t ts
+    go : (u : Utf) → utfs (whole blank) 0 t ≡ u → parseUtf8 false u t ≡ accepted ts → Accepted t ts
     go (whole blank) e k = not-both NoGameTrees 0 ts k
     go (whole (inked f0 l)) e k =
         let z = lexing-done (lexFrom f0 l (drop f0 (take l t)) .end) (lexFrom f0 l (drop f0 (take l t)) .toks) ts k in

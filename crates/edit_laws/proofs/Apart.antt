@@ -31,7 +31,7 @@ module _ (used : ℕ) where
   unfolding ascending
   is-first o s ss f = rw (le-leb o (s .from) (f .low), le-leb (s .from) (s .to) (f .order), le-leb (s .to) used (f .inside)) (f .rest)
 
-  -- a run of spans: all start at o or later; `next` is behind them all, and what follows may start there
+  -- a run of spans: all start at o or later; `memoryNext` is behind them all, and what follows may start there
   pub record Run (f : ℕ → Span) (m v o : ℕ) (ss : List Span) : Type 0 where
     pub low : (j : ℕ) → v ≤ j → j < v + m → o ≤ f j .from
     pub pairs : (i j : ℕ) → v ≤ i → i < j → j < v + m → f i .to < f j .from

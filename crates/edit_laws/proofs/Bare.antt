@@ -20,7 +20,7 @@ abbrev read-as : List Tree
 read-as =
     record {
       root = 0;
-      kind = 0;
+      game = 0;
       nodes = record { parent = none; props = record { from = 2; to = 3; name = 0x43 ∷ []; vals = record { from = 4; to = 5; raw = 0x61 ∷ [] } ∷ [] } ∷ [] } ∷ [];
     }
     ∷ []

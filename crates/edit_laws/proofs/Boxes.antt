@@ -5,7 +5,7 @@ use Rattle.lexer.specs.Move.{startsAt, endsAt}
 use Rattle.lexer_laws.proofs.Replace.{starts-low, starts-high, ends-low, ends-high}
 use Rattle.tables.specs.declared.Counts.{Counts}
 use Rattle.tables.specs.Columns.{valFromAt, valToAt}
-use Rattle.fit_spans.specs.Spans.{boxed, valueRight}
+use Rattle.fit_spans.specs.Spans.{inBracketsClosed, valueRight}
 use Rattle.tables.proofs.Cases.{and-left, and-right}
 use Rattle.tables.proofs.Each.{each-at}
 use Rattle.fit.proofs.Clauses.{Clauses}
@@ -18,7 +18,7 @@ pub record Boxed (t : List ℕ) (a e : ℕ) : Type 0 where
   pub closes : getD t e 0 ≡ 0x5d
   pub shut : closed (slice a e t) ≡ true
 
-pub is-boxed : (t : List ℕ) (a e : ℕ) → boxed t a e ≡ true → Boxed t a e
+pub is-boxed : (t : List ℕ) (a e : ℕ) → inBracketsClosed t a e ≡ true → Boxed t a e
 is-boxed t a e h =
     let x : Bool = ltb 0 a in
     let y : Bool = eqb (getD t (a - 1) 0) 0x5b in
@@ -33,7 +33,7 @@ is-boxed t a e h =
       shut = and-right z w h2;
     }
 
-pub boxed-is : (t : List ℕ) (a e : ℕ) → Boxed t a e → boxed t a e ≡ true
+pub boxed-is : (t : List ℕ) (a e : ℕ) → Boxed t a e → inBracketsClosed t a e ≡ true
 boxed-is t a e x = rw (lt-ltb 0 a (x .some), eq-eqb (getD t (a - 1) 0) 0x5b (x .opens), eq-eqb (getD t e 0) 0x5d (x .closes)) (x .shut)
 
 -- the text t, the value k of it, the new bytes; and tables whose rows are the moved ones

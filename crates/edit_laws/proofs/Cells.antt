@@ -36,7 +36,7 @@ module _ {A : Type 0} (w : ℕ) (cells : A → List ℕ) (flat : List A → List
 
 pub tree-cells : (t : List ℕ) (n : ℕ) → n * 2 ≤ length t → flatTrees (tabulate (treeRow t) 0 n) ≡ take (n * 2) t
 unfolding tabulate
-tree-cells = rows-cells 2 (λ r. r .root ∷ r .kind ∷ []) flatTrees treeRow refl (λ r rs. refl)
+tree-cells = rows-cells 2 (λ r. r .root ∷ r .game ∷ []) flatTrees treeRow refl (λ r rs. refl)
     (λ t k h. let n : k * 2 ≡ k * 2 + 0 = omega arith in ap (λ (z : ℕ). getD t z 0 ∷ getD t (k * 2 + 1) 0 ∷ []) n ∙ sym (part-first t (k * 2) 2 h))
 
 pub node-cells : (t : List ℕ) (n : ℕ) → n * 6 ≤ length t → flatNodes (tabulate (nodeRow t) 0 n) ≡ take (n * 6) t

@@ -12,13 +12,13 @@ use Rattle.tables.specs.Numbers.{textLimit}
 use Rattle.tables.specs.Record.{Tree, allNodes, allProps, allVals}
 use Rattle.tables.specs.Rows.{Tables, PropRow, ValRow, tables, propRows, valRows}
 use Rattle.tables.proofs.Moved.{tables-move}
-use Rattle.parser.specs.Kind.{GM}
+use Rattle.parser.specs.Game.{GM}
 use Rattle.parser.specs.Read.{accepted, readStrict}
 use Rattle.parser.proofs.Denoted.{read-denotes}
 use Rattle.edit_splice.specs.Splice.{pasted}
 use Rattle.edit_answer.specs.Edit.{ownerRow, ownerName, spanAt, shifted, Outcome, edit}
 use Rattle.edit_answer.specs.Locals.{outcome}
-use Rattle.edit_laws.specs.Run.{TextRows, Order, after, run, Reads}
+use Rattle.edit_laws.specs.Run.{TextRows, Order, after, runEdits, Reads}
 use Rattle.edit_laws.proofs.Numbered.{noVal, ownerOf, valueOf, newText, newTrees, edit-number}
 
 -- ---- rows and trees
@@ -120,7 +120,7 @@ module _ (room : ℕ) (t : List ℕ) (ts : List Tree) (k : ℕ) (new : List ℕ)
           }
 
 -- a record that strict reading gives stays one under any run of edits, refused ones of whatever number between them
-pub demand-three : (room : ℕ) (s : TextRows) (xs : List Order) → Reads s → Reads (run room s xs)
+pub demand-three : (room : ℕ) (s : TextRows) (xs : List Order) → Reads s → Reads (runEdits room s xs)
 demand-three room s [] f = f
 demand-three room s (x ∷ xs) f =
     demand-three room (after s (edit room (s .text) (s .rows) (x .value) (x .bytes))) xs

@@ -4,12 +4,12 @@ use Rattle.edit_laws.proofs.Accepted.{Between, all-between, on-trees}
 use Rattle.lexer_laws.proofs.Inside.{Inside, NotAt, OfVals, Only, inside, vals-map}
 use Rattle.lexer_laws.proofs.Starting.{last}
 use Rattle.lexer.specs.Closed.{closedFrom}
-use Rattle.lexer.specs.Token.{Prop, Tok, Val, between, ends, lexFrom, value}
+use Rattle.lexer.specs.Token.{Prop, Tok, Val, between, stateAfter, lexFrom, value}
 use Rattle.lists.proofs.All.{all-map}
 use Rattle.lists.specs.All.{All}
 use Rattle.parser.specs.Read.{accepted, parsed}
 use Rattle.tables.specs.Record.{Tree, allNodes, allProps}
-use Rattle.tables.specs.Rows.{next}
+use Rattle.tables.specs.Rows.{firstChildFrom}
 use Rattle.text_utf8.proofs.Steps.{place, place-is}
 
 -- ---- lists
@@ -47,7 +47,7 @@ pub record Found (f0 l : ℕ) (pre old post : List ℕ) (name : List ℕ) (ts : 
   pub s : ℕ
   pub i : ℕ
   pub vs : List Val
-  pub state : ends between f0 (drop f0 pre) ≡ value s i name vs false (place f0 (drop f0 pre)) []
+  pub state : stateAfter between f0 (drop f0 pre) ≡ value s i name vs false (place f0 (drop f0 pre)) []
   pub before : last 0 (drop f0 pre) ≡ 0x5b
   pub next : take m post ≡ 0x5d ∷ post2
   pub closed-old : closedFrom false old ≡ true

@@ -4,7 +4,7 @@ use Rattle.lists.specs.Same.{same}
 use Rattle.lists.proofs.Tests.{never}
 use Rattle.text_chars.specs.Table.{WellFormed, BadFrom}
 use Rattle.text_utf8.specs.Text.{Ink, blank, inked, Utf, whole, part, bad, utfs}
-use Rattle.text_utf8.specs.Trim.{shown, trimmed}
+use Rattle.text_utf8.specs.Trim.{trimOf, trimmed}
 use Rattle.text_utf8.specs.declared.Trimmed.the-variants.{NotUtf8 as Bad}
 use Rattle.text_utf8.proofs.WellFormed.{well-or-bad, bad-trimmed, well-formed-trimmed}
 use Rattle.lexer.specs.Closed.{closed}
@@ -16,12 +16,12 @@ use Rattle.tables.specs.declared.Reason.the-variants.{TextTooLong, NotUtf8, NoR
 use Rattle.tables.proofs.Cases.{either-bool, below-or, true-false}
 use Rattle.fit.specs.Fit.{Fit}
 use Rattle.fit.proofs.RootRows.{same-equal}
-use Rattle.parser.specs.Kind.{GM}
+use Rattle.parser.specs.Game.{GM}
 use Rattle.edit_answer.specs.Answer.{outcomeOf, editedFor}
 use Rattle.edit_answer.specs.Locals.{outcome}
 use Rattle.edit_answer.specs.declared.Edited.{Edited}
 use Rattle.edit_answer.specs.declared.Edited.the-variants.{Changed, Refused}
-use Rattle.edit_answer.proofs.Judged.{newText, newRows, decided-misfit, decided-beyond, decided-fixed, tests-are, length-new}
+use Rattle.edit_answer.proofs.Judged.{newText, newRows, answer-misfit, answer-beyond, answer-fixed, tests-are, length-new}
 use Rattle.edit_laws.specs.Edits.{owner, newLength, Allowed, Forbidden, misfit, beyond, fixed, garbled, open-ended, long, full}
 
 -- ---- the new bytes
@@ -32,16 +32,16 @@ well-ink t w = go (utfs (whole blank) 0 t) refl
   where
     go : (u : Utf) → utfs (whole blank) 0 t ≡ u → (i : Ink) × (utfs (whole blank) 0 t ≡ whole i)
     go (whole i) e = (i, e)
-    go (part i s n r x) e = absurd (well-formed-trimmed t w s (ap shown e))
-    go (bad p) e = absurd (well-formed-trimmed t w p (ap shown e))
+    go (part i s n r x) e = absurd (well-formed-trimmed t w s (ap trimOf e))
+    go (bad p) e = absurd (well-formed-trimmed t w p (ap trimOf e))
 
-bad-answer : (u : Utf) (c l m : Bool) (t : List ℕ) (T : Tables) (p : ℕ) → shown u ≡ Bad p → editedFor (outcome true false u c l m t T) ≡ Refused NotUtf8 p
+bad-answer : (u : Utf) (c l m : Bool) (t : List ℕ) (T : Tables) (p : ℕ) → trimOf u ≡ Bad p → editedFor (outcome true false u c l m t T) ≡ Refused NotUtf8 p
 bad-answer (whole blank) c l m t T p h = never cc
 bad-answer (whole (inked f e)) c l m t T p h = never cc
 bad-answer (part k s n r x) c l m t T p h = let z : s ≡ p = cc in ap (Refused NotUtf8) z
 bad-answer (bad q) c l m t T p h = let z : q ≡ p = cc in ap (Refused NotUtf8) z
 
-bad-shown : (t : List ℕ) (p : ℕ) → BadFrom t p → shown (utfs (whole blank) 0 t) ≡ Bad p
+bad-shown : (t : List ℕ) (p : ℕ) → BadFrom t p → trimOf (utfs (whole blank) 0 t) ≡ Bad p
 unfolding trimmed
 bad-shown t p x = bad-trimmed t p x
 
@@ -76,9 +76,9 @@ module _ (m : Memory) (k : ℕ) (new : List ℕ) where
   -- ---- each number is given where it is to be
 
   pub forbidden-given : {r : Reason} {p : ℕ} → Forbidden m k new r p → Now ≡ Refused r p
-  forbidden-given (misfit f) = sym (decided-misfit m k new f)
-  forbidden-given (beyond f b) = sym (decided-beyond m k new f b)
-  forbidden-given (fixed f b g) = sym (decided-fixed m k new f b (sym (is-gm g)))
+  forbidden-given (misfit f) = sym (answer-misfit m k new f)
+  forbidden-given (beyond f b) = sym (answer-beyond m k new f b)
+  forbidden-given (fixed f b g) = sym (answer-fixed m k new f b (sym (is-gm g)))
   forbidden-given (garbled f b g p x) = tests f b g ∙ bad-answer (utfs (whole blank) 0 new) (closed new) (ltb textLimit L) (ltb (length (m .text)) L) Text Rows p (bad-shown new p x)
   forbidden-given (open-ended f b g w s) = tests f b g ∙ rw (well-ink new w .1, s)
   forbidden-given (long f b g w s l) = tests f b g ∙ rw (well-ink new w .1, s, lt-ltb textLimit L l)

@@ -9,7 +9,7 @@ use Rattle.lexer.specs.Move.{startsAt, endsAt, newRaw}
 use Rattle.tables.specs.Numbers.{textLimit}
 use Rattle.tables.specs.Record.{Tree, allNodes, allProps, allVals}
 use Rattle.tables.specs.Move.{moveTree}
-use Rattle.parser.specs.Kind.{GM}
+use Rattle.parser.specs.Game.{GM}
 use Rattle.parser.specs.Read.{accepted, readStrict}
 use Rattle.edit_laws.proofs.Accepted.{Accepted, accepted-is, on-trees, Between, all-between}
 use Rattle.edit_laws.proofs.Reread.{edit-reads}

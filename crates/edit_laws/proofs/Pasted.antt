@@ -1,7 +1,7 @@
 -- The bytes of a text once a part of it is replaced: what stands before the part, in it, after it; and that it is valid still. Assumes nothing.
 use Rattle.lists.proofs.Prelude.{ℕ, suc, _+_, _-_, _≤_, _<_, true, false≢true, List, [], _∷_, _++_, append-assoc, _≡_, refl, sym, ap, ap₂, _∙_, subst, arith, length, take, drop, getD, take-append-drop, length-append, List·getD-append, List·getD-eq-default, slice, take-suc, take-take, take-append-le, take-append-add, drop-append-add, drop-cons, getD-append-add, getD-take, length-take-le, take-at}
 use Rattle.text_utf8.specs.Text.{Ink, blank, Utf, whole, part, bad, utfs}
-use Rattle.text_utf8.specs.Trim.{shown, trimmed}
+use Rattle.text_utf8.specs.Trim.{trimOf, trimmed}
 use Rattle.lexer_laws.proofs.Kept.{kept}
 use Rattle.fit.specs.Fit.{sound, validUtf8}
 use Rattle.tables.proofs.Cases.{below-or}
@@ -85,13 +85,13 @@ module _ (t new : List ℕ) (q e : ℕ) (qe : q ≤ e) (el : e ≤ length t) whe
         ∙ ap (λ (x : List ℕ). x ++ drop e t) (ap (λ (x : List ℕ). x ++ slice q e t) (sym (take-take q e t qe)) ∙ take-append-drop q (take e t))
         ∙ take-append-drop e t
 
-    sound-whole : (u : Utf) → sound (shown u) ≡ true → (k : Ink) × (u ≡ whole k)
+    sound-whole : (u : Utf) → sound (trimOf u) ≡ true → (k : Ink) × (u ≡ whole k)
     sound-whole (whole k) h = (k, refl)
     sound-whole (part k s n r x) h = absurd (false≢true h)
     sound-whole (bad p) h = absurd (false≢true h)
 
-    valid-by : (u : Utf) {k : Ink} → u ≡ whole k → sound (shown u) ≡ true
-    valid-by u {k} e = ap (λ (z : Utf). sound (shown z)) e ∙ whole-sound k
+    valid-by : (u : Utf) {k : Ink} → u ≡ whole k → sound (trimOf u) ≡ true
+    valid-by u {k} e = ap (λ (z : Utf). sound (trimOf z)) e ∙ whole-sound k
 
     pub valid-still : validUtf8 t ≡ true → (kn : Ink) → utfs (whole blank) 0 new ≡ whole kn → validUtf8 U ≡ true
     unfolding trimmed

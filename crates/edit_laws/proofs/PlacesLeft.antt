@@ -7,7 +7,7 @@ use Rattle.tables.specs.Flat.{flatProps, flatVals}
 use Rattle.tables.specs.Memory.{Memory}
 use Rattle.tables.specs.Move.{moveProps, moveVals}
 use Rattle.tables.specs.Rows.{PropRow, ValRow, Tables}
-use Rattle.fit.specs.Locals.{Held}
+use Rattle.fit.specs.Locals.{RowsLent}
 use Rattle.fit.specs.Record.{propRow, valRow}
 use Rattle.fit.proofs.Clauses.{fit-names, fit-vals}
 use Rattle.fit.proofs.Whole.{fit-lent}
@@ -74,7 +74,7 @@ module _ (m : Memory) (k : ℕ) (new : List ℕ) {n : ℕ} (x : Given m k new n)
   val-row : (j : ℕ) → j < m .counts .values → valRow (m′ .values) j ≡ moveVals f g (valRow (m .values) j)
   val-row = val-row-left f g (m .values) (m .counts .values)
 
-  held : Held (m .counts) (m .trees) (m .nodes) (m .properties) (m .values)
+  held : RowsLent (m .counts) (m .trees) (m .nodes) (m .properties) (m .values)
   held = fit-lent m (x .fit) .1
 
   pub places-left : PlacesMoved m k (length new) m′

@@ -10,14 +10,14 @@ use Rattle.lexer_laws.proofs.Replace.{ends-high, raw-other, replaced}
 use Rattle.lexer_laws.proofs.Starting.{Each, last}
 use Rattle.lexer.specs.Closed.{closed, closedFrom}
 use Rattle.lexer.specs.Move.{endsAt, newRaw, startsAt}
-use Rattle.lexer.specs.Token.{End, Lexed, Prop, Tok, Val, between, done, end, ends, lexFrom, node, prop, start, value}
+use Rattle.lexer.specs.Token.{End, Lexed, Prop, Tok, Val, between, done, end, stateAfter, lexFrom, node, prop, start, value}
 use Rattle.lists.proofs.All.{all-map}
 use Rattle.lists.specs.All.{All}
 use Rattle.lists.specs.Same.{same}
 use Rattle.parser.proofs.Moved.{move-tokens, moveAnswer}
 use Rattle.parser.proofs.MovedKind.{GmStays}
-use Rattle.parser.specs.Kind.{GM}
-use Rattle.parser.specs.Read.{Answer, accepted, decoded, lexing, parsed, refused, readStrict}
+use Rattle.parser.specs.Game.{GM}
+use Rattle.parser.specs.Read.{Answer, accepted, parseUtf8, lexing, parsed, refused, readStrict}
 use Rattle.parser.specs.Split.{ended}
 use Rattle.tables.specs.Move.{moveTree}
 use Rattle.tables.specs.Numbers.{textLimit}
@@ -46,7 +46,7 @@ gm-stays q e n w new hw ts h =
         (λ v z. raw-other q new (v .from) (v .raw) (λ k. false≢true (sym hw ∙ ap (λ (u : List ℕ). same u GM) (sym (z k .1)) ∙ y))) (p .vals) x
 
 replaced-at : (f0 l : ℕ) (pre old new post : List ℕ) (s i : ℕ) (w : List ℕ) (vs : List Val) (q e : ℕ)
-    → ends between f0 pre ≡ value s i w vs false (place f0 pre) [] → closedFrom false old ≡ true → closedFrom false new ≡ true → e ≤ l
+    → stateAfter between f0 pre ≡ value s i w vs false (place f0 pre) [] → closedFrom false old ≡ true → closedFrom false new ≡ true → e ≤ l
     → place f0 pre ≡ q → place (place f0 pre) old ≡ e
     → lexFrom f0 (endsAt q e (length new) l) (pre ++ (new ++ (0x5d ∷ post)))
     ≡ moveLexed (startsAt q e (length new)) (endsAt q e (length new)) (newRaw q new) (lexFrom f0 l (pre ++ (old ++ (0x5d ∷ post))))
@@ -117,9 +117,9 @@ module _ (pre old new post : List ℕ) (ts : List Tree) (p : Prop) (v : Val) whe
       → same (p .name) GM ≡ false → closed new ≡ true → (kn : Ink) → utfs (whole blank) 0 new ≡ whole kn → length (pre ++ (new ++ post)) ≤ textLimit
       → readStrict (pre ++ (new ++ post)) ≡ accepted (map (moveTree (startsAt q e (length new)) (endsAt q e (length new)) (newRaw q new)) ts)
   assemble f0 l m valid ended trees F hg cn kn hn fits =
-      in-textLimit (ltb textLimit (length (pre ++ (new ++ post)))) (decoded false (utfs (whole blank) 0 (pre ++ (new ++ post))) (pre ++ (new ++ post)))
+      in-textLimit (ltb textLimit (length (pre ++ (new ++ post)))) (parseUtf8 false (utfs (whole blank) 0 (pre ++ (new ++ post))) (pre ++ (new ++ post)))
       (le-ltb textLimit (length (pre ++ (new ++ post))) fits)
-      ∙ ap (λ (u : Utf). decoded false u (pre ++ (new ++ post)))
+      ∙ ap (λ (u : Utf). parseUtf8 false u (pre ++ (new ++ post)))
       (new-valid f0 l (F .m) pre old new post (F .post2) kn valid hn (F .before) (F .next))
       ∙ reread (startsAt q e (length new)) (endsAt q e (length new)) (newRaw q new)
       (lexFrom f0 l (drop f0 (take l (pre ++ (old ++ post)))))

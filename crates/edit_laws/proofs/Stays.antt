@@ -11,9 +11,9 @@ use Rattle.tables.specs.Each.{each, sum, tabulate}
 use Rattle.tables.specs.Memory.{Memory, memory}
 use Rattle.tables.specs.Memory.{Memory, memory}
 use Rattle.fit.specs.Fit.{Fit}
-use Rattle.fit.specs.Locals.{Held}
+use Rattle.fit.specs.Locals.{RowsLent}
 use Rattle.fit.specs.Record.{propRow, valRow, textIn}
-use Rattle.fit_spans.specs.Spans.{span, spans, ascending, plainName, nameRight, boxed, valueRight}
+use Rattle.fit_spans.specs.Spans.{span, spans, ascending, plainName, nameRight, inBracketsClosed, valueRight}
 use Rattle.lists.proofs.Tests.{same-or}
 use Rattle.fit.proofs.Clauses.{Clauses, fit-clauses, clauses-fit, fit-vals}
 use Rattle.tables.proofs.Each.{each-at, each-all}
@@ -29,7 +29,7 @@ use Rattle.edit_laws.proofs.Ascended.{Ok, moved-ascend, first-same, cou
 use Rattle.edit_laws.proofs.Boxes.{Boxed, boxed-is, value-box, slice-apart, box-apart, box-new}
 use Rattle.edit_answer.proofs.Judged.{newText, newRows, length-new}
 use Rattle.edit.proofs.Given.{Given, given, given-long, given-replaceable}
-use Rattle.edit_laws.specs.Calls.{next}
+use Rattle.edit_laws.specs.Calls.{memoryNext}
 use Rattle.edit_laws.proofs.Left.{text-left, prop-row-left, val-row-left, length-buffer-left, length-props-left, length-vals-left}
 use Rattle.edit_laws.proofs.Pasted.{valid-still}
 
@@ -61,7 +61,7 @@ module _ (m : Memory) (k : ℕ) (new : List ℕ) {n : ℕ} (x : Given m k new n)
   F : Clauses t (m .counts) (m .trees) (m .nodes) (m .properties) (m .values)
   F = fit-clauses m (x .fit)
 
-  held : (m .used ≤ length (m .text)) × Held (m .counts) (m .trees) (m .nodes) (m .properties) (m .values)
+  held : (m .used ≤ length (m .text)) × RowsLent (m .counts) (m .trees) (m .nodes) (m .properties) (m .values)
   held = fit-lent m (x .fit)
 
   long : length t ≡ m .used
@@ -123,7 +123,7 @@ module _ (m : Memory) (k : ℕ) (new : List ℕ) {n : ℕ} (x : Given m k new n)
   values-stay : each (m .counts .values) (valueRight u vl′) ≡ true
   values-stay =
       each-all (valueRight u vl′) (m .counts .values)
-      (λ j l. ap (λ (r : ValRow). boxed u (r .from) (r .to)) (val-row j l) ∙ boxed-is u (f (valFromAt (m .values) j)) (g (valToAt (m .values) j)) (box-stays j l))
+      (λ j l. ap (λ (r : ValRow). inBracketsClosed u (r .from) (r .to)) (val-row j l) ∙ boxed-is u (f (valFromAt (m .values) j)) (g (valToAt (m .values) j)) (box-stays j l))
 
   all-ok : All (Ok (length t) q e (length new) order within) (spans (m .properties) (m .values) 0 (m .counts .properties))
   all-ok =
@@ -141,13 +141,13 @@ module _ (m : Memory) (k : ℕ) (new : List ℕ) {n : ℕ} (x : Given m k new n)
       (subst (λ (w : ℕ). ascending w (startsAt q e (length new) 0) (map (λ s. span (f (s .from)) (g (s .to))) (spans (m .properties) (m .values) 0 (m .counts .properties))) ≡ true) l
       (moved-ascend (length t) q e (length new) order within 0 (spans (m .properties) (m .values) 0 (m .counts .properties)) (inl (omega arith)) (F .ascend) all-ok))
 
-  held-still : Held (m .counts) (m .trees) (m .nodes) pr′ vl′
+  held-still : RowsLent (m .counts) (m .trees) (m .nodes) pr′ vl′
   held-still =
       let h = held .1 in
       record {
         trees = h .trees;
         nodes = h .nodes;
-        few = h .few;
+        below-none = h .below-none;
         properties = rw (length-props-left f g (m .properties) (m .counts .properties) (h .properties)) (h .properties);
         values = rw (length-vals-left f g (m .values) (m .counts .values) (h .values)) (h .values);
       }
@@ -165,7 +165,7 @@ module _ (m : Memory) (k : ℕ) (new : List ℕ) {n : ℕ} (x : Given m k new n)
         parents = F .parents;
         children = F .children;
         siblings = F .siblings;
-        kinds = F .kinds;
+        games = F .games;
         depths = F .depths;
         node-ranges = F .node-ranges;
         prop-ranges = ranges-same (m .properties) pr′ (m .counts .properties) first count (m .counts .values) ∙ F .prop-ranges;
@@ -182,10 +182,10 @@ module _ (m : Memory) (k : ℕ) (new : List ℕ) {n : ℕ} (x : Given m k new n)
       clauses-fit (memory (over (cleared u (m .used)) (m .text)) (length u) (m .counts) (m .trees) (m .nodes) pr′ vl′) (omega (arith, new-long, lb)) (rw (text-left u (m .text) (m .used)) text-stays)
 
 -- of any tables that fit, and any answer that meets the contract: accepted, they fit the new text with the new used length
-pub edit-stays : (m m′ : Memory) (k : ℕ) (new : List ℕ) (n : ℕ) → EditIs m m′ k new (Changed n) → Fit (next m′ (Changed n)) ≡ true
+pub edit-stays : (m m′ : Memory) (k : ℕ) (new : List ℕ) (n : ℕ) → EditIs m m′ k new (Changed n) → Fit (memoryNext m′ (Changed n)) ≡ true
 edit-stays m m′ k new n h =
     let x = given m k new n (h .answer) in
     let l = h .memory ∙ ap (λ (o : Outcome). memoryAfter o m) (x .is) in
-    subst⁻¹ (λ (z : ℕ). Fit (next m′ (Changed z)) ≡ true) (x .tests .count)
-    (subst⁻¹ (λ (z : Memory). Fit (next z (Changed (length (newText m k new)))) ≡ true) l
+    subst⁻¹ (λ (z : ℕ). Fit (memoryNext m′ (Changed z)) ≡ true) (x .tests .count)
+    (subst⁻¹ (λ (z : Memory). Fit (memoryNext z (Changed (length (newText m k new)))) ≡ true) l
     (fit-still m k new x))

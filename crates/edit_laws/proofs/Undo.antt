@@ -15,8 +15,8 @@ use Rattle.tables.specs.Record.{Tree, allNodes, allProps, allVals}
 use Rattle.tables.specs.Rows.{Tables, tables}
 use Rattle.tables.specs.Move.{moveTree}
 use Rattle.tables.proofs.Moved.{nodes-move, props-move, vals-move}
-use Rattle.parser.specs.Kind.{GM}
-use Rattle.parser.specs.Read.{Answer, refused, accepted, decoded, readStrict}
+use Rattle.parser.specs.Game.{GM}
+use Rattle.parser.specs.Read.{Answer, refused, accepted, parseUtf8, readStrict}
 use Rattle.parser.proofs.Denoted.{read-denotes}
 use Rattle.parser.proofs.Lift.{OfAnswer, of-tokens, of-trees}
 use Rattle.tables.specs.declared.Reason.the-variants.{TextTooLong}
@@ -167,7 +167,7 @@ module _ (room : ℕ) (t : List ℕ) (ts : List Tree) (k : ℕ) (new : List ℕ)
     old-valid = ap (utfs (whole blank) 0) (sym raw) ∙ proper .1 .1
 
     short : ltb textLimit (length t) ≡ false
-    short = in-limit t (ltb textLimit (length t)) (decoded false (utfs (whole blank) 0 t) t) ts h
+    short = in-limit t (ltb textLimit (length t)) (parseUtf8 false (utfs (whole blank) 0 t) t) ts h
 
     trees-back : newTrees US (valueOf US k) old ≡ ts
     trees-back =

@@ -9,7 +9,7 @@ use Rattle.tables.specs.declared.Reason.{Reason}
 use Rattle.tables.specs.declared.Reason.the-variants.{TextTooLong, NotUtf8, NoRoom, NoSuchNumber, GameTypeFixed, NotClosed, NotFitting}
 use Rattle.fit.specs.Fit.{Fit}
 use Rattle.fit.specs.Record.{rowsIn, textIn}
-use Rattle.parser.specs.Kind.{GM}
+use Rattle.parser.specs.Game.{GM}
 use Rattle.edit_answer.specs.Edit.{ownerName}
 
 -- the raw identifier of the property that has value k

@@ -21,9 +21,9 @@ after s (refuses r p) = s
 after s (gives t T) = record { text = t; rows = T }
 
 -- any run of edits, refused ones between them
-abbrev pub run : (room : ℕ) → TextRows → List Order → TextRows
-run room s [] = s
-run room s (x ∷ xs) = run room (after s (edit room (s .text) (s .rows) (x .value) (x .bytes))) xs
+abbrev pub runEdits : (room : ℕ) → TextRows → List Order → TextRows
+runEdits room s [] = s
+runEdits room s (x ∷ xs) = runEdits room (after s (edit room (s .text) (s .rows) (x .value) (x .bytes))) xs
 
 -- text and rows are what a fresh strict reading gives
 pub record Reads (s : TextRows) : Type 0 where

@@ -3,20 +3,20 @@ use Rattle.lists.proofs.Prelude.{ℕ, _+_, _-_, _≤_, _<_, Bool, true, false, 
 use Rattle.lists.specs.Put.{putAt}
 use Rattle.lists.proofs.Tests.{and-both}
 use Rattle.edit_splice.specs.Locals.{Replaceable}
-use Rattle.edit_splice.specs.Splice.{pasted, cleared, may, replaced}
+use Rattle.edit_splice.specs.Splice.{pasted, cleared, fitsIn, replaced}
 
 -- ---- the tests, one after another
 
 module _ (bytes used a e m : ℕ) where
-  pub may-turned : e < a → false ≡ may bytes used a e m
+  pub may-turned : e < a → false ≡ fitsIn bytes used a e m
   may-turned h = rw (lt-leb a e h)
 
   module _ (order : a ≤ e) where
-    pub may-beyond : used < e → false ≡ may bytes used a e m
+    pub may-beyond : used < e → false ≡ fitsIn bytes used a e m
     may-beyond h = rw (le-leb a e order, lt-leb e used h)
 
     module _ (inside : e ≤ used) where
-      pub may-unlent : bytes < used → false ≡ may bytes used a e m
+      pub may-unlent : bytes < used → false ≡ fitsIn bytes used a e m
       may-unlent h = rw (le-leb a e order, le-leb e used inside, lt-leb used bytes h)
 
       -- the room by a difference and by a sum
@@ -27,12 +27,12 @@ module _ (bytes used a e m : ℕ) where
           go true h = sym (le-leb (a + m + (used - e)) bytes (omega (arith, leb-true m (bytes - (used - (e - a))) h)))
           go false h = sym (lt-leb (a + m + (used - e)) bytes (omega (arith, leb-false m (bytes - (used - (e - a))) h)))
 
-      pub may-room : used ≤ bytes → leb m (bytes - (used - (e - a))) ≡ may bytes used a e m
+      pub may-room : used ≤ bytes → leb m (bytes - (used - (e - a))) ≡ fitsIn bytes used a e m
       may-room l = rw (le-leb a e order, le-leb e used inside, le-leb used bytes l) (room-is l)
 
 -- ---- the buffer
 
-pub may-replace : (b : List ℕ) (used a e m : ℕ) → may (length b) used a e m ≡ true → Replaceable b used a e m
+pub may-replace : (b : List ℕ) (used a e m : ℕ) → fitsIn (length b) used a e m ≡ true → Replaceable b used a e m
 may-replace b used a e m h =
     let t1 : Bool = leb a e in
     let t2 : Bool = leb e used in
@@ -46,11 +46,11 @@ may-replace b used a e m h =
     }
 
 module _ (b : List ℕ) (used a e : ℕ) (new : List ℕ) where
-  pub replaced-may : may (length b) used a e (length new) ≡ true → replaced b used a e new ≡ putAt b 0 (cleared (pasted (take used b) a e new) used)
+  pub replaced-may : fitsIn (length b) used a e (length new) ≡ true → replaced b used a e new ≡ putAt b 0 (cleared (pasted (take used b) a e new) used)
   unfolding replaced
   replaced-may h = rw h
 
-  pub replaced-not : may (length b) used a e (length new) ≡ false → replaced b used a e new ≡ b
+  pub replaced-not : fitsIn (length b) used a e (length new) ≡ false → replaced b used a e new ≡ b
   unfolding replaced
   replaced-not h = rw h
 

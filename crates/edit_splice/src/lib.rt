@@ -5,7 +5,7 @@ ghost use lib.ListN.{length, take, drop, replicate};
 ghost use lib.Seq.{paste};
 ghost use Rattle.lists.specs.Put.{putAt};
 ghost use Rattle.edit_splice.specs.Locals.{Replaceable};
-ghost use Rattle.edit_splice.specs.Splice.{pasted, cleared, may, replaced};
+ghost use Rattle.edit_splice.specs.Splice.{pasted, cleared, fitsIn, replaced};
 
 // `new` copied to `at` and on.
 fn copy_in(buffer: &mut [u8], at: usize, new: &[u8])
@@ -75,7 +75,7 @@ fn swap_in(buffer: &mut [u8], used: usize, start: usize, end: usize, new: &[u8])
 
 // Whether `m` bytes may stand for a part of the first `used` of so many bytes. No sum is made: it could wrap.
 fn may_replace(bytes: usize, used: usize, start: usize, end: usize, m: usize) -> bool
-    ensures { λ r. ⌜ r ≡ may bytes used start end m ⌝ }
+    ensures { λ r. ⌜ r ≡ fitsIn bytes used start end m ⌝ }
 {
     if end < start {
         return false;

@@ -4,7 +4,7 @@ use Rattle.lists.proofs.Places.{drop-take}
 use Rattle.feed_numerals.specs.Numeral.{numeralAt, spelled, numeralLimit}
 use Rattle.feed_numerals.specs.declared.Numeral.the-variants.{Is}
 use Rattle.feed_numerals.proofs.RoundTrip.{spelled-read}
-use Rattle.feed.specs.Feed.{Correction, Entry, Listing, correctionAt, nextAt, listed, listing, corrections}
+use Rattle.feed.specs.Feed.{Correction, Entry, Listing, correctionAt, entryAt, entriesFrom, listing, corrections}
 use Rattle.feed.specs.Made.{correctionBytes, correctionsBytes, feedBytes, Sendable}
 use Rattle.feed.specs.declared.Next.the-variants.{One}
 use Rattle.feed.proofs.Entries.{one-listed, next-one, listed-end, listed-one, listing-count}
@@ -25,7 +25,7 @@ front-within w x y p h e = omega (arith, ap length e, length-append x y, length-
 slice-front : (w x y : List ℕ) (p : ℕ) → p ≤ length w → drop p w ≡ x ++ y → slice p (p + length x) w ≡ x
 slice-front w x y p h e = drop-take p (length x) w h ∙ ap (take (length x)) e ∙ take-at x y (length x) refl
 
-listed-made : (w : List ℕ) (cs : List Correction) (low p : ℕ) → p ≤ length w → drop p w ≡ correctionsBytes cs → Sendable low cs → Lists w cs (listed w (length cs) low p)
+listed-made : (w : List ℕ) (cs : List Correction) (low p : ℕ) → p ≤ length w → drop p w ≡ correctionsBytes cs → Sendable low cs → Lists w cs (entriesFrom w (length cs) low p)
 listed-made w [] low p h e s =
     let z : p ≡ length w = omega (arith, ap length e, length-drop p w, h) in
     let l = listed-end w 0 low p refl in
@@ -48,7 +48,7 @@ listed-made w (c ∷ cs) low p h e s =
     let l = listed-one w (suc (length cs)) low p (c .value) q to (omega arith) (sym k) in
     let m : suc (length cs) - 1 ≡ length cs = omega arith in
     let o : c .value + 1 ≡ suc (c .value) = add-one (c .value) in
-    let f : listed w (suc (length cs) - 1) (c .value + 1) to ≡ listed w (length cs) (suc (c .value)) to = ap₂ (λ (x y : ℕ). listed w x y to) m o in
+    let f : entriesFrom w (suc (length cs) - 1) (c .value + 1) to ≡ entriesFrom w (length cs) (suc (c .value)) to = ap₂ (λ (x y : ℕ). entriesFrom w x y to) m o in
     let r = listed-made w cs (suc (c .value)) to (omega (arith, i3)) e4 (s .3) in
     record {
       whole = ap (λ (x : Listing). x .whole) (l ∙ ap (one-listed (c .value) q to) f) ∙ r .whole;

@@ -5,7 +5,7 @@ use Rattle.lists.proofs.Tests.{never}
 use Rattle.feed_numerals.specs.Numeral.{numeralAt}
 use Rattle.feed_numerals.specs.declared.Numeral.{Numeral}
 use Rattle.feed_numerals.specs.declared.Numeral.the-variants.{Is, Broken}
-use Rattle.feed.specs.Feed.{Entry, Listing, sized, numbered, nextAt, followed, listed, counted, listing}
+use Rattle.feed.specs.Feed.{Entry, Listing, sized, withNumber, entryAt, followed, entriesFrom, entriesBy, listing}
 use Rattle.feed.specs.Find.{foundIn}
 use Rattle.feed.specs.declared.Next.{Next}
 use Rattle.feed.specs.declared.Next.the-variants.{One, Malformed}
@@ -28,7 +28,7 @@ module _ (w : List ℕ) where
       go true k = (omega arith, leb-true (q + m + l) (length w) k)
       go false k = tt
 
-  numbered-inside : (low p : ℕ) (r : Numeral) → InsideNext (numbered w low p r)
+  numbered-inside : (low p : ℕ) (r : Numeral) → InsideNext (withNumber w low p r)
   numbered-inside low p Broken = tt
   numbered-inside low p (Is v n) = go (ltb v low)
     where
@@ -36,16 +36,16 @@ module _ (w : List ℕ) where
       go true = tt
       go false = sized-inside v (p + n) (numeralAt w (p + n))
 
-  next-inside : (low p : ℕ) → InsideNext (nextAt w low p)
-  unfolding nextAt
+  next-inside : (low p : ℕ) → InsideNext (entryAt w low p)
+  unfolding entryAt
   next-inside low p = numbered-inside low p (numeralAt w p)
 
-  listed-inside : (c low p : ℕ) → All Inside (listed w c low p .entries)
-  unfolding listed
+  listed-inside : (c low p : ℕ) → All Inside (entriesFrom w c low p .entries)
+  unfolding entriesFrom
   listed-inside zero low p = tt
-  listed-inside (suc c) low p = go (nextAt w low p) (next-inside low p) (λ l q. listed-inside c l q)
+  listed-inside (suc c) low p = go (entryAt w low p) (next-inside low p) (λ l q. listed-inside c l q)
     where
-      go : (x : Next) → InsideNext x → ((l q : ℕ) → All Inside (listed w c l q .entries)) → All Inside (followed x (λ l q. listed w c l q) .entries)
+      go : (x : Next) → InsideNext x → ((l q : ℕ) → All Inside (entriesFrom w c l q .entries)) → All Inside (followed x (λ l q. entriesFrom w c l q) .entries)
       go Malformed i r = tt
       go (One v a e) i r = (i, r (suc v) e)
 
@@ -53,7 +53,7 @@ module _ (w : List ℕ) where
   unfolding listing
   listing-inside = go (numeralAt w 0)
     where
-      go : (r : Numeral) → All Inside (counted w r .entries)
+      go : (r : Numeral) → All Inside (entriesBy w r .entries)
       go Broken = tt
       go (Is c n) = listed-inside c 0 n
 

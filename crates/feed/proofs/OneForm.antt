@@ -6,7 +6,7 @@ use Rattle.feed_numerals.specs.Numeral.{numeralAt, spelled, numeralLimit}
 use Rattle.feed_numerals.specs.declared.Numeral.{Numeral}
 use Rattle.feed_numerals.specs.declared.Numeral.the-variants.{Is, Broken}
 use Rattle.feed_numerals.proofs.RoundTrip.{read-spelled}
-use Rattle.feed.specs.Feed.{Correction, Entry, Listing, correctionAt, sized, numbered, nextAt, followed, listed, counted, listing, corrections}
+use Rattle.feed.specs.Feed.{Correction, Entry, Listing, correctionAt, sized, withNumber, entryAt, followed, entriesFrom, entriesBy, listing, corrections}
 use Rattle.feed.specs.Made.{correctionBytes, correctionsBytes, feedBytes, Sendable}
 use Rattle.feed.specs.declared.Next.{Next}
 use Rattle.feed.specs.declared.Next.the-variants.{One, Malformed}
@@ -59,7 +59,7 @@ module _ (w : List ℕ) (all : All (λ b. b < 256) w) (low p : ℕ) where
               within = i;
             }
 
-  told-numbered : (r : Numeral) → numeralAt w p ≡ r → Told w low p (numbered w low p r)
+  told-numbered : (r : Numeral) → numeralAt w p ≡ r → Told w low p (withNumber w low p r)
   told-numbered Broken e = tt
   told-numbered (Is v n) e = go (ltb v low) refl
     where
@@ -67,8 +67,8 @@ module _ (w : List ℕ) (all : All (λ b. b < 256) w) (low p : ℕ) where
       go true k = tt
       go false k = told-sized v n e (ltb-false v low k) (numeralAt w (p + n)) refl
 
-  told : Told w low p (nextAt w low p)
-  unfolding nextAt
+  told : Told w low p (entryAt w low p)
+  unfolding entryAt
   told = told-numbered (numeralAt w p) refl
 
 -- a whole listing: what stands at p are its corrections, spelled, and nothing else
@@ -77,15 +77,15 @@ pub record Whole (w : List ℕ) (count low p : ℕ) (l : Listing) : Type 0 where
   pub sendable : Sendable low (map (correctionAt w) (l .entries))
   pub bytes : drop p w ≡ correctionsBytes (map (correctionAt w) (l .entries))
 
-whole-listed : (w : List ℕ) → All (λ b. b < 256) w → (count low p : ℕ) → listed w count low p .whole ≡ true → Whole w count low p (listed w count low p)
-unfolding listed
+whole-listed : (w : List ℕ) → All (λ b. b < 256) w → (count low p : ℕ) → entriesFrom w count low p .whole ≡ true → Whole w count low p (entriesFrom w count low p)
+unfolding entriesFrom
 whole-listed w all zero low p h =
     let e : p ≡ length w = eqb-true p (length w) h in
     record { counted = refl; sendable = tt; bytes = let i : length w ≤ p = omega (arith, e) in drop-of-length-le w i }
-whole-listed w all (suc c) low p h = go (nextAt w low p) (told w all low p) (λ l q k. whole-listed w all c l q k) h
+whole-listed w all (suc c) low p h = go (entryAt w low p) (told w all low p) (λ l q k. whole-listed w all c l q k) h
   where
-    go : (x : Next) → Told w low p x → ((l q : ℕ) → listed w c l q .whole ≡ true → Whole w c l q (listed w c l q))
-        → followed x (λ l q. listed w c l q) .whole ≡ true → Whole w (suc c) low p (followed x (λ l q. listed w c l q))
+    go : (x : Next) → Told w low p x → ((l q : ℕ) → entriesFrom w c l q .whole ≡ true → Whole w c l q (entriesFrom w c l q))
+        → followed x (λ l q. entriesFrom w c l q) .whole ≡ true → Whole w (suc c) low p (followed x (λ l q. entriesFrom w c l q))
     go Malformed y r k = absurd (false≢true k)
     go (One v a e) y r k =
         let z = r (suc v) e k in
@@ -101,15 +101,15 @@ pub feed-one-form : (w : List ℕ) → All (λ b. b < 256) w → listing w .whol
 unfolding listing
 feed-one-form w all h = go (numeralAt w 0) refl h
   where
-    go : (r : Numeral) → numeralAt w 0 ≡ r → counted w r .whole ≡ true
-        → (feedBytes (map (correctionAt w) (counted w r .entries)) ≡ w)
-        × (length (map (correctionAt w) (counted w r .entries)) < numeralLimit)
-        × Sendable 0 (map (correctionAt w) (counted w r .entries))
+    go : (r : Numeral) → numeralAt w 0 ≡ r → entriesBy w r .whole ≡ true
+        → (feedBytes (map (correctionAt w) (entriesBy w r .entries)) ≡ w)
+        × (length (map (correctionAt w) (entriesBy w r .entries)) < numeralLimit)
+        × Sendable 0 (map (correctionAt w) (entriesBy w r .entries))
     go Broken e k = absurd (false≢true k)
     go (Is c n) e k =
         let x = read-spelled w 0 c n all e in
         let z = whole-listed w all c 0 n k in
-        let m : length (map (correctionAt w) (listed w c 0 n .entries)) ≡ c = length-map (listed w c 0 n .entries) (correctionAt w) ∙ z .counted in
+        let m : length (map (correctionAt w) (entriesFrom w c 0 n .entries)) ≡ c = length-map (entriesFrom w c 0 n .entries) (correctionAt w) ∙ z .counted in
         let o : 0 + n ≡ n = omega arith in (
           ap₂ (λ (t : ℕ) (y : List ℕ). spelled t ++ y) m (sym (z .bytes)) ∙ ap (λ (t : ℕ). spelled c ++ drop t w) (sym o) ∙ sym (x .1),
           omega (arith, m, x .0),

@@ -3,14 +3,14 @@ use Rattle.lists.proofs.Prelude.{ℕ, _≡_, sym, ap, _∙_, Bool, List}
 use Rattle.lists.specs.Once.{Once}
 use Rattle.lists.proofs.Once.{once-is}
 use Rattle.feed_numerals.specs.Numeral.{numeralLimit}
-use Rattle.feed.specs.Feed.{nextAt, listing}
+use Rattle.feed.specs.Feed.{entryAt, listing}
 use Rattle.feed.specs.Find.{foundIn}
 use Rattle.feed.specs.LocalsNext.{Lies}
 use Rattle.feed.specs.Made.{MadeIs, madeFor, outAfter}
 use Rattle.feed.specs.declared.make.Made.{Made}
 
-pub next-at-once : (w : List ℕ) (low at : ℕ) → Once (λ r. (r ≡ nextAt w low at) × Lies w low numeralLimit r)
-next-at-once w low at r r′ h k = once-is (nextAt w low at) r r′ (h .0) (k .0)
+pub next-at-once : (w : List ℕ) (low at : ℕ) → Once (λ r. (r ≡ entryAt w low at) × Lies w low numeralLimit r)
+next-at-once w low at r r′ h k = once-is (entryAt w low at) r r′ (h .0) (k .0)
 
 pub is-feed-once : (w : List ℕ) → Once (λ r. r ≡ listing w .whole)
 is-feed-once w = once-is (listing w .whole)

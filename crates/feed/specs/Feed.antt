@@ -28,13 +28,13 @@ sized w v q Broken = Malformed
 sized w v q (Is l m) = pick (leb (q + m + l) (length w)) (One v (q + m) (q + m + l)) Malformed
 
 -- a value number, read at p and not below `low`; then the length
-abbrev pub numbered : List ℕ → (low p : ℕ) → Numeral → Next
-numbered w low p Broken = Malformed
-numbered w low p (Is v n) = pick (ltb v low) Malformed (sized w v (p + n) (numeralAt w (p + n)))
+abbrev pub withNumber : List ℕ → (low p : ℕ) → Numeral → Next
+withNumber w low p Broken = Malformed
+withNumber w low p (Is v n) = pick (ltb v low) Malformed (sized w v (p + n) (numeralAt w (p + n)))
 
 -- the correction at place p of a feed, of a value whose number is not below `low`
-unfoldable pub nextAt : List ℕ → (low p : ℕ) → Next
-nextAt w low p = numbered w low p (numeralAt w p)
+unfoldable pub entryAt : List ℕ → (low p : ℕ) → Next
+entryAt w low p = withNumber w low p (numeralAt w p)
 
 -- a fault; or a correction and what follows it
 abbrev pub followed : Next → (ℕ → ℕ → Listing) → Listing
@@ -42,18 +42,18 @@ followed Malformed rest = record { entries = []; whole = false }
 followed (One v a e) rest = record { entries = record { value = v; from = a; to = e } ∷ rest (suc v) e .entries; whole = rest (suc v) e .whole }
 
 -- `count` corrections from place p on, of values whose numbers are not below `low`
-unfoldable pub listed : List ℕ → (count low p : ℕ) → Listing
-listed w zero low p = record { entries = []; whole = eqb p (length w) }
-listed w (suc c) low p = followed (nextAt w low p) (λ l q. listed w c l q)
+unfoldable pub entriesFrom : List ℕ → (count low p : ℕ) → Listing
+entriesFrom w zero low p = record { entries = []; whole = eqb p (length w) }
+entriesFrom w (suc c) low p = followed (entryAt w low p) (λ l q. entriesFrom w c l q)
 
 -- by the count
-abbrev pub counted : List ℕ → Numeral → Listing
-counted w Broken = record { entries = []; whole = false }
-counted w (Is c n) = listed w c 0 n
+abbrev pub entriesBy : List ℕ → Numeral → Listing
+entriesBy w Broken = record { entries = []; whole = false }
+entriesBy w (Is c n) = entriesFrom w c 0 n
 
 -- all corrections of a feed
 unfoldable pub listing : List ℕ → Listing
-listing w = counted w (numeralAt w 0)
+listing w = entriesBy w (numeralAt w 0)
 
 -- a correction by where it stands
 abbrev pub correctionAt : List ℕ → Entry → Correction

@@ -3,7 +3,7 @@ pub mod make; // make.rt: a feed's count and one correction, put
 
 ghost use mathlib.Core.Path.{_≡_};
 ghost use Rattle.feed_numerals.specs.Numeral.{numeralLimit};
-ghost use Rattle.feed.specs.Feed.{nextAt, listing};
+ghost use Rattle.feed.specs.Feed.{entryAt, listing};
 ghost use Rattle.feed.specs.Find.{foundIn};
 ghost use Rattle.feed.specs.LocalsNext.{Lies};
 use feed_numerals::Numeral;
@@ -22,7 +22,7 @@ pub enum Found {
 
 // The correction at a place, of a value whose number is not below `low`.
 pub fn next_at(feed: &[u8], low: usize, at: usize) -> Next
-    ensures { λ r. ⌜ (r ≡ nextAt (now (feed .entry)) low at) × Lies (now (feed .entry)) low numeralLimit r ⌝ }
+    ensures { λ r. ⌜ (r ≡ entryAt (now (feed .entry)) low at) × Lies (now (feed .entry)) low numeralLimit r ⌝ }
 {
     match feed_numerals::read_numeral(feed, at) {
         Numeral::Broken => Next::Malformed,

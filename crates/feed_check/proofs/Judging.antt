@@ -8,7 +8,7 @@ use Rattle.text_utf8.specs.declared.Trimmed.{Trimmed}
 use Rattle.text_utf8.specs.declared.Trimmed.the-variants.{NotUtf8 as BadAt, Blank, Kept}
 use Rattle.text_utf8.proofs.Trimmed as trimmed-type
 use Rattle.lexer.specs.Closed.{closed}
-use Rattle.parser.specs.Kind.{GM}
+use Rattle.parser.specs.Game.{GM}
 use Rattle.tables.specs.Rows.{PropRow}
 use Rattle.tables.specs.Memory.{Memory}
 use Rattle.fit.specs.Fit.{Fit}

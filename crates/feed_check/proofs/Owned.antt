@@ -5,7 +5,7 @@ use Rattle.lists.proofs.Tests.{same-or}
 use Rattle.tables.specs.Columns.{nameFromAt, nameToAt, firstValAt, valCountAt}
 use Rattle.tables.specs.Each.{tabulate}
 use Rattle.tables.proofs.Cases.{below-or}
-use Rattle.parser.specs.Kind.{GM}
+use Rattle.parser.specs.Game.{GM}
 use Rattle.fit.specs.Record.{propRow}
 use Rattle.fit_spans.proofs.Lists.{part-slice}
 use Rattle.edit_answer.specs.Edit.{ownerName}

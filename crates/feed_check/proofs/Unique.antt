@@ -5,7 +5,7 @@ use Rattle.lists.specs.Same.{same}
 use Rattle.lists.proofs.Once.{once-is}
 use Rattle.lexer.specs.Closed.{closed}
 use Rattle.tables.specs.Memory.{Memory}
-use Rattle.parser.specs.Kind.{GM}
+use Rattle.parser.specs.Game.{GM}
 use Rattle.feed_check.specs.Check.{feedNumber, feedChecked}
 use Rattle.feed_check.specs.declared.FeedRefusal.{FeedRefusal}
 

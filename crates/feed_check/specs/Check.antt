@@ -7,7 +7,7 @@ use Rattle.text_utf8.specs.declared.Trimmed.the-variants.{NotUtf8 as BadAt, Bla
 use Rattle.lexer.specs.Closed.{closed}
 use Rattle.tables.specs.Memory.{Memory}
 use Rattle.tables.specs.Rows.{PropRow}
-use Rattle.parser.specs.Kind.{GM}
+use Rattle.parser.specs.Game.{GM}
 use Rattle.fit.specs.Fit.{Fit}
 use Rattle.fit.specs.Record.{rowsIn, textIn}
 use Rattle.edit_answer.specs.Edit.{ownerName}

@@ -8,7 +8,7 @@ ghost use lib.Seq.{slice};
 ghost use Rattle.lists.specs.Same.{same};
 ghost use Rattle.lexer.specs.Closed.{closed};
 ghost use Rattle.text_utf8.specs.Trim.{trimmed};
-ghost use Rattle.parser.specs.Kind.{GM};
+ghost use Rattle.parser.specs.Game.{GM};
 ghost use Rattle.tables.specs.Columns.{propertyStride, nameFromAt, nameToAt};
 ghost use Rattle.tables.specs.Each.{tabulate};
 ghost use Rattle.tables.specs.Memory.{memory};

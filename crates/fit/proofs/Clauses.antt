@@ -6,8 +6,8 @@ use Rattle.tables.specs.Columns.{nodeStride, firstPropAt, propCountAt, nameFrom
 use Rattle.tables.specs.Each.{each}
 use Rattle.tables.specs.Memory.{Memory}
 use Rattle.fit.specs.Fit.{lentFor, validUtf8, fitText, Fit}
-use Rattle.fit.specs.Locals.{Held}
-use Rattle.fit_nodes.specs.Nodes.{rootsRight, parentRight, childRight, siblingRight, kindRight, depthRight, nodesFit}
+use Rattle.fit.specs.Locals.{RowsLent}
+use Rattle.fit_nodes.specs.Nodes.{rootsRight, parentRight, childRight, siblingRight, gameRight, depthRight, nodesFit}
 use Rattle.fit_spans.specs.Ranges.{gapless, hasValue, rangesFit}
 use Rattle.fit_spans.specs.Spans.{spans, ascending, nameRight, valueRight, spansFit}
 use Rattle.tables.proofs.Cases.{and-left, and-right}
@@ -17,14 +17,14 @@ use Rattle.fit.specs.Record.{textIn}
 
 -- of the used text t
 pub record Clauses (t : List ℕ) (c : Counts) (tr nd pr vl : List ℕ) : Type 0 where
-  pub held : Held c tr nd pr vl
+  pub held : RowsLent c tr nd pr vl
   pub short : length t ≤ textLimit
   pub utf8 : validUtf8 t ≡ true
   pub roots : rootsRight (c .trees) (c .nodes) tr nd ≡ true
   pub parents : each (c .nodes) (parentRight nd) ≡ true
   pub children : each (c .nodes) (childRight nd (c .nodes)) ≡ true
   pub siblings : each (c .nodes) (siblingRight nd (c .nodes)) ≡ true
-  pub kinds : each (c .trees) (kindRight tr) ≡ true
+  pub games : each (c .trees) (gameRight tr) ≡ true
   pub depths : each (c .nodes) (depthRight nd) ≡ true
   pub node-ranges : gapless (firstPropAt nd) (propCountAt nd) (c .nodes) (c .properties) ≡ true
   pub prop-ranges : gapless (firstValAt pr) (valCountAt pr) (c .properties) (c .values) ≡ true
@@ -53,7 +53,7 @@ unfolding Fit fitText nodesFit rangesFit spansFit
 fit-clauses m h =
     let u : List ℕ = textIn m in
     let x = five (leb (length u) textLimit) (validUtf8 u) (nodesFit (m .counts) (m .trees) (m .nodes)) (rangesFit (m .counts) (m .nodes) (m .properties)) (spansFit u (m .counts) (m .properties) (m .values)) (and-right (lentFor m) (fitText u (m .counts) (m .trees) (m .nodes) (m .properties) (m .values)) h) in
-    let n = six (rootsRight (m .counts .trees) (m .counts .nodes) (m .trees) (m .nodes)) (each (m .counts .nodes) (parentRight (m .nodes))) (each (m .counts .nodes) (childRight (m .nodes) (m .counts .nodes))) (each (m .counts .nodes) (siblingRight (m .nodes) (m .counts .nodes))) (each (m .counts .trees) (kindRight (m .trees))) (each (m .counts .nodes) (depthRight (m .nodes))) (x .2) in
+    let n = six (rootsRight (m .counts .trees) (m .counts .nodes) (m .trees) (m .nodes)) (each (m .counts .nodes) (parentRight (m .nodes))) (each (m .counts .nodes) (childRight (m .nodes) (m .counts .nodes))) (each (m .counts .nodes) (siblingRight (m .nodes) (m .counts .nodes))) (each (m .counts .trees) (gameRight (m .trees))) (each (m .counts .nodes) (depthRight (m .nodes))) (x .2) in
     let r = three (gapless (firstPropAt (m .nodes)) (propCountAt (m .nodes)) (m .counts .nodes) (m .counts .properties)) (gapless (firstValAt (m .properties)) (valCountAt (m .properties)) (m .counts .properties) (m .counts .values)) (each (m .counts .properties) (hasValue (m .properties))) (x .3) in
     let s = three (ascending (length u) 0 (spans (m .properties) (m .values) 0 (m .counts .properties))) (each (m .counts .properties) (nameRight u (m .properties))) (each (m .counts .values) (valueRight u (m .values))) (x .4) in
     record {
@@ -64,7 +64,7 @@ fit-clauses m h =
       parents = n .1;
       children = n .2;
       siblings = n .3;
-      kinds = n .4;
+      games = n .4;
       depths = n .5;
       node-ranges = r .0;
       prop-ranges = r .1;
@@ -81,7 +81,7 @@ clauses-fit m l f =
       le-leb (m .used) (length (m .text)) l,
       le-leb (m .counts .trees) (length (m .trees) / 2) (f .held .trees),
       le-leb (m .counts .nodes) (length (m .nodes) / nodeStride) (f .held .nodes),
-      le-leb (m .counts .nodes) none (f .held .few),
+      le-leb (m .counts .nodes) none (f .held .below-none),
       le-leb (m .counts .properties) (length (m .properties) / 4) (f .held .properties),
       le-leb (m .counts .values) (length (m .values) / 2) (f .held .values),
       le-leb (length (textIn m)) textLimit (f .short),
@@ -90,7 +90,7 @@ clauses-fit m l f =
       f .parents,
       f .children,
       f .siblings,
-      f .kinds,
+      f .games,
       f .depths,
       f .node-ranges,
       f .prop-ranges,

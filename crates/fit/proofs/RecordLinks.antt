@@ -2,10 +2,10 @@
 use Rattle.lists.proofs.Prelude.{ℕ, zero, suc, _+_, _-_, _≤_, _<_, Bool, true, _&&_, and-true, and-false, List, [], _∷_, head-eq-of-cons-eq, tail-eq-of-cons-eq, _≡_, refl, sym, ap, ap₂, _∙_, subst, arith, eqb, leb, length, getD, eq-eqb, le-leb, lt-leb, pick}
 use Rattle.tables.specs.Numbers.{none}
 use Rattle.tables.specs.Record.{Node}
-use Rattle.tables.specs.Rows.{NodeRow, next, parents, depths, nodeRows}
+use Rattle.tables.specs.Rows.{NodeRow, firstChildFrom, parents, depths, nodeRows}
 use Rattle.tables.specs.Columns.{parentAt, childAt, siblingAt, depthAt}
 use Rattle.tables.specs.Each.{each, tabulate}
-use Rattle.fit_nodes.specs.Nodes.{firstUnder, nextOf, parentRight, childRight, siblingRight, depthRight}
+use Rattle.fit_nodes.specs.Nodes.{firstUnder, nextSibling, parentRight, childRight, siblingRight, depthRight}
 use Rattle.fit.specs.Record.{nodeRow}
 use Rattle.lists.proofs.Tests.{same-or, eqb-sym}
 use Rattle.tables.proofs.Each.{each-all}
@@ -25,14 +25,14 @@ tells-at nd k (q ∷ qs) h (suc j) l = let e : k + suc j ≡ suc k + j = omega a
 -- ---- the first node under p, over the table and over the parents
 
 module _ (nd : List ℕ) (p lo : ℕ) where
-  pub next-at : (k : ℕ) (qs : List ℕ) → lo ≤ k → Tells nd k qs → next p lo k qs ≡ firstUnder nd p k (length qs)
+  pub next-at : (k : ℕ) (qs : List ℕ) → lo ≤ k → Tells nd k qs → firstChildFrom p lo k qs ≡ firstUnder nd p k (length qs)
   unfolding firstUnder
   next-at k [] l h = refl
   next-at k (q ∷ qs) l h =
       let e : (eqb p q && leb lo k) ≡ eqb (parentAt nd k) p = rw (le-leb lo k l, h .0) (and-true (eqb p q) ∙ eqb-sym p q) in
       ap₂ (λ (b : Bool) (r : ℕ). pick b k r) e (next-at (suc k) qs (omega arith) (h .1))
 
-  pub next-from : (j : ℕ) (qs : List ℕ) → j ≤ lo → lo ≤ j + length qs → Tells nd j qs → next p lo j qs ≡ firstUnder nd p lo (j + length qs - lo)
+  pub next-from : (j : ℕ) (qs : List ℕ) → j ≤ lo → lo ≤ j + length qs → Tells nd j qs → firstChildFrom p lo j qs ≡ firstUnder nd p lo (j + length qs - lo)
   unfolding firstUnder
   next-from j [] a b h = let e : j + 0 - lo ≡ 0 = omega arith in ap (firstUnder nd p lo) (sym e)
   next-from j (q ∷ qs) a b h =
@@ -49,7 +49,7 @@ module _ (nd : List ℕ) (p lo : ℕ) where
 -- row i has the links and the depth that the parents say
 abbrev pub Linked : List ℕ → List ℕ → ℕ → Type 0
 Linked nd qs i =
-    (childAt nd i ≡ next i 0 0 qs) × (siblingAt nd i ≡ pick (eqb (parentAt nd i) none) none (next (parentAt nd i) (suc i) 0 qs)) × (depthAt nd i ≡ getD (depths qs) i 0)
+    (childAt nd i ≡ firstChildFrom i 0 0 qs) × (siblingAt nd i ≡ pick (eqb (parentAt nd i) none) none (firstChildFrom (parentAt nd i) (suc i) 0 qs)) × (depthAt nd i ≡ getD (depths qs) i 0)
 
 links : (nd qs : List ℕ) (f b : ℕ) (ns : List Node) → tabulate (nodeRow nd) b (length ns) ≡ nodeRows qs b f ns
     → Tells nd b (parents ns) × ((i : ℕ) → b ≤ i → i < b + length ns → Linked nd qs i)
@@ -58,9 +58,9 @@ links nd qs f b [] e = (tt, (λ i a c. absurd (omega arith)))
 links nd qs f b (n ∷ ns) e =
     let row = head-eq-of-cons-eq e in
     let p : parentAt nd b ≡ n .parent = ap (λ (z : NodeRow). z .parent) row in
-    let c : childAt nd b ≡ next b 0 0 qs = ap (λ (z : NodeRow). z .child) row in
-    let s : siblingAt nd b ≡ pick (eqb (parentAt nd b) none) none (next (parentAt nd b) (suc b) 0 qs) =
-    ap (λ (z : NodeRow). z .sibling) row ∙ ap (λ (z : ℕ). pick (eqb z none) none (next z (suc b) 0 qs)) (sym p) in
+    let c : childAt nd b ≡ firstChildFrom b 0 0 qs = ap (λ (z : NodeRow). z .child) row in
+    let s : siblingAt nd b ≡ pick (eqb (parentAt nd b) none) none (firstChildFrom (parentAt nd b) (suc b) 0 qs) =
+    ap (λ (z : NodeRow). z .sibling) row ∙ ap (λ (z : ℕ). pick (eqb z none) none (firstChildFrom z (suc b) 0 qs)) (sym p) in
     let d : depthAt nd b ≡ getD (depths qs) b 0 = ap (λ (z : NodeRow). z .depth) row in
     let r = links nd qs (f + length (n .props)) (suc b) ns (tail-eq-of-cons-eq e) in
     ((p, r .0), (λ i a o. same-or i b (λ w. subst (Linked nd qs) (sym w) (c, s, d)) (λ w. r .1 i (omega arith) (omega arith))))
@@ -81,7 +81,7 @@ module _ (nd : List ℕ) (ns : List Node) (rows : tabulate (nodeRow nd) 0 (lengt
       (λ i l.
       let n = parents-length ns in
       let e : 0 + length (parents ns) - suc i ≡ length ns - suc i = omega arith in
-      eq-eqb (siblingAt nd i) (nextOf nd (length ns) i)
+      eq-eqb (siblingAt nd i) (nextSibling nd (length ns) i)
       (all-links .1 i (omega arith) (omega arith) .1
       ∙ ap (λ (z : ℕ). pick (eqb (parentAt nd i) none) none z)
       (next-from nd (parentAt nd i) (suc i) 0 (parents ns) (omega arith) (omega arith) (all-links .0) ∙ ap (firstUnder nd (parentAt nd i) (suc i)) e)))

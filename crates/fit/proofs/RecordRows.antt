@@ -74,7 +74,7 @@ module _ {t : List ℕ} {c : Counts} {tr nd pr vl : List ℕ} (fit : Clauses t c
   n = c .nodes
 
   pub ruled : Ruled nd n
-  ruled = record { most = fit .held .few; rule = fit .parents }
+  ruled = record { most = fit .held .below-none; rule = fit .parents }
 
   -- node 0 has no parent and is the first root
   pub first-none : 0 < n → parentAt nd 0 ≡ none

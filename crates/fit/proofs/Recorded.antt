@@ -45,10 +45,10 @@ nodes-back pre qs k f (n ∷ ns) e =
 trees-back : (pre : List Node) (b : ℕ) (ts : List Tree) → length pre ≡ b → Rooted b ts → treesOf (pre ++ allNodes ts) (treeRows ts) ≡ ts
 trees-back pre b [] e h = refl
 trees-back pre b (t ∷ []) e h =
-    ap (λ (ns : List Node). record { root = t .root; kind = t .kind; nodes = ns } ∷ []) (drop-at pre (t .nodes ++ []) (t .root) (e ∙ sym (h .0)) ∙ append-nil (t .nodes))
+    ap (λ (ns : List Node). record { root = t .root; game = t .game; nodes = ns } ∷ []) (drop-at pre (t .nodes ++ []) (t .root) (e ∙ sym (h .0)) ∙ append-nil (t .nodes))
 trees-back pre b (t ∷ u ∷ ts) e h =
     let l : length (t .nodes) ≡ u .root - t .root = omega (arith, h .0, h .1 .0) in
-    ap₂ (λ (ns : List Node) (z : List Tree). record { root = t .root; kind = t .kind; nodes = ns } ∷ z)
+    ap₂ (λ (ns : List Node) (z : List Tree). record { root = t .root; game = t .game; nodes = ns } ∷ z)
     (part-at pre (t .nodes) (allNodes (u ∷ ts)) (t .root) (u .root - t .root) (e ∙ sym (h .0)) l)
     (ap (λ (z : List Node). treesOf z (treeRows (u ∷ ts))) (sym (append-assoc pre (t .nodes) (allNodes (u ∷ ts))))
     ∙ trees-back (pre ++ t .nodes) (b + length (t .nodes)) (u ∷ ts) (length-append pre (t .nodes) ∙ ap (λ (z : ℕ). z + length (t .nodes)) e) (h .1))

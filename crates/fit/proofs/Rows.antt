@@ -25,7 +25,7 @@ module _ {A : Type 0} (cells : A → List ℕ) (flat : List A → List ℕ) (row
       (tabulate-later (row (cells r ++ (flat rs ++ w))) (row (flat rs ++ w)) (row-later r (flat rs ++ w)) 0 (length rs) ∙ rows-flat rs w))
 
 tree-rows : (rs : List TreeRow) (w : List ℕ) → tabulate (treeRow (flatTrees rs ++ w)) 0 (length rs) ≡ rs
-tree-rows = rows-flat (λ r. r .root ∷ r .kind ∷ []) flatTrees treeRow (λ r rs. refl) (λ r t. refl)
+tree-rows = rows-flat (λ r. r .root ∷ r .game ∷ []) flatTrees treeRow (λ r rs. refl) (λ r t. refl)
     (λ r t k.
     let a : suc k * 2 ≡ suc (suc (k * 2)) = omega arith in
     let b : suc k * 2 + 1 ≡ suc (suc (k * 2 + 1)) = omega arith in

@@ -11,7 +11,7 @@ use Rattle.fit_nodes.specs.Nodes.{nodesFit}
 use Rattle.fit_spans.specs.Ranges.{rangesFit}
 use Rattle.fit_spans.specs.Spans.{spansFit}
 
--- counts and used length are within what is lent; no node has the number that means none
+-- counts and used length are within what is lent; no node has the number that means none (SCOPE 16)
 abbrev pub lentFor : Memory → Bool
 lentFor m =
     leb (m .used) (length (m .text))
@@ -27,11 +27,11 @@ sound (NotUtf8 p) = false
 sound Blank = true
 sound (Kept f l) = true
 
--- the text is valid UTF-8
+-- the text is valid UTF-8 (SCOPE 17)
 abbrev pub validUtf8 : List ℕ → Bool
 validUtf8 t = sound (trimmed t)
 
--- of a text that is used whole: it is valid UTF-8 within the limit, and nodes, ranges and spans fit
+-- of a text that is used whole: it is valid UTF-8 within the limit, and nodes, ranges and spans fit (SCOPE 17)
 unfoldable pub fitText : List ℕ → Counts → (tr nd pr vl : List ℕ) → Bool
 fitText t c tr nd pr vl =
     leb (length t) textLimit
@@ -40,6 +40,6 @@ fitText t c tr nd pr vl =
     && rangesFit c nd pr
     && spansFit t c pr vl
 
--- of lent memory: the first `used` bytes of the text, and tables of these counts
+-- of lent memory: the first `used` bytes of the text, and tables of these counts (SCOPE 50)
 unfoldable pub Fit : Memory → Bool
 Fit m = lentFor m && fitText (take (m .used) (m .text)) (m .counts) (m .trees) (m .nodes) (m .properties) (m .values)

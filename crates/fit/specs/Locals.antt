@@ -5,9 +5,9 @@ use Rattle.tables.specs.declared.Counts.{Counts}
 use Rattle.tables.specs.Columns.{treeStride, nodeStride, propertyStride, valueStride}
 
 -- so many rows are lent
-pub record Held (c : Counts) (tr nd pr vl : List ℕ) : Type 0 where
+pub record RowsLent (c : Counts) (tr nd pr vl : List ℕ) : Type 0 where
   pub trees : c .trees ≤ length tr / treeStride
   pub nodes : c .nodes ≤ length nd / nodeStride
-  pub few : c .nodes ≤ none
+  pub below-none : c .nodes ≤ none
   pub properties : c .properties ≤ length pr / propertyStride
   pub values : c .values ≤ length vl / valueStride

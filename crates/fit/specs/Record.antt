@@ -4,13 +4,13 @@ use Rattle.lexer.specs.Token.{Val, Prop}
 use Rattle.tables.specs.Record.{Node, Tree}
 use Rattle.tables.specs.Rows.{TreeRow, NodeRow, PropRow, ValRow, Tables}
 use Rattle.tables.specs.declared.Counts.{Counts}
-use Rattle.tables.specs.Columns.{rootAt, kindAt, parentAt, childAt, siblingAt, firstPropAt, propCountAt, depthAt, nameFromAt, nameToAt, firstValAt, valCountAt, valFromAt, valToAt}
+use Rattle.tables.specs.Columns.{rootAt, gameAt, parentAt, childAt, siblingAt, firstPropAt, propCountAt, depthAt, nameFromAt, nameToAt, firstValAt, valCountAt, valFromAt, valToAt}
 use Rattle.tables.specs.Each.{tabulate}
 use Rattle.tables.specs.Memory.{Memory}
 
 -- row k of the tree table
 abbrev pub treeRow : List ℕ → ℕ → TreeRow
-treeRow tr k = record { root = rootAt tr k; kind = kindAt tr k }
+treeRow tr k = record { root = rootAt tr k; game = gameAt tr k }
 
 -- of the node table
 abbrev pub nodeRow : List ℕ → ℕ → NodeRow
@@ -73,8 +73,8 @@ nodeOf ps r = record { parent = r .parent; props = take (r .count) (drop (r .fir
 -- a tree has the nodes from its root up to the next root
 abbrev pub treesOf : List Node → List TreeRow → List Tree
 treesOf ns [] = []
-treesOf ns (r ∷ []) = record { root = r .root; kind = r .kind; nodes = drop (r .root) ns } ∷ []
-treesOf ns (r ∷ s ∷ rs) = record { root = r .root; kind = r .kind; nodes = take (s .root - r .root) (drop (r .root) ns) } ∷ treesOf ns (s ∷ rs)
+treesOf ns (r ∷ []) = record { root = r .root; game = r .game; nodes = drop (r .root) ns } ∷ []
+treesOf ns (r ∷ s ∷ rs) = record { root = r .root; game = r .game; nodes = take (s .root - r .root) (drop (r .root) ns) } ∷ treesOf ns (s ∷ rs)
 
 -- the trees that rows denote
 abbrev pub recordOf : List ℕ → Tables → List Tree

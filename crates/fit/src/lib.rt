@@ -1,7 +1,7 @@
 // Whether tables fit a text. Linear in text and tables.
 ghost use mathlib.Core.Path.{_≡_};
 ghost use Rattle.fit.specs.Fit.{lentFor, validUtf8, fitText, Fit};
-ghost use Rattle.fit.specs.Locals.{Held};
+ghost use Rattle.fit.specs.Locals.{RowsLent};
 ghost use Rattle.tables.specs.Memory.{memory};
 
 // Whether a text is valid UTF-8.
@@ -24,7 +24,7 @@ fn fits_text(
     properties: &[u32],
     values: &[u32],
 ) -> bool
-    requires { ⌜ Held counts (now trees) (now nodes) (now properties) (now values) ⌝ }
+    requires { ⌜ RowsLent counts (now trees) (now nodes) (now properties) (now values) ⌝ }
     ensures { λ r. ⌜ r ≡ fitText (now (text .entry)) counts (now (trees .entry)) (now (nodes .entry)) (now (properties .entry)) (now (values .entry)) ⌝ }
 {
     if tables::TEXT_LIMIT < text.len() {

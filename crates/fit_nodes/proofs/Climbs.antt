@@ -3,8 +3,8 @@ use Rattle.lists.proofs.Prelude.{ℕ, suc, _-_, _≤_, _<_, Bool, true, false, 
 use Rattle.tables.specs.Numbers.{none}
 use Rattle.tables.specs.Columns.{parentAt, siblingAt}
 use Rattle.tables.specs.Each.{each}
-use Rattle.fit_nodes.specs.Locals.{Next, Climbed}
-use Rattle.fit_nodes.specs.Nodes.{onPath, nextOf, siblingRight}
+use Rattle.fit_nodes.specs.Locals.{NextParent, Climbed}
+use Rattle.fit_nodes.specs.Nodes.{onPath, nextSibling, siblingRight}
 use Rattle.tables.proofs.Cases.{either-bool, below-or, true-false}
 use Rattle.lists.proofs.Tests.{same-or}
 use Rattle.fit_nodes.proofs.Children.{first-none, first-at}
@@ -14,13 +14,13 @@ use Rattle.fit_nodes.proofs.Rule.{rule-at, rule-before, rule-has, off-o
 
 -- the climb stands at j, on the path of k - 1 and below p; the nodes that it has left are right
 pub record Climbing (nd : List ℕ) (n k p j : ℕ) : Type 0 where
-  pub next : Next nd n k p
+  pub next : NextParent nd n k p
   pub under : j < k
   pub on : onPath nd (k - 1) j ≡ true
   pub above : (p ≡ none → ⊥) → (onPath nd j p ≡ true) × (p < j)
   pub done : (i : ℕ) → i < k → onPath nd (k - 1) i ≡ true → onPath nd j i ≡ false → siblingRight nd n i ≡ true
 
-module _ {nd : List ℕ} {n k p : ℕ} (x : Next nd n k p) where
+module _ {nd : List ℕ} {n k p : ℕ} (x : NextParent nd n k p) where
   not-last : (p ≡ none → ⊥) → (k < n) × (p ≡ parentAt nd k)
   not-last h = below-or k n (λ l. (l, x .more l)) (λ l. absurd (h (x .last l)))
 
@@ -34,7 +34,7 @@ module _ {nd : List ℕ} {n k p : ℕ} (x : Next nd n k p) where
   climb-self e =
       record {
         right = λ z i l o h.
-            let g : p ≡ none → ⊥ = λ w. omega (arith, x .ruled .most, x .some, x .few) in
+            let g : p ≡ none → ⊥ = λ w. omega (arith, x .ruled .most, x .some, x .in-range) in
             true-false (onPath nd (k - 1) i) o (subst (λ (w : ℕ). onPath nd w i ≡ false) (sym e) (h g));
         wrong = λ z. true-false true refl z;
       }
@@ -50,11 +50,11 @@ module _ {nd : List ℕ} {n k p : ℕ} (x : Next nd n k p) where
       }
 
 module _ {nd : List ℕ} {n k p j : ℕ} (y : Climbing nd n k p j) where
-  abbrev x : Next nd n k p
+  abbrev x : NextParent nd n k p
   x = y .next
 
   pub climb-in : j < n
-  climb-in = omega (arith, y .under, x .few)
+  climb-in = omega (arith, y .under, x .in-range)
 
   -- p is above j's parent, or j's parent is p
   above-up : (p ≡ none → ⊥) → (parentAt nd j ≡ p → ⊥) → (onPath nd (parentAt nd j) p ≡ true) × (p < parentAt nd j)
@@ -69,9 +69,9 @@ module _ {nd : List ℕ} {n k p j : ℕ} (y : Climbing nd n k p j) where
       (λ z. let a = y .above z in has-before nd j (path-down nd j p (λ v. omega (arith, a .1)) (a .0) .0))
 
   between : (m : ℕ) → j < m → m < k → j ≤ parentAt nd m
-  between m a b = parent-between (x .ruled) m (k - 1) j a (omega arith) (omega (arith, x .few)) (y .on)
+  between m a b = parent-between (x .ruled) m (k - 1) j a (omega arith) (omega (arith, x .in-range)) (y .on)
 
-  next-child : parentAt nd j ≡ p → (p ≡ none → ⊥) → nextOf nd n j ≡ k
+  next-child : parentAt nd j ≡ p → (p ≡ none → ⊥) → nextSibling nd n j ≡ k
   next-child a b =
       let q = not-last x b in
       let l = y .above b .1 in
@@ -88,7 +88,7 @@ module _ {nd : List ℕ} {n k p j : ℕ} (y : Climbing nd n k p j) where
       (λ z. path-up nd k (parentAt nd j) (λ v. omega arith) (rule-has (x .ruled) k l (λ v. z (x .more l ∙ v)))
       ∙ path-not nd (parentAt nd k) (parentAt nd j) (omega (arith, above-up z h .1, x .more l)))
 
-  next-none : (parentAt nd j ≡ p → ⊥) → nextOf nd n j ≡ none
+  next-none : (parentAt nd j ≡ p → ⊥) → nextSibling nd n j ≡ none
   next-none h =
       let q = climb-less h in
       let ql = q .0 in
@@ -128,7 +128,7 @@ module _ {nd : List ℕ} {n k p j : ℕ} (y : Climbing nd n k p j) where
   climb-bad h e =
       record {
         right = λ z i l o g. true-false false z refl;
-        wrong = wrong-at false (ne-eqb (siblingAt nd j) (nextOf nd n j) (λ z. e (z ∙ next-none h)));
+        wrong = wrong-at false (ne-eqb (siblingAt nd j) (nextSibling nd n j) (λ z. e (z ∙ next-none h)));
       }
 
   pub climb-up : (parentAt nd j ≡ p → ⊥) → siblingAt nd j ≡ none → {up : ℕ} → up ≡ parentAt nd j → Climbing nd n k p up
@@ -140,7 +140,7 @@ module _ {nd : List ℕ} {n k p j : ℕ} (y : Climbing nd n k p j) where
         above = λ z. above-up z h;
         done = λ i l o z. either-bool (onPath nd j i)
             (λ w. same-or j i
-            (λ v. subst (λ (m : ℕ). siblingRight nd n m ≡ true) v (eq-eqb (siblingAt nd j) (nextOf nd n j) (e ∙ sym (next-none h))))
+            (λ v. subst (λ (m : ℕ). siblingRight nd n m ≡ true) v (eq-eqb (siblingAt nd j) (nextSibling nd n j) (e ∙ sym (next-none h))))
             (λ v. true-false (onPath nd (parentAt nd j) i) (path-down nd j i v w .1) z))
             (λ w. y .done i l o w);
       })

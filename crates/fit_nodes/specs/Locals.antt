@@ -11,10 +11,10 @@ pub record Ruled (nd : List ℕ) (n : ℕ) : Type 0 where
   pub rule : each n (parentRight nd) ≡ true
 
 -- p is the parent of node k, or none where all n nodes are passed
-pub record Next (nd : List ℕ) (n k p : ℕ) : Type 0 where
+pub record NextParent (nd : List ℕ) (n k p : ℕ) : Type 0 where
   pub ruled : Ruled nd n
   pub some : 0 < k
-  pub few : k ≤ n
+  pub in-range : k ≤ n
   pub more : k < n → p ≡ parentAt nd k
   pub last : n ≤ k → p ≡ none
 

@@ -5,8 +5,8 @@ ghost use lib.ListN.{length};
 ghost use Rattle.tables.specs.Numbers.{none};
 ghost use Rattle.tables.specs.Each.{each};
 ghost use Rattle.tables.specs.Columns.{treeStride, nodeStride};
-ghost use Rattle.fit_nodes.specs.Locals.{Ruled, Next, Climbed};
-ghost use Rattle.fit_nodes.specs.Nodes.{rootsRight, onPath, parentRight, childRight, siblingRight, kindRight, depthRight, nodesFit, lentNodes, linksFit};
+ghost use Rattle.fit_nodes.specs.Locals.{Ruled, NextParent, Climbed};
+ghost use Rattle.fit_nodes.specs.Nodes.{rootsRight, onPath, parentRight, childRight, siblingRight, gameRight, depthRight, nodesFit, lentNodes, linksFit};
 
 // Whether the roots of `m` trees are those of `n` nodes that have no parent, ascending.
 fn roots_right(trees: &[u32], m: usize, nodes: &[u32], n: usize) -> bool
@@ -114,7 +114,7 @@ fn children_right(nodes: &[u32], n: usize) -> bool
 
 // The climb from node k - 1 to the parent `p` of node k: the child of `p` on the way is followed by k, the others by none.
 fn climb(nodes: &[u32], n: usize, k: usize, p: u32) -> bool
-    requires { ⌜ (n ≤ length (now nodes) / nodeStride) × Next (now nodes) n k p ⌝ }
+    requires { ⌜ (n ≤ length (now nodes) / nodeStride) × NextParent (now nodes) n k p ⌝ }
     ensures { λ r. ⌜ Climbed (now (nodes .entry)) n k p r ⌝ }
 {
     let mut j = k - 1;
@@ -156,9 +156,9 @@ fn siblings_right(nodes: &[u32], n: usize) -> bool
 }
 
 // Whether the game types of `n` trees are 0 or 1.
-fn kinds_right(trees: &[u32], n: usize) -> bool
+fn games_right(trees: &[u32], n: usize) -> bool
     requires { ⌜ n ≤ length (now trees) / treeStride ⌝ }
-    ensures { λ r. ⌜ r ≡ each n (kindRight (now (trees .entry))) ⌝ }
+    ensures { λ r. ⌜ r ≡ each n (gameRight (now (trees .entry))) ⌝ }
 {
     let mut k = 0;
     while k < n {
@@ -216,7 +216,7 @@ fn nodes_fit(trees: &[u32], nodes: &[u32], counts: tables::Counts) -> bool
     if !siblings_right(nodes, counts.nodes) {
         return false;
     }
-    if !kinds_right(trees, counts.trees) {
+    if !games_right(trees, counts.trees) {
         return false;
     }
     depths_right(nodes, counts.nodes)

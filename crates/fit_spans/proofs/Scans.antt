@@ -9,7 +9,7 @@ use Rattle.lexer_close.specs.declared.Close.the-variants.{At, Open}
 use Rattle.lexer_scan.specs.declared.Ident.{Ident}
 use Rattle.lexer_scan.specs.declared.Ident.the-variants.{Opens, Missing, Foreign}
 use Rattle.tables.specs.Columns.{nameFromAt, nameToAt, valFromAt, valToAt}
-use Rattle.fit_spans.specs.Spans.{plainName, nameRight, boxed, valueRight}
+use Rattle.fit_spans.specs.Spans.{plainName, nameRight, inBracketsClosed, valueRight}
 use Rattle.tables.proofs.Cases.{either-bool, below-or, true-false, and-left, and-right}
 use Rattle.lists.proofs.Tests.{same-or}
 use Rattle.fit_spans.proofs.Lists.{part-slice}
@@ -75,13 +75,13 @@ module _ (t : List ℕ) (a e : ℕ) (order : a ≤ e) (inside : e ≤ length t) 
 
   -- ---- a value's three tests
 
-  pub boxed-none : a ≡ 0 → false ≡ boxed t a e
+  pub boxed-none : a ≡ 0 → false ≡ inBracketsClosed t a e
   boxed-none h = rw (le-ltb 0 a (omega arith))
 
-  pub boxed-other : (a ≡ 0 → ⊥) → (getD t (a - 1) 0 ≡ 91 → ⊥) → false ≡ boxed t a e
+  pub boxed-other : (a ≡ 0 → ⊥) → (getD t (a - 1) 0 ≡ 91 → ⊥) → false ≡ inBracketsClosed t a e
   boxed-other h k = rw (lt-ltb 0 a (omega arith), ne-eqb (getD t (a - 1) 0) 91 k)
 
-  pub boxed-is : (a ≡ 0 → ⊥) → getD t (a - 1) 0 ≡ 91 → (c : Close) → c ≡ closeAt t a → endsAt e c ≡ boxed t a e
+  pub boxed-is : (a ≡ 0 → ⊥) → getD t (a - 1) 0 ≡ 91 → (c : Close) → c ≡ closeAt t a → endsAt e c ≡ inBracketsClosed t a e
   boxed-is h k c s = rw (lt-ltb 0 a (omega arith), eq-eqb (getD t (a - 1) 0) 91 k) (scan-is c s)
 
 -- ---- a row's, by the cells that were read
@@ -89,5 +89,5 @@ module _ (t : List ℕ) (a e : ℕ) (order : a ≤ e) (inside : e ≤ length t) 
 pub name-is : (t pr : List ℕ) (k : ℕ) {a e : ℕ} → a ≡ nameFromAt pr k → e ≡ nameToAt pr k → {r : Bool} → r ≡ plainName (take (e - a) (drop a t)) → r ≡ nameRight t pr k
 name-is t pr k {a} {e} ea ee er = er ∙ ap plainName (part-slice a e t) ∙ rw (ea, ee)
 
-pub value-is : (t vl : List ℕ) (k : ℕ) {a e : ℕ} → a ≡ valFromAt vl k → e ≡ valToAt vl k → {r : Bool} → r ≡ boxed t a e → r ≡ valueRight t vl k
+pub value-is : (t vl : List ℕ) (k : ℕ) {a e : ℕ} → a ≡ valFromAt vl k → e ≡ valToAt vl k → {r : Bool} → r ≡ inBracketsClosed t a e → r ≡ valueRight t vl k
 value-is t vl k ea ee er = er ∙ rw (ea, ee)

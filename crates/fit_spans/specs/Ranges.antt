@@ -4,11 +4,11 @@ use Rattle.tables.specs.declared.Counts.{Counts}
 use Rattle.tables.specs.Columns.{firstPropAt, propCountAt, firstValAt, valCountAt}
 use Rattle.tables.specs.Each.{each, sum}
 
--- the ranges of n rows, each with a first and a count, follow one another without gap from 0 to the total
+-- the ranges of n rows, each with a first and a count, follow one another without gap from 0 to the total (SCOPE 22)
 abbrev pub gapless : (first count : ℕ → ℕ) → (n total : ℕ) → Bool
 gapless first count n total = each n (λ k. eqb (first k) (sum count k)) && eqb (sum count n) total
 
--- a property has a value
+-- a property has a value (SCOPE 23)
 abbrev pub hasValue : List ℕ → ℕ → Bool
 hasValue pr k = leb 1 (valCountAt pr k)
 

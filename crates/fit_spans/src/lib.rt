@@ -10,7 +10,7 @@ ghost use Rattle.tables.specs.Each.{each, tabulate};
 ghost use Rattle.fit_spans.specs.Locals.{Spanned};
 ghost use Rattle.fit_spans.specs.LocalsParts.{lentParts, partsFit};
 ghost use Rattle.fit_spans.specs.Ranges.{gapless, hasValue, rangesFit};
-ghost use Rattle.fit_spans.specs.Spans.{span, valSpan, propSpans, spans, ascending, plainName, nameRight, boxed, valueRight, spansFit};
+ghost use Rattle.fit_spans.specs.Spans.{span, valSpan, propSpans, spans, ascending, plainName, nameRight, inBracketsClosed, valueRight, spansFit};
 
 // Whether the ranges of `n` rows follow one another from 0 to the total; a row of `stride` cells has its first at the one column, its count at the other.
 fn ranges_follow(
@@ -192,7 +192,7 @@ fn names_right(text: &[u8], properties: &[u32], n: usize) -> bool
 // Whether a value, which lies in the text, stands after `[` and before `]` and is closed: the scan from its start ends at its end.
 fn is_boxed(text: &[u8], start: usize, end: usize) -> bool
     requires { ⌜ (start ≤ end) × (end ≤ length (now text)) ⌝ }
-    ensures { λ r. ⌜ r ≡ boxed (now (text .entry)) start end ⌝ }
+    ensures { λ r. ⌜ r ≡ inBracketsClosed (now (text .entry)) start end ⌝ }
 {
     if start == 0 {
         return false;

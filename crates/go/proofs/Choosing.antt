@@ -16,14 +16,14 @@ use Rattle.go_shape.proofs.Shape as shape
 use Rattle.go_points.specs.declared.Value.{Value}
 use Rattle.go_points.specs.declared.Value.the-variants.{Other, Invalid}
 
-module _ (kind : ℕ) (identifier : List ℕ) (vs : List (List ℕ)) {r : GoValue} where
-  pub value-unknown : (kind ≡ 0 → ⊥) → r ≡ unmarked Other → r ≡ goValue kind identifier vs
+module _ (game : ℕ) (identifier : List ℕ) (vs : List (List ℕ)) {r : GoValue} where
+  pub value-unknown : (game ≡ 0 → ⊥) → r ≡ unmarked Other → r ≡ goValue game identifier vs
   unfolding goValue
-  value-unknown h e = rw (ne-eqb kind 0 h) e
+  value-unknown h e = rw (ne-eqb game 0 h) e
 
-  pub value-shaped : {q s : Shape} → kind ≡ 0 → q ≡ shapeOf identifier → q ≡ s → r ≡ valueBy s vs → r ≡ goValue kind identifier vs
+  pub value-shaped : {q s : Shape} → game ≡ 0 → q ≡ shapeOf identifier → q ≡ s → r ≡ valueBy s vs → r ≡ goValue game identifier vs
   unfolding goValue
-  value-shaped h e f g = rw (eq-eqb kind 0 h, ← e, f) g
+  value-shaped h e f g = rw (eq-eqb game 0 h, ← e, f) g
 
 module _ (f : List ℕ → Value) (text vals : List ℕ) (first : ℕ) where
   none-or-many : (count : ℕ) → (count ≡ 1 → ⊥) → Invalid ≡ oneBy f (valuesAt text vals first count)

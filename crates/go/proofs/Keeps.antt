@@ -8,7 +8,7 @@ use Rattle.values.specs.Decimal.{decimal}
 use Rattle.values.proofs.Safe.{Safe, decimal-safe}
 use Rattle.go_points.specs.Area.{areaOf}
 use Rattle.go.specs.Marks.{inRect, good, inArea, allGood, inSome, marksOf}
-use Rattle.go.specs.Normal.{pointsFrom, written, normal}
+use Rattle.go.specs.Normal.{pointsFrom, normalBy, normal}
 use Rattle.go_shape.specs.Shape.{shapeOf}
 use Rattle.go.specs.Value.{noMarks, areasOf, pointsOf, valueBy, goValue}
 use Rattle.go_points.specs.declared.Area.{Area}
@@ -85,13 +85,13 @@ shape-fine OneNumber vs = numbered-fine vs (numbers vs) noMarks (numbers-numbere
 shape-fine ManyPoints vs = set-fine vs
 shape-fine Unread vs = tt
 
-value-fine : (kind : ℕ) (identifier : List ℕ) (vs : List (List ℕ)) → Fine vs (goValue kind identifier vs .value) (goValue kind identifier vs .marks)
+value-fine : (game : ℕ) (identifier : List ℕ) (vs : List (List ℕ)) → Fine vs (goValue game identifier vs .value) (goValue game identifier vs .marks)
 unfolding goValue
-value-fine kind identifier vs = pick-elim (λ (g : GoValue). Fine vs (g .value) (g .marks)) (eqb kind 0) (λ e. shape-fine (shapeOf identifier) vs) (λ e. tt)
+value-fine game identifier vs = pick-elim (λ (g : GoValue). Fine vs (g .value) (g .marks)) (eqb game 0) (λ e. shape-fine (shapeOf identifier) vs) (λ e. tt)
 
 module _ (P : List ℕ → Type 0) (safe : (w : List ℕ) → All Safe w → P w) where
-  written-all : (vs : List (List ℕ)) (v : Value) (ms : List Bool) → Fine vs v ms → All P vs → All P (written v ms vs)
-  unfolding written
+  written-all : (vs : List (List ℕ)) (v : Value) (ms : List Bool) → Fine vs v ms → All P vs → All P (normalBy v ms vs)
+  unfolding normalBy
   written-all vs Other ms f h = h
   written-all vs Invalid ms f h = h
   written-all vs Pass ms f h = (safe [] tt, tt)
@@ -100,12 +100,12 @@ module _ (P : List ℕ → Type 0) (safe : (w : List ℕ) → All Safe w → P w
   written-all vs Points ms f h = all-map (All Safe) P safe (pointsFrom 0 ms) (points-safe 0 ms (omega (arith, f .0)))
 
   -- what holds of all raw values, and of bytes that stand for themselves, holds of all normal values
-  pub normal-all : (kind : ℕ) (identifier : List ℕ) (vs : List (List ℕ)) → All P vs → All P (normal kind identifier vs)
+  pub normal-all : (game : ℕ) (identifier : List ℕ) (vs : List (List ℕ)) → All P vs → All P (normal game identifier vs)
   unfolding normal
-  normal-all kind identifier vs h = written-all vs (goValue kind identifier vs .value) (goValue kind identifier vs .marks) (value-fine kind identifier vs) h
+  normal-all game identifier vs h = written-all vs (goValue game identifier vs .value) (goValue game identifier vs .marks) (value-fine game identifier vs) h
 
-written-some : (vs : List (List ℕ)) (v : Value) (ms : List Bool) → Fine vs v ms → 0 < length vs → 0 < length (written v ms vs)
-unfolding written
+written-some : (vs : List (List ℕ)) (v : Value) (ms : List Bool) → Fine vs v ms → 0 < length vs → 0 < length (normalBy v ms vs)
+unfolding normalBy
 written-some vs Other ms f h = h
 written-some vs Invalid ms f h = h
 written-some vs Pass ms f h = omega arith
@@ -113,6 +113,6 @@ written-some vs (Move x y) ms f h = omega arith
 written-some vs (Handicap n) ms f h = omega arith
 written-some vs Points ms f h = let w = f .1 h in points-some 0 ms (w .0) (w .1)
 
-pub normal-some : (kind : ℕ) (identifier : List ℕ) (vs : List (List ℕ)) → 0 < length vs → 0 < length (normal kind identifier vs)
+pub normal-some : (game : ℕ) (identifier : List ℕ) (vs : List (List ℕ)) → 0 < length vs → 0 < length (normal game identifier vs)
 unfolding normal
-normal-some kind identifier vs h = written-some vs (goValue kind identifier vs .value) (goValue kind identifier vs .marks) (value-fine kind identifier vs) h
+normal-some game identifier vs h = written-some vs (goValue game identifier vs .value) (goValue game identifier vs .marks) (value-fine game identifier vs) h

@@ -4,7 +4,7 @@ use Rattle.values.specs.Read.{readFrom}
 use Rattle.values.proofs.RoundTrip.{decimal-back}
 use Rattle.go_points.specs.Area.{moveOf}
 use Rattle.go.specs.Marks.{allGood, inSome, marksOf}
-use Rattle.go.specs.Normal.{written, normal}
+use Rattle.go.specs.Normal.{normalBy, normal}
 use Rattle.go_shape.specs.Shape.{shapeOf}
 use Rattle.go.specs.Value.{noMarks, unmarked, areasOf, pointsOf, valueBy, goValue}
 use Rattle.go_points.specs.Handicap.{handicapOf}
@@ -20,8 +20,8 @@ use Rattle.go.proofs.Shapes.{Moved, Numbered, moves, numbers, moves-mov
 
 -- ---- each shape reads back
 
-moves-back : (v : Value) (ms : List Bool) (vs : List (List ℕ)) → moves vs ≡ v → Moved v → moves (written v ms vs) ≡ v
-unfolding written readFrom moveOf
+moves-back : (v : Value) (ms : List Bool) (vs : List (List ℕ)) → moves vs ≡ v → Moved v → moves (normalBy v ms vs) ≡ v
+unfolding normalBy readFrom moveOf
 moves-back Other ms vs e h = e
 moves-back Invalid ms vs e h = e
 moves-back Pass ms vs e h = refl
@@ -29,8 +29,8 @@ moves-back (Move x y) ms vs e h = move-back x y (omega (arith, h)) (omega (arith
 moves-back (Handicap n) ms vs e h = absurd h
 moves-back Points ms vs e h = absurd h
 
-numbers-back : (v : Value) (ms : List Bool) (vs : List (List ℕ)) → numbers vs ≡ v → Numbered v → numbers (written v ms vs) ≡ v
-unfolding written handicapOf
+numbers-back : (v : Value) (ms : List Bool) (vs : List (List ℕ)) → numbers vs ≡ v → Numbered v → numbers (normalBy v ms vs) ≡ v
+unfolding normalBy handicapOf
 numbers-back Other ms vs e h = e
 numbers-back Invalid ms vs e h = e
 numbers-back Pass ms vs e h = absurd h
@@ -38,18 +38,18 @@ numbers-back (Move x y) ms vs e h = absurd h
 numbers-back (Handicap n) ms vs e h = ap handicapOf (decimal-back (2 ^ 63 - 1) n (h .1) (omega (arith, h))) ∙ rw (le-leb 2 n (h .0))
 numbers-back Points ms vs e h = absurd h
 
-set-back : (vs : List (List ℕ)) → pointsOf (written (pointsOf vs .value) (pointsOf vs .marks) vs) ≡ pointsOf vs
-unfolding written
+set-back : (vs : List (List ℕ)) → pointsOf (normalBy (pointsOf vs .value) (pointsOf vs .marks) vs) ≡ pointsOf vs
+unfolding normalBy
 set-back vs = go (allGood (areasOf vs)) refl
   where
     Back : GoValue → Type 0
-    Back g = pointsOf (written (g .value) (g .marks) vs) ≡ g
+    Back g = pointsOf (normalBy (g .value) (g .marks) vs) ≡ g
 
     go : (t : Bool) → allGood (areasOf vs) ≡ t → Back (pointsOf vs)
     go true e = subst Back (sym (points-valid vs e)) (points-back (marksOf (inSome (areasOf vs))) (marks-all (inSome (areasOf vs))))
     go false e = subst Back (sym (points-invalid vs e)) (points-invalid vs e)
 
-shape-back : (s : Shape) (vs : List (List ℕ)) → valueBy s (written (valueBy s vs .value) (valueBy s vs .marks) vs) ≡ valueBy s vs
+shape-back : (s : Shape) (vs : List (List ℕ)) → valueBy s (normalBy (valueBy s vs .value) (valueBy s vs .marks) vs) ≡ valueBy s vs
 unfolding valueBy
 shape-back OneMove vs = ap unmarked (moves-back (moves vs) noMarks vs refl (moves-moved vs))
 shape-back OneNumber vs = ap unmarked (numbers-back (numbers vs) noMarks vs refl (numbers-numbered vs))
@@ -58,18 +58,18 @@ shape-back Unread vs = refl
 
 -- ---- every property
 
-module _ (kind : ℕ) (identifier : List ℕ) where
-  pub normal-value : (vs : List (List ℕ)) → goValue kind identifier (normal kind identifier vs) ≡ goValue kind identifier vs
-  unfolding goValue normal written
-  normal-value vs = go (eqb kind 0)
+module _ (game : ℕ) (identifier : List ℕ) where
+  pub normal-value : (vs : List (List ℕ)) → goValue game identifier (normal game identifier vs) ≡ goValue game identifier vs
+  unfolding goValue normal normalBy
+  normal-value vs = go (eqb game 0)
     where
       go : (t : Bool)
-          → (let g = pick t (valueBy (shapeOf identifier) vs) (unmarked Other) in pick t (valueBy (shapeOf identifier) (written (g .value) (g .marks) vs)) (unmarked Other) ≡ g)
+          → (let g = pick t (valueBy (shapeOf identifier) vs) (unmarked Other) in pick t (valueBy (shapeOf identifier) (normalBy (g .value) (g .marks) vs)) (unmarked Other) ≡ g)
       go true = shape-back (shapeOf identifier) vs
       go false = refl
 
-  written-twice : (v : Value) (ms : List Bool) (vs : List (List ℕ)) → written v ms (written v ms vs) ≡ written v ms vs
-  unfolding written
+  written-twice : (v : Value) (ms : List Bool) (vs : List (List ℕ)) → normalBy v ms (normalBy v ms vs) ≡ normalBy v ms vs
+  unfolding normalBy
   written-twice Other ms vs = refl
   written-twice Invalid ms vs = refl
   written-twice Pass ms vs = refl
@@ -77,32 +77,32 @@ module _ (kind : ℕ) (identifier : List ℕ) where
   written-twice (Handicap n) ms vs = refl
   written-twice Points ms vs = refl
 
-  pub normal-twice : (vs : List (List ℕ)) → normal kind identifier (normal kind identifier vs) ≡ normal kind identifier vs
+  pub normal-twice : (vs : List (List ℕ)) → normal game identifier (normal game identifier vs) ≡ normal game identifier vs
   unfolding normal
   normal-twice vs =
-      let g : GoValue = goValue kind identifier vs in
-      ap (λ (h : GoValue). written (h .value) (h .marks) (normal kind identifier vs)) (normal-value vs) ∙ written-twice (g .value) (g .marks) vs
+      let g : GoValue = goValue game identifier vs in
+      ap (λ (h : GoValue). normalBy (h .value) (h .marks) (normal game identifier vs)) (normal-value vs) ∙ written-twice (g .value) (g .marks) vs
 
   -- a property that is not read keeps its raw values
-  pub normal-other : (vs : List (List ℕ)) → shapeOf identifier ≡ Unread → normal kind identifier vs ≡ vs
-  unfolding normal goValue valueBy written
-  normal-other vs e = go (eqb kind 0)
+  pub normal-other : (vs : List (List ℕ)) → shapeOf identifier ≡ Unread → normal game identifier vs ≡ vs
+  unfolding normal goValue valueBy normalBy
+  normal-other vs e = go (eqb game 0)
     where
-      go : (t : Bool) → (let g = pick t (valueBy (shapeOf identifier) vs) (unmarked Other) in written (g .value) (g .marks) vs ≡ vs)
-      go true = ap (λ (s : Shape). written (valueBy s vs .value) (valueBy s vs .marks) vs) e
+      go : (t : Bool) → (let g = pick t (valueBy (shapeOf identifier) vs) (unmarked Other) in normalBy (g .value) (g .marks) vs ≡ vs)
+      go true = ap (λ (s : Shape). normalBy (valueBy s vs .value) (valueBy s vs .marks) vs) e
       go false = refl
 
   -- so does one of an unknown game
-  pub normal-unknown : (vs : List (List ℕ)) → (kind ≡ 0 → ⊥) → normal kind identifier vs ≡ vs
-  unfolding normal goValue written
-  normal-unknown vs h = rw (ne-eqb kind 0 h)
+  pub normal-unknown : (vs : List (List ℕ)) → (game ≡ 0 → ⊥) → normal game identifier vs ≡ vs
+  unfolding normal goValue normalBy
+  normal-unknown vs h = rw (ne-eqb game 0 h)
 
   -- so does one whose value is invalid
-  pub normal-invalid : (vs : List (List ℕ)) → goValue kind identifier vs .value ≡ Invalid → normal kind identifier vs ≡ vs
-  unfolding normal written
-  normal-invalid vs e = ap (λ (v : Value). written v (goValue kind identifier vs .marks) vs) e
+  pub normal-invalid : (vs : List (List ℕ)) → goValue game identifier vs .value ≡ Invalid → normal game identifier vs ≡ vs
+  unfolding normal normalBy
+  normal-invalid vs e = ap (λ (v : Value). normalBy v (goValue game identifier vs .marks) vs) e
 
 -- and the game type
-pub normal-game : (kind : ℕ) (vs : List (List ℕ)) → normal kind (0x47 ∷ 0x4d ∷ []) vs ≡ vs
+pub normal-game : (game : ℕ) (vs : List (List ℕ)) → normal game (0x47 ∷ 0x4d ∷ []) vs ≡ vs
 unfolding shapeOf
-normal-game kind vs = normal-other kind (0x47 ∷ 0x4d ∷ []) vs refl
+normal-game game vs = normal-other game (0x47 ∷ 0x4d ∷ []) vs refl

@@ -17,12 +17,12 @@ abbrev pub inArea : Area → ℕ → Bool
 inArea Bad i = false
 inArea (Rect x y x2 y2) i = inRect x (x2 + 1) y (y2 + 1) i
 
--- each value stands for points
+-- each value stands for points (SCOPE 104)
 abbrev pub allGood : List Area → Bool
 allGood [] = true
 allGood (a ∷ rest) = good a && allGood rest
 
--- the union, duplicates merged
+-- the union, duplicates merged (SCOPE 103)
 abbrev pub inSome : List Area → ℕ → Bool
 inSome [] i = false
 inSome (a ∷ rest) i = inArea a i || inSome rest i
@@ -32,7 +32,7 @@ unfoldable pub marksFrom : (ℕ → Bool) → (i n : ℕ) → List Bool
 marksFrom f i zero = []
 marksFrom f i (suc n) = f i ∷ marksFrom f (suc i) n
 
--- the marks of all places
+-- the marks of all places (SCOPE 105)
 unfoldable pub marksOf : (ℕ → Bool) → List Bool
 marksOf f = marksFrom f 0 2704
 

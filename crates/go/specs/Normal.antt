@@ -10,20 +10,20 @@ use Rattle.go_points.specs.declared.Value.the-variants.{Other, Invalid, Pass, M
 abbrev pub pointText : ℕ → List ℕ
 pointText i = letter (i / 52) ∷ letter (i % 52) ∷ []
 
--- the marked places from i on as single points: by first coordinate, then second
+-- the marked places from i on as single points: by first coordinate, then second (SCOPE 113, 142)
 unfoldable pub pointsFrom : ℕ → List Bool → List (List ℕ)
 pointsFrom i [] = []
 pointsFrom i (m ∷ ms) = let r = pointsFrom (suc i) ms in pick m (pointText i ∷ r) r
 
--- a move is its two letters, or nothing for a pass; HA is plain decimal; a set lists its points; any other keeps its raw values
-unfoldable pub written : Value → List Bool → List (List ℕ) → List (List ℕ)
-written Other marks vs = vs
-written Invalid marks vs = vs
-written Pass marks vs = [] ∷ []
-written (Move x y) marks vs = (letter x ∷ letter y ∷ []) ∷ []
-written (Handicap n) marks vs = decimal n ∷ []
-written Points marks vs = pointsFrom 0 marks
+-- a move is its two letters, or nothing for a pass; HA is plain decimal; a set lists its points; any other keeps its raw values (SCOPE 2, 111, 112, 115)
+unfoldable pub normalBy : Value → List Bool → List (List ℕ) → List (List ℕ)
+normalBy Other marks vs = vs
+normalBy Invalid marks vs = vs
+normalBy Pass marks vs = [] ∷ []
+normalBy (Move x y) marks vs = (letter x ∷ letter y ∷ []) ∷ []
+normalBy (Handicap n) marks vs = decimal n ∷ []
+normalBy Points marks vs = pointsFrom 0 marks
 
 -- of a property with this game type, read identifier and raw values
-unfoldable pub normal : (kind : ℕ) (identifier : List ℕ) (values : List (List ℕ)) → List (List ℕ)
-normal kind identifier values = let g = goValue kind identifier values in written (g .value) (g .marks) values
+unfoldable pub normal : (game : ℕ) (identifier : List ℕ) (values : List (List ℕ)) → List (List ℕ)
+normal game identifier values = let g = goValue game identifier values in normalBy (g .value) (g .marks) values

@@ -13,17 +13,17 @@ use Rattle.go_points.specs.declared.Value.{Value}
 use Rattle.go_points.specs.declared.Value.the-variants.{Other, Invalid, Points}
 use Rattle.go.specs.declared.value.GoValue.{GoValue}
 
--- one value by f
+-- one value by f (SCOPE 98)
 abbrev pub oneBy : (List ℕ → Value) → List (List ℕ) → Value
 oneBy f [] = Invalid
 oneBy f (v ∷ []) = f v
 oneBy f (v ∷ w ∷ ws) = Invalid
 
--- no point marked in any of the 2,704 places
+-- no point marked in any of the 2,704 places (SCOPE 106)
 abbrev pub noMarks : List Bool
 noMarks = replicate 2704 false
 
--- a value that is no set has no mark
+-- a value that is no set has no mark (SCOPE 106)
 abbrev pub unmarked : Value → GoValue
 unmarked v = record { value = v; marks = noMarks }
 
@@ -31,11 +31,11 @@ unmarked v = record { value = v; marks = noMarks }
 abbrev pub marked : List Bool → GoValue
 marked m = record { value = Points; marks = m }
 
--- what each raw value stands for, once it is read
+-- what each raw value stands for, once it is read (SCOPE 107)
 abbrev pub areasOf : List (List ℕ) → List Area
 areasOf vs = map (λ v. areaOf (readValue v)) vs
 
--- the union of all, where each value stands for points
+-- the union of all, where each value stands for points (SCOPE 103)
 unfoldable pub pointsOf : List (List ℕ) → GoValue
 pointsOf vs = pick (allGood (areasOf vs)) (marked (marksOf (inSome (areasOf vs)))) (unmarked Invalid)
 
@@ -46,6 +46,6 @@ valueBy OneNumber vs = unmarked (oneBy (λ v. handicapOf (decimalOf (2 ^ 63 - 1)
 valueBy ManyPoints vs = pointsOf vs
 valueBy Unread vs = unmarked Other
 
--- of a property with this game type (0 is Go), read identifier and raw values
-unfoldable pub goValue : (kind : ℕ) (identifier : List ℕ) (values : List (List ℕ)) → GoValue
-goValue kind identifier values = pick (eqb kind 0) (valueBy (shapeOf identifier) values) (unmarked Other)
+-- of a property with this game type (0 is Go), read identifier and raw values (SCOPE 96)
+unfoldable pub goValue : (game : ℕ) (identifier : List ℕ) (values : List (List ℕ)) → GoValue
+goValue game identifier values = pick (eqb game 0) (valueBy (shapeOf identifier) values) (unmarked Other)

@@ -46,16 +46,16 @@ pub fn value_by(shape: Shape, text: &[u8], vals: &[u32], first: usize, count: us
 
 // The Go value of a property: its game type, its raw identifier, and the rows of its values.
 pub fn go_value(
-    kind: u32,
+    game: u32,
     identifier: &[u8],
     text: &[u8],
     vals: &[u32],
     first: usize,
     count: usize,
 ) -> GoValue
-    ensures { λ r. ⌜ r ≡ goValue kind (readIdentifier (now (identifier .entry))) (valuesAt (now (text .entry)) (now (vals .entry)) first count) ⌝ }
+    ensures { λ r. ⌜ r ≡ goValue game (readIdentifier (now (identifier .entry))) (valuesAt (now (text .entry)) (now (vals .entry)) first count) ⌝ }
 {
-    if kind != 0 {
+    if game != 0 {
         return unmarked_value(Value::Other);
     }
     let shape = go_shape::shape_of(identifier);

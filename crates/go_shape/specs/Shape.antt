@@ -3,7 +3,7 @@ use Rattle.lists.specs.Prelude.{ℕ, _&&_, _||_, List, [], _∷_, eqb, pick}
 use Rattle.go_shape.specs.declared.Shape.{Shape}
 use Rattle.go_shape.specs.declared.Shape.the-variants.{OneMove, OneNumber, ManyPoints, Unread}
 
--- B, W; HA; AB, AW, AE, TB, TW; any other
+-- B, W; HA; AB, AW, AE, TB, TW; any other (SCOPE 3)
 unfoldable pub shapeOf : List ℕ → Shape
 shapeOf [] = Unread
 shapeOf (a ∷ []) = pick (eqb a 0x42 || eqb a 0x57) OneMove Unread

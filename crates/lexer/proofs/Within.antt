@@ -1,7 +1,7 @@
 -- Where the next token lies: in the text, from the place where it was looked for on. Assumes nothing.
 use Rattle.lists.proofs.Prelude.{ℕ, suc, _+_, _^_, _≤_, _<_, _≡_, refl, sym, ap, _∙_, subst, List, arith, length, getD, eqb, ltb, ltb-true}
 use Rattle.lists.proofs.Pick.{pick-elim}
-use Rattle.lexer_scan.specs.Scan.{skipAt, identAt, valuesAt}
+use Rattle.lexer_scan.specs.Scan.{skipAt, identAt, valuesEndAt}
 use Rattle.lexer.specs.Step.{onIdent, headFrom, headAt, onValues, onHead, nextAt, behind, SteppedIs, valsAt}
 use Rattle.lexer_scan.proofs.Bounds.{skip-bounds, ident-bounds, opens-not-none}
 use Rattle.lexer_scan.proofs.Values.{values-bounds, values-forward}
@@ -55,7 +55,7 @@ module _ (u : List ℕ) where
   unfolding headAt
   head-within i = from-within i (skipAt u i) (skip-bounds u i)
 
-  values-within : (i j k : ℕ) → HeadWithin i (Name j k) → (z : Close) → valuesAt u k ≡ z → Within i (onValues j k z)
+  values-within : (i j k : ℕ) → HeadWithin i (Name j k) → (z : Close) → valuesEndAt u k ≡ z → Within i (onValues j k z)
   values-within i j k w (At e) q =
       let b = values-bounds u k e q in
       let f = values-forward u k e (opens-not-none u k (w .3)) q in
@@ -66,7 +66,7 @@ module _ (u : List ℕ) where
   token-within i (headStart j) w = w
   token-within i (headEnd j) w = w
   token-within i (headNode j) w = w
-  token-within i (Name j k) w = values-within i j k w (valuesAt u k) refl
+  token-within i (Name j k) w = values-within i j k w (valuesEndAt u k) refl
   token-within i (headRefused f j) w = w
   token-within i headDone w = tt
 

@@ -2,11 +2,11 @@
 use Rattle.lists.specs.Prelude.{ℕ, _+_, _-_, List, map, leb, ltb, eqb, pick}
 use Rattle.lexer.specs.Token.{Val, Prop, Tok, start, end, node, prop}
 
--- where a thing that starts at p starts, once the value at q..e has become n bytes long
+-- where a thing that starts at p starts, once the value at q..e has become n bytes long (SCOPE 129)
 abbrev pub startsAt : (q e n p : ℕ) → ℕ
 startsAt q e n p = pick (leb p q) p (q + n + (p - e))
 
--- where a thing that ends at p then ends
+-- where a thing that ends at p then ends (SCOPE 129)
 abbrev pub endsAt : (q e n p : ℕ) → ℕ
 endsAt q e n p = pick (ltb p e) p (q + n + (p - e))
 

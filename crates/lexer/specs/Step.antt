@@ -12,15 +12,15 @@ use Rattle.lexer.specs.declared.Head.the-variants.{Start as headStart, E
 use Rattle.lexer.specs.declared.Step.{Step}
 use Rattle.lexer.specs.declared.Step.the-variants.{Start, End, Node, Property, Refused, Done}
 use Rattle.lexer.specs.Token.{Val, Prop, start, end, node, prop, done, broken, Lexed, lexed, lexAt}
-use Rattle.lexer_scan.specs.Scan.{skipAt, identAt, valueAt, valuesAt}
+use Rattle.lexer_scan.specs.Scan.{skipAt, identAt, valueStepAt, valuesEndAt}
 
--- a property that starts at i, by where its identifier ends
+-- a property that starts at i, by where its identifier ends (SCOPE 73)
 abbrev pub onIdent : ℕ → Ident → Head
 onIdent i (Opens k) = Name i k
 onIdent i Missing = headRefused MissingPropertyIdentifier i
 onIdent i Foreign = headRefused UnexpectedEndOfPropertyIdentifier i
 
--- `(`, `)`, `;` are tokens; anything else starts a property
+-- `(`, `)`, `;` are tokens; anything else starts a property (SCOPE 70)
 unfoldable pub headFrom : List ℕ → ℕ → Head
 headFrom s i =
     pick (ltb i (length s))
@@ -34,7 +34,7 @@ headFrom s i =
 unfoldable pub headAt : List ℕ → ℕ → Head
 headAt s i = headFrom s (skipAt s i)
 
--- a property from i whose first `[` is at k, by where its values end
+-- a property from i whose first `[` is at k, by where its values end (SCOPE 74)
 abbrev pub onValues : ℕ → ℕ → Close → Step
 onValues i k (At e) = Property i k e
 onValues i k Open = Refused UnexpectedEndOfPropertyValue i
@@ -44,7 +44,7 @@ abbrev pub onHead : List ℕ → Head → Step
 onHead s (headStart i) = Start i
 onHead s (headEnd i) = End i
 onHead s (headNode i) = Node i
-onHead s (Name i k) = onValues i k (valuesAt s k)
+onHead s (Name i k) = onValues i k (valuesEndAt s k)
 onHead s (headRefused f i) = Refused f i
 onHead s headDone = Done
 
@@ -77,7 +77,7 @@ valsOn g s Unclosed = []
 -- at most so many values
 unfoldable pub valsBy : ℕ → List ℕ → ℕ → List Val
 valsBy zero s k = []
-valsBy (suc f) s k = valsOn (valsBy f s) s (valueAt s k)
+valsBy (suc f) s k = valsOn (valsBy f s) s (valueStepAt s k)
 
 -- the values that stand from k on
 unfoldable pub valsAt : List ℕ → ℕ → List Val

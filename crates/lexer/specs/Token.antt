@@ -42,18 +42,18 @@ abbrev pub silent : St → Out
 silent s = record { toks = []; next = s }
 
 -- a byte that starts a property: is it `[`; is it beyond ASCII
-abbrev pub starts : Bool → Bool → ℕ → List ℕ → ℕ → ℕ → St
-starts true high s w o b = value s o w [] false (suc o) []
-starts false true s w o b = fault UnexpectedEndOfPropertyIdentifier s
-starts false false s w o b = ident s (w ++ (b ∷ []))
+abbrev pub propertyState : Bool → Bool → ℕ → List ℕ → ℕ → ℕ → St
+propertyState true high s w o b = value s o w [] false (suc o) []
+propertyState false true s w o b = fault UnexpectedEndOfPropertyIdentifier s
+propertyState false false s w o b = ident s (w ++ (b ∷ []))
 
--- a byte between tokens: is it `(`, `)`, `;`, white space
+-- a byte between tokens: is it `(`, `)`, `;`, white space (SCOPE 70)
 abbrev pub begins : Bool → Bool → Bool → Bool → ℕ → ℕ → Out
 begins true e n w o b = record { toks = start o ∷ []; next = between }
 begins false true n w o b = record { toks = end o ∷ []; next = between }
 begins false false true w o b = record { toks = node o ∷ []; next = between }
 begins false false false true o b = silent between
-begins false false false false o b = silent (starts (eqb b 0x5b) (leb 0x80 b) o [] o b)
+begins false false false false o b = silent (propertyState (eqb b 0x5b) (leb 0x80 b) o [] o b)
 
 -- a byte of a value: is there a pending escape; is it `]`, a backslash
 abbrev pub values : Bool → Bool → Bool → (s i : ℕ) → List ℕ → List Val → (v : ℕ) → List ℕ → ℕ → ℕ → St
@@ -61,16 +61,16 @@ values true c x s i w vs v r o b = value s i w vs false v (r ++ (b ∷ []))
 values false true x s i w vs v r o b = after (record { from = s; to = i; name = w; vals = vs ++ (record { from = v; to = o; raw = r } ∷ []) })
 values false false x s i w vs v r o b = value s i w vs x v (r ++ (b ∷ []))
 
--- a byte after a value: is it white space, is it `[`
+-- a byte after a value: is it white space, is it `[` (SCOPE 76)
 abbrev pub afters : Bool → Bool → Prop → Out → ℕ → Out
 afters true v p t o = silent (after p)
 afters false true p t o = silent (value (p .from) (p .to) (p .name) (p .vals) false (suc o) [])
 afters false false p t o = record { toks = prop p o ∷ t .toks; next = t .next }
 
--- one byte
+-- one byte (SCOPE 168)
 abbrev pub step : St → ℕ → ℕ → Out
 step between o b = begins (eqb b 0x28) (eqb b 0x29) (eqb b 0x3b) (space b) o b
-step (ident s w) o b = silent (starts (eqb b 0x5b) (leb 0x80 b) s w o b)
+step (ident s w) o b = silent (propertyState (eqb b 0x5b) (leb 0x80 b) s w o b)
 step (value s i w vs esc v r) o b = silent (values esc (eqb b 0x5d) (eqb b 0x5c) s i w vs v r o b)
 step (after p) o b = afters (space b) (eqb b 0x5b) p (begins (eqb b 0x28) (eqb b 0x29) (eqb b 0x3b) (space b) o b) o
 step (fault f s) o b = silent (fault f s)
@@ -81,9 +81,9 @@ emits st o [] = []
 emits st o (b ∷ bs) = step st o b .toks ++ emits (step st o b .next) (suc o) bs
 
 -- the state after the bytes
-abbrev pub ends : St → ℕ → List ℕ → St
-ends st o [] = st
-ends st o (b ∷ bs) = ends (step st o b .next) (suc o) bs
+abbrev pub stateAfter : St → ℕ → List ℕ → St
+stateAfter st o [] = st
+stateAfter st o (b ∷ bs) = stateAfter (step st o b .next) (suc o) bs
 
 -- how the tokens end: with the text, or with a fault of the token that starts at s
 pub data End : Type 0 where
@@ -95,7 +95,7 @@ pub record Lexed : Type 0 where
   pub toks : List Tok
   pub end : End
 
--- the end of the text, at o
+-- the end of the text, at o (SCOPE 53)
 abbrev pub finish : St → ℕ → Lexed
 finish between o = record { toks = []; end = done }
 finish (ident s w) o = record { toks = []; end = broken MissingPropertyIdentifier s }
@@ -107,16 +107,16 @@ finish (fault f s) o = record { toks = []; end = broken f s }
 abbrev pub lexed : List Tok → Lexed → Lexed
 lexed ts l = record { toks = ts ++ l .toks; end = l .end }
 
--- the tokens of the bytes that stand from place f to place l
+-- the tokens of the bytes that stand from place f to place l (SCOPE 13)
 abbrev pub lexFrom : ℕ → ℕ → List ℕ → Lexed
-lexFrom f l bs = lexed (emits between f bs) (finish (ends between f bs) l)
+lexFrom f l bs = lexed (emits between f bs) (finish (stateAfter between f bs) l)
 
 -- the number of a fault
-abbrev pub numberOf : Fault → ℕ
-numberOf MissingPropertyIdentifier = 3
-numberOf UnexpectedEndOfPropertyIdentifier = 4
-numberOf UnexpectedEndOfPropertyValue = 5
+abbrev pub faultNumber : Fault → ℕ
+faultNumber MissingPropertyIdentifier = 3
+faultNumber UnexpectedEndOfPropertyIdentifier = 4
+faultNumber UnexpectedEndOfPropertyValue = 5
 
--- what the machine gives from the place i of a text on, where no token is begun
+-- what the machine gives from the place i of a text on, where no token is begun (SCOPE 7)
 unfoldable pub lexAt : List ℕ → ℕ → Lexed
 lexAt s i = lexFrom i (length s) (drop i s)

@@ -1,8 +1,8 @@
 // The token rules of SGF: bytes to tokens with spans. The text is the part that trimming keeps, from the start of the buffer to its last place; places count from the start of the buffer.
 ghost use mathlib.Core.Path.{_≡_};
 ghost use Prim.Native.Nat.{_<_, _^_};
-ghost use Rattle.lexer_scan.specs.Scan.{valuesAt};
-ghost use Rattle.lexer.specs.Token.{numberOf};
+ghost use Rattle.lexer_scan.specs.Scan.{valuesEndAt};
+ghost use Rattle.lexer.specs.Token.{faultNumber};
 ghost use Rattle.lexer.specs.Step.{headFrom, headAt, onValues, nextAt, behind, SteppedIs};
 
 // What is wrong with a token.
@@ -14,7 +14,7 @@ pub enum Fault {
 
 // The number of a fault.
 pub fn number(fault: Fault) -> u32
-    ensures { λ r. ⌜ r ≡ numberOf fault ⌝ }
+    ensures { λ r. ⌜ r ≡ faultNumber fault ⌝ }
 {
     match fault {
         Fault::MissingPropertyIdentifier => 3,
@@ -77,7 +77,7 @@ pub enum Step {
 
 // A property whose first `[` stands at `opens`, with all its values.
 fn property(s: &[u8], from: usize, opens: usize) -> Step
-    ensures { λ r. ⌜ r ≡ onValues from opens (valuesAt (now (s .entry)) opens) ⌝ }
+    ensures { λ r. ⌜ r ≡ onValues from opens (valuesEndAt (now (s .entry)) opens) ⌝ }
 {
     match lexer_scan::values_end(s, opens) {
         lexer_close::Close::At(e) => Step::Property(from, opens, e),

@@ -3,7 +3,7 @@ use Rattle.lists.specs.Prelude.{ℕ, _+_, Bool, true, false, List, [], _∷_, e
 use Rattle.lexer_close.specs.declared.Close.{Close}
 use Rattle.lexer_close.specs.declared.Close.the-variants.{At, Open}
 
--- of the bytes that stand from place i on: the first `]` that no backslash escapes; `true`: the byte before escapes this one
+-- of the bytes that stand from place i on: the first `]` that no backslash escapes; `true`: the byte before escapes this one (SCOPE 36, 74)
 unfoldable pub closeFrom : Bool → ℕ → List ℕ → Close
 closeFrom e i [] = Open
 closeFrom true i (b ∷ s) = closeFrom false (i + 1) s

@@ -3,8 +3,8 @@ use Rattle.lists.specs.Prelude.{ℕ, _≤_, _≡_, Bool, _&&_, not, List, eqb, 
 use Rattle.lexer_close.specs.Close.{closeAt}
 
 -- neither `]` nor a backslash
-abbrev pub plain : ℕ → Bool
-plain b = not (eqb b 0x5d) && not (eqb b 0x5c)
+abbrev pub closesNothing : ℕ → Bool
+closesNothing b = not (eqb b 0x5d) && not (eqb b 0x5c)
 
 -- a scan from a may go on at e: it finds the same
 pub record LeadsTo (s : List ℕ) (a e : ℕ) : Type 0 where

@@ -5,11 +5,11 @@ ghost use Prim.Native.Nat.{ℕ, _+_, _≤_, _<_};
 ghost use lib.ListN.{length, getD};
 ghost use Rattle.lexer_close.specs.declared.Close.the-variants.{At};
 ghost use Rattle.lexer_close.specs.Close.{closeAt};
-ghost use Rattle.lexer_close.specs.LocalsRun.{plain, LeadsTo};
+ghost use Rattle.lexer_close.specs.LocalsRun.{closesNothing, LeadsTo};
 
 // Neither `]` nor a backslash.
 fn is_plain(b: u8) -> bool
-    ensures { λ r. ⌜ r ≡ plain b ⌝ }
+    ensures { λ r. ⌜ r ≡ closesNothing b ⌝ }
 {
     (b != b']') & (b != b'\\')
 }
@@ -17,7 +17,7 @@ fn is_plain(b: u8) -> bool
 // Are `n` bytes plain: no early way out, so that the compiler takes 16 at once.
 fn all_plain(s: &[u8], i: usize, n: usize) -> bool
     requires { ⌜ i + n ≤ length (now s) ⌝ }
-    ensures { λ r. ⌜ (r ≡ true → (k : ℕ) → k < n → plain (getD (now (s .entry)) (i + k) 0) ≡ true) ⌝ }
+    ensures { λ r. ⌜ (r ≡ true → (k : ℕ) → k < n → closesNothing (getD (now (s .entry)) (i + k) 0) ≡ true) ⌝ }
 {
     let mut all = true;
     for k in 0..n {

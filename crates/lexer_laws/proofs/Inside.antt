@@ -4,7 +4,7 @@ use native.Mathlib.Decide.{ℕ-discrete}
 use Rattle.lists.specs.All.{All}
 use Rattle.lists.proofs.All.{all-append, all-map}
 use Rattle.text_utf8.proofs.Steps.{place, place-is}
-use Rattle.lexer.specs.Token.{Val, Prop, Tok, start, end, node, prop, St, between, ident, value, after, fault, emits, ends, finish, lexFrom}
+use Rattle.lexer.specs.Token.{Val, Prop, Tok, start, end, node, prop, St, between, ident, value, after, fault, emits, stateAfter, finish, lexFrom}
 use Rattle.lexer.specs.Closed.{closedFrom}
 use Rattle.lexer_laws.proofs.Starting.{Each, each-value, each-from, last, last-is, shaped, shape-run, Never, Closed, scan}
 use Rattle.lexer_laws.proofs.Machine.{ends-append, emits-append, grown, over-value}
@@ -37,7 +37,7 @@ pub record Inside (f : ℕ) (pre rest : List ℕ) (ts : List Tok) : Type 0 where
   pub vs : List Val
   pub body : List ℕ
   pub post : List ℕ
-  pub state : ends between f pre ≡ value s i w vs false (place f pre) []
+  pub state : stateAfter between f pre ≡ value s i w vs false (place f pre) []
   pub before : last 0 pre ≡ 0x5b
   pub rest-is : rest ≡ body ++ (0x5d ∷ post)
   pub closed : closedFrom false body ≡ true
@@ -55,22 +55,22 @@ module _ (f l : ℕ) (pre rest : List ℕ) where
   ts = lexFrom f l (pre ++ rest) .toks
 
   abbrev from-q : St → List Tok
-  from-q X = emits X q rest ++ finish (ends X q rest) l .toks
+  from-q X = emits X q rest ++ finish (stateAfter X q rest) l .toks
 
-  parts : (X : St) → ends between f pre ≡ X → ts ≡ emits between f pre ++ from-q X
+  parts : (X : St) → stateAfter between f pre ≡ X → ts ≡ emits between f pre ++ from-q X
   parts X e = rw (emits-append, ends-append, e, append-assoc)
 
-  pre-free : All (OfVals (NotAt q)) (emits between f pre) × Keeps (each-value (NotAt q) q) q (ends between f pre)
+  pre-free : All (OfVals (NotAt q)) (emits between f pre) × Keeps (each-value (NotAt q) q) q (stateAfter between f pre)
   pre-free = keep-run (each-value (NotAt q) q) between f pre (each-from (NotAt q) q f pre (omega arith) (λ w v e r a b c z. omega arith)) tt
 
   -- no value starts at q
-  elsewhere : (X : St) → ends between f pre ≡ X → Keeps (each-value (NotAt q) (place q rest)) q X → All (OfVals (NotAt q)) ts
+  elsewhere : (X : St) → stateAfter between f pre ≡ X → Keeps (each-value (NotAt q) (place q rest)) q X → All (OfVals (NotAt q)) ts
   elsewhere X e h =
       rw (parts X e)
       (all-append (OfVals (NotAt q)) (emits between f pre) (from-q X) (pre-free .0)
       (keep-rest (each-value (NotAt q) (place q rest)) X q l rest (each-from (NotAt q) (place q rest) q rest (omega arith) (λ w v e r a b c z. omega arith)) h))
 
-  found : (s i : ℕ) (w : List ℕ) (vs : List Val) → ends between f pre ≡ value s i w vs false q [] → All (NotAt q w) vs → last 0 pre ≡ 0x5b
+  found : (s i : ℕ) (w : List ℕ) (vs : List Val) → stateAfter between f pre ≡ value s i w vs false q [] → All (NotAt q w) vs → last 0 pre ≡ 0x5b
       → All (OfVals (NotAt q)) ts ⊎ Inside f pre rest ts
   found s i w vs e h z = go (scan s i w vs q q false [] rest)
     where
@@ -105,9 +105,9 @@ module _ (f l : ℕ) (pre rest : List ℕ) where
 
   -- no value of the tokens starts at the end of `pre`, or it is the one that the state there says
   pub inside : All (OfVals (NotAt q)) ts ⊎ Inside f pre rest ts
-  inside = go (ends between f pre) refl (pre-free .1) (shape-run f pre)
+  inside = go (stateAfter between f pre) refl (pre-free .1) (shape-run f pre)
     where
-      go : (X : St) → ends between f pre ≡ X → Keeps (each-value (NotAt q) q) q X → Keeps (shaped (λ (j : ℕ). getD (0 ∷ pre) (j - f) 0)) q X → All (OfVals (NotAt q)) ts ⊎ Inside f pre rest ts
+      go : (X : St) → stateAfter between f pre ≡ X → Keeps (each-value (NotAt q) q) q X → Keeps (shaped (λ (j : ℕ). getD (0 ∷ pre) (j - f) 0)) q X → All (OfVals (NotAt q)) ts ⊎ Inside f pre rest ts
       go between e h z = inl (elsewhere between e tt)
       go (ident s w) e h z = inl (elsewhere (ident s w) e tt)
       go (value s i w vs esc v r) e h z = elim (ℕ-discrete v q) [
@@ -115,7 +115,7 @@ module _ (f l : ℕ) (pre rest : List ℕ) where
             let lz : length r ≡ 0 = omega (arith, z .0) in
             let rz : r ≡ [] = empty r lz in
             let ez : esc ≡ false = z .1 lz .0 in
-            let t : ends between f pre ≡ value s i w vs false q [] = cc in
+            let t : stateAfter between f pre ≡ value s i w vs false q [] = cc in
             let k : place f pre - f ≡ length pre = omega (arith, place-is f pre) in
             found s i w vs t (h .0) (sym (last-is 0 pre) ∙ ap (λ (j : ℕ). getD (0 ∷ pre) j 0) (sym k) ∙ z .1 lz .1))
         | no n ↦ inl (elsewhere (value s i w vs esc v r) e (h .0, λ _ _ _ _. n))

@@ -3,7 +3,7 @@ use Rattle.lists.proofs.Prelude.{_≡_, refl, ℕ, suc, Bool, true, false, List
 use Rattle.lists.specs.All.{All}
 use Rattle.lists.proofs.All.{all-append}
 use Rattle.text_utf8.proofs.Steps.{place}
-use Rattle.lexer.specs.Token.{Val, Prop, Tok, start, end, node, prop, St, between, ident, value, after, fault, Out, starts, begins, values, afters, step, emits, ends, finish}
+use Rattle.lexer.specs.Token.{Val, Prop, Tok, start, end, node, prop, St, between, ident, value, after, fault, Out, propertyState, begins, values, afters, step, emits, stateAfter, finish}
 use Rattle.lexer_scan.specs.Scan.{space}
 
 -- a fact of the property that a token is
@@ -41,7 +41,7 @@ module _ {At : ℕ → ℕ → Type 0} {Naming : (o s : ℕ) → List ℕ → Ty
   abbrev Both : ℕ → Out → Type 0
   Both o t = All (OfTok Made) (t .toks) × Keeps o (t .next)
 
-  keep-starts : (c high : Bool) (s : ℕ) (w : List ℕ) (o b : ℕ) → At o b → eqb b 0x5b ≡ c → Naming o s w → Keeps (suc o) (starts c high s w o b)
+  keep-starts : (c high : Bool) (s : ℕ) (w : List ℕ) (o b : ℕ) → At o b → eqb b 0x5b ≡ c → Naming o s w → Keeps (suc o) (propertyState c high s w o b)
   keep-starts true high s w o b a e n = inv .opening a (eqb-true b 0x5b e) n
   keep-starts false true s w o b a e n = tt
   keep-starts false false s w o b a e n = inv .naming a n
@@ -71,7 +71,7 @@ module _ {At : ℕ → ℕ → Type 0} {Naming : (o s : ℕ) → List ℕ → Ty
   keep-step (after p) o b a h = keep-afters (space b) (eqb b 0x5b) p (step between o b) o b a refl h (keep-begins (eqb b 0x28) (eqb b 0x29) (eqb b 0x3b) (space b) o b a)
   keep-step (fault f s) o b a h = (tt, tt)
 
-  pub keep-run : (st : St) (o : ℕ) (bs : List ℕ) → EachAt At o bs → Keeps o st → All (OfTok Made) (emits st o bs) × Keeps (place o bs) (ends st o bs)
+  pub keep-run : (st : St) (o : ℕ) (bs : List ℕ) → EachAt At o bs → Keeps o st → All (OfTok Made) (emits st o bs) × Keeps (place o bs) (stateAfter st o bs)
   keep-run st o [] a h = (tt, h)
   keep-run st o (b ∷ bs) a h =
       let s = keep-step st o b (a .0) h in
@@ -86,7 +86,7 @@ module _ {At : ℕ → ℕ → Type 0} {Naming : (o s : ℕ) → List ℕ → Ty
   keep-finish (fault f s) o l h = tt
 
   -- from a state on, to the end of the text at l
-  pub keep-rest : (st : St) (o l : ℕ) (bs : List ℕ) → EachAt At o bs → Keeps o st → All (OfTok Made) (emits st o bs ++ finish (ends st o bs) l .toks)
+  pub keep-rest : (st : St) (o l : ℕ) (bs : List ℕ) → EachAt At o bs → Keeps o st → All (OfTok Made) (emits st o bs ++ finish (stateAfter st o bs) l .toks)
   keep-rest st o l bs a h =
       let r = keep-run st o bs a h in
-      all-append (OfTok Made) (emits st o bs) (finish (ends st o bs) l .toks) (r .0) (keep-finish (ends st o bs) (place o bs) l (r .1))
+      all-append (OfTok Made) (emits st o bs) (finish (stateAfter st o bs) l .toks) (r .0) (keep-finish (stateAfter st o bs) (place o bs) l (r .1))

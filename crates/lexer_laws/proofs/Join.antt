@@ -2,7 +2,7 @@
 use Rattle.lists.proofs.Prelude.{ℕ, zero, suc, _+_, _≤_, _<_, _-_, _≡_, refl, sym, ap, _∙_, Bool, true, false, List, [], _∷_, _++_, append-assoc, append-nil, arith, add-one, length, drop, getD, slice, slice-empty, eqb, ltb, ne-eqb, eq-eqb, eqb-true, eqb-false, ltb-true, ltb-false}
 use Rattle.lists.proofs.Pick.{pick-elim}
 use Rattle.lexer.specs.Token.{Val, Tok, start, end, node, prop, between, ident, value, after, Out, silent, step, Lexed, lexed, lexAt, done, broken}
-use Rattle.lexer_scan.specs.Scan.{space, skipAt, identAt, valuesAt}
+use Rattle.lexer_scan.specs.Scan.{space, skipAt, identAt, valuesEndAt}
 use Rattle.lexer_close.specs.Close.{closeAt}
 use Rattle.lexer.specs.Step.{onIdent, headFrom, headAt, onValues, onHead, nextAt, valsAt, propAt, stepOn}
 use Rattle.lexer_close.proofs.Bounds.{close-bounds}
@@ -47,7 +47,7 @@ module _ (u : List ℕ) (s k : ℕ) (w : List ℕ) where
 
   abbrev Values : ℕ → Type 0
   Values n = (vs : List Val) (q : ℕ) → length u - q < n → getD u q 0 ≡ 0x5b
-      → rest (value s k w vs false (suc q) []) (suc q) (length u) (drop (suc q) u) ≡ valuesOn vs q (valuesAt u q)
+      → rest (value s k w vs false (suc q) []) (suc q) (length u) (drop (suc q) u) ≡ valuesOn vs q (valuesEndAt u q)
 
   module _ (n : ℕ) (ih : Values n) (vs : List Val) (q : ℕ) (f : length u - q < suc n) (b : getD u q 0 ≡ 0x5b) where
     abbrev grown : ℕ → List Val
@@ -62,11 +62,11 @@ module _ (u : List ℕ) (s k : ℕ) (w : List ℕ) where
       join (At g) = ap (λ (z : List Val). lexed (prop (made u s k w z) g ∷ []) (lexAt u g)) lists
       join Open = refl
 
-      same-values : valuesAt u x ≡ valuesAt u q
+      same-values : valuesEndAt u x ≡ valuesEndAt u q
       same-values = sym (values-more u q (q + 1) j x (value-on u q j x b e ex))
 
       opened : x ≤ length u → space (getD u x 0) ≡ false → getD u x 0 ≡ 0x5b
-          → rest (after (made u s k w (grown j))) x (length u) (drop x u) ≡ valuesOn vs q (valuesAt u q)
+          → rest (after (made u s k w (grown j))) x (length u) (drop x u) ≡ valuesOn vs q (valuesEndAt u q)
       opened h sp o =
           let cb = close-bounds u (q + 1) j e in
           let sb = skip-bounds u (j + 1) in
@@ -77,24 +77,24 @@ module _ (u : List ℕ) (s k : ℕ) (w : List ℕ) where
           ∙ ap (λ (z : Out). lexed (z .toks) (rest (z .next) (suc x) (length u) (drop (suc x) u))) y
           ∙ ih (grown j) x (omega arith) o
           ∙ ap (valuesOn (grown j) x) same-values
-          ∙ join (valuesAt u q)
+          ∙ join (valuesEndAt u q)
 
       closed : x ≤ length u → space (getD u x 0) ≡ false → (getD u x 0 ≡ 0x5b → ⊥)
-          → rest (after (made u s k w (grown j))) x (length u) (drop x u) ≡ valuesOn vs q (valuesAt u q)
+          → rest (after (made u s k w (grown j))) x (length u) (drop x u) ≡ valuesOn vs q (valuesEndAt u q)
       closed h sp o =
           after-ends (grown j) x h sp o
           ∙ ap (λ (z : List Val). lexed (prop (made u s k w z) x ∷ []) (lexAt u x))
           (sym (append-nil (grown j)) ∙ ap (λ (z : List Val). grown j ++ z) (sym (vals-none u x (value-none u x o))) ∙ lists)
           ∙ ap (valuesOn vs q) (sym (values-none u x (value-none u x o)) ∙ same-values)
 
-    from-close : (z : Close) → closeAt u (q + 1) ≡ z → closeOn u s k w vs (q + 1) z ≡ valuesOn vs q (valuesAt u q)
+    from-close : (z : Close) → closeAt u (q + 1) ≡ z → closeOn u s k w vs (q + 1) z ≡ valuesOn vs q (valuesEndAt u q)
     from-close (At j) e =
         let cb = close-bounds u (q + 1) j e in
         skip-rest u (after (made u s k w (grown j))) (after-skips (made u s k w (grown j))) (drop (suc j) u) (suc j) refl
         ∙ go (skipAt u (suc j)) (ap (skipAt u) (sym (add-one j))) (skip-within u (suc j) (omega arith)) (skip-stops u (suc j))
       where
-        go : (x : ℕ) → x ≡ skipAt u (j + 1) → x ≤ length u → space (getD u x 0) ≡ false → rest (after (made u s k w (grown j))) x (length u) (drop x u) ≡ valuesOn vs q (valuesAt u q)
-        go x ex h sp = elim (eqb (getD u x 0) 0x5b) as (λ (c : Bool). eqb (getD u x 0) 0x5b ≡ c → rest (after (made u s k w (grown j))) x (length u) (drop x u) ≡ valuesOn vs q (valuesAt u q))
+        go : (x : ℕ) → x ≡ skipAt u (j + 1) → x ≤ length u → space (getD u x 0) ≡ false → rest (after (made u s k w (grown j))) x (length u) (drop x u) ≡ valuesOn vs q (valuesEndAt u q)
+        go x ex h sp = elim (eqb (getD u x 0) 0x5b) as (λ (c : Bool). eqb (getD u x 0) 0x5b ≡ c → rest (after (made u s k w (grown j))) x (length u) (drop x u) ≡ valuesOn vs q (valuesEndAt u q))
             [ true ↦ λ c. opened j x e ex h sp (eqb-true (getD u x 0) 0x5b c) | false ↦ λ c. closed j x e ex h sp (eqb-false (getD u x 0) 0x5b c) ] refl
     from-close Open e = ap (valuesOn vs q) (sym (values-unclosed u q (value-open u q b e)))
 
@@ -131,7 +131,7 @@ module _ (u : List ℕ) where
   unfolding propAt
   ident-token i (Opens k) e =
       let b = ident-bounds u i k e in
-      values-lex u i k (slice i k u) (suc (length u)) [] k (omega arith) (b .2) ∙ on (valuesAt u k)
+      values-lex u i k (slice i k u) (suc (length u)) [] k (omega arith) (b .2) ∙ on (valuesEndAt u k)
     where
       on : (z : Close) → valuesOn u i k (slice i k u) [] k z ≡ stepOn u (onValues i k z)
       on (At e) = refl

@@ -4,7 +4,7 @@ use Rattle.lists.specs.All.{All}
 use Rattle.text_chars.specs.White.{white}
 use Rattle.text_utf8.specs.Text.{Ink, blank, whole, utfs}
 use Rattle.text_utf8.proofs.Steps.{place}
-use Rattle.lexer.specs.Token.{Val, St, between, value, emits, ends, lexFrom, lexAt, broken}
+use Rattle.lexer.specs.Token.{Val, St, between, value, emits, stateAfter, lexFrom, lexAt, broken}
 use Rattle.lexer.specs.Closed.{closedFrom}
 use Rattle.lexer.specs.Move.{startsAt, endsAt, newRaw}
 use Rattle.lexer_scan.specs.Scan.{space, identFrom}
@@ -29,7 +29,7 @@ use Rattle.lexer.specs.declared.Step.the-variants.{Refused}
 
 -- the tokens of a joined text are those of the first part, then those of the second from the state that the first leaves
 pub tokens-append : (st : St) (o : ℕ) (xs ys : List ℕ)
-    → (emits st o (xs ++ ys) ≡ emits st o xs ++ emits (ends st o xs) (place o xs) ys) × (ends st o (xs ++ ys) ≡ ends (ends st o xs) (place o xs) ys)
+    → (emits st o (xs ++ ys) ≡ emits st o xs ++ emits (stateAfter st o xs) (place o xs) ys) × (stateAfter st o (xs ++ ys) ≡ stateAfter (stateAfter st o xs) (place o xs) ys)
 tokens-append st o xs ys = (machine.emits-append st o xs ys, machine.ends-append st o xs ys)
 
 -- the machine from a place on gives the next token, then what it gives from behind that
@@ -50,7 +50,7 @@ values-proper = proper.proper-tokens
 
 -- another closed text in the place of a value changes nothing but places, and that value's bytes
 pub value-replaced : (f l : ℕ) (pre body new post : List ℕ) (s i : ℕ) (w : List ℕ) (vs : List Val)
-    → ends between f pre ≡ value s i w vs false (place f pre) [] → closedFrom false body ≡ true → closedFrom false new ≡ true → place (place f pre) body ≤ l
+    → stateAfter between f pre ≡ value s i w vs false (place f pre) [] → closedFrom false body ≡ true → closedFrom false new ≡ true → place (place f pre) body ≤ l
     → lexFrom f (endsAt (place f pre) (place (place f pre) body) (length new) l) (pre ++ (new ++ (0x5d ∷ post)))
     ≡ moveLexed (startsAt (place f pre) (place (place f pre) body) (length new)) (endsAt (place f pre) (place (place f pre) body) (length new)) (newRaw (place f pre) new)
     (lexFrom f l (pre ++ (body ++ (0x5d ∷ post))))

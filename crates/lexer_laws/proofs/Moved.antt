@@ -1,7 +1,7 @@
 -- Places moved: bytes at places that are moved evenly give the same tokens, with their places moved. Assumes nothing.
 use Rattle.lists.proofs.Prelude.{_≡_, refl, sym, ap, _∙_, ℕ, suc, _≤_, _<_, arith, Bool, true, false, List, [], _∷_, _++_, map, map-append, leb, eqb}
 use Rattle.text_utf8.proofs.Steps.{place, place-is}
-use Rattle.lexer.specs.Token.{Val, Prop, Tok, end, St, between, ident, value, after, fault, Out, silent, starts, begins, values, afters, step, emits, ends, finish, Lexed, End, done, broken}
+use Rattle.lexer.specs.Token.{Val, Prop, Tok, end, St, between, ident, value, after, fault, Out, silent, propertyState, begins, values, afters, step, emits, stateAfter, finish, Lexed, End, done, broken}
 use Rattle.lexer_scan.specs.Scan.{space}
 use Rattle.lexer.specs.Move.{moveVal, moveProp, moveTok}
 
@@ -31,7 +31,7 @@ module _ (f g : ℕ → ℕ) (h : ℕ → List ℕ → List ℕ) where
   Calm (after p) = Unit {0}
   Calm (fault n s) = Unit {0}
 
-  move-starts : (c high : Bool) (s : ℕ) (w : List ℕ) (o b : ℕ) → Even o → starts c high (f s) w (f o) b ≡ moveSt (starts c high s w o b)
+  move-starts : (c high : Bool) (s : ℕ) (w : List ℕ) (o b : ℕ) → Even o → propertyState c high (f s) w (f o) b ≡ moveSt (propertyState c high s w o b)
   move-starts true high s w o b e = rw (e .at-end, e .at-next)
   move-starts false true s w o b e = refl
   move-starts false false s w o b e = refl
@@ -62,7 +62,7 @@ module _ (f g : ℕ → ℕ) (h : ℕ → List ℕ → List ℕ) where
   move-step (after p) o b e k = move-afters (space b) (eqb b 0x5b) p (step between o b) (step between (f o) b) o e (move-begins (eqb b 0x28) (eqb b 0x29) (eqb b 0x3b) (space b) o b e)
   move-step (fault n s) o b e k = refl
 
-  calm-starts : (c high : Bool) (s : ℕ) (w : List ℕ) (o b : ℕ) → ((r : List ℕ) → h (suc o) r ≡ r) → Calm (starts c high s w o b)
+  calm-starts : (c high : Bool) (s : ℕ) (w : List ℕ) (o b : ℕ) → ((r : List ℕ) → h (suc o) r ≡ r) → Calm (propertyState c high s w o b)
   calm-starts true high s w o b k = k
   calm-starts false true s w o b k = tt
   calm-starts false false s w o b k = tt
@@ -95,7 +95,7 @@ module _ (f g : ℕ → ℕ) (h : ℕ → List ℕ → List ℕ) where
 
   -- the locality law: bytes at places that are moved evenly give the same tokens, with their places moved
   pub move-run : (st : St) (o : ℕ) (bs : List ℕ) → ((j : ℕ) → o ≤ j → j < place o bs → Even j) → (o < place o bs → Calm st)
-      → (emits (moveSt st) (f o) bs ≡ map (moveTok f g h) (emits st o bs)) × (ends (moveSt st) (f o) bs ≡ moveSt (ends st o bs))
+      → (emits (moveSt st) (f o) bs ≡ map (moveTok f g h) (emits st o bs)) × (stateAfter (moveSt st) (f o) bs ≡ moveSt (stateAfter st o bs))
   move-run st o [] ev cm = (refl, refl)
   move-run st o (b ∷ bs) ev cm =
       let lt : o < place (suc o) bs = omega (arith, place-is (suc o) bs) in

@@ -1,7 +1,7 @@
 -- Another closed text in the place of a value: the same tokens, with their places moved. Assumes nothing.
 use Rattle.lists.proofs.Prelude.{_≡_, refl, sym, ap, _∙_, ℕ, suc, _+_, _≤_, _<_, _-_, arith, true, false, List, [], _∷_, _++_, map, append-assoc, map-append, length, le-leb, lt-leb, lt-ltb, le-ltb, eq-eqb, ne-eqb}
 use Rattle.text_utf8.proofs.Steps.{place, place-is}
-use Rattle.lexer.specs.Token.{Val, Prop, between, value, after, emits, ends, finish, lexFrom}
+use Rattle.lexer.specs.Token.{Val, Prop, between, value, after, emits, stateAfter, finish, lexFrom}
 use Rattle.lexer.specs.Closed.{closedFrom}
 use Rattle.lexer.specs.Move.{moveVal, moveTok, startsAt, endsAt, newRaw}
 use Rattle.lexer_laws.proofs.Machine.{emits-append, ends-append, grown, over-value}
@@ -26,7 +26,7 @@ pub raw-same : (q : ℕ) (new : List ℕ) (r : List ℕ) → newRaw q new q r �
 raw-same q new r = rw (eq-eqb q q refl)
 
 module _ (f0 l : ℕ) (pre body new post : List ℕ) (s i : ℕ) (w : List ℕ) (vs : List Val)
-    (state : ends between f0 pre ≡ value s i w vs false (place f0 pre) [])
+    (state : stateAfter between f0 pre ≡ value s i w vs false (place f0 pre) [])
     (cb : closedFrom false body ≡ true) (cn : closedFrom false new ≡ true)
     (hl : place (place f0 pre) body ≤ l) where
   abbrev q : ℕ
@@ -90,8 +90,8 @@ module _ (f0 l : ℕ) (pre body new post : List ℕ) (s i : ℕ) (w : List ℕ) 
 
   old-run : lexFrom f0 l (pre ++ (body ++ (0x5d ∷ post)))
       ≡ record {
-        toks = emits between f0 pre ++ (emits (after (grown s i w vs q e body)) (suc e) post ++ finish (ends (after (grown s i w vs q e body)) (suc e) post) l .toks);
-        end = finish (ends (after (grown s i w vs q e body)) (suc e) post) l .end;
+        toks = emits between f0 pre ++ (emits (after (grown s i w vs q e body)) (suc e) post ++ finish (stateAfter (after (grown s i w vs q e body)) (suc e) post) l .toks);
+        end = finish (stateAfter (after (grown s i w vs q e body)) (suc e) post) l .end;
       }
   old-run =
       let k = over-value s i w vs q [] body post q cb in
@@ -99,8 +99,8 @@ module _ (f0 l : ℕ) (pre body new post : List ℕ) (s i : ℕ) (w : List ℕ) 
 
   new-run : (l′ : ℕ) → lexFrom f0 l′ (pre ++ (new ++ (0x5d ∷ post)))
       ≡ record {
-        toks = emits between f0 pre ++ (emits (after (grown s i w vs q (place q new) new)) (suc (place q new)) post ++ finish (ends (after (grown s i w vs q (place q new) new)) (suc (place q new)) post) l′ .toks);
-        end = finish (ends (after (grown s i w vs q (place q new) new)) (suc (place q new)) post) l′ .end;
+        toks = emits between f0 pre ++ (emits (after (grown s i w vs q (place q new) new)) (suc (place q new)) post ++ finish (stateAfter (after (grown s i w vs q (place q new) new)) (suc (place q new)) post) l′ .toks);
+        end = finish (stateAfter (after (grown s i w vs q (place q new) new)) (suc (place q new)) post) l′ .end;
       }
   new-run l′ =
       let k = over-value s i w vs q [] new post q cn in
@@ -114,12 +114,12 @@ module _ (f0 l : ℕ) (pre body new post : List ℕ) (s i : ℕ) (w : List ℕ) 
       let z : suc (place q new) ≡ f (suc e) = omega (arith, starts-high q e n (suc e) (omega (arith, q≤e)), place-is q new) in
       let m :
       record {
-        toks = emits between f0 pre ++ (emits (after (grown s i w vs q (place q new) new)) (suc (place q new)) post ++ finish (ends (after (grown s i w vs q (place q new) new)) (suc (place q new)) post) (g l) .toks);
-        end = finish (ends (after (grown s i w vs q (place q new) new)) (suc (place q new)) post) (g l) .end;
+        toks = emits between f0 pre ++ (emits (after (grown s i w vs q (place q new) new)) (suc (place q new)) post ++ finish (stateAfter (after (grown s i w vs q (place q new) new)) (suc (place q new)) post) (g l) .toks);
+        end = finish (stateAfter (after (grown s i w vs q (place q new) new)) (suc (place q new)) post) (g l) .end;
       }
       ≡ moveLexed f g h
       (record {
-        toks = emits between f0 pre ++ (emits (after p) (suc e) post ++ finish (ends (after p) (suc e) post) l .toks);
-        end = finish (ends (after p) (suc e) post) l .end;
-      }) = rw (middle, z, k .0, k .1, move-finish f g h (ends (after p) (suc e) post) l, map-append, map-append, ← front .0) in
+        toks = emits between f0 pre ++ (emits (after p) (suc e) post ++ finish (stateAfter (after p) (suc e) post) l .toks);
+        end = finish (stateAfter (after p) (suc e) post) l .end;
+      }) = rw (middle, z, k .0, k .1, move-finish f g h (stateAfter (after p) (suc e) post) l, map-append, map-append, ← front .0) in
       new-run (g l) ∙ m ∙ ap (moveLexed f g h) (sym old-run)

@@ -1,7 +1,7 @@
 -- The scans and the machine: what the machine gives from within an identifier, from within a value and in white space is what the scan finds. Assumes nothing.
 use Rattle.lists.proofs.Prelude.{ℕ, suc, _+_, _≤_, _<_, _≡_, refl, sym, ap, _∙_, Bool, true, false, false≢true, List, [], _∷_, _++_, append-assoc, arith, add-one, length, drop, getD, length-drop, drop-of-length-le, List·getD-eq-default, slice, drop-cons, eqb, leb, ne-eqb, pick}
 use Rattle.lists.proofs.Places.{at-place, slice-snoc}
-use Rattle.lexer.specs.Token.{Val, Prop, Tok, St, between, ident, value, after, fault, Out, silent, starts, begins, values, afters, step, emits, ends, finish, Lexed, lexed, broken}
+use Rattle.lexer.specs.Token.{Val, Prop, Tok, St, between, ident, value, after, fault, Out, silent, propertyState, begins, values, afters, step, emits, stateAfter, finish, Lexed, lexed, broken}
 use Rattle.lexer_scan.specs.Scan.{space, skipFrom, skipAt, identFrom}
 use Rattle.lexer_close.specs.Close.{closeFrom}
 use Rattle.lexer.specs.declared.Fault.{Fault}
@@ -13,12 +13,12 @@ use Rattle.lexer_scan.specs.declared.Ident.the-variants.{Opens, Missing, Foreig
 
 -- what the machine still gives
 abbrev pub rest : St → (o l : ℕ) → List ℕ → Lexed
-rest st o l bs = lexed (emits st o bs) (finish (ends st o bs) l)
+rest st o l bs = lexed (emits st o bs) (finish (stateAfter st o bs) l)
 
 rest-step : (st : St) (o l b : ℕ) (bs : List ℕ) → rest st o l (b ∷ bs) ≡ lexed (step st o b .toks) (rest (step st o b .next) (suc o) l bs)
 rest-step st o l b bs =
-    ap (λ (z : List Tok). record { toks = z; end = finish (ends st o (b ∷ bs)) l .end })
-    (append-assoc (step st o b .toks) (emits (step st o b .next) (suc o) bs) (finish (ends st o (b ∷ bs)) l .toks))
+    ap (λ (z : List Tok). record { toks = z; end = finish (stateAfter st o (b ∷ bs)) l .end })
+    (append-assoc (step st o b .toks) (emits (step st o b .next) (suc o) bs) (finish (stateAfter st o (b ∷ bs)) l .toks))
 
 fault-rest : (f : Fault) (s i l : ℕ) (bs : List ℕ) → rest (fault f s) i l bs ≡ record { toks = []; end = broken f s }
 fault-rest f s i l [] = refl
@@ -51,7 +51,7 @@ module _ (u : List ℕ) where
   ident-rest (b ∷ bs) i s d h = go (eqb b 0x5b) (leb 0x80 b) (ident-rest bs (suc i) s (at-place i u b bs d .2) (omega arith))
     where
       go : (c1 c2 : Bool) → rest (ident s (slice s (suc i) u)) (suc i) (length u) bs ≡ identOn s (identFrom (suc i) bs)
-          → rest (starts c1 c2 s (slice s i u) i b) (suc i) (length u) bs ≡ identOn s (pick c1 (Opens i) (pick c2 Foreign (identFrom (i + 1) bs)))
+          → rest (propertyState c1 c2 s (slice s i u) i b) (suc i) (length u) bs ≡ identOn s (pick c1 (Opens i) (pick c2 Foreign (identFrom (i + 1) bs)))
       go true c2 ih = ap (rest (value s i (slice s i u) [] false (suc i) []) (suc i) (length u)) (sym (at-place i u b bs d .2))
       go false true ih = fault-rest UnexpectedEndOfPropertyIdentifier s (suc i) (length u) bs
       go false false ih =
@@ -95,7 +95,7 @@ module _ (u : List ℕ) where
     where
       go : (c : Bool) → space b ≡ c → rest st (suc i) (length u) bs ≡ restAt st (skipFrom (suc i) bs) → rest st i (length u) (b ∷ bs) ≡ restAt st (pick c (skipFrom (i + 1) bs) i)
       go true q ih =
-          ap (λ (z : Out). lexed (z .toks ++ emits (z .next) (suc i) bs) (finish (ends (z .next) (suc i) bs) (length u))) (k i b q)
+          ap (λ (z : Out). lexed (z .toks ++ emits (z .next) (suc i) bs) (finish (stateAfter (z .next) (suc i) bs) (length u))) (k i b q)
           ∙ ih ∙ ap (λ (z : ℕ). restAt st (skipFrom z bs)) (sym (add-one i))
       go false q ih = ap (rest st i (length u)) (sym d)
 

@@ -3,7 +3,7 @@ use Rattle.lists.proofs.Prelude.{_≡_, refl, ap, _∙_, _⊎_, inl, inr, ℕ, 
 use Rattle.lists.specs.All.{All}
 use Rattle.lists.proofs.All.{all-append}
 use Rattle.text_utf8.proofs.Steps.{place, place-is}
-use Rattle.lexer.specs.Token.{Val, Prop, St, between, value, emits, ends, finish}
+use Rattle.lexer.specs.Token.{Val, Prop, St, between, value, emits, stateAfter, finish}
 use Rattle.lexer.specs.Closed.{closedFrom}
 use Rattle.lexer_laws.proofs.Invariant.{EachAt, Invariant, Keeps, keep-run}
 
@@ -76,7 +76,7 @@ module _ (B : ℕ → ℕ) where
       (ap B e ∙ h 1, each-before b (suc o) bs (λ k. let f : suc o + k ≡ o + suc k = omega arith in ap B f ∙ h (suc k)))
 
 -- of the state after the bytes from f on
-pub shape-run : (f : ℕ) (pre : List ℕ) → Keeps (shaped (λ (j : ℕ). getD (0 ∷ pre) (j - f) 0)) (place f pre) (ends between f pre)
+pub shape-run : (f : ℕ) (pre : List ℕ) → Keeps (shaped (λ (j : ℕ). getD (0 ∷ pre) (j - f) 0)) (place f pre) (stateAfter between f pre)
 shape-run f pre =
     let B : ℕ → ℕ = λ (j : ℕ). getD (0 ∷ pre) (j - f) 0 in
     keep-run (shaped B) between f pre (each-before B 0 f pre (λ k. let e : f + k - f ≡ k = omega arith in ap (λ (j : ℕ). getD (0 ∷ pre) j 0) e)) tt .1
@@ -84,7 +84,7 @@ shape-run f pre =
 -- ---- the rest of a value: it is never closed, or closed at the first unescaped `]`
 
 abbrev pub Never : St → ℕ → List ℕ → Type 0
-Never st o bs = (emits st o bs ≡ []) × ((l : ℕ) → finish (ends st o bs) l .toks ≡ [])
+Never st o bs = (emits st o bs ≡ []) × ((l : ℕ) → finish (stateAfter st o bs) l .toks ≡ [])
 
 abbrev pub Closed : Bool → List ℕ → Type 0
 Closed esc bs = (body post : List ℕ) × (bs ≡ body ++ (0x5d ∷ post)) × (closedFrom esc body ≡ true)

@@ -2,7 +2,7 @@
 use Rattle.lists.proofs.Prelude.{ℕ, suc, _+_, _≤_, _<_, _≡_, refl, sym, _∙_, Bool, true, false, List, [], _∷_, arith, length, drop, getD, length-drop, List·getD-eq-default, getD-drop, eqb, leb, eq-eqb, ne-eqb, eqb-true, pick}
 use Rattle.lists.proofs.Pick.{pick-elim}
 use Rattle.lists.proofs.Tests.{never}
-use Rattle.lexer_scan.specs.Scan.{space, skipFrom, skipAt, identFrom, identAt, onClose, valueAt}
+use Rattle.lexer_scan.specs.Scan.{space, skipFrom, skipAt, identFrom, identAt, onClose, valueStepAt}
 use Rattle.lexer_close.proofs.Bounds.{close-bounds}
 use Rattle.lexer_close.specs.Close.{closeAt}
 use Rattle.lexer_close.specs.declared.Close.{Close}
@@ -69,8 +69,8 @@ pub record ValueIs (s : List ℕ) (k a e n : ℕ) : Type 0 where
   pub on : e < n
   pub still : n ≤ length s
 
-pub value-is : (s : List ℕ) (k a e n : ℕ) → valueAt s k ≡ Value a e n → ValueIs s k a e n
-unfolding valueAt
+pub value-is : (s : List ℕ) (k a e n : ℕ) → valueStepAt s k ≡ Value a e n → ValueIs s k a e n
+unfolding valueStepAt
 value-is s k a e n q = pick-elim P (eqb (getD s k 0) 0x5b) (λ h. go (closeAt s (k + 1)) refl (eqb-true _ _ h)) (λ _ q. never (cc)) q
   where
     P : ValueStep → Type 0
@@ -88,20 +88,20 @@ value-is s k a e n q = pick-elim P (eqb (getD s k 0) 0x5b) (λ h. go (closeAt s 
     go Open c h q = never (cc)
 
 module _ (s : List ℕ) (k : ℕ) where
-  pub value-on : (j n : ℕ) → getD s k 0 ≡ 0x5b → closeAt s (k + 1) ≡ At j → n ≡ skipAt s (j + 1) → valueAt s k ≡ Value (k + 1) j n
-  unfolding valueAt
+  pub value-on : (j n : ℕ) → getD s k 0 ≡ 0x5b → closeAt s (k + 1) ≡ At j → n ≡ skipAt s (j + 1) → valueStepAt s k ≡ Value (k + 1) j n
+  unfolding valueStepAt
   value-on j n b q e = rw (eq-eqb (getD s k 0) 0x5b b, q, e)
 
-  pub value-open : getD s k 0 ≡ 0x5b → closeAt s (k + 1) ≡ Open → valueAt s k ≡ Unclosed
-  unfolding valueAt
+  pub value-open : getD s k 0 ≡ 0x5b → closeAt s (k + 1) ≡ Open → valueStepAt s k ≡ Unclosed
+  unfolding valueStepAt
   value-open b q = rw (eq-eqb (getD s k 0) 0x5b b, q)
 
-  pub value-none : (getD s k 0 ≡ 0x5b → ⊥) → valueAt s k ≡ NoMore
-  unfolding valueAt
+  pub value-none : (getD s k 0 ≡ 0x5b → ⊥) → valueStepAt s k ≡ NoMore
+  unfolding valueStepAt
   value-none b = rw (ne-eqb (getD s k 0) 0x5b b)
 
 -- where a `[` stands, a value is found or does not close
-pub opens-not-none : (s : List ℕ) (k : ℕ) → getD s k 0 ≡ 0x5b → valueAt s k ≡ NoMore → ⊥
+pub opens-not-none : (s : List ℕ) (k : ℕ) → getD s k 0 ≡ 0x5b → valueStepAt s k ≡ NoMore → ⊥
 opens-not-none s k b q = go (closeAt s (k + 1)) refl
   where
     go : (z : Close) → closeAt s (k + 1) ≡ z → ⊥

@@ -2,7 +2,7 @@
 use Rattle.lists.proofs.Prelude.{ℕ, zero, suc, _≤_, _<_, _-_, _≡_, refl, sym, ap, _∙_, List, arith, length}
 use Rattle.lists.specs.Run.{more}
 use Rattle.lists.proofs.Run.{run-more, run-done}
-use Rattle.lexer_scan.specs.Scan.{onValue, valueAt, valuesAt}
+use Rattle.lexer_scan.specs.Scan.{onValue, valueStepAt, valuesEndAt}
 use Rattle.lexer_scan.proofs.Bounds.{value-is}
 use Rattle.lists.proofs.Tests.{never}
 use Rattle.lexer_close.specs.declared.Close.the-variants.{At, Open}
@@ -14,33 +14,33 @@ module _ (s : List ℕ) where
   left : ℕ → ℕ
   left i = length s - i
 
-  falls : (x y : ℕ) → onValue x (valueAt s x) ≡ more y → left y < left x
+  falls : (x y : ℕ) → onValue x (valueStepAt s x) ≡ more y → left y < left x
   unfolding left
-  falls x y e = go (valueAt s x) refl e
+  falls x y e = go (valueStepAt s x) refl e
     where
-      go : (v : ValueStep) → valueAt s x ≡ v → onValue x v ≡ more y → length s - y < length s - x
+      go : (v : ValueStep) → valueStepAt s x ≡ v → onValue x v ≡ more y → length s - y < length s - x
       go (Value a b n) q e = let z : n ≡ y = cc in let i = value-is s x a b n q in omega arith
       go NoMore q e = never (cc)
       go Unclosed q e = never (cc)
 
-  pub values-more : (k a e n : ℕ) → valueAt s k ≡ Value a e n → valuesAt s k ≡ valuesAt s n
-  unfolding valuesAt left
-  values-more k a e n q = run-more (λ (i : ℕ). onValue i (valueAt s i)) Open left falls (suc (length s)) k n (omega arith) (ap (onValue k) q)
+  pub values-more : (k a e n : ℕ) → valueStepAt s k ≡ Value a e n → valuesEndAt s k ≡ valuesEndAt s n
+  unfolding valuesEndAt left
+  values-more k a e n q = run-more (λ (i : ℕ). onValue i (valueStepAt s i)) Open left falls (suc (length s)) k n (omega arith) (ap (onValue k) q)
 
-  pub values-unclosed : (k : ℕ) → valueAt s k ≡ Unclosed → valuesAt s k ≡ Open
-  unfolding valuesAt
-  values-unclosed k q = run-done (λ (i : ℕ). onValue i (valueAt s i)) Open (suc (length s)) k Open (omega arith) (ap (onValue k) q)
+  pub values-unclosed : (k : ℕ) → valueStepAt s k ≡ Unclosed → valuesEndAt s k ≡ Open
+  unfolding valuesEndAt
+  values-unclosed k q = run-done (λ (i : ℕ). onValue i (valueStepAt s i)) Open (suc (length s)) k Open (omega arith) (ap (onValue k) q)
 
-  pub values-none : (k : ℕ) → valueAt s k ≡ NoMore → valuesAt s k ≡ At k
-  unfolding valuesAt
-  values-none k q = run-done (λ (i : ℕ). onValue i (valueAt s i)) Open (suc (length s)) k (At k) (omega arith) (ap (onValue k) q)
+  pub values-none : (k : ℕ) → valueStepAt s k ≡ NoMore → valuesEndAt s k ≡ At k
+  unfolding valuesEndAt
+  values-none k q = run-done (λ (i : ℕ). onValue i (valueStepAt s i)) Open (suc (length s)) k (At k) (omega arith) (ap (onValue k) q)
 
   -- the values end in the text, and no earlier than they start
-  values-from : (f k e : ℕ) → length s - k < f → valuesAt s k ≡ At e → (k ≤ e) × (k ≤ length s → e ≤ length s)
+  values-from : (f k e : ℕ) → length s - k < f → valuesEndAt s k ≡ At e → (k ≤ e) × (k ≤ length s → e ≤ length s)
   values-from zero k e h q = absurd (omega arith)
-  values-from (suc f) k e h q = go (valueAt s k) refl (values-from f)
+  values-from (suc f) k e h q = go (valueStepAt s k) refl (values-from f)
     where
-      go : (v : ValueStep) → valueAt s k ≡ v → ((x g : ℕ) → length s - x < f → valuesAt s x ≡ At g → (x ≤ g) × (x ≤ length s → g ≤ length s)) → (k ≤ e) × (k ≤ length s → e ≤ length s)
+      go : (v : ValueStep) → valueStepAt s k ≡ v → ((x g : ℕ) → length s - x < f → valuesEndAt s x ≡ At g → (x ≤ g) × (x ≤ length s → g ≤ length s)) → (k ≤ e) × (k ≤ length s → e ≤ length s)
       go (Value a b n) r ih =
           let i = value-is s k a b n r in
           let j = ih n e (omega arith) (sym (values-more k a b n r) ∙ q) in
@@ -48,14 +48,14 @@ module _ (s : List ℕ) where
       go NoMore r ih = let y : At k ≡ At e = sym (values-none k r) ∙ q in let x : k ≡ e = cc in (omega arith, λ l. omega arith)
       go Unclosed r ih = let z : At e ≡ Open = sym q ∙ values-unclosed k r in never (cc)
 
-  pub values-bounds : (k e : ℕ) → valuesAt s k ≡ At e → (k ≤ e) × (k ≤ length s → e ≤ length s)
+  pub values-bounds : (k e : ℕ) → valuesEndAt s k ≡ At e → (k ≤ e) × (k ≤ length s → e ≤ length s)
   values-bounds k e q = values-from (suc (length s)) k e (omega arith) q
 
   -- and later, where one opens
-  pub values-forward : (k e : ℕ) → (valueAt s k ≡ NoMore → ⊥) → valuesAt s k ≡ At e → k < e
-  values-forward k e o q = go (valueAt s k) refl
+  pub values-forward : (k e : ℕ) → (valueStepAt s k ≡ NoMore → ⊥) → valuesEndAt s k ≡ At e → k < e
+  values-forward k e o q = go (valueStepAt s k) refl
     where
-      go : (v : ValueStep) → valueAt s k ≡ v → k < e
+      go : (v : ValueStep) → valueStepAt s k ≡ v → k < e
       go (Value a b n) r = let i = value-is s k a b n r in let j = values-bounds n e (sym (values-more k a b n r) ∙ q) in omega arith
       go NoMore r = absurd (o r)
       go Unclosed r = let z : At e ≡ Open = sym q ∙ values-unclosed k r in never (cc)

@@ -9,7 +9,7 @@ use Rattle.lexer_scan.specs.declared.Ident.the-variants.{Opens, Missing,
 use Rattle.lexer_scan.specs.declared.ValueStep.{ValueStep}
 use Rattle.lexer_scan.specs.declared.ValueStep.the-variants.{Value, NoMore, Unclosed}
 
--- white space between tokens: space, tab, LF, VT, FF, CR
+-- white space between tokens: space, tab, LF, VT, FF, CR (SCOPE 69, 167)
 unfoldable pub space : ℕ → Bool
 space b = eqb b 0x20 || eqb b 0x9 || eqb b 0xa || eqb b 0xb || eqb b 0xc || eqb b 0xd
 
@@ -22,7 +22,7 @@ skipFrom i (b ∷ s) = pick (space b) (skipFrom (i + 1) s) i
 abbrev pub skipAt : List ℕ → ℕ → ℕ
 skipAt s i = skipFrom i (drop i s)
 
--- an identifier runs to `[`, whatever ASCII it crosses; the text ends first: Missing; a byte that is not ASCII first: Foreign
+-- an identifier runs to `[`, whatever ASCII it crosses; the text ends first: Missing; a byte that is not ASCII first: Foreign (SCOPE 34, 35, 71, 72, 140)
 unfoldable pub identFrom : ℕ → List ℕ → Ident
 identFrom i [] = Missing
 identFrom i (b ∷ s) = pick (eqb b 0x5b) (Opens i) (pick (leb 0x80 b) Foreign (identFrom (i + 1) s))
@@ -37,8 +37,8 @@ onClose s k (At j) = Value (k + 1) j (skipAt s (j + 1))
 onClose s k Open = Unclosed
 
 -- the value that opens at k: from after its `[` to its `]`, then the white space after it. Past the end of the text `getD` gives 0, which opens nothing
-unfoldable pub valueAt : List ℕ → ℕ → ValueStep
-valueAt s k = pick (eqb (getD s k 0) 0x5b) (onClose s k (closeAt s (k + 1))) NoMore
+unfoldable pub valueStepAt : List ℕ → ℕ → ValueStep
+valueStepAt s k = pick (eqb (getD s k 0) 0x5b) (onClose s k (closeAt s (k + 1))) NoMore
 
 -- after a value, the next one; no more: they end here
 abbrev pub onValue : ℕ → ValueStep → Next ℕ Close
@@ -46,6 +46,6 @@ onValue k (Value a e n) = more n
 onValue k NoMore = done (At k)
 onValue k Unclosed = done Open
 
--- past the values that stand from k on, and the white space after each
-unfoldable pub valuesAt : List ℕ → ℕ → Close
-valuesAt s k = run (λ (i : ℕ). onValue i (valueAt s i)) Open (suc (length s)) k
+-- past the values that stand from k on, and the white space after each (SCOPE 76)
+unfoldable pub valuesEndAt : List ℕ → ℕ → Close
+valuesEndAt s k = run (λ (i : ℕ). onValue i (valueStepAt s i)) Open (suc (length s)) k

@@ -1,7 +1,7 @@
 // The scans of the token rules: white space, an identifier, a value and values, each from a place on.
 use lexer_close::Close;
 ghost use mathlib.Core.Path.{_≡_};
-ghost use Rattle.lexer_scan.specs.Scan.{space, skipAt, identAt, valueAt, valuesAt};
+ghost use Rattle.lexer_scan.specs.Scan.{space, skipAt, identAt, valueStepAt, valuesEndAt};
 
 // Where an identifier ends: at a `[`; or the text ends first; or a byte that is not ASCII comes first.
 pub enum Ident {
@@ -58,7 +58,7 @@ pub enum ValueStep {
 
 // The value whose `[` stands at `at`.
 pub fn next_value(s: &[u8], at: usize) -> ValueStep
-    ensures { λ r. ⌜ r ≡ valueAt (now (s .entry)) at ⌝ }
+    ensures { λ r. ⌜ r ≡ valueStepAt (now (s .entry)) at ⌝ }
 {
     if s.len() <= at {
         return ValueStep::NoMore;
@@ -75,7 +75,7 @@ pub fn next_value(s: &[u8], at: usize) -> ValueStep
 
 // Past the values that stand from `from` on, and the white space after each.
 pub fn values_end(s: &[u8], from: usize) -> Close
-    ensures { λ r. ⌜ r ≡ valuesAt (now (s .entry)) from ⌝ }
+    ensures { λ r. ⌜ r ≡ valuesEndAt (now (s .entry)) from ⌝ }
 {
     let mut i = from;
     loop {

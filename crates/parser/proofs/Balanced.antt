@@ -5,7 +5,7 @@ use Rattle.tables.specs.Numbers.{depthLimit, numberOf}
 use Rattle.tables.specs.declared.Reason.{Reason}
 use Rattle.tables.specs.declared.Reason.the-variants.{UnexpectedGameTreeEnd, TooDeep}
 use Rattle.parser.specs.Balance.{starts, ends, Covered, Balanced}
-use Rattle.parser.specs.Split.{Splitting, splitting, over, wrong, split, Slices, no, slices, sliced, slicesOf}
+use Rattle.parser.specs.Split.{Splitting, splitting, over, wrong, split, Slices, no, slices, sliced, splitByGametree}
 
 -- splitting accepts, though the slices may then be too deep (9)
 abbrev pub Accepts : Slices → Type 0
@@ -57,7 +57,7 @@ accepts e s (splitting zero m cur []) (a, b, c, h) q p = absurd (omega (arith, h
 accepts e s (splitting zero m cur (c ∷ cs)) h q p = deep-accepts (ltb depthLimit m) _
 accepts e s (splitting (suc d) m cur ss) (a, b, c, h) q p = absurd (omega (arith, a, q))
 
-pub balanced-accepted : (ts : List Tok) → Balanced ts → Accepts (slicesOf false ts)
+pub balanced-accepted : (ts : List Tok) → Balanced ts → Accepts (splitByGametree false ts)
 balanced-accepted ts b = accepts (ends ts) (starts ts) (split false (splitting 0 0 [] []) ts) (comes ts 0 0 [] [] (b .covered)) (b .equal) (b .some)
 
 -- ---- and only so
@@ -84,7 +84,7 @@ equals e s (splitting zero m cur []) h a = absurd (omega (arith, a))
 equals e s (splitting zero m cur (c ∷ cs)) (a, b, f, h) q = (omega (arith, a), omega (arith, f))
 equals e s (splitting (suc d) m cur ss) h a = absurd (omega (arith, a))
 
-pub accepted-balanced : (ts : List Tok) → Accepts (slicesOf false ts) → Balanced ts
+pub accepted-balanced : (ts : List Tok) → Accepts (splitByGametree false ts) → Balanced ts
 accepted-balanced ts a =
     let c = covers ts 0 0 [] [] a in
     let q = equals (ends ts) (starts ts) (split false (splitting 0 0 [] []) ts) (comes ts 0 0 [] [] c) a in

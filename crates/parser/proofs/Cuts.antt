@@ -5,7 +5,7 @@ use Rattle.lexer.specs.Token.{Tok, start, end, node, prop}
 use Rattle.tables.specs.Numbers.{depthLimit}
 use Rattle.tables.specs.declared.Reason.the-variants.{UnexpectedGameTreeEnd}
 use Rattle.parser.specs.Split.{Splitting, splitting, over, wrong, split}
-use Rattle.parser.specs.LocalsSlice.{sliceFrom, restFrom, cut, Shallow}
+use Rattle.parser.specs.LocalsSlice.{sliceFrom, restFrom, firstSlices, Shallow}
 use Rattle.parser.proofs.Surveys.{wrong-stays, over-stays}
 
 -- the slices of a state, an open one with them (last first)
@@ -28,16 +28,16 @@ Right (wrong r) = ⊥
 -- the slices that the tokens complete, the first of which has begun with cur (last first) and is at depth d
 abbrev pub cutFrom : List Tok → ℕ → ℕ → List Tok → List (List Tok)
 cutFrom cur d zero ts = []
-cutFrom cur d (suc j) ts = (reverse cur ++ sliceFrom d ts) ∷ cut j (restFrom d ts)
+cutFrom cur d (suc j) ts = (reverse cur ++ sliceFrom d ts) ∷ firstSlices j (restFrom d ts)
 
 abbrev pub ShallowFrom : ℕ → ℕ → List Tok → Type 0
 ShallowFrom d zero ts = Unit {0}
-ShallowFrom d (suc j) ts = Shallow d (sliceFrom d ts) × All (Shallow 0) (cut j (restFrom d ts))
+ShallowFrom d (suc j) ts = Shallow d (sliceFrom d ts) × All (Shallow 0) (firstSlices j (restFrom d ts))
 
 pub record Cut (d m : ℕ) (cur : List Tok) (ss : List (List Tok)) (x : Splitting) (ts : List Tok) : Type 0 where
   pub more : ℕ
   pub are : reverse (standing x) ≡ reverse ss ++ cutFrom cur d more ts
-  pub few : more ≤ length cur + length ts
+  pub bound : more ≤ length cur + length ts
   pub low : m ≤ deepest x
   pub shallow : deepest x ≤ depthLimit → ShallowFrom d more ts
 
@@ -50,12 +50,12 @@ cut-on : (t : Tok) (d m d′ m′ : ℕ) (cur : List Tok) (ss : List (List Tok))
     → (m′ ≤ depthLimit → Shallow d′ (sliceFrom d′ ts) → Shallow d (t ∷ sliceFrom d′ ts))
     → Cut d′ m′ (t ∷ cur) ss x ts → Cut d m cur ss x (t ∷ ts)
 cut-on t d m d′ m′ cur ss x ts es er le sh c =
-    let f = c .few in
+    let f = c .bound in
     let l = c .low in
     record {
       more = c .more;
       are = c .are ∙ ap (λ (z : List (List Tok)). reverse ss ++ z) (go (c .more));
-      few = omega arith;
+      bound = omega arith;
       low = omega arith;
       shallow = λ h. deep-on (c .more) (omega arith) (c .shallow h);
     }
@@ -63,22 +63,22 @@ cut-on t d m d′ m′ cur ss x ts es er le sh c =
     go : (j : ℕ) → cutFrom (t ∷ cur) d′ j ts ≡ cutFrom cur d j (t ∷ ts)
     go zero = refl
     go (suc j) =
-        ap (λ (z : List Tok). z ∷ cut j (restFrom d′ ts)) (shift t cur (sliceFrom d′ ts) ∙ ap (λ (z : List Tok). reverse cur ++ z) (sym es))
-        ∙ ap (λ (z : List Tok). (reverse cur ++ sliceFrom d (t ∷ ts)) ∷ cut j z) (sym er)
+        ap (λ (z : List Tok). z ∷ firstSlices j (restFrom d′ ts)) (shift t cur (sliceFrom d′ ts) ∙ ap (λ (z : List Tok). reverse cur ++ z) (sym es))
+        ∙ ap (λ (z : List Tok). (reverse cur ++ sliceFrom d (t ∷ ts)) ∷ firstSlices j z) (sym er)
 
     deep-on : (j : ℕ) → m′ ≤ depthLimit → ShallowFrom d′ j ts → ShallowFrom d j (t ∷ ts)
     deep-on zero h s = tt
     deep-on (suc j) h s =
-        (subst (Shallow d) (sym es) (sh h (s .0)), subst (λ (z : List Tok). All (Shallow 0) (cut j z)) (sym er) (s .1))
+        (subst (Shallow d) (sym es) (sh h (s .0)), subst (λ (z : List Tok). All (Shallow 0) (firstSlices j z)) (sym er) (s .1))
 
 -- from depth 0 on, before the first token of a slice
-pub cut-first : (j : ℕ) (ts : List Tok) → cutFrom [] 0 j ts ≡ cut j ts
-unfolding cut
+pub cut-first : (j : ℕ) (ts : List Tok) → cutFrom [] 0 j ts ≡ firstSlices j ts
+unfolding firstSlices
 cut-first zero ts = refl
 cut-first (suc j) ts = refl
 
-pub deep-first : (j : ℕ) (ts : List Tok) → ShallowFrom 0 j ts → All (Shallow 0) (cut j ts)
-unfolding cut
+pub deep-first : (j : ℕ) (ts : List Tok) → ShallowFrom 0 j ts → All (Shallow 0) (firstSlices j ts)
+unfolding firstSlices
 deep-first zero ts h = tt
 deep-first (suc j) ts h = h
 
@@ -86,11 +86,11 @@ deep-first (suc j) ts h = h
 cut-slice : (o m : ℕ) (cur : List Tok) (ss : List (List Tok)) (x : Splitting) (ts : List Tok) → Cut 0 m [] (reverse (end o ∷ cur) ∷ ss) x ts → Cut 1 m cur ss x (end o ∷ ts)
 unfolding sliceFrom restFrom Shallow
 cut-slice o m cur ss x ts c =
-    let f = c .few in
+    let f = c .bound in
     record {
       more = suc (c .more);
       are = c .are ∙ go (c .more);
-      few = omega arith;
+      bound = omega arith;
       low = c .low;
       shallow = λ h. (tt, deep-first (c .more) ts (c .shallow h));
     }
@@ -98,23 +98,23 @@ cut-slice o m cur ss x ts c =
     go : (j : ℕ) → reverse (reverse (end o ∷ cur) ∷ ss) ++ cutFrom [] 0 j ts ≡ reverse ss ++ cutFrom cur 1 (suc j) (end o ∷ ts)
     go j =
         ap (λ (z : List (List Tok)). reverse (reverse (end o ∷ cur) ∷ ss) ++ z) (cut-first j ts)
-        ∙ ap (λ (z : List (List Tok)). z ++ cut j ts) (reverse-cons (reverse (end o ∷ cur)) ss)
-        ∙ append-assoc (reverse ss) (reverse (end o ∷ cur) ∷ []) (cut j ts)
-        ∙ ap (λ (z : List Tok). reverse ss ++ (z ∷ cut j ts)) (reverse-cons (end o) cur)
+        ∙ ap (λ (z : List (List Tok)). z ++ firstSlices j ts) (reverse-cons (reverse (end o ∷ cur)) ss)
+        ∙ append-assoc (reverse ss) (reverse (end o ∷ cur) ∷ []) (firstSlices j ts)
+        ∙ ap (λ (z : List Tok). reverse ss ++ (z ∷ firstSlices j ts)) (reverse-cons (end o) cur)
 
 -- no more slices come
 cut-none : (d m : ℕ) (cur : List Tok) (ss : List (List Tok)) (x : Splitting) (ts : List Tok) → standing x ≡ ss → deepest x ≡ m → Cut d m cur ss x ts
 cut-none d m cur ss x ts e q =
-    record { more = 0; are = ap reverse e ∙ sym (append-nil (reverse ss)); few = omega arith; low = omega arith; shallow = λ h. tt }
+    record { more = 0; are = ap reverse e ∙ sym (append-nil (reverse ss)); bound = omega arith; low = omega arith; shallow = λ h. tt }
 
 -- the last slice stays open
 cut-open : (d m : ℕ) (cur : List Tok) (ss : List (List Tok)) → suc d ≤ length cur → Cut (suc d) m cur ss (splitting (suc d) m cur ss) []
-unfolding sliceFrom restFrom cut Shallow
+unfolding sliceFrom restFrom firstSlices Shallow
 cut-open d m cur ss h =
     record {
       more = 1;
       are = reverse-cons (reverse cur) ss ∙ ap (λ (z : List Tok). reverse ss ++ (z ∷ [])) (sym (append-nil (reverse cur)));
-      few = omega arith;
+      bound = omega arith;
       low = omega arith;
       shallow = λ h. (tt, tt);
     }
@@ -127,7 +127,7 @@ cut-over false o m cur ss ts h = absurd (subst Right (wrong-stays false Unexpect
 
 pub split-cut : (len : Bool) (ts : List Tok) (d m : ℕ) (cur : List Tok) (ss : List (List Tok)) → d ≤ length cur
     → Right (split len (splitting d m cur ss) ts) → Cut d m cur ss (split len (splitting d m cur ss) ts) ts
-unfolding sliceFrom restFrom cut Shallow
+unfolding sliceFrom restFrom firstSlices Shallow
 split-cut len [] zero m cur ss b h = cut-none 0 m cur ss (splitting 0 m cur ss) [] refl refl
 split-cut len [] (suc d) m cur ss b h = cut-open d m cur ss b
 split-cut len (start o ∷ ts) d m cur ss b h =

@@ -8,27 +8,27 @@ use Rattle.lexer_laws.proofs.Contents.{Denotes, tokens-denote}
 use Rattle.tables.specs.Numbers.{textLimit}
 use Rattle.tables.specs.Record.{Tree, allNodes, allProps}
 use Rattle.tables.specs.declared.Reason.the-variants.{TextTooLong}
-use Rattle.parser.specs.Read.{refused, accepted, lexing, lex, decoded, read}
+use Rattle.parser.specs.Read.{refused, accepted, lexing, tokenize, parseUtf8, read}
 use Rattle.parser.proofs.Lift.{OfAnswer, of-tokens, of-trees}
 
-ink-denotes : (k : Ink) (t : List ℕ) → All (OfTok (Denotes t)) (lex k t .toks)
+ink-denotes : (k : Ink) (t : List ℕ) → All (OfTok (Denotes t)) (tokenize k t .toks)
 ink-denotes blank t = tt
 ink-denotes (inked f l) t = tokens-denote f l t
 
-lexing-denotes : (len : Bool) (e : End) (k : Ink) (t : List ℕ) → OfAnswer (Denotes t) (lexing len e (lex k t .toks))
-lexing-denotes true e k t = of-tokens (Denotes t) true (lex k t .toks) (ink-denotes k t)
-lexing-denotes false done k t = of-tokens (Denotes t) false (lex k t .toks) (ink-denotes k t)
+lexing-denotes : (len : Bool) (e : End) (k : Ink) (t : List ℕ) → OfAnswer (Denotes t) (lexing len e (tokenize k t .toks))
+lexing-denotes true e k t = of-tokens (Denotes t) true (tokenize k t .toks) (ink-denotes k t)
+lexing-denotes false done k t = of-tokens (Denotes t) false (tokenize k t .toks) (ink-denotes k t)
 lexing-denotes false (broken f s) k t = tt
 
-decoded-denotes : (len : Bool) (u : Utf) (t : List ℕ) → OfAnswer (Denotes t) (decoded len u t)
-decoded-denotes len (whole k) t = lexing-denotes len (lex k t .end) k t
+decoded-denotes : (len : Bool) (u : Utf) (t : List ℕ) → OfAnswer (Denotes t) (parseUtf8 len u t)
+decoded-denotes len (whole k) t = lexing-denotes len (tokenize k t .end) k t
 decoded-denotes len (part k s n r c) t = tt
 decoded-denotes len (bad p) t = tt
 
 answer-denotes : (len : Bool) (t : List ℕ) → OfAnswer (Denotes t) (read len t)
 answer-denotes len t = go (ltb textLimit (length t))
   where
-    go : (b : Bool) → OfAnswer (Denotes t) (pick b (refused TextTooLong 0) (decoded len (utfs (whole blank) 0 t) t))
+    go : (b : Bool) → OfAnswer (Denotes t) (pick b (refused TextTooLong 0) (parseUtf8 len (utfs (whole blank) 0 t) t))
     go true = tt
     go false = decoded-denotes len (utfs (whole blank) 0 t) t
 

@@ -4,8 +4,8 @@ use Rattle.lexer_laws.proofs.Invariant.{OfTok}
 use Rattle.lexer.specs.Token.{Prop, Tok, end, node, prop, start}
 use Rattle.lists.proofs.All.{all-append, all-reverse}
 use Rattle.lists.specs.All.{All}
-use Rattle.parser.specs.Kind.{Kind, is, kind, unkind}
-use Rattle.parser.specs.Read.{Answer, Growing, accepted, answer, failing, growAll, growing, grown, grows, kinded, planted, refused, rooted}
+use Rattle.parser.specs.Game.{Game, is, findGametype, noGame}
+use Rattle.parser.specs.Read.{Answer, Trees, accepted, answer, noTrees, parseGametrees, treesSoFar, treeOfWalk, parseGametree, treeOfGame, parseSlices, refused, treeOfNodes}
 use Rattle.parser.specs.Split.{Slices, Splitting, ended, filled, no, over, sliced, slices, split, splits, splitting, wrong}
 use Rattle.parser.specs.Walk.{Walk, adds, children, closes, gated, halted, opens, refuse, stopped, walk, walked, walks}
 use Rattle.tables.specs.Numbers.{depthLimit, none}
@@ -109,50 +109,50 @@ module _ (Q : Prop → Type 0) where
   of-walked len base w [] q h = h
   of-walked len base w (t ∷ ts) q h = of-walked len base (walks len base w t) ts (q .1) (of-walks len base w t (q .0) h)
 
-  abbrev pub OfReading : Growing → Type 0
-  OfReading (growing n ts) = All OfTree ts
-  OfReading (failing n) = Unit {0}
+  abbrev pub OfReading : Trees → Type 0
+  OfReading (treesSoFar n ts) = All OfTree ts
+  OfReading (noTrees n) = Unit {0}
 
-  of-rooted : (len : Bool) (base k : ℕ) (ns : List Node) (ts : List Tree) → All OfNode ns → All OfTree ts → OfReading (rooted len base k ns ts)
+  of-rooted : (len : Bool) (base k : ℕ) (ns : List Node) (ts : List Tree) → All OfNode ns → All OfTree ts → OfReading (treeOfNodes len base k ns ts)
   of-rooted len base k (n ∷ ns) ts h g = (all-reverse OfNode (n ∷ ns) h, g)
   of-rooted true base k [] ts h g = ((tt, tt), g)
   of-rooted false base k [] ts h g = tt
 
-  of-grown : (len : Bool) (base k : ℕ) (w : Walk) (ts : List Tree) → OfWalk w → All OfTree ts → OfReading (grown len base k w ts)
+  of-grown : (len : Bool) (base k : ℕ) (w : Walk) (ts : List Tree) → OfWalk w → All OfTree ts → OfReading (treeOfWalk len base k w ts)
   of-grown len base k (walk cur st g ns) ts h t = of-rooted len base k ns ts h t
   of-grown len base k (halted ns) ts h t = of-rooted len base k ns ts h t
   of-grown len base k (stopped n) ts h t = tt
 
-  of-kinded : (len : Bool) (base : ℕ) (k : Kind) (s : List Tok) (ts : List Tree) → All (OfTok Q) s → All OfTree ts → OfReading (kinded len base k s ts)
+  of-kinded : (len : Bool) (base : ℕ) (k : Game) (s : List Tok) (ts : List Tree) → All (OfTok Q) s → All OfTree ts → OfReading (treeOfGame len base k s ts)
   of-kinded len base (is k) s ts h t = of-grown len base k (walked len base (walk none [] false []) s) ts (of-walked len base (walk none [] false []) s h tt) t
-  of-kinded len base (unkind n) s ts h t = go len
+  of-kinded len base (noGame n) s ts h t = go len
     where
-      go : (b : Bool) → OfReading (pick b (grown true base 0 (walked len base (walk none [] false []) s) ts) (failing n))
+      go : (b : Bool) → OfReading (pick b (treeOfWalk true base 0 (walked len base (walk none [] false []) s) ts) (noTrees n))
       go true = of-grown true base 0 (walked len base (walk none [] false []) s) ts (of-walked len base (walk none [] false []) s h tt) t
       go false = tt
 
-  of-grows : (len : Bool) (r : Growing) (s : List Tok) → All (OfTok Q) s → OfReading r → OfReading (grows len r s)
-  of-grows len (growing base ts) s h t = of-kinded len base (kind s) s ts h t
-  of-grows len (failing n) s h t = tt
+  of-grows : (len : Bool) (r : Trees) (s : List Tok) → All (OfTok Q) s → OfReading r → OfReading (parseGametree len r s)
+  of-grows len (treesSoFar base ts) s h t = of-kinded len base (findGametype s) s ts h t
+  of-grows len (noTrees n) s h t = tt
 
-  pub of-growAll : (len : Bool) (r : Growing) (ss : List (List Tok)) → All (All (OfTok Q)) ss → OfReading r → OfReading (growAll len r ss)
+  pub of-growAll : (len : Bool) (r : Trees) (ss : List (List Tok)) → All (All (OfTok Q)) ss → OfReading r → OfReading (parseGametrees len r ss)
   of-growAll len r [] h t = t
-  of-growAll len r (s ∷ ss) h t = of-growAll len (grows len r s) ss (h .1) (of-grows len r s (h .0) t)
+  of-growAll len r (s ∷ ss) h t = of-growAll len (parseGametree len r s) ss (h .1) (of-grows len r s (h .0) t)
 
   abbrev pub OfAnswer : Answer → Type 0
   OfAnswer (refused n p) = Unit {0}
   OfAnswer (accepted ts) = All OfTree ts
 
-  of-answer : (r : Growing) → OfReading r → OfAnswer (answer r)
-  of-answer (growing n ts) h = all-reverse OfTree ts h
-  of-answer (failing n) h = tt
+  of-answer : (r : Trees) → OfReading r → OfAnswer (answer r)
+  of-answer (treesSoFar n ts) h = all-reverse OfTree ts h
+  of-answer (noTrees n) h = tt
 
-  of-planted : (len : Bool) (s : Slices) → OfSlices (OfTok Q) s → OfAnswer (planted len s)
+  of-planted : (len : Bool) (s : Slices) → OfSlices (OfTok Q) s → OfAnswer (parseSlices len s)
   of-planted len (no n) h = tt
-  of-planted len (slices ss) h = of-answer (growAll len (growing 0 []) ss) (of-growAll len (growing 0 []) ss h tt)
+  of-planted len (slices ss) h = of-answer (parseGametrees len (treesSoFar 0 []) ss) (of-growAll len (treesSoFar 0 []) ss h tt)
 
   -- from the tokens to the answer
-  pub of-tokens : (len : Bool) (ts : List Tok) → All (OfTok Q) ts → OfAnswer (planted len (sliced len (split len (splitting 0 0 [] []) ts)))
+  pub of-tokens : (len : Bool) (ts : List Tok) → All (OfTok Q) ts → OfAnswer (parseSlices len (sliced len (split len (splitting 0 0 [] []) ts)))
   of-tokens len ts h =
       of-planted len (sliced len (split len (splitting 0 0 [] []) ts))
       (of-sliced (OfTok Q) len (split len (splitting 0 0 [] []) ts) (of-split (OfTok Q) len (splitting 0 0 [] []) ts h (tt, tt)))

@@ -7,10 +7,10 @@ use Rattle.tables.specs.Numbers.{none, textLimit, reasonOf}
 use Rattle.tables.specs.Record.{Node, Tree}
 use Rattle.tables.specs.declared.Reason.{Reason}
 use Rattle.tables.specs.declared.Reason.the-variants.{TextTooLong, NotUtf8, UnexpectedGameTreeEnd, UnexpectedGameTreeStart, UnexpectedProperty, UnexpectedEndOfData, NoGameTrees}
-use Rattle.parser.specs.Kind.{Kind, is, unkind, kind}
-use Rattle.parser.specs.Split.{Splitting, splitting, over, wrong, ended, splits, split, Slices, no, slices, filled, sliced, slicesOf}
+use Rattle.parser.specs.Game.{Game, is, noGame, findGametype}
+use Rattle.parser.specs.Split.{Splitting, splitting, over, wrong, ended, splits, split, Slices, no, slices, filled, sliced, splitByGametree}
 use Rattle.parser.specs.Walk.{Walk, walk, halted, stopped, children, refuse, opens, closes, adds, gated, walks, walked}
-use Rattle.parser.specs.Read.{Answer, refused, accepted, Growing, growing, failing, rooted, grown, kinded, grows, growAll, answer, planted, parsed, lexing, lex, decoded, read, readStrict, readLenient}
+use Rattle.parser.specs.Read.{Answer, refused, accepted, Trees, treesSoFar, noTrees, treeOfNodes, treeOfWalk, treeOfGame, parseGametree, parseGametrees, answer, parseSlices, parsed, lexing, tokenize, parseUtf8, read, readStrict, readLenient}
 use Rattle.parser.proofs.Answers.{not-both}
 use Rattle.parser.proofs.Runs.{stopped-stays, failing-stays}
 
@@ -53,7 +53,7 @@ same-sliced (splitting (suc d) m cur us) ss e = slices-never e
 same-sliced (over m us) ss e = same-filled m us ss e
 same-sliced (wrong r) ss e = slices-never e
 
-same-slices : (ts : List Tok) (ss : List (List Tok)) → slicesOf false ts ≡ slices ss → slicesOf true ts ≡ slices ss
+same-slices : (ts : List Tok) (ss : List (List Tok)) → splitByGametree false ts ≡ slices ss → splitByGametree true ts ≡ slices ss
 same-slices ts ss e =
     ap (sliced true) (same-split (splitting 0 0 [] []) ts (λ r q. slices-never (sym (ap (sliced false) q) ∙ e)))
     ∙ same-sliced (split false (splitting 0 0 [] []) ts) ss e
@@ -98,59 +98,59 @@ same-walk base w (t ∷ ts) h =
 
 -- ---- all trees
 
-grown-never : {A : Type 0} {r : Reason} {n : ℕ} {us : List Tree} → failing r ≡ growing n us → A
+grown-never : {A : Type 0} {r : Reason} {n : ℕ} {us : List Tree} → noTrees r ≡ treesSoFar n us → A
 grown-never e = never cc
 
-same-rooted : (base k : ℕ) (ns : List Node) (ts : List Tree) (n : ℕ) (us : List Tree) → rooted false base k ns ts ≡ growing n us → rooted true base k ns ts ≡ growing n us
+same-rooted : (base k : ℕ) (ns : List Node) (ts : List Tree) (n : ℕ) (us : List Tree) → treeOfNodes false base k ns ts ≡ treesSoFar n us → treeOfNodes true base k ns ts ≡ treesSoFar n us
 same-rooted base k [] ts n us e = grown-never e
 same-rooted base k (m ∷ ns) ts n us e = e
 
-same-grown : (base k : ℕ) (w : Walk) (ts : List Tree) (n : ℕ) (us : List Tree) → grown false base k w ts ≡ growing n us → grown true base k w ts ≡ growing n us
+same-grown : (base k : ℕ) (w : Walk) (ts : List Tree) (n : ℕ) (us : List Tree) → treeOfWalk false base k w ts ≡ treesSoFar n us → treeOfWalk true base k w ts ≡ treesSoFar n us
 same-grown base k (walk cur st g ns) ts n us e = same-rooted base k ns ts n us e
 same-grown base k (halted ns) ts n us e = same-rooted base k ns ts n us e
 same-grown base k (stopped r) ts n us e = grown-never e
 
-same-kinded : (base : ℕ) (x : Kind) (s : List Tok) (ts : List Tree) (n : ℕ) (us : List Tree) → kinded false base x s ts ≡ growing n us → kinded true base x s ts ≡ growing n us
+same-kinded : (base : ℕ) (x : Game) (s : List Tok) (ts : List Tree) (n : ℕ) (us : List Tree) → treeOfGame false base x s ts ≡ treesSoFar n us → treeOfGame true base x s ts ≡ treesSoFar n us
 same-kinded base (is k) s ts n us e =
-    ap (λ (w : Walk). grown true base k w ts)
-    (same-walk base (walk none [] false []) s (λ r q. grown-never (sym (ap (λ (w : Walk). grown false base k w ts) q) ∙ e)))
+    ap (λ (w : Walk). treeOfWalk true base k w ts)
+    (same-walk base (walk none [] false []) s (λ r q. grown-never (sym (ap (λ (w : Walk). treeOfWalk false base k w ts) q) ∙ e)))
     ∙ same-grown base k (walked false base (walk none [] false []) s) ts n us e
-same-kinded base (unkind r) s ts n us e = grown-never e
+same-kinded base (noGame r) s ts n us e = grown-never e
 
-same-grow : (x : Growing) (ss : List (List Tok)) (n : ℕ) (us : List Tree) → growAll false x ss ≡ growing n us → growAll true x ss ≡ growing n us
+same-grow : (x : Trees) (ss : List (List Tok)) (n : ℕ) (us : List Tree) → parseGametrees false x ss ≡ treesSoFar n us → parseGametrees true x ss ≡ treesSoFar n us
 same-grow x [] n us e = e
-same-grow (growing base ts) (s ∷ ss) n us e = go (kinded false base (kind s) s ts) refl e (λ m vs h. same-grow (growing m vs) ss n us h)
+same-grow (treesSoFar base ts) (s ∷ ss) n us e = go (treeOfGame false base (findGametype s) s ts) refl e (λ m vs h. same-grow (treesSoFar m vs) ss n us h)
   where
-    go : (y : Growing) → kinded false base (kind s) s ts ≡ y → growAll false y ss ≡ growing n us
-        → ((m : ℕ) (vs : List Tree) → growAll false (growing m vs) ss ≡ growing n us → growAll true (growing m vs) ss ≡ growing n us)
-        → growAll true (kinded true base (kind s) s ts) ss ≡ growing n us
-    go (growing m vs) q h rest = ap (λ (z : Growing). growAll true z ss) (same-kinded base (kind s) s ts m vs q) ∙ rest m vs h
-    go (failing r) q h rest = grown-never (sym (failing-stays false r ss) ∙ h)
-same-grow (failing r) (s ∷ ss) n us e = grown-never (sym (failing-stays false r (s ∷ ss)) ∙ e)
+    go : (y : Trees) → treeOfGame false base (findGametype s) s ts ≡ y → parseGametrees false y ss ≡ treesSoFar n us
+        → ((m : ℕ) (vs : List Tree) → parseGametrees false (treesSoFar m vs) ss ≡ treesSoFar n us → parseGametrees true (treesSoFar m vs) ss ≡ treesSoFar n us)
+        → parseGametrees true (treeOfGame true base (findGametype s) s ts) ss ≡ treesSoFar n us
+    go (treesSoFar m vs) q h rest = ap (λ (z : Trees). parseGametrees true z ss) (same-kinded base (findGametype s) s ts m vs q) ∙ rest m vs h
+    go (noTrees r) q h rest = grown-never (sym (failing-stays false r ss) ∙ h)
+same-grow (noTrees r) (s ∷ ss) n us e = grown-never (sym (failing-stays false r (s ∷ ss)) ∙ e)
 
 -- ---- the whole
 
-same-planted : (x : Slices) (ts : List Tree) → planted false x ≡ accepted ts → planted true x ≡ accepted ts
+same-planted : (x : Slices) (ts : List Tree) → parseSlices false x ≡ accepted ts → parseSlices true x ≡ accepted ts
 same-planted (no r) ts e = not-both r 0 ts e
-same-planted (slices ss) ts e = go (growAll false (growing 0 []) ss) refl e
+same-planted (slices ss) ts e = go (parseGametrees false (treesSoFar 0 []) ss) refl e
   where
-    go : (y : Growing) → growAll false (growing 0 []) ss ≡ y → answer y ≡ accepted ts → answer (growAll true (growing 0 []) ss) ≡ accepted ts
-    go (growing n us) q h = ap answer (same-grow (growing 0 []) ss n us q) ∙ h
-    go (failing r) q h = not-both r 0 ts h
+    go : (y : Trees) → parseGametrees false (treesSoFar 0 []) ss ≡ y → answer y ≡ accepted ts → answer (parseGametrees true (treesSoFar 0 []) ss) ≡ accepted ts
+    go (treesSoFar n us) q h = ap answer (same-grow (treesSoFar 0 []) ss n us q) ∙ h
+    go (noTrees r) q h = not-both r 0 ts h
 
 same-parsed : (l : List Tok) (ts : List Tree) → parsed false l ≡ accepted ts → parsed true l ≡ accepted ts
-same-parsed l ts e = go (slicesOf false l) refl e
+same-parsed l ts e = go (splitByGametree false l) refl e
   where
-    go : (x : Slices) → slicesOf false l ≡ x → planted false x ≡ accepted ts → planted true (slicesOf true l) ≡ accepted ts
+    go : (x : Slices) → splitByGametree false l ≡ x → parseSlices false x ≡ accepted ts → parseSlices true (splitByGametree true l) ≡ accepted ts
     go (no r) q h = not-both r 0 ts h
-    go (slices ss) q h = ap (planted true) (same-slices l ss q) ∙ same-planted (slices ss) ts h
+    go (slices ss) q h = ap (parseSlices true) (same-slices l ss q) ∙ same-planted (slices ss) ts h
 
 same-lexing : (e : End) (l : List Tok) (ts : List Tree) → lexing false e l ≡ accepted ts → lexing true e l ≡ accepted ts
 same-lexing done l ts h = same-parsed l ts h
 same-lexing (broken f s) l ts h = not-both (reasonOf f) s ts h
 
-same-decoded : (u : Utf) (t : List ℕ) (ts : List Tree) → decoded false u t ≡ accepted ts → decoded true u t ≡ accepted ts
-same-decoded (whole k) t ts h = same-lexing (lex k t .end) (lex k t .toks) ts h
+same-decoded : (u : Utf) (t : List ℕ) (ts : List Tree) → parseUtf8 false u t ≡ accepted ts → parseUtf8 true u t ≡ accepted ts
+same-decoded (whole k) t ts h = same-lexing (tokenize k t .end) (tokenize k t .toks) ts h
 same-decoded (part k s n r c) t ts h = not-both NotUtf8 s ts h
 same-decoded (bad p) t ts h = not-both NotUtf8 p ts h
 
@@ -158,6 +158,6 @@ same-decoded (bad p) t ts h = not-both NotUtf8 p ts h
 pub lenient-accepts-more : (t : List ℕ) (ts : List Tree) → readStrict t ≡ accepted ts → readLenient t ≡ accepted ts
 lenient-accepts-more t ts = go (ltb textLimit (length t))
   where
-    go : (b : Bool) → pick b (refused TextTooLong 0) (decoded false (utfs (whole blank) 0 t) t) ≡ accepted ts → pick b (refused TextTooLong 0) (decoded true (utfs (whole blank) 0 t) t) ≡ accepted ts
+    go : (b : Bool) → pick b (refused TextTooLong 0) (parseUtf8 false (utfs (whole blank) 0 t) t) ≡ accepted ts → pick b (refused TextTooLong 0) (parseUtf8 true (utfs (whole blank) 0 t) t) ≡ accepted ts
     go true h = not-both TextTooLong 0 ts h
     go false h = same-decoded (utfs (whole blank) 0 t) t ts h

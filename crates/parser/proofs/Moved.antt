@@ -5,10 +5,10 @@ use Rattle.lexer.specs.Move.{moveProp, moveTok}
 use Rattle.lexer.specs.Token.{Prop, Tok, end, node, prop, start}
 use Rattle.lists.specs.All.{All}
 use Rattle.parser.proofs.Lift.{OfSlices, of-sliced, of-split}
-use Rattle.parser.proofs.MovedKind.{GmStays, move-kind}
+use Rattle.parser.proofs.MovedKind.{GmStays, move-game}
 use Rattle.parser.proofs.MovedSlices.{map-reverse, moveSlices, move-split, move-sliced}
-use Rattle.parser.specs.Kind.{Kind, is, kind, unkind}
-use Rattle.parser.specs.Read.{Answer, Growing, accepted, answer, failing, growAll, growing, grown, grows, kinded, planted, refused, rooted}
+use Rattle.parser.specs.Game.{Game, is, findGametype, noGame}
+use Rattle.parser.specs.Read.{Answer, Trees, accepted, answer, noTrees, parseGametrees, treesSoFar, treeOfWalk, parseGametree, treeOfGame, parseSlices, refused, treeOfNodes}
 use Rattle.parser.specs.Split.{Slices, no, sliced, slices, split, splitting}
 use Rattle.parser.specs.Walk.{Walk, adds, children, closes, gated, halted, opens, refuse, stopped, walk, walked, walks}
 use Rattle.tables.specs.Move.{moveNode, moveTree}
@@ -71,58 +71,58 @@ module _ (f g : ℕ → ℕ) (h : ℕ → List ℕ → List ℕ) where
   move-walked len base w [] = refl
   move-walked len base w (t ∷ ts) = ap (λ (z : Walk). walked len base z (map F ts)) (move-walks len base w t) ∙ move-walked len base (walks len base w t) ts
 
-  abbrev moveReading : Growing → Growing
-  moveReading (growing n ts) = growing n (map (moveTree f g h) ts)
-  moveReading (failing n) = failing n
+  abbrev moveReading : Trees → Trees
+  moveReading (treesSoFar n ts) = treesSoFar n (map (moveTree f g h) ts)
+  moveReading (noTrees n) = noTrees n
 
   move-rooted : (len : Bool) (base k : ℕ) (ns : List Node) (ts : List Tree)
-      → rooted len base k (map N ns) (map (moveTree f g h) ts) ≡ moveReading (rooted len base k ns ts)
+      → treeOfNodes len base k (map N ns) (map (moveTree f g h) ts) ≡ moveReading (treeOfNodes len base k ns ts)
   move-rooted len base k (n ∷ ns) ts = rw (length-map ns N, map-reverse N (n ∷ ns))
   move-rooted true base k [] ts = refl
   move-rooted false base k [] ts = refl
 
   move-grown : (len : Bool) (base k : ℕ) (w : Walk) (ts : List Tree)
-      → grown len base k (moveWalk w) (map (moveTree f g h) ts) ≡ moveReading (grown len base k w ts)
+      → treeOfWalk len base k (moveWalk w) (map (moveTree f g h) ts) ≡ moveReading (treeOfWalk len base k w ts)
   move-grown len base k (walk cur st t ns) ts = move-rooted len base k ns ts
   move-grown len base k (halted ns) ts = move-rooted len base k ns ts
   move-grown len base k (stopped n) ts = refl
 
-  move-kinded : (len : Bool) (base : ℕ) (k : Kind) (s : List Tok) (ts : List Tree)
-      → kinded len base k (map F s) (map (moveTree f g h) ts) ≡ moveReading (kinded len base k s ts)
+  move-kinded : (len : Bool) (base : ℕ) (k : Game) (s : List Tok) (ts : List Tree)
+      → treeOfGame len base k (map F s) (map (moveTree f g h) ts) ≡ moveReading (treeOfGame len base k s ts)
   move-kinded len base (is k) s ts =
       rw (move-walked len base (walk none [] false []) s) (move-grown len base k (walked len base (walk none [] false []) s) ts)
-  move-kinded len base (unkind n) s ts = go len
+  move-kinded len base (noGame n) s ts = go len
     where
-      go : (b : Bool) → pick b (grown true base 0 (walked len base (walk none [] false []) (map F s)) (map (moveTree f g h) ts)) (failing n)
-          ≡ moveReading (pick b (grown true base 0 (walked len base (walk none [] false []) s) ts) (failing n))
+      go : (b : Bool) → pick b (treeOfWalk true base 0 (walked len base (walk none [] false []) (map F s)) (map (moveTree f g h) ts)) (noTrees n)
+          ≡ moveReading (pick b (treeOfWalk true base 0 (walked len base (walk none [] false []) s) ts) (noTrees n))
       go true = rw (move-walked len base (walk none [] false []) s) (move-grown true base 0 (walked len base (walk none [] false []) s) ts)
       go false = refl
 
-  move-grows : (len : Bool) (r : Growing) (s : List Tok) → All (OfTok (GmStays f g h)) s → grows len (moveReading r) (map F s) ≡ moveReading (grows len r s)
-  move-grows len (growing base ts) s k = rw (move-kind f g h s k) (move-kinded len base (kind s) s ts)
-  move-grows len (failing n) s k = refl
+  move-grows : (len : Bool) (r : Trees) (s : List Tok) → All (OfTok (GmStays f g h)) s → parseGametree len (moveReading r) (map F s) ≡ moveReading (parseGametree len r s)
+  move-grows len (treesSoFar base ts) s k = rw (move-game f g h s k) (move-kinded len base (findGametype s) s ts)
+  move-grows len (noTrees n) s k = refl
 
-  move-growAll : (len : Bool) (r : Growing) (ss : List (List Tok)) → All (All (OfTok (GmStays f g h))) ss
-      → growAll len (moveReading r) (map (map F) ss) ≡ moveReading (growAll len r ss)
+  move-growAll : (len : Bool) (r : Trees) (ss : List (List Tok)) → All (All (OfTok (GmStays f g h))) ss
+      → parseGametrees len (moveReading r) (map (map F) ss) ≡ moveReading (parseGametrees len r ss)
   move-growAll len r [] k = refl
-  move-growAll len r (s ∷ ss) k = ap (λ (z : Growing). growAll len z (map (map F) ss)) (move-grows len r s (k .0)) ∙ move-growAll len (grows len r s) ss (k .1)
+  move-growAll len r (s ∷ ss) k = ap (λ (z : Trees). parseGametrees len z (map (map F) ss)) (move-grows len r s (k .0)) ∙ move-growAll len (parseGametree len r s) ss (k .1)
 
   abbrev pub moveAnswer : Answer → Answer
   moveAnswer (refused n p) = refused n p
   moveAnswer (accepted ts) = accepted (map (moveTree f g h) ts)
 
-  move-answer : (r : Growing) → answer (moveReading r) ≡ moveAnswer (answer r)
-  move-answer (growing n ts) = rw (map-reverse (moveTree f g h) ts)
-  move-answer (failing n) = refl
+  move-answer : (r : Trees) → answer (moveReading r) ≡ moveAnswer (answer r)
+  move-answer (treesSoFar n ts) = rw (map-reverse (moveTree f g h) ts)
+  move-answer (noTrees n) = refl
 
-  move-planted : (len : Bool) (s : Slices) → OfSlices (OfTok (GmStays f g h)) s → planted len (moveSlices f g h s) ≡ moveAnswer (planted len s)
+  move-planted : (len : Bool) (s : Slices) → OfSlices (OfTok (GmStays f g h)) s → parseSlices len (moveSlices f g h s) ≡ moveAnswer (parseSlices len s)
   move-planted len (no n) k = refl
-  move-planted len (slices ss) k = rw (move-growAll len (growing 0 []) ss k) (move-answer (growAll len (growing 0 []) ss))
+  move-planted len (slices ss) k = rw (move-growAll len (treesSoFar 0 []) ss k) (move-answer (parseGametrees len (treesSoFar 0 []) ss))
 
   -- the answer after a move
   pub move-tokens : (len : Bool) (ts : List Tok) → All (OfTok (GmStays f g h)) ts
-      → planted len (sliced len (split len (splitting 0 0 [] []) (map F ts)))
-      ≡ moveAnswer (planted len (sliced len (split len (splitting 0 0 [] []) ts)))
+      → parseSlices len (sliced len (split len (splitting 0 0 [] []) (map F ts)))
+      ≡ moveAnswer (parseSlices len (sliced len (split len (splitting 0 0 [] []) ts)))
   move-tokens len ts k =
       rw (move-split f g h len (splitting 0 0 [] []) ts, move-sliced f g h len (split len (splitting 0 0 [] []) ts))
       (move-planted len (sliced len (split len (splitting 0 0 [] []) ts))

@@ -5,7 +5,7 @@ use Rattle.lexer.specs.Move.{moveProp, moveTok, moveVal}
 use Rattle.lexer.specs.Token.{Prop, Tok, Val, end, node, prop, start}
 use Rattle.lists.specs.All.{All}
 use Rattle.lists.specs.Same.{same}
-use Rattle.parser.specs.Kind.{GM, kind, kindOf, kindProps, kindVals, named, props}
+use Rattle.parser.specs.Game.{GM, findGametype, gameOf, gameProps, gameVals, propsNamed, props}
 use Rattle.values.specs.Read.{readValue}
 
 map-drop : {A B : Type 0} (f : A → B) (n : ℕ) (xs : List A) → drop n (map f xs) ≡ map f (drop n xs)
@@ -34,15 +34,15 @@ module _ (f g : ℕ → ℕ) (h : ℕ → List ℕ → List ℕ) where
   move-pick true p r = refl
   move-pick false p r = refl
 
-  pub move-named : (w : List ℕ) (ps : List Prop) → named w (map (moveProp f g h) ps) ≡ map (moveProp f g h) (named w ps)
+  pub move-named : (w : List ℕ) (ps : List Prop) → propsNamed w (map (moveProp f g h) ps) ≡ map (moveProp f g h) (propsNamed w ps)
   move-named w [] = refl
-  move-named w (p ∷ ps) = rw (move-named w ps) (move-pick (same (p .name) w) p (named w ps))
+  move-named w (p ∷ ps) = rw (move-named w ps) (move-pick (same (p .name) w) p (propsNamed w ps))
 
-  named-fixed : (ps : List Prop) → All GmStays ps → All Fixed (named GM ps)
+  named-fixed : (ps : List Prop) → All GmStays ps → All Fixed (propsNamed GM ps)
   named-fixed [] k = tt
   named-fixed (p ∷ ps) k = go (same (p .name) GM) refl (named-fixed ps (k .1))
     where
-      go : (b : Bool) → same (p .name) GM ≡ b → All Fixed (named GM ps) → All Fixed (pick b (p ∷ named GM ps) (named GM ps))
+      go : (b : Bool) → same (p .name) GM ≡ b → All Fixed (propsNamed GM ps) → All Fixed (pick b (p ∷ propsNamed GM ps) (propsNamed GM ps))
       go true e r = (k .0 e, r)
       go false e r = r
 
@@ -58,19 +58,19 @@ module _ (f g : ℕ → ℕ) (h : ℕ → List ℕ → List ℕ) where
   all-drop R (suc n) [] k = tt
   all-drop R (suc n) (t ∷ ts) k = all-drop R n ts (k .1)
 
-  move-kindVals : (vs : List Val) → All (λ (v : Val). h (v .from) (v .raw) ≡ v .raw) vs → kindVals (map (moveVal f g h) vs) ≡ kindVals vs
-  move-kindVals [] k = refl
-  move-kindVals (v ∷ []) k = ap (λ (z : List ℕ). kindOf (readValue z)) (k .0)
-  move-kindVals (v ∷ u ∷ vs) k = refl
+  move-gameVals : (vs : List Val) → All (λ (v : Val). h (v .from) (v .raw) ≡ v .raw) vs → gameVals (map (moveVal f g h) vs) ≡ gameVals vs
+  move-gameVals [] k = refl
+  move-gameVals (v ∷ []) k = ap (λ (z : List ℕ). gameOf (readValue z)) (k .0)
+  move-gameVals (v ∷ u ∷ vs) k = refl
 
-  pub move-kindProps : (ps : List Prop) → All Fixed ps → kindProps (map (moveProp f g h) ps) ≡ kindProps ps
-  move-kindProps [] k = refl
-  move-kindProps (p ∷ []) k = move-kindVals (p .vals) (k .0)
-  move-kindProps (p ∷ q ∷ ps) k = refl
+  pub move-gameProps : (ps : List Prop) → All Fixed ps → gameProps (map (moveProp f g h) ps) ≡ gameProps ps
+  move-gameProps [] k = refl
+  move-gameProps (p ∷ []) k = move-gameVals (p .vals) (k .0)
+  move-gameProps (p ∷ q ∷ ps) k = refl
 
-  pub move-kind : (ts : List Tok) → All (OfTok GmStays) ts → kind (map F ts) ≡ kind ts
-  move-kind ts k =
-      ap (λ (z : List Tok). kindProps (named GM (props z))) (map-drop F 2 ts)
-      ∙ ap (λ (z : List Prop). kindProps (named GM z)) (move-props (drop 2 ts))
-      ∙ ap kindProps (move-named GM (props (drop 2 ts)))
-      ∙ move-kindProps (named GM (props (drop 2 ts))) (named-fixed (props (drop 2 ts)) (stay-props (drop 2 ts) (all-drop (OfTok GmStays) 2 ts k)))
+  pub move-game : (ts : List Tok) → All (OfTok GmStays) ts → findGametype (map F ts) ≡ findGametype ts
+  move-game ts k =
+      ap (λ (z : List Tok). gameProps (propsNamed GM (props z))) (map-drop F 2 ts)
+      ∙ ap (λ (z : List Prop). gameProps (propsNamed GM z)) (move-props (drop 2 ts))
+      ∙ ap gameProps (move-named GM (props (drop 2 ts)))
+      ∙ move-gameProps (propsNamed GM (props (drop 2 ts))) (named-fixed (props (drop 2 ts)) (stay-props (drop 2 ts) (all-drop (OfTok GmStays) 2 ts k)))

@@ -7,8 +7,8 @@ use Rattle.lexer.specs.declared.Fault.{Fault}
 use Rattle.tables.specs.Numbers.{depthLimit, reasonOf}
 use Rattle.tables.specs.declared.Reason.{Reason}
 use Rattle.tables.specs.declared.Reason.the-variants.{UnexpectedGameTreeEnd, UnexpectedEndOfData, NoGameTrees, TooDeep}
-use Rattle.parser.specs.Split.{Splitting, splitting, over, wrong, split, no, slices, deep, filled, sliced, slicesOf}
-use Rattle.parser.specs.LocalsSurvey.{foundAs, counted, strictly, surveyOf, leftAt, StopsAt, Splits, SplitIs}
+use Rattle.parser.specs.Split.{Splitting, splitting, over, wrong, split, no, slices, deep, filled, sliced, splitByGametree}
+use Rattle.parser.specs.LocalsSurvey.{foundAs, surveyOfSlices, surveyStrict, surveyOf, leftAt, StopsAt, SplitsTo, SplitIs}
 use Rattle.parser.specs.declared.Survey.{Survey}
 use Rattle.parser.specs.declared.Survey.the-variants.{Refused, Slices as found, Empty}
 use Rattle.parser.specs.declared.Stop.{Stop}
@@ -33,10 +33,10 @@ found-full ((t ∷ ts) ∷ []) h = refl
 found-full (s ∷ u ∷ us) h = refl
 
 -- slices that are accepted unless a token is too deep
-deep-counted : (m n : ℕ) (us : List (List Tok)) → All Full us → length us ≡ n → counted (deep m us) ≡ pick (ltb depthLimit m) (Refused TooDeep 0) (found n)
+deep-counted : (m n : ℕ) (us : List (List Tok)) → All Full us → length us ≡ n → surveyOfSlices (deep m us) ≡ pick (ltb depthLimit m) (Refused TooDeep 0) (found n)
 deep-counted m n us f e = go (ltb depthLimit m)
   where
-    go : (b : Bool) → counted (pick b (no TooDeep) (slices us)) ≡ pick b (Refused TooDeep 0) (found n)
+    go : (b : Bool) → surveyOfSlices (pick b (no TooDeep) (slices us)) ≡ pick b (Refused TooDeep 0) (found n)
     go true = refl
     go false = found-full us f ∙ ap found e
 
@@ -44,11 +44,11 @@ some : (len : Bool) (m : ℕ) (ss : List (List Tok)) → (length ss ≡ 0 → �
 some len m [] q = absurd (q refl)
 some len m (t ∷ ts) q = refl
 
-module _ {l r : Lexed} {d m n : ℕ} (x : Splits l r d m n) where
+module _ {l r : Lexed} {d m n : ℕ} (x : SplitsTo l r d m n) where
   -- slices where none is open
-  filled-counted : (len : Bool) → (n ≡ 0 → ⊥) → counted (filled len m (x .ss)) ≡ pick (ltb depthLimit m) (Refused TooDeep 0) (found n)
+  filled-counted : (len : Bool) → (n ≡ 0 → ⊥) → surveyOfSlices (filled len m (x .ss)) ≡ pick (ltb depthLimit m) (Refused TooDeep 0) (found n)
   filled-counted len h =
-      ap counted (some len m (x .ss) (λ q. h (sym (x .count) ∙ q)))
+      ap surveyOfSlices (some len m (x .ss) (λ q. h (sym (x .count) ∙ q)))
       ∙ deep-counted m n (reverse (x .ss)) (all-reverse Full (x .ss) (x .full)) (length-reverse (x .ss) ∙ x .count)
 
   -- none
@@ -62,7 +62,7 @@ module _ {l r : Lexed} {d m n : ℕ} (x : Splits l r d m n) where
 module _ {s : List ℕ} {l : Lexed} {d m n : ℕ} {stop : Stop} (x : SplitIs s l d m n stop) where
   -- ---- lenient
 
-  shut-as : d ≡ 0 → (p : Stop) → stop ≡ p → slicesOf true (l .toks) ≡ filled true m (x .splits .ss)
+  shut-as : d ≡ 0 → (p : Stop) → stop ≡ p → splitByGametree true (l .toks) ≡ filled true m (x .splits .ss)
   shut-as z p e = ap (sliced true) (x .splits .same true ∙ ap (λ (q : Stop). split true (splitting d m (x .splits .cur) (x .splits .ss)) (leftAt s q .toks)) e) ∙ ap (λ (k : ℕ). sliced true (split true (splitting k m (x .splits .cur) (x .splits .ss)) (leftAt s p .toks))) z ∙ go p
     where
       go : (p : Stop) → sliced true (split true (splitting 0 m (x .splits .cur) (x .splits .ss)) (leftAt s p .toks)) ≡ filled true m (x .splits .ss)
@@ -71,14 +71,14 @@ module _ {s : List ℕ} {l : Lexed} {d m n : ℕ} {stop : Stop} (x : SplitIs s l
       go Done = refl
 
   pub lenient-empty : d ≡ 0 → n ≡ 0 → surveyOf true l ≡ Empty
-  lenient-empty z h = ap counted (shut-as z stop refl ∙ filled-none (x .splits) true h)
+  lenient-empty z h = ap surveyOfSlices (shut-as z stop refl ∙ filled-none (x .splits) true h)
 
   pub lenient-slices : d ≡ 0 → (n ≡ 0 → ⊥) → surveyOf true l ≡ pick (ltb depthLimit m) (Refused TooDeep 0) (found n)
-  lenient-slices z h = ap counted (shut-as z stop refl) ∙ filled-counted (x .splits) true h
+  lenient-slices z h = ap surveyOfSlices (shut-as z stop refl) ∙ filled-counted (x .splits) true h
 
   pub lenient-open : (d ≡ 0 → ⊥) → surveyOf true l ≡ pick (ltb depthLimit m) (Refused TooDeep 0) (found (n + 1))
   lenient-open h =
-      ap (λ (y : Splitting). counted (sliced true y)) (x .splits .same true ∙ left stop (x .stops))
+      ap (λ (y : Splitting). surveyOfSlices (sliced true y)) (x .splits .same true ∙ left stop (x .stops))
       ∙ open-counted d h (x .splits .begun)
     where
       left : (p : Stop) → StopsAt s d p → split true (splitting d m (x .splits .cur) (x .splits .ss)) (leftAt s p .toks) ≡ splitting d m (x .splits .cur) (x .splits .ss)
@@ -86,7 +86,7 @@ module _ {s : List ℕ} {l : Lexed} {d m n : ℕ} {stop : Stop} (x : SplitIs s l
       left (stopFault f i) z = refl
       left Done z = refl
 
-      open-counted : (k : ℕ) → (k ≡ 0 → ⊥) → k ≤ length (x .splits .cur) → counted (sliced true (splitting k m (x .splits .cur) (x .splits .ss))) ≡ pick (ltb depthLimit m) (Refused TooDeep 0) (found (n + 1))
+      open-counted : (k : ℕ) → (k ≡ 0 → ⊥) → k ≤ length (x .splits .cur) → surveyOfSlices (sliced true (splitting k m (x .splits .cur) (x .splits .ss))) ≡ pick (ltb depthLimit m) (Refused TooDeep 0) (found (n + 1))
       open-counted zero h b = absurd (h refl)
       open-counted (suc k) h b =
           let c = x .splits .count in
@@ -98,35 +98,35 @@ module _ {s : List ℕ} {l : Lexed} {d m n : ℕ} {stop : Stop} (x : SplitIs s l
 -- ---- strict
 
 module _ {s : List ℕ} {l : Lexed} {d m n i : ℕ} (x : SplitIs s l d m n (stopEnd i)) where
-  pub strict-end : {y : Survey} → y ≡ strictly (lexAt s (i + 1) .end) (no UnexpectedGameTreeEnd) → y ≡ surveyOf false l
+  pub strict-end : {y : Survey} → y ≡ surveyStrict (lexAt s (i + 1) .end) (no UnexpectedGameTreeEnd) → y ≡ surveyOf false l
   strict-end e =
       e
-      ∙ ap (λ (z : End). strictly z (no UnexpectedGameTreeEnd)) (sym (x .splits .ends))
-      ∙ ap (λ (z : Splitting). strictly (l .end) (sliced false z))
+      ∙ ap (λ (z : End). surveyStrict z (no UnexpectedGameTreeEnd)) (sym (x .splits .ends))
+      ∙ ap (λ (z : Splitting). surveyStrict (l .end) (sliced false z))
       (sym (x .splits .same false ∙ ap (λ (k : ℕ). split false (splitting k m (x .splits .cur) (x .splits .ss)) (leftAt s (stopEnd i) .toks)) (x .stops .0) ∙ wrong-stays false UnexpectedGameTreeEnd (lexAt s (i + 1) .toks)))
 
 pub strict-fault : {s : List ℕ} {l : Lexed} {d m n i : ℕ} {f : Fault} → SplitIs s l d m n (stopFault f i) → Refused (reasonOf f) i ≡ surveyOf false l
-strict-fault {l = l} x = ap (λ (z : End). strictly z (slicesOf false (l .toks))) (sym (x .splits .ends))
+strict-fault {l = l} x = ap (λ (z : End). surveyStrict z (splitByGametree false (l .toks))) (sym (x .splits .ends))
 
 module _ {s : List ℕ} {l : Lexed} {d m n : ℕ} (x : SplitIs s l d m n Done) where
-  done-as : surveyOf false l ≡ counted (sliced false (splitting d m (x .splits .cur) (x .splits .ss)))
+  done-as : surveyOf false l ≡ surveyOfSlices (sliced false (splitting d m (x .splits .cur) (x .splits .ss)))
   done-as =
-      ap (λ (z : End). strictly z (slicesOf false (l .toks))) (x .splits .ends)
-      ∙ ap (λ (z : Splitting). counted (sliced false z)) (x .splits .same false)
+      ap (λ (z : End). surveyStrict z (splitByGametree false (l .toks))) (x .splits .ends)
+      ∙ ap (λ (z : Splitting). surveyOfSlices (sliced false z)) (x .splits .same false)
 
   pub strict-open : (d ≡ 0 → ⊥) → surveyOf false l ≡ Refused UnexpectedEndOfData 0
   strict-open h = done-as ∙ go d h
     where
-      go : (k : ℕ) → (k ≡ 0 → ⊥) → counted (sliced false (splitting k m (x .splits .cur) (x .splits .ss))) ≡ Refused UnexpectedEndOfData 0
+      go : (k : ℕ) → (k ≡ 0 → ⊥) → surveyOfSlices (sliced false (splitting k m (x .splits .cur) (x .splits .ss))) ≡ Refused UnexpectedEndOfData 0
       go zero h = absurd (h refl)
       go (suc k) h = refl
 
   module _ (z : d ≡ 0) where
-    shut : surveyOf false l ≡ counted (filled false m (x .splits .ss))
-    shut = done-as ∙ ap (λ (k : ℕ). counted (sliced false (splitting k m (x .splits .cur) (x .splits .ss)))) z
+    shut : surveyOf false l ≡ surveyOfSlices (filled false m (x .splits .ss))
+    shut = done-as ∙ ap (λ (k : ℕ). surveyOfSlices (sliced false (splitting k m (x .splits .cur) (x .splits .ss)))) z
 
     pub strict-none : n ≡ 0 → surveyOf false l ≡ Refused NoGameTrees 0
-    strict-none h = shut ∙ ap counted (filled-none (x .splits) false h)
+    strict-none h = shut ∙ ap surveyOfSlices (filled-none (x .splits) false h)
 
     pub strict-slices : (n ≡ 0 → ⊥) → surveyOf false l ≡ pick (ltb depthLimit m) (Refused TooDeep 0) (found n)
     strict-slices h = shut ∙ filled-counted (x .splits) false h

@@ -1,6 +1,6 @@
 pub mod Balance
 pub mod Examples
-pub mod Kind
+pub mod Game
 pub mod LocalsSlice
 pub mod LocalsSurvey
 pub mod Read

@@ -24,9 +24,9 @@ restFrom d (node o ∷ ts) = restFrom d ts
 restFrom d (prop p e ∷ ts) = restFrom d ts
 
 -- the first k slices
-unfoldable pub cut : ℕ → List Tok → List (List Tok)
-cut zero ts = []
-cut (suc k) ts = sliceFrom 0 ts ∷ cut k (restFrom 0 ts)
+unfoldable pub firstSlices : ℕ → List Tok → List (List Tok)
+firstSlices zero ts = []
+firstSlices (suc k) ts = sliceFrom 0 ts ∷ firstSlices k (restFrom 0 ts)
 
 -- no token of a slice brings the depth d above the limit
 unfoldable pub Shallow : ℕ → List Tok → Type 0

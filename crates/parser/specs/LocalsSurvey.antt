@@ -3,7 +3,7 @@ use Rattle.lists.specs.Prelude.{ℕ, suc, _+_, _≤_, _<_, _≡_, Bool, true, f
 use Rattle.lists.specs.All.{All}
 use Rattle.lexer.specs.Token.{Tok, end, End, done, broken, Lexed, lexed, lexAt}
 use Rattle.tables.specs.Numbers.{reasonOf}
-use Rattle.parser.specs.Split.{splitting, split, Slices, no, slices, slicesOf}
+use Rattle.parser.specs.Split.{splitting, split, Slices, no, slices, splitByGametree}
 use Rattle.parser.specs.declared.Survey.{Survey}
 use Rattle.parser.specs.declared.Survey.the-variants.{Refused, Slices as found, Empty}
 use Rattle.parser.specs.declared.Stop.{Stop}
@@ -17,19 +17,19 @@ foundAs ((t ∷ ts) ∷ []) = found 1
 foundAs (s ∷ u ∷ ss) = found (suc (suc (length ss)))
 
 -- what splitting says
-abbrev pub counted : Slices → Survey
-counted (no r) = Refused r 0
-counted (slices ss) = foundAs ss
+abbrev pub surveyOfSlices : Slices → Survey
+surveyOfSlices (no r) = Refused r 0
+surveyOfSlices (slices ss) = foundAs ss
 
 -- strict: a fault comes first
-abbrev pub strictly : End → Slices → Survey
-strictly done x = counted x
-strictly (broken f s) x = Refused (reasonOf f) s
+abbrev pub surveyStrict : End → Slices → Survey
+surveyStrict done x = surveyOfSlices x
+surveyStrict (broken f s) x = Refused (reasonOf f) s
 
 -- strict or lenient
 abbrev pub surveyOf : Bool → Lexed → Survey
-surveyOf false l = strictly (l .end) (slicesOf false (l .toks))
-surveyOf true l = counted (slicesOf true (l .toks))
+surveyOf false l = surveyStrict (l .end) (splitByGametree false (l .toks))
+surveyOf true l = surveyOfSlices (splitByGametree true (l .toks))
 
 -- ---- splitting as far as an end at depth 0
 
@@ -46,7 +46,7 @@ StopsAt s d (Fault f i) = Unit {0}
 StopsAt s d Done = Unit {0}
 
 -- from the tokens l splitting comes to the depth d and the greatest depth m with n slices, each of which has a token, and r is left; an open slice has begun
-pub record Splits (l r : Lexed) (d m n : ℕ) : Type 0 where
+pub record SplitsTo (l r : Lexed) (d m n : ℕ) : Type 0 where
   pub cur : List Tok
   pub ss : List (List Tok)
   pub count : length ss ≡ n
@@ -57,6 +57,6 @@ pub record Splits (l r : Lexed) (d m n : ℕ) : Type 0 where
 
 -- the same, where splitting stops; the slices, and the depth, are no more than the bytes
 pub record SplitIs (s : List ℕ) (l : Lexed) (d m n : ℕ) (stop : Stop) : Type 0 where
-  pub splits : Splits l (leftAt s stop) d m n
+  pub splits : SplitsTo l (leftAt s stop) d m n
   pub stops : StopsAt s d stop
   pub room : n + d ≤ length s

@@ -11,7 +11,7 @@ pub data Splitting : Type 0 where
   over : (m : ℕ) → List (List Tok) → Splitting
   wrong : Reason → Splitting
 
--- an end, by the depth before it: a slice ends where the depth comes to 0; at depth 0 lenient splitting stops
+-- an end, by the depth before it: a slice ends where the depth comes to 0; at depth 0 lenient splitting stops (SCOPE 37, 78, 81)
 abbrev pub ended : Bool → ℕ → ℕ → Tok → List Tok → List (List Tok) → Splitting
 ended len zero m t cur ss = pick len (over m ss) (wrong UnexpectedGameTreeEnd)
 ended len (suc zero) m t cur ss = splitting zero m [] (reverse (t ∷ cur) ∷ ss)
@@ -36,17 +36,17 @@ pub data Slices : Type 0 where
   no : Reason → Slices
   slices : List (List Tok) → Slices
 
--- a token of a slice brings the depth above the limit
+-- a token of a slice brings the depth above the limit (SCOPE 40)
 abbrev pub deep : ℕ → List (List Tok) → Slices
 deep m ss = pick (ltb depthLimit m) (no TooDeep) (slices ss)
 
--- no slice at all: lenient splitting gives an empty one
+-- no slice at all: lenient splitting gives an empty one (SCOPE 39, 82)
 abbrev pub filled : Bool → ℕ → List (List Tok) → Slices
 filled true m [] = slices ([] ∷ [])
 filled false m [] = no NoGameTrees
 filled len m (s ∷ ss) = deep m (reverse (s ∷ ss))
 
--- after the last token: tokens after the last end are dropped; a tree that stays open is refused, or the last slice where reading is lenient
+-- after the last token: tokens after the last end are dropped; a tree that stays open is refused, or the last slice where reading is lenient (SCOPE 38, 59, 79, 82)
 abbrev pub sliced : Bool → Splitting → Slices
 sliced len (splitting zero m cur ss) = filled len m ss
 sliced true (splitting (suc d) m cur ss) = deep m (reverse (reverse cur ∷ ss))
@@ -54,6 +54,6 @@ sliced false (splitting (suc d) m cur ss) = no UnexpectedEndOfData
 sliced len (over m ss) = filled len m ss
 sliced len (wrong r) = no r
 
--- the slices of the tokens
-abbrev pub slicesOf : Bool → List Tok → Slices
-slicesOf len ts = sliced len (split len (splitting 0 0 [] []) ts)
+-- the slices of the tokens (SCOPE 77)
+abbrev pub splitByGametree : Bool → List Tok → Slices
+splitByGametree len ts = sliced len (split len (splitting 0 0 [] []) ts)

@@ -9,7 +9,7 @@ ghost use Rattle.tables.specs.Numbers.{depthLimit};
 ghost use Rattle.tables.specs.declared.Reason.the-variants.{UnexpectedGameTreeEnd, TooDeep};
 ghost use Rattle.parser.specs.declared.Survey.the-variants.{Refused, Slices};
 ghost use Rattle.parser.specs.Split.{no};
-ghost use Rattle.parser.specs.LocalsSurvey.{SplitIs, strictly, surveyOf};
+ghost use Rattle.parser.specs.LocalsSurvey.{SplitIs, surveyStrict, surveyOf};
 use lexer::Step;
 use tables::Reason;
 
@@ -96,7 +96,7 @@ fn split_tokens(s: &[u8], from: usize) -> Split
 
 // The first fault from a place on; where there is none, an end without a start.
 fn fault_or_end(s: &[u8], from: usize) -> Survey
-    ensures { λ r. ⌜ r ≡ strictly (lexAt (now (s .entry)) from .end) (no UnexpectedGameTreeEnd) ⌝ }
+    ensures { λ r. ⌜ r ≡ surveyStrict (lexAt (now (s .entry)) from .end) (no UnexpectedGameTreeEnd) ⌝ }
 {
     let mut at = from;
     loop {

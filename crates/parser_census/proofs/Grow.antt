@@ -4,10 +4,10 @@ use Rattle.lists.specs.Same.{same}
 use Rattle.lists.proofs.Tests.{never}
 use Rattle.lexer.specs.Token.{Prop, Tok, start, end, node, prop, End}
 use Rattle.tables.specs.Record.{Node}
-use Rattle.parser.specs.Kind.{Kind, is, unkind, GM, props, kind, kindVals}
+use Rattle.parser.specs.Game.{Game, is, noGame, GM, props, findGametype, gameVals}
 use Rattle.parser.specs.LocalsSlice.{sliceFrom, restFrom}
 use Rattle.parser.specs.Walk.{Walk, walk, walks, opens}
-use Rattle.parser.specs.Read.{growing}
+use Rattle.parser.specs.Read.{treesSoFar}
 use Rattle.parser_census.specs.LocalsCensus.{onStart, onEnd, onLast, onNode, onKind, onProp}
 use Rattle.parser_census.specs.declared.Mode.{Mode}
 use Rattle.parser_census.specs.declared.Mode.the-variants.{Outside, First, Root, Typed, Node as node-mode, Opened, Bare, Full, Odd}
@@ -93,7 +93,7 @@ module _ (ct cn cp cv : ℕ) (e : End) (len : Bool) where
       let lv : valsIn (x ∷ ns) ≡ valsIn (reverse (x ∷ ns)) = sym (vals-in-reverse (x ∷ ns)) in
       record {
         es = reverse (x ∷ ns);
-        tree = λ k ys. ap (λ (z : ℕ). growing (b + z) (record { root = b; kind = k; nodes = reverse (x ∷ ns) } ∷ ys)) l;
+        tree = λ k ys. ap (λ (z : ℕ). treesSoFar (b + z) (record { root = b; game = k; nodes = reverse (x ∷ ns) } ∷ ys)) l;
         rest =
             subst (λ (z : ℕ). Grown ct cn cp cv e len (t + 1) (b + length (reverse (x ∷ ns))) (p0 + propsIn (reverse (x ∷ ns))) (v0 + z) ts) lv
             (subst (λ (z : ℕ). Grown ct cn cp cv e len (t + 1) (b + length (reverse (x ∷ ns))) (p0 + z) (v0 + valsIn (x ∷ ns)) ts) lp

@@ -3,7 +3,7 @@ use Rattle.lists.proofs.Prelude.{ℕ, zero, suc, _++_, _+_, _≡_, refl, sym, a
 use Rattle.lists.specs.All.{All}
 use Rattle.lexer.specs.Token.{Val, Prop, start, end, node, prop}
 use Rattle.tables.specs.Record.{Node}
-use Rattle.parser.specs.Kind.{Kind, is, unkind, kindVals}
+use Rattle.parser.specs.Game.{Game, is, noGame, gameVals}
 use Rattle.parser.specs.Walk.{Walk, walk, children, walks, opens}
 use Rattle.parser_census.specs.LocalsCensus.{onStart, onEnd, onLast, onNode, onKind, onProp}
 use Rattle.parser_census.specs.declared.Mode.{Mode}
@@ -108,12 +108,12 @@ pub holds-prop : (m : Mode) (c : Bool) (q : Prop) (cur : ℕ) (st : List ℕ) (g
     → (onProp m c (q .vals) ≡ Odd) ⊎ ((g ≡ true) × Holds (onProp m c (q .vals)) cur st true (record { parent = x .parent; props = x .props ++ (q ∷ []) } ∷ ns))
 holds-prop Outside c q cur st g x ns h = absurd h
 holds-prop First c q cur st g x ns h = absurd h
-holds-prop Root true q cur st g x ns h = go (kindVals (q .vals))
+holds-prop Root true q cur st g x ns h = go (gameVals (q .vals))
   where
-    go : (k : Kind) → (onKind k ≡ Odd) ⊎ ((g ≡ true) × Holds (onKind k) cur st true (record { parent = x .parent; props = x .props ++ (q ∷ []) } ∷ ns))
+    go : (k : Game) → (onKind k ≡ Odd) ⊎ ((g ≡ true) × Holds (onKind k) cur st true (record { parent = x .parent; props = x .props ++ (q ∷ []) } ∷ ns))
     go (is zero) = inr (h .0, (refl, h .1))
     go (is (suc k)) = inl refl
-    go (unkind r) = inl refl
+    go (noGame r) = inl refl
 holds-prop Root false q cur st g x ns h = inr (h .0, (refl, h .1))
 holds-prop Typed true q cur st g x ns h = inl refl
 holds-prop Typed false q cur st g x ns h = inr (h .0, (refl, h .1))

@@ -5,7 +5,7 @@ use denote.Enum.Declared.{tagOf}
 use Rattle.lists.specs.Same.{same as sameName}
 use Rattle.lexer_close.specs.declared.Close.{Close}
 use Rattle.lexer_close.specs.declared.Close.the-variants.{At, Open}
-use Rattle.lexer_scan.specs.Scan.{space, identAt, valuesAt}
+use Rattle.lexer_scan.specs.Scan.{space, identAt, valuesEndAt}
 use Rattle.lexer_scan.specs.declared.Ident.{Ident}
 use Rattle.lexer_scan.specs.declared.Ident.the-variants.{Opens, Missing, Foreign}
 use Rattle.lexer_scan.proofs.Ident as ident
@@ -14,10 +14,10 @@ use Rattle.lexer_scan.proofs.Values.{values-bounds, values-forward}
 use Rattle.lexer.specs.Token.{end, lexAt}
 use Rattle.lexer.specs.Step.{onIdent, onValues, onHead, valsAt, propAt, stepOn}
 use Rattle.lexer.proofs.Listed.{vals-count}
-use Rattle.parser.specs.Kind.{GM}
+use Rattle.parser.specs.Game.{GM}
 use Rattle.parser_game.proofs.GameValues.{gm-not}
 use Rattle.parser_census.specs.LocalsCensus.{onProp, censusOn, censusOf}
-use Rattle.parser_census.specs.LocalsCount.{takes, isOdd, CountIs, CountedIs, NameAt, ShortIs}
+use Rattle.parser_census.specs.LocalsCount.{takes, isOdd, ValuesCountIs, CountedIs, NameAt, ShortIs}
 use Rattle.parser_census.specs.declared.Mode.{Mode}
 use Rattle.parser_census.specs.declared.Counted.{Counted}
 use Rattle.parser_census.specs.declared.Counted.the-variants.{All, Unclosed}
@@ -36,13 +36,13 @@ module _ {s : List ℕ} {from i : ℕ} {m : Mode} {d t n p v : ℕ} (x : At-plac
   odd-ident a Foreign e o = named a (sym e)
 
   module _ (a : NameAt s i) {k : ℕ} (ek : identAt s i ≡ Opens k) where
-    valued : {z : Close} → valuesAt s k ≡ z → On x (stepOn s (onValues i k z)) ≡ censusOf (lexAt s from)
+    valued : {z : Close} → valuesEndAt s k ≡ z → On x (stepOn s (onValues i k z)) ≡ censusOf (lexAt s from)
     valued {z} e = ap (λ (y : Close). On x (stepOn s (onValues i k y))) (sym e) ∙ named a ek
 
-    pub odd-open : valuesAt s k ≡ Open → odd ≡ censusOf (lexAt s from)
+    pub odd-open : valuesEndAt s k ≡ Open → odd ≡ censusOf (lexAt s from)
     odd-open e = valued e
 
-    pub place-prop : {c e : ℕ} → CountIs s k c e → {m′ : Mode} → m′ ≡ onProp m (sameName (slice i k s) GM) (valsAt s k) → At-place s from e m′ d t n (p + 1) (v + c)
+    pub place-prop : {c e : ℕ} → ValuesCountIs s k c e → {m′ : Mode} → m′ ≡ onProp m (sameName (slice i k s) GM) (valsAt s k) → At-place s from e m′ d t n (p + 1) (v + c)
     unfolding propAt
     place-prop {c} {e} w {m′} em =
         let b = ident-bounds s i k ek in
@@ -62,7 +62,7 @@ module _ {s : List ℕ} {from i : ℕ} {m : Mode} {d t n p v : ℕ} (x : At-plac
           vals = omega (arith, x .vals);
         }
 
-    pub prop-within : {c e : ℕ} → CountIs s k c e → (i < e) × (e ≤ length s) × (v + c ≤ e)
+    pub prop-within : {c e : ℕ} → ValuesCountIs s k c e → (i < e) × (e ≤ length s) × (v + c ≤ e)
     prop-within {c} {e} w =
         let b = ident-bounds s i k ek in
         let q = vals-count s (suc (length s)) k e (omega arith) (w .ends) in
@@ -70,7 +70,7 @@ module _ {s : List ℕ} {from i : ℕ} {m : Mode} {d t n p v : ℕ} (x : At-plac
         let f = w .count in
         (omega arith, values-bounds s k e (w .ends) .1 (omega arith), omega (arith, x .vals))
 
-    pub odd-prop : {c e : ℕ} → CountIs s k c e → {m′ : Mode} → m′ ≡ onProp m (sameName (slice i k s) GM) (valsAt s k) → isOdd m′ ≡ true → odd ≡ censusOf (lexAt s from)
+    pub odd-prop : {c e : ℕ} → ValuesCountIs s k c e → {m′ : Mode} → m′ ≡ onProp m (sameName (slice i k s) GM) (valsAt s k) → isOdd m′ ≡ true → odd ≡ censusOf (lexAt s from)
     odd-prop {c} {e} w {m′} em o =
         sym (ap (λ (z : Mode). censusOn z d t n (p + 1) (v + c) (lexAt s e .toks) (lexAt s e .end)) (odd-is m′ o) ∙ odd-stays d t n (p + 1) (v + c) (lexAt s e .toks) (lexAt s e .end))
         ∙ place-prop w em .same
@@ -79,7 +79,7 @@ module _ {s : List ℕ} {from i : ℕ} {m : Mode} {d t n p v : ℕ} (x : At-plac
   pub odd-name : NameAt s i → takes m ≡ false → odd ≡ censusOf (lexAt s from)
   odd-name a f = go (identAt s i) refl
     where
-      closed : (k : ℕ) → identAt s i ≡ Opens k → (z : Close) → valuesAt s k ≡ z → odd ≡ censusOf (lexAt s from)
+      closed : (k : ℕ) → identAt s i ≡ Opens k → (z : Close) → valuesEndAt s k ≡ z → odd ≡ censusOf (lexAt s from)
       closed k ek (At e) q =
           sym (ap (λ (y : Mode). censusOn y d t n (p + 1) (v + length (propAt s i k .vals)) (lexAt s e .toks) (lexAt s e .end)) (not-taken m f (sameName (propAt s i k .name) GM) (propAt s i k .vals))
           ∙ odd-stays d t n (p + 1) (v + length (propAt s i k .vals)) (lexAt s e .toks) (lexAt s e .end))
@@ -87,7 +87,7 @@ module _ {s : List ℕ} {from i : ℕ} {m : Mode} {d t n p v : ℕ} (x : At-plac
       closed k ek Open q = valued a ek q
 
       go : (z : Ident) → identAt s i ≡ z → odd ≡ censusOf (lexAt s from)
-      go (Opens k) e = closed k e (valuesAt s k) refl
+      go (Opens k) e = closed k e (valuesEndAt s k) refl
       go Missing e = named a e
       go Foreign e = named a e
 
@@ -111,10 +111,10 @@ module _ {s : List ℕ} {from i : ℕ} {m : Mode} {d t n p v : ℕ} (x : At-plac
 
 -- ---- what the count of the values gave
 
-pub counted-all : (s : List ℕ) (k : ℕ) {r : Counted} → CountedIs s k r → {n e : ℕ} → r ≡ All n e → CountIs s k n e
+pub counted-all : (s : List ℕ) (k : ℕ) {r : Counted} → CountedIs s k r → {n e : ℕ} → r ≡ All n e → ValuesCountIs s k n e
 counted-all s k x q = subst (CountedIs s k) q x
 
-pub counted-open : (s : List ℕ) (k : ℕ) {r : Counted} → CountedIs s k r → r ≡ Unclosed → valuesAt s k ≡ Open
+pub counted-open : (s : List ℕ) (k : ℕ) {r : Counted} → CountedIs s k r → r ≡ Unclosed → valuesEndAt s k ≡ Open
 counted-open s k x q = subst (CountedIs s k) q x
 
 -- where the values begin

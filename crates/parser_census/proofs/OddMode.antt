@@ -2,7 +2,7 @@
 use Rattle.lists.proofs.Prelude.{ℕ, _+_, _-_, _≡_, refl, ap, _∙_, Bool, true, false, true≢false, false≢true, List, [], _∷_, length, leb, pick}
 use Rattle.lexer.specs.Token.{Val, Tok, start, end, node, prop, End, done, broken}
 use Rattle.tables.specs.Numbers.{depthLimit}
-use Rattle.parser_census.specs.LocalsCensus.{onProp, ended, censusOn}
+use Rattle.parser_census.specs.LocalsCensus.{onProp, censusAt, censusOn}
 use Rattle.parser_census.specs.LocalsCount.{takes, isOdd}
 use Rattle.parser_census.specs.declared.Mode.{Mode}
 use Rattle.parser_census.specs.declared.Mode.the-variants.{Outside, First, Root, Typed, Node, Opened, Bare, Full, Odd}
@@ -26,7 +26,7 @@ pub pick-both : {A : Type 0} (b : Bool) (x : A) → pick b x x ≡ x
 pick-both true x = refl
 pick-both false x = refl
 
-ended-odd : (e : End) → ended e odd ≡ odd
+ended-odd : (e : End) → censusAt e odd ≡ odd
 ended-odd done = refl
 ended-odd (broken f s) = refl
 

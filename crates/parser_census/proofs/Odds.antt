@@ -4,8 +4,8 @@ use Rattle.lists.specs.Same.{same}
 use Rattle.lists.proofs.Tests.{never}
 use Rattle.lexer.specs.Token.{Val, Prop, Tok, start, end, node, prop, End, done, broken}
 use Rattle.tables.specs.Numbers.{depthLimit}
-use Rattle.parser.specs.Kind.{Kind, is, unkind, props, named, GM, kindVals, kindProps}
-use Rattle.parser_census.specs.LocalsCensus.{onStart, onEnd, onLast, onKind, onProp, total, ended, censusOn}
+use Rattle.parser.specs.Game.{Game, is, noGame, props, propsNamed, GM, gameVals, gameProps}
+use Rattle.parser_census.specs.LocalsCensus.{onStart, onEnd, onLast, onKind, onProp, total, censusAt, censusOn}
 use Rattle.parser_census.specs.declared.Mode.{Mode}
 use Rattle.parser_census.specs.declared.Mode.the-variants.{Outside, First, Root, Typed, Node, Opened, Bare, Full, Odd}
 use Rattle.parser_census.specs.declared.Census.{Census}
@@ -46,7 +46,7 @@ module _ (ct cn cp cv : ℕ) (e : End) where
   pub says-none : (m : Mode) (d t n p v : ℕ) → Says m d t n p v [] → (m ≡ Outside) × (e ≡ done) × (0 < t) × (ct ≡ t) × (cn ≡ n) × (cp ≡ p) × (cv ≡ v)
   says-none m d t n p v h = go e refl m t h
     where
-      go : (f : End) → e ≡ f → (m : Mode) (t : ℕ) → ended f (total m t n p v) ≡ Simple ct cn cp cv → (m ≡ Outside) × (e ≡ done) × (0 < t) × (ct ≡ t) × (cn ≡ n) × (cp ≡ p) × (cv ≡ v)
+      go : (f : End) → e ≡ f → (m : Mode) (t : ℕ) → censusAt f (total m t n p v) ≡ Simple ct cn cp cv → (m ≡ Outside) × (e ≡ done) × (0 < t) × (ct ≡ t) × (cn ≡ n) × (cp ≡ p) × (cv ≡ v)
       go (broken f s) q m t w = never cc
       go done q Outside zero w = never cc
       go done q Outside (suc t) w =
@@ -66,29 +66,29 @@ module _ (ct cn cp cv : ℕ) (e : End) where
 
   -- ---- the game type of the root
 
-  pub typed-no-more : (ts : List Tok) (d t n p v : ℕ) → Says Typed d t n p v ts → named GM (props ts) ≡ []
+  pub typed-no-more : (ts : List Tok) (d t n p v : ℕ) → Says Typed d t n p v ts → propsNamed GM (props ts) ≡ []
   typed-no-more [] d t n p v h = refl
   typed-no-more (start o ∷ ts) d t n p v h = refl
   typed-no-more (end o ∷ ts) d t n p v h = refl
   typed-no-more (node o ∷ ts) d t n p v h = refl
   typed-no-more (prop q o ∷ ts) d t n p v h = go (same (q .name) GM) (typed-no-more ts d t n (p + 1) (v + length (q .vals))) h
     where
-      go : (b : Bool) → (Says Typed d t n (p + 1) (v + length (q .vals)) ts → named GM (props ts) ≡ []) → Says (onProp Typed b (q .vals)) d t n (p + 1) (v + length (q .vals)) ts → pick b (q ∷ named GM (props ts)) (named GM (props ts)) ≡ []
+      go : (b : Bool) → (Says Typed d t n (p + 1) (v + length (q .vals)) ts → propsNamed GM (props ts) ≡ []) → Says (onProp Typed b (q .vals)) d t n (p + 1) (v + length (q .vals)) ts → pick b (q ∷ propsNamed GM (props ts)) (propsNamed GM (props ts)) ≡ []
       go true ih w = odd-never d t n (p + 1) (v + length (q .vals)) ts w
       go false ih w = ih w
 
-  pub root-is-go : (ts : List Tok) (d t n p v : ℕ) → Says Root d t n p v ts → kindProps (named GM (props ts)) ≡ is 0
+  pub root-is-go : (ts : List Tok) (d t n p v : ℕ) → Says Root d t n p v ts → gameProps (propsNamed GM (props ts)) ≡ is 0
   root-is-go [] d t n p v h = refl
   root-is-go (start o ∷ ts) d t n p v h = refl
   root-is-go (end o ∷ ts) d t n p v h = refl
   root-is-go (node o ∷ ts) d t n p v h = refl
   root-is-go (prop q o ∷ ts) d t n p v h = go (same (q .name) GM) (root-is-go ts d t n (p + 1) (v + length (q .vals))) h
     where
-      kinds : (k : Kind) → kindVals (q .vals) ≡ k → Says (onKind k) d t n (p + 1) (v + length (q .vals)) ts → kindProps (q ∷ named GM (props ts)) ≡ is 0
-      kinds (is zero) r w = ap (λ (z : List Prop). kindProps (q ∷ z)) (typed-no-more ts d t n (p + 1) (v + length (q .vals)) w) ∙ r
-      kinds (is (suc k)) r w = odd-never d t n (p + 1) (v + length (q .vals)) ts w
-      kinds (unkind s) r w = odd-never d t n (p + 1) (v + length (q .vals)) ts w
+      games : (k : Game) → gameVals (q .vals) ≡ k → Says (onKind k) d t n (p + 1) (v + length (q .vals)) ts → gameProps (q ∷ propsNamed GM (props ts)) ≡ is 0
+      games (is zero) r w = ap (λ (z : List Prop). gameProps (q ∷ z)) (typed-no-more ts d t n (p + 1) (v + length (q .vals)) w) ∙ r
+      games (is (suc k)) r w = odd-never d t n (p + 1) (v + length (q .vals)) ts w
+      games (noGame s) r w = odd-never d t n (p + 1) (v + length (q .vals)) ts w
 
-      go : (b : Bool) → (Says Root d t n (p + 1) (v + length (q .vals)) ts → kindProps (named GM (props ts)) ≡ is 0) → Says (onProp Root b (q .vals)) d t n (p + 1) (v + length (q .vals)) ts → kindProps (pick b (q ∷ named GM (props ts)) (named GM (props ts))) ≡ is 0
-      go true ih w = kinds (kindVals (q .vals)) refl w
+      go : (b : Bool) → (Says Root d t n (p + 1) (v + length (q .vals)) ts → gameProps (propsNamed GM (props ts)) ≡ is 0) → Says (onProp Root b (q .vals)) d t n (p + 1) (v + length (q .vals)) ts → gameProps (pick b (q ∷ propsNamed GM (props ts)) (propsNamed GM (props ts))) ≡ is 0
+      go true ih w = games (gameVals (q .vals)) refl w
       go false ih w = ih w

@@ -2,10 +2,10 @@
 use Rattle.lists.proofs.Prelude.{ℕ, _+_, _≤_, _<_, _≡_, refl, sym, ap, _∙_, subst, Bool, true, false, _&&_, not, List, [], _∷_, arith, length, getD, slice, eqb, ltb, leb, ne-eqb, eq-eqb, eqb-true, eqb-false, ltb-true, ltb-false, lt-ltb, le-ltb, not-true}
 use Rattle.lists.proofs.Tests.{and-both}
 use Rattle.lexer_close.specs.Close.{closeAt}
-use Rattle.lexer_close.specs.LocalsRun.{plain}
+use Rattle.lexer_close.specs.LocalsRun.{closesNothing}
 use Rattle.lexer_close.specs.declared.Close.the-variants.{At}
 use Rattle.lexer_close.proofs.Leads.{close-pair}
-use Rattle.lexer_scan.specs.Scan.{space, skipAt, identAt, valueAt, valuesAt}
+use Rattle.lexer_scan.specs.Scan.{space, skipAt, identAt, valueStepAt, valuesEndAt}
 use Rattle.lexer_scan.specs.declared.Ident.{Ident}
 use Rattle.lexer_scan.specs.declared.Ident.the-variants.{Opens}
 use Rattle.lexer_scan.specs.declared.ValueStep.the-variants.{Value}
@@ -81,7 +81,7 @@ seven x y z w u r q h =
     (e2 .0, e2 .1, e3 .0, e4 .0, e5 .0, e6 .0, e6 .1)
 
 -- a short property
-pub short-is : (s : List ℕ) (i : ℕ) → i + 6 ≤ length s → NameAt s i → {a b : Bool} → a ≡ plain (getD s (i + 2) 0) → b ≡ plain (getD s (i + 3) 0)
+pub short-is : (s : List ℕ) (i : ℕ) → i + 6 ≤ length s → NameAt s i → {a b : Bool} → a ≡ closesNothing (getD s (i + 2) 0) → b ≡ closesNothing (getD s (i + 3) 0)
     → (ltb (getD s i 0) 128 && not (eqb (getD s i 0) 0x5b)) && (eqb (getD s (i + 1) 0) 0x5b && (eqb (getD s (i + 4) 0) 0x5d && ((a && b) && (ltb 32 (getD s (i + 5) 0) && not (eqb (getD s (i + 5) 0) 0x5b))))) ≡ true
     → ShortIs s i
 short-is s i h at {a} {b} p q e =
@@ -94,13 +94,13 @@ short-is s i h at {a} {b} p q e =
     let j4 : i + 2 + 2 ≡ i + 4 = omega arith in
     let j5 : i + 4 + 1 ≡ i + 5 = omega arith in
     let c2 : closeAt s (i + 2) ≡ At (i + 2 + 2) =
-    close-pair s (i + 2) (omega (arith, h)) p (q ∙ ap (λ (z : ℕ). plain (getD s z 0)) (sym j3)) (ap (λ (z : ℕ). eqb (getD s z 0) 0x5d && (a && b)) j4 ∙ rw (f .3, f .4)) in
+    close-pair s (i + 2) (omega (arith, h)) p (q ∙ ap (λ (z : ℕ). closesNothing (getD s z 0)) (sym j3)) (ap (λ (z : ℕ). eqb (getD s z 0) 0x5d && (a && b)) j4 ∙ rw (f .3, f .4)) in
     let c : closeAt s (i + 1 + 1) ≡ At (i + 4) = ap (closeAt s) j2 ∙ c2 ∙ ap At j4 in
     let st : space (getD s (i + 5) 0) ≡ false = space-high (getD s (i + 5) 0) (ltb-true 32 (getD s (i + 5) 0) (f .5)) in
     let sk : i + 5 ≡ skipAt s (i + 4 + 1) = sym (skip-still s (i + 5) st) ∙ ap (skipAt s) (sym j5) in
-    let va : valueAt s (i + 1) ≡ Value (i + 1 + 1) (i + 4) (i + 5) = value-on s (i + 1) (i + 4) (i + 5) (eqb-true (getD s (i + 1) 0) 0x5b (f .2)) c sk in
+    let va : valueStepAt s (i + 1) ≡ Value (i + 1 + 1) (i + 4) (i + 5) = value-on s (i + 1) (i + 4) (i + 5) (eqb-true (getD s (i + 1) 0) 0x5b (f .2)) c sk in
     let no = value-none s (i + 5) (eqb-false (getD s (i + 5) 0) 0x5b (not-true (eqb (getD s (i + 5) 0) 0x5b) (f .6))) in
-    let vs : valuesAt s (i + 1) ≡ At (i + 5) = values-more s (i + 1) (i + 1 + 1) (i + 4) (i + 5) va ∙ values-none s (i + 5) no in
+    let vs : valuesEndAt s (i + 1) ≡ At (i + 5) = values-more s (i + 1) (i + 1 + 1) (i + 4) (i + 5) va ∙ values-none s (i + 5) no in
     record {
       inside = h;
       next = next-name s i (omega (arith, h)) at ∙ ap (λ (z : Ident). onHead s (onIdent i z)) id ∙ ap (onValues i (i + 1)) vs;

@@ -6,9 +6,9 @@ use Rattle.lists.specs.Same.{same}
 use Rattle.lexer.specs.Token.{Val, Tok, start, end, node, prop, End, done, Lexed}
 use Rattle.tables.specs.Numbers.{depthLimit}
 use Rattle.tables.specs.declared.Reason.the-variants.{TooDeep}
-use Rattle.parser.specs.Kind.{Kind, is, unkind, GM, kindVals}
-use Rattle.parser.specs.Split.{Splitting, splitting, split, no, slices, filled, sliced, slicesOf}
-use Rattle.parser.specs.LocalsSurvey.{foundAs, counted, strictly, surveyOf}
+use Rattle.parser.specs.Game.{Game, is, noGame, GM, gameVals}
+use Rattle.parser.specs.Split.{Splitting, splitting, split, no, slices, filled, sliced, splitByGametree}
+use Rattle.parser.specs.LocalsSurvey.{foundAs, surveyOfSlices, surveyStrict, surveyOf}
 use Rattle.parser.specs.declared.Survey.the-variants.{Slices as found}
 use Rattle.parser_census.specs.LocalsCensus.{onStart, onEnd, onLast, onNode, onKind, onProp, censusOf}
 use Rattle.parser_census.specs.declared.Mode.{Mode}
@@ -72,16 +72,16 @@ level-node Bare d h = h
 level-node Full d h = h
 level-node Odd d h = tt
 
-level-kind : (k : Kind) (d : ℕ) → 0 < d → Level (onKind k) d
-level-kind (is zero) d h = h
-level-kind (is (suc k)) d h = tt
-level-kind (unkind r) d h = tt
+level-game : (k : Game) (d : ℕ) → 0 < d → Level (onKind k) d
+level-game (is zero) d h = h
+level-game (is (suc k)) d h = tt
+level-game (noGame r) d h = tt
 
 module _ (q : List Val) where
   level-prop : (m : Mode) (b : Bool) (d : ℕ) → Level m d → Level (onProp m b q) d
   level-prop Outside b d h = tt
   level-prop First b d h = tt
-  level-prop Root true d h = level-kind (kindVals q) d h
+  level-prop Root true d h = level-game (gameVals q) d h
   level-prop Root false d h = h
   level-prop Typed true d h = tt
   level-prop Typed false d h = h
@@ -172,10 +172,10 @@ found-all ([] ∷ []) h = absurd (omega (arith, h .0))
 found-all ((t ∷ ts) ∷ []) h = refl
 found-all (s ∷ u ∷ us) h = refl
 
-filled-found : (len : Bool) (m : ℕ) (us : List (List Tok)) → m ≤ depthLimit → 0 < length us → All Full-slice us → counted (filled len m us) ≡ found (length us)
+filled-found : (len : Bool) (m : ℕ) (us : List (List Tok)) → m ≤ depthLimit → 0 < length us → All Full-slice us → surveyOfSlices (filled len m us) ≡ found (length us)
 filled-found len m [] b h f = absurd (omega (arith, h))
 filled-found len m (s ∷ us) b h f =
-    ap (λ (z : Bool). counted (pick z (no TooDeep) (slices (reverse (s ∷ us))))) (le-ltb depthLimit m b)
+    ap (λ (z : Bool). surveyOfSlices (pick z (no TooDeep) (slices (reverse (s ∷ us))))) (le-ltb depthLimit m b)
     ∙ found-all (reverse (s ∷ us)) (all-reverse Full-slice (s ∷ us) f)
     ∙ ap found (length-reverse (s ∷ us))
 
@@ -184,12 +184,12 @@ pub census-found : (l : Lexed) (ct cn cp cv : ℕ) → censusOf l ≡ Simple ct 
 unfolding censusOf
 census-found l ct cn cp cv h len = go (ends ct cn cp cv (l .end) (l .toks) Outside 0 0 0 0 0 0 [] [] refl h (omega arith) refl tt) len
   where
-    sliced-found : (x : Ends ct cn cp cv (l .end) 0 0 [] [] (l .toks)) (len : Bool) → counted (slicesOf len (l .toks)) ≡ found ct
+    sliced-found : (x : Ends ct cn cp cv (l .end) 0 0 [] [] (l .toks)) (len : Bool) → surveyOfSlices (splitByGametree len (l .toks)) ≡ found ct
     sliced-found x len =
-        ap (λ (z : Splitting). counted (sliced len z)) (x .same len)
+        ap (λ (z : Splitting). surveyOfSlices (sliced len z)) (x .same len)
         ∙ filled-found len (x .m) (x .all) (x .low) (omega (arith, x .count, x .some)) (x .full)
         ∙ ap found (x .count)
 
     go : (x : Ends ct cn cp cv (l .end) 0 0 [] [] (l .toks)) (len : Bool) → surveyOf len l ≡ found ct
     go x true = sliced-found x true
-    go x false = ap (λ (z : End). strictly z (slicesOf false (l .toks))) (x .over) ∙ sliced-found x false
+    go x false = ap (λ (z : End). surveyStrict z (splitByGametree false (l .toks))) (x .over) ∙ sliced-found x false

@@ -3,7 +3,7 @@ use Rattle.lists.specs.Prelude.{ℕ, zero, suc, _+_, _-_, Bool, true, false, Li
 use Rattle.lists.specs.Same.{same}
 use Rattle.lexer.specs.Token.{Val, Prop, Tok, start, end, node, prop, End, done, broken, Lexed}
 use Rattle.tables.specs.Numbers.{depthLimit}
-use Rattle.parser.specs.Kind.{Kind, is, unkind, GM, kindVals}
+use Rattle.parser.specs.Game.{Game, is, noGame, GM, gameVals}
 use Rattle.parser_census.specs.declared.Mode.{Mode}
 use Rattle.parser_census.specs.declared.Mode.the-variants.{Outside, First, Root, Typed, Node, Opened, Bare, Full, Odd}
 use Rattle.parser_census.specs.declared.Census.{Census}
@@ -58,16 +58,16 @@ onNode Full = Node
 onNode Odd = Odd
 
 -- behind the root's game type: Go, or odd
-abbrev pub onKind : Kind → Mode
+abbrev pub onKind : Game → Mode
 onKind (is zero) = Typed
 onKind (is (suc k)) = Odd
-onKind (unkind r) = Odd
+onKind (noGame r) = Odd
 
 -- behind a property, by whether its raw identifier is GM: the root has at most one
 abbrev pub onProp : Mode → Bool → List Val → Mode
 onProp Outside gm vs = Odd
 onProp First gm vs = Odd
-onProp Root gm vs = pick gm (onKind (kindVals vs)) Root
+onProp Root gm vs = pick gm (onKind (gameVals vs)) Root
 onProp Typed gm vs = pick gm Odd Typed
 onProp Node gm vs = Node
 onProp Opened gm vs = Odd
@@ -89,13 +89,13 @@ total Full t n p v = odd
 total Odd t n p v = odd
 
 -- the tokens end with the text
-abbrev pub ended : End → Census → Census
-ended done x = x
-ended (broken f s) x = odd
+abbrev pub censusAt : End → Census → Census
+censusAt done x = x
+censusAt (broken f s) x = odd
 
 -- d: how many trees are open; t, n, p, v: the trees, nodes, properties and values so far
 abbrev pub censusOn : Mode → (d t n p v : ℕ) → List Tok → End → Census
-censusOn m d t n p v [] e = ended e (total m t n p v)
+censusOn m d t n p v [] e = censusAt e (total m t n p v)
 censusOn m d t n p v (start o ∷ ts) e = censusOn (pick (leb depthLimit d) Odd (onStart m)) (d + 1) t n p v ts e
 censusOn m d t n p v (end o ∷ ts) e =
     pick (leb d 1) (censusOn (onLast m) 0 (t + 1) n p v ts e) (censusOn (onEnd m) (d - 1) t n p v ts e)

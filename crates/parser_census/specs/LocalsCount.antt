@@ -1,6 +1,6 @@
 -- What the steps of a census find.
 use Rattle.lists.specs.Prelude.{ℕ, _+_, _≤_, _<_, _≡_, Bool, true, false, List, length, getD}
-use Rattle.lexer_scan.specs.Scan.{space, valuesAt}
+use Rattle.lexer_scan.specs.Scan.{space, valuesEndAt}
 use Rattle.lexer_close.specs.declared.Close.the-variants.{At, Open}
 use Rattle.lexer.specs.Step.{nextAt, valsAt}
 use Rattle.lexer.specs.declared.Step.the-variants.{Property}
@@ -34,15 +34,15 @@ isOdd Full = false
 isOdd Odd = true
 
 -- n values stand from k on and end at e, which is no white space
-pub record CountIs (s : List ℕ) (k n e : ℕ) : Type 0 where
-  pub ends : valuesAt s k ≡ At e
+pub record ValuesCountIs (s : List ℕ) (k n e : ℕ) : Type 0 where
+  pub ends : valuesEndAt s k ≡ At e
   pub count : n ≡ length (valsAt s k)
   pub still : space (getD s e 0) ≡ false
 
 -- the values that stand from k on, or that one does not close
 abbrev pub CountedIs : (s : List ℕ) (k : ℕ) → Counted → Type 0
-CountedIs s k (All n e) = CountIs s k n e
-CountedIs s k Unclosed = valuesAt s k ≡ Open
+CountedIs s k (All n e) = ValuesCountIs s k n e
+CountedIs s k Unclosed = valuesEndAt s k ≡ Open
 
 -- a token begins at i that is no start, no end and no node
 pub record NameAt (s : List ℕ) (i : ℕ) : Type 0 where

@@ -8,11 +8,11 @@ ghost use Prim.Native.Nat.{_≤_, _<_};
 ghost use lib.ListN.{length, getD};
 ghost use lib.Seq.{slice};
 ghost use Rattle.lists.specs.Same.{same};
-ghost use Rattle.lexer_close.specs.LocalsRun.{plain};
+ghost use Rattle.lexer_close.specs.LocalsRun.{closesNothing};
 ghost use Rattle.lexer_scan.specs.Scan.{space};
 ghost use Rattle.lexer.specs.Token.{lexAt};
 ghost use Rattle.lexer.specs.Step.{valsAt};
-ghost use Rattle.parser.specs.Kind.{GM, kindVals};
+ghost use Rattle.parser.specs.Game.{GM, gameVals};
 ghost use Rattle.parser_census.specs.LocalsCensus.{onStart, onEnd, onLast, onNode, onKind, onProp, total, censusOf};
 ghost use Rattle.parser_census.specs.LocalsCount.{takes, isOdd, CountedIs, NameAt, ShortIs};
 
@@ -186,7 +186,7 @@ fn count_values(s: &[u8], from: usize) -> Counted
 
 // Neither `]` nor a backslash.
 fn is_plain(b: u8) -> bool
-    ensures { λ r. ⌜ r ≡ plain b ⌝ }
+    ensures { λ r. ⌜ r ≡ closesNothing b ⌝ }
 {
     (b != b']') & (b != b'\\')
 }
@@ -219,12 +219,12 @@ fn is_gm(s: &[u8], i: usize, k: usize) -> bool
 
 // Behind the root's game type, whose first `[` is at k.
 fn on_type(s: &[u8], k: usize) -> Mode
-    ensures { λ r. ⌜ r ≡ onKind (kindVals (valsAt (now (s .entry)) k)) ⌝ }
+    ensures { λ r. ⌜ r ≡ onKind (gameVals (valsAt (now (s .entry)) k)) ⌝ }
 {
-    let GameType::Is(kind) = parser_game::kind_values(s, k) else {
+    let GameType::Is(game) = parser_game::game_values(s, k) else {
         return Mode::Odd;
     };
-    if kind == 0 {
+    if game == 0 {
         return Mode::Typed;
     }
     Mode::Odd

@@ -8,14 +8,14 @@ use Rattle.values.specs.Decimal.{decimalOf}
 use Rattle.values.specs.declared.decimal.Number.{Number}
 use Rattle.values.specs.declared.decimal.Number.the-variants.{Bad}
 use Rattle.lexer.specs.Token.{Val}
-use Rattle.lexer_scan.specs.Scan.{valueAt}
+use Rattle.lexer_scan.specs.Scan.{valueStepAt}
 use Rattle.lexer.specs.Step.{valsOn, valsBy, valsAt}
 use Rattle.lexer_scan.specs.declared.ValueStep.{ValueStep}
 use Rattle.lexer_scan.specs.declared.ValueStep.the-variants.{Value}
 use Rattle.lexer_scan.proofs.ValueStep as value-step
 use Rattle.lexer.proofs.Listed.{vals-more}
 use Rattle.tables.specs.declared.Reason.the-variants.{InvalidGameType}
-use Rattle.parser.specs.Kind.{is, unkind, numbered, kindOf, kindVals, GM}
+use Rattle.parser.specs.Game.{is, noGame, isI32, gameOf, gameVals, GM}
 use Rattle.parser_game.specs.declared.GameType.{GameType}
 use Rattle.parser_game.specs.declared.GameType.the-variants.{Is, Refused}
 use Rattle.parser_game.specs.LocalsGame.{typeOf}
@@ -47,19 +47,19 @@ module _ (s : List ℕ) (i k : ℕ) (h : i ≤ k) (g : k ≤ length s) where
 -- ---- a number; exactly `1`
 
 module _ (v : List ℕ) where
-  pub kind-bad : decimalOf (2 ^ 31 - 1) v ≡ Bad → Refused InvalidGameType ≡ typeOf (kindOf v)
-  kind-bad e = ap (λ (z : Number). typeOf (pick (numbered z) (is (pick (same v (0x31 ∷ [])) 0 1)) (unkind InvalidGameType))) (sym e)
+  pub game-bad : decimalOf (2 ^ 31 - 1) v ≡ Bad → Refused InvalidGameType ≡ typeOf (gameOf v)
+  game-bad e = ap (λ (z : Number). typeOf (pick (isI32 z) (is (pick (same v (0x31 ∷ [])) 0 1)) (noGame InvalidGameType))) (sym e)
 
-  kind-good : numbered (decimalOf (2 ^ 31 - 1) v) ≡ true → (b : Bool) → b ≡ same v (0x31 ∷ []) → Is (pick b 0 1) ≡ typeOf (kindOf v)
-  kind-good e b q =
+  game-good : isI32 (decimalOf (2 ^ 31 - 1) v) ≡ true → (b : Bool) → b ≡ same v (0x31 ∷ []) → Is (pick b 0 1) ≡ typeOf (gameOf v)
+  game-good e b q =
       ap (λ (z : Bool). Is (pick z 0 1)) q
-      ∙ ap (λ (z : Bool). typeOf (pick z (is (pick (same v (0x31 ∷ [])) 0 1)) (unkind InvalidGameType))) (sym e)
+      ∙ ap (λ (z : Bool). typeOf (pick z (is (pick (same v (0x31 ∷ [])) 0 1)) (noGame InvalidGameType))) (sym e)
 
-  pub kind-go : numbered (decimalOf (2 ^ 31 - 1) v) ≡ true → {b : Bool} → b ≡ same v (0x31 ∷ []) → b ≡ true → Is 0 ≡ typeOf (kindOf v)
-  kind-go e {b} q t = ap (λ (z : Bool). Is (pick z 0 1)) (sym t) ∙ kind-good e b q
+  pub game-go : isI32 (decimalOf (2 ^ 31 - 1) v) ≡ true → {b : Bool} → b ≡ same v (0x31 ∷ []) → b ≡ true → Is 0 ≡ typeOf (gameOf v)
+  game-go e {b} q t = ap (λ (z : Bool). Is (pick z 0 1)) (sym t) ∙ game-good e b q
 
-  pub kind-unknown : numbered (decimalOf (2 ^ 31 - 1) v) ≡ true → {b : Bool} → b ≡ same v (0x31 ∷ []) → b ≡ false → Is 1 ≡ typeOf (kindOf v)
-  kind-unknown e {b} q t = ap (λ (z : Bool). Is (pick z 0 1)) (sym t) ∙ kind-good e b q
+  pub game-unknown : isI32 (decimalOf (2 ^ 31 - 1) v) ≡ true → {b : Bool} → b ≡ same v (0x31 ∷ []) → b ≡ false → Is 1 ≡ typeOf (gameOf v)
+  game-unknown e {b} q t = ap (λ (z : Bool). Is (pick z 0 1)) (sym t) ∙ game-good e b q
 
   pub one-none : readValue v ≡ [] → false ≡ same (readValue v) (0x31 ∷ [])
   one-none e = sym (ap (λ (z : List ℕ). same z (0x31 ∷ [])) e)
@@ -76,26 +76,26 @@ module _ (v : List ℕ) where
 -- ---- exactly one value
 
 -- a step that found no value
-vals-shut : (s : List ℕ) (k : ℕ) {x : ValueStep} → x ≡ valueAt s k → OneOf (1 ∷ 2 ∷ []) (tagOf value-step.the-type x) → valsAt s k ≡ []
+vals-shut : (s : List ℕ) (k : ℕ) {x : ValueStep} → x ≡ valueStepAt s k → OneOf (1 ∷ 2 ∷ []) (tagOf value-step.the-type x) → valsAt s k ≡ []
 unfolding valsAt valsBy
 vals-shut s k {x} e z = ap (valsOn (valsBy (length s) s) s) (sym e) ∙ not-value (valsBy (length s) s) s x z
 
-pub kind-none : (s : List ℕ) (k : ℕ) {x : ValueStep} → x ≡ valueAt s k → OneOf (1 ∷ 2 ∷ []) (tagOf value-step.the-type x) → Refused InvalidGameType ≡ typeOf (kindVals (valsAt s k))
-kind-none s k e z = ap (λ (y : List Val). typeOf (kindVals y)) (sym (vals-shut s k e z))
+pub game-none : (s : List ℕ) (k : ℕ) {x : ValueStep} → x ≡ valueStepAt s k → OneOf (1 ∷ 2 ∷ []) (tagOf value-step.the-type x) → Refused InvalidGameType ≡ typeOf (gameVals (valsAt s k))
+game-none s k e z = ap (λ (y : List Val). typeOf (gameVals y)) (sym (vals-shut s k e z))
 
-module _ (s : List ℕ) (k a e n : ℕ) {x : ValueStep} (ex : x ≡ valueAt s k) (ev : x ≡ Value a e n) where
+module _ (s : List ℕ) (k a e n : ℕ) {x : ValueStep} (ex : x ≡ valueStepAt s k) (ev : x ≡ Value a e n) where
   first-value : valsAt s k ≡ record { from = a; to = e; raw = slice a e s } ∷ valsAt s n
   first-value = vals-more s k a e n (sym ex ∙ ev)
 
-  pub kind-many : (b f m : ℕ) {y : ValueStep} → y ≡ valueAt s n → y ≡ Value b f m → Refused InvalidGameType ≡ typeOf (kindVals (valsAt s k))
-  kind-many b f m ey ew =
-      ap (λ (z : List Val). typeOf (kindVals z))
+  pub game-many : (b f m : ℕ) {y : ValueStep} → y ≡ valueStepAt s n → y ≡ Value b f m → Refused InvalidGameType ≡ typeOf (gameVals (valsAt s k))
+  game-many b f m ey ew =
+      ap (λ (z : List Val). typeOf (gameVals z))
       (sym (first-value ∙ ap (λ (z : List Val). record { from = a; to = e; raw = slice a e s } ∷ z) (vals-more s n b f m (sym ey ∙ ew))))
 
-  pub kind-one : {y : ValueStep} → y ≡ valueAt s n → OneOf (1 ∷ 2 ∷ []) (tagOf value-step.the-type y) → {r : GameType} → r ≡ typeOf (kindOf (readValue (slice a e s))) → r ≡ typeOf (kindVals (valsAt s k))
-  kind-one ey z er =
+  pub game-one : {y : ValueStep} → y ≡ valueStepAt s n → OneOf (1 ∷ 2 ∷ []) (tagOf value-step.the-type y) → {r : GameType} → r ≡ typeOf (gameOf (readValue (slice a e s))) → r ≡ typeOf (gameVals (valsAt s k))
+  game-one ey z er =
       er
-      ∙ ap (λ (y : List Val). typeOf (kindVals y))
+      ∙ ap (λ (y : List Val). typeOf (gameVals y))
       (sym (first-value ∙ ap (λ (w : List Val). record { from = a; to = e; raw = slice a e s } ∷ w) (vals-shut s n ey z)))
 
 -- a part of the text

@@ -9,7 +9,7 @@ use Rattle.lexer.specs.declared.Step.{Step}
 use Rattle.lexer.proofs.Step as step
 use Rattle.lexer_laws.proofs.Join.{lex-next}
 use Rattle.tables.specs.declared.Reason.the-variants.{UnexpectedProperty}
-use Rattle.parser.specs.Kind.{props, named, GM, kindProps, kind}
+use Rattle.parser.specs.Game.{props, propsNamed, GM, gameProps, findGametype}
 use Rattle.parser.specs.LocalsSlice.{sliceFrom}
 use Rattle.parser_game.specs.declared.GameType.{GameType}
 use Rattle.parser_game.specs.declared.GameType.the-variants.{Refused}
@@ -51,16 +51,16 @@ two-less (node o ∷ ts) = one-less 0 (omega arith) ts
 two-less (prop p e ∷ ts) = one-less 0 (omega arith) ts
 
 -- from the place behind two tokens to the slice
-pub kind-slice : (s : List ℕ) (from a b : ℕ) → lexAt s a .toks ≡ behindOf (lexAt s from .toks) → lexAt s b .toks ≡ behindOf (lexAt s a .toks)
-    → {r : GameType} → r ≡ typeOf (kindProps (named GM (props (lexAt s b .toks)))) → r ≡ typeOf (kind (sliceFrom 0 (lexAt s from .toks)))
-kind-slice s from a b ea eb e =
-    e ∙ ap (λ (z : List Prop). typeOf (kindProps (named GM z))) (sym (two-less (lexAt s from .toks) ∙ ap props (sym (eb ∙ ap behindOf ea))))
+pub game-slice : (s : List ℕ) (from a b : ℕ) → lexAt s a .toks ≡ behindOf (lexAt s from .toks) → lexAt s b .toks ≡ behindOf (lexAt s a .toks)
+    → {r : GameType} → r ≡ typeOf (gameProps (propsNamed GM (props (lexAt s b .toks)))) → r ≡ typeOf (findGametype (sliceFrom 0 (lexAt s from .toks)))
+game-slice s from a b ea eb e =
+    e ∙ ap (λ (z : List Prop). typeOf (gameProps (propsNamed GM z))) (sym (two-less (lexAt s from .toks) ∙ ap props (sym (eb ∙ ap behindOf ea))))
 
 -- ---- the properties that follow: of l, those named GM are ps and then those of r
 
 pub record Gathering (s : List ℕ) (l r : List Tok) (found : Bool) (k : ℕ) : Type 0 where
   pub ps : List Prop
-  pub all : named GM (props l) ≡ ps ++ named GM (props r)
+  pub all : propsNamed GM (props l) ≡ ps ++ propsNamed GM (props r)
   pub none : found ≡ false → ps ≡ []
   pub one : found ≡ true → (i : ℕ) × (ps ≡ propAt s i k ∷ [])
 
@@ -69,14 +69,14 @@ gather-first s l k = record { ps = []; all = refl; none = λ e. refl; one = λ e
 
 module _ {s : List ℕ} {l r : List Tok} {found : Bool} {k : ℕ} (x : Gathering s l r found k) where
   module _ (i j e : ℕ) (r′ : List Tok) (q : r ≡ prop (propAt s i j) e ∷ r′) {b : Bool} (eb : b ≡ same (propAt s i j .name) GM) where
-    more : named GM (props l) ≡ x .ps ++ pick b (propAt s i j ∷ named GM (props r′)) (named GM (props r′))
+    more : propsNamed GM (props l) ≡ x .ps ++ pick b (propAt s i j ∷ propsNamed GM (props r′)) (propsNamed GM (props r′))
     more =
         x .all
-        ∙ ap (λ (z : List Tok). x .ps ++ named GM (props z)) q
-        ∙ ap (λ (z : Bool). x .ps ++ pick z (propAt s i j ∷ named GM (props r′)) (named GM (props r′))) (sym eb)
+        ∙ ap (λ (z : List Tok). x .ps ++ propsNamed GM (props z)) q
+        ∙ ap (λ (z : Bool). x .ps ++ pick z (propAt s i j ∷ propsNamed GM (props r′)) (propsNamed GM (props r′))) (sym eb)
 
-    picked : (c : Bool) → b ≡ c → named GM (props l) ≡ x .ps ++ pick c (propAt s i j ∷ named GM (props r′)) (named GM (props r′))
-    picked c f = more ∙ ap (λ (z : Bool). x .ps ++ pick z (propAt s i j ∷ named GM (props r′)) (named GM (props r′))) f
+    picked : (c : Bool) → b ≡ c → propsNamed GM (props l) ≡ x .ps ++ pick c (propAt s i j ∷ propsNamed GM (props r′)) (propsNamed GM (props r′))
+    picked c f = more ∙ ap (λ (z : Bool). x .ps ++ pick z (propAt s i j ∷ propsNamed GM (props r′)) (propsNamed GM (props r′))) f
 
     pub gather-other : b ≡ false → Gathering s l r′ found k
     gather-other f = record { ps = x .ps; all = picked false f; none = x .none; one = x .one }
@@ -85,25 +85,25 @@ module _ {s : List ℕ} {l r : List Tok} {found : Bool} {k : ℕ} (x : Gathering
     gather-one f g =
         record {
           ps = propAt s i j ∷ [];
-          all = picked true f ∙ ap (λ (z : List Prop). z ++ (propAt s i j ∷ named GM (props r′))) (x .none g);
+          all = picked true f ∙ ap (λ (z : List Prop). z ++ (propAt s i j ∷ propsNamed GM (props r′))) (x .none g);
           none = λ z. absurd (false≢true (sym z));
           one = λ z. (i, refl);
         }
 
-    pub gather-two : b ≡ true → found ≡ true → Refused UnexpectedProperty ≡ typeOf (kindProps (named GM (props l)))
+    pub gather-two : b ≡ true → found ≡ true → Refused UnexpectedProperty ≡ typeOf (gameProps (propsNamed GM (props l)))
     gather-two f g =
         let y = x .one g in
-        ap (λ (z : List Prop). typeOf (kindProps z)) (sym (picked true f ∙ ap (λ (z : List Prop). z ++ (propAt s i j ∷ named GM (props r′))) (y .1)))
+        ap (λ (z : List Prop). typeOf (gameProps z)) (sym (picked true f ∙ ap (λ (z : List Prop). z ++ (propAt s i j ∷ propsNamed GM (props r′))) (y .1)))
 
-  pub gather-end : props r ≡ [] → {y : GameType} → y ≡ typeOf (concluded found (valsAt s k)) → y ≡ typeOf (kindProps (named GM (props l)))
+  pub gather-end : props r ≡ [] → {y : GameType} → y ≡ typeOf (concluded found (valsAt s k)) → y ≡ typeOf (gameProps (propsNamed GM (props l)))
   unfolding propAt
   gather-end e {y} ey =
-      let w : named GM (props l) ≡ x .ps = x .all ∙ ap (λ (z : List Prop). x .ps ++ named GM z) e ∙ append-nil (x .ps) in
-      ey ∙ go found (x .none) (x .one) ∙ ap (λ (z : List Prop). typeOf (kindProps z)) (sym w)
+      let w : propsNamed GM (props l) ≡ x .ps = x .all ∙ ap (λ (z : List Prop). x .ps ++ propsNamed GM z) e ∙ append-nil (x .ps) in
+      ey ∙ go found (x .none) (x .one) ∙ ap (λ (z : List Prop). typeOf (gameProps z)) (sym w)
     where
-      go : (b : Bool) → (b ≡ false → x .ps ≡ []) → (b ≡ true → (i : ℕ) × (x .ps ≡ propAt s i k ∷ [])) → typeOf (concluded b (valsAt s k)) ≡ typeOf (kindProps (x .ps))
-      go true n o = let z = o refl in ap (λ (w : List Prop). typeOf (kindProps w)) (sym (z .1))
-      go false n o = ap (λ (w : List Prop). typeOf (kindProps w)) (sym (n refl))
+      go : (b : Bool) → (b ≡ false → x .ps ≡ []) → (b ≡ true → (i : ℕ) × (x .ps ≡ propAt s i k ∷ [])) → typeOf (concluded b (valsAt s k)) ≡ typeOf (gameProps (x .ps))
+      go true n o = let z = o refl in ap (λ (w : List Prop). typeOf (gameProps w)) (sym (z .1))
+      go false n o = ap (λ (w : List Prop). typeOf (gameProps w)) (sym (n refl))
 
 -- the next token is no property
 pub no-property : (s : List ℕ) (at : ℕ) {x : Step} → x ≡ nextAt s at → OneOf (0 ∷ 1 ∷ 2 ∷ 4 ∷ 5 ∷ []) (tagOf step.the-type x) → props (lexAt s at .toks) ≡ []

@@ -13,10 +13,10 @@ use Rattle.lexer_scan.proofs.ValueStep as value-step
 use Rattle.lexer.specs.declared.Step.{Step}
 use Rattle.lexer.specs.declared.Step.the-variants.{Start, End, Node, Property, Refused, Done}
 use Rattle.lexer.proofs.Step as step
-use Rattle.parser.specs.Kind.{numbered, props}
+use Rattle.parser.specs.Game.{isI32, props}
 
 -- not `Bad`
-pub not-bad : (x : Number) → OneOf (1 ∷ 2 ∷ []) (tagOf number.the-type x) → numbered x ≡ true
+pub not-bad : (x : Number) → OneOf (1 ∷ 2 ∷ []) (tagOf number.the-type x) → isI32 x ≡ true
 not-bad Bad e = absurd (miss (1 ∷ 2 ∷ []) 0 tt e)
 not-bad (Plus n) e = refl
 not-bad (Minus n) e = refl

@@ -8,7 +8,7 @@ ghost use Rattle.lists.specs.Same.{same};
 ghost use Rattle.values.specs.Read.{readValue};
 ghost use Rattle.lexer.specs.Token.{lexAt};
 ghost use Rattle.lexer.specs.Step.{valsAt};
-ghost use Rattle.parser.specs.Kind.{GM, kindOf, kindVals, kind};
+ghost use Rattle.parser.specs.Game.{GM, gameOf, gameVals, findGametype};
 ghost use Rattle.parser.specs.LocalsSlice.{sliceFrom};
 ghost use Rattle.parser_game.specs.LocalsGame.{typeOf, behindOf, concluded};
 use lexer::Step;
@@ -41,8 +41,8 @@ fn is_one(v: &[u8]) -> bool
 }
 
 // The game type that a value says.
-fn kind_of(v: &[u8]) -> GameType
-    ensures { λ r. ⌜ r ≡ typeOf (kindOf (readValue (now (v .entry)))) ⌝ }
+fn game_of(v: &[u8]) -> GameType
+    ensures { λ r. ⌜ r ≡ typeOf (gameOf (readValue (now (v .entry)))) ⌝ }
 {
     let Number::Bad = values::decimal::read_i32(v) else {
         if is_one(v) {
@@ -54,14 +54,14 @@ fn kind_of(v: &[u8]) -> GameType
 }
 
 // The game type that the values from k on say: exactly one is wanted.
-pub fn kind_values(s: &[u8], k: usize) -> GameType
-    ensures { λ r. ⌜ r ≡ typeOf (kindVals (valsAt (now (s .entry)) k)) ⌝ }
+pub fn game_values(s: &[u8], k: usize) -> GameType
+    ensures { λ r. ⌜ r ≡ typeOf (gameVals (valsAt (now (s .entry)) k)) ⌝ }
 {
     let ValueStep::Value(a, e, next) = lexer_scan::next_value(s, k) else {
         return GameType::Refused(Reason::InvalidGameType);
     };
     let ValueStep::Value(_, _, _) = lexer_scan::next_value(s, next) else {
-        return kind_of(&s[a..e]);
+        return game_of(&s[a..e]);
     };
     GameType::Refused(Reason::InvalidGameType)
 }
@@ -71,7 +71,7 @@ fn conclude(s: &[u8], found: bool, k: usize) -> GameType
     ensures { λ r. ⌜ r ≡ typeOf (concluded found (valsAt (now (s .entry)) k)) ⌝ }
 {
     if found {
-        return kind_values(s, k);
+        return game_values(s, k);
     }
     GameType::Is(0)
 }
@@ -103,7 +103,7 @@ fn behind(s: &[u8], from: usize) -> usize
 
 // The game type of the slice that starts at a place: two tokens are skipped, then `GM` is looked for.
 pub fn game_type(s: &[u8], from: usize) -> GameType
-    ensures { λ r. ⌜ r ≡ typeOf (kind (sliceFrom 0 (lexAt (now (s .entry)) from .toks))) ⌝ }
+    ensures { λ r. ⌜ r ≡ typeOf (findGametype (sliceFrom 0 (lexAt (now (s .entry)) from .toks))) ⌝ }
 {
     let second = behind(s, from);
     let mut at = behind(s, second);

@@ -1,7 +1,7 @@
 -- The stack in an array, and the list on top of it. Assumes nothing.
 use Rattle.lists.proofs.Prelude.{ℕ, zero, suc, _+_, _-_, _≤_, _<_, _≡_, refl, sym, ap, _∙_, Bool, true, false, _&&_, List, [], _∷_, arith, getD, ltb, eq-eqb, ne-eqb, le-leb, lt-leb, pick}
 use Rattle.tables.specs.Numbers.{depthLimit, none}
-use Rattle.parser_step.specs.LocalsAsks.{stackOf, fuller, mayOpen, mayStart}
+use Rattle.parser_step.specs.LocalsActs.{stackOf, hasChild, mayOpen, mayStart}
 
 pub stack-none : (a : List ℕ) (d : ℕ) → d ≡ 0 → stackOf a d ≡ []
 unfolding stackOf
@@ -21,8 +21,8 @@ pub may-deep : (a : List ℕ) (d base n : ℕ) → depthLimit < d → false ≡ 
 may-deep a d base n h = sym (ap (λ (z : Bool). z && mayOpen base n (stackOf a d)) (lt-leb d depthLimit h))
 
 module _ (a : List ℕ) (d base n : ℕ) (h : d ≡ 0 → ⊥) (l : d ≤ depthLimit) {x : ℕ} (e : x ≡ getD a (d - 1) 0) where
-  may-top : mayStart base n d a ≡ fuller base n x
-  may-top = ap (λ (z : Bool). z && mayOpen base n (stackOf a d)) (le-leb d depthLimit l) ∙ ap (mayOpen base n) (stack-pop a d h) ∙ ap (fuller base n) (sym e)
+  may-top : mayStart base n d a ≡ hasChild base n x
+  may-top = ap (λ (z : Bool). z && mayOpen base n (stackOf a d)) (le-leb d depthLimit l) ∙ ap (mayOpen base n) (stack-pop a d h) ∙ ap (hasChild base n) (sym e)
 
   pub may-none : x ≡ none → ltb base n ≡ mayStart base n d a
   may-none q = sym (may-top ∙ ap (λ (z : Bool). pick z (ltb base n) (ltb (x + 1) n)) (eq-eqb x none q))

@@ -1,1 +1,1 @@
-pub mod LocalsAsks
+pub mod LocalsActs

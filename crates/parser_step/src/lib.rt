@@ -6,8 +6,8 @@ use tables::Reason;
 ghost use mathlib.Core.Path.{_≡_};
 ghost use Prim.Native.Nat.{_≤_, _<_};
 ghost use lib.ListN.{length, getD};
-ghost use Rattle.lexer_scan.specs.Scan.{valuesAt};
-ghost use Rattle.parser_step.specs.LocalsAsks.{mayStart, unclosed, asks};
+ghost use Rattle.lexer_scan.specs.Scan.{valuesEndAt};
+ghost use Rattle.parser_step.specs.LocalsActs.{mayStart, unclosed, nextAct};
 
 // Between two tokens: the next place, how many trees are open, the node whose child list is current, the next row of each table, the first property of the last node; may a property follow.
 pub struct State {
@@ -58,7 +58,7 @@ fn may_open(stack: &[u32; 1024], depth: usize, base: usize, n: usize) -> bool
 
 // Does a value of the property not close. Only lenient reading looks: strict reading has looked before.
 fn unclosed(s: &[u8], k: usize, lenient: bool) -> bool
-    ensures { λ r. ⌜ r ≡ unclosed lenient (valuesAt (now (s .entry)) k) ⌝ }
+    ensures { λ r. ⌜ r ≡ unclosed lenient (valuesEndAt (now (s .entry)) k) ⌝ }
 {
     if !lenient {
         return false;
@@ -71,7 +71,7 @@ fn unclosed(s: &[u8], k: usize, lenient: bool) -> bool
 
 // What the next token asks for.
 pub fn look(s: &[u8], lenient: bool, base: usize, w: State, stack: &[u32; 1024]) -> Act
-    ensures { λ r. ⌜ r ≡ asks lenient (now (s .entry)) base w (now (stack .entry)) ⌝ }
+    ensures { λ r. ⌜ r ≡ nextAct lenient (now (s .entry)) base w (now (stack .entry)) ⌝ }
 {
     match lexer::next_head(s, w.at) {
         Head::Start(i) => {

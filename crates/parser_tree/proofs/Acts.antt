@@ -2,13 +2,13 @@
 use Rattle.lists.proofs.Prelude.{ℕ, _≤_, _≡_, refl, sym, ap, _∙_, subst⁻¹, Bool, false, _&&_, List, arith, eqb, eqb-true, eqb-false, le-leb}
 use Rattle.lists.proofs.Pick.{pick-elim}
 use Rattle.lexer.specs.Token.{done, lexAt}
-use Rattle.lexer_scan.specs.Scan.{valuesAt}
+use Rattle.lexer_scan.specs.Scan.{valuesEndAt}
 use Rattle.lexer.specs.Step.{headAt}
 use Rattle.lexer.specs.declared.Head.{Head}
 use Rattle.lexer.specs.declared.Head.the-variants.{Start as start, End as end, Node as node, Name as name, Refused as refused, Done as over}
 use Rattle.tables.specs.Numbers.{depthLimit}
 use Rattle.tables.specs.declared.Reason.the-variants.{UnexpectedGameTreeStart, UnexpectedGameTreeEnd, UnexpectedProperty}
-use Rattle.parser_step.specs.LocalsAsks.{stackOf, mayOpen, mayStart, propAct, unclosed, endAct, headAct, asks}
+use Rattle.parser_step.specs.LocalsActs.{stackOf, mayOpen, mayStart, propAct, unclosed, endAct, headAct, nextAct}
 use Rattle.parser_step.specs.declared.State.{State}
 use Rattle.parser_step.specs.declared.Act.{Act}
 use Rattle.parser_tree.specs.LocalsTurns.{Closes, StopAt, OverAt, ActIs}
@@ -36,7 +36,7 @@ module _ (len : Bool) (u : List ℕ) (base : ℕ) (st : State) (a : List ℕ) wh
 
   name-is : (len ≡ false → lexAt u (st .at) .end ≡ done) → (i k : ℕ) → headAt u (st .at) ≡ name i k → Is (headAct len u base st a (name i k))
   name-is c i k g =
-      pick-elim Is (unclosed len (valuesAt u k)) (λ t. subst⁻¹ (OverAt u st _) g (open-found len (valuesAt u k) t, refl))
+      pick-elim Is (unclosed len (valuesEndAt u k)) (λ t. subst⁻¹ (OverAt u st _) g (open-found len (valuesEndAt u k) t, refl))
       (λ f. closed-is i k g (closes-ahead len u (st .at) i k c g f))
 
   by-head : st .depth ≤ depthLimit → (len ≡ false → lexAt u (st .at) .end ≡ done) → (h : Head) → headAt u (st .at) ≡ h → Is (headAct len u base st a h)
@@ -48,11 +48,11 @@ module _ (len : Bool) (u : List ℕ) (base : ℕ) (st : State) (a : List ℕ) wh
   by-head d c over g = subst⁻¹ (OverAt u st _) g refl
 
   -- within the limit of depth, and where strict reading has no fault ahead
-  act-is : st .depth ≤ depthLimit → (len ≡ false → lexAt u (st .at) .end ≡ done) → {r : Act} → r ≡ asks len u base st a → ActIs u base st a r
-  unfolding asks
+  act-is : st .depth ≤ depthLimit → (len ≡ false → lexAt u (st .at) .end ≡ done) → {r : Act} → r ≡ nextAct len u base st a → ActIs u base st a r
+  unfolding nextAct
   act-is d c e = subst⁻¹ Is e (by-head d c (headAt u (st .at)) refl)
 
 -- in the walk
 pub asked : {len : Bool} {u : List ℕ} {from base p0 v0 : ℕ} {t₀ q₀ w₀ t q w a : List ℕ} {st : State} → Walking len u from base p0 v0 t₀ q₀ w₀ t q w a st
-    → {r : Act} → r ≡ asks len u base st a → ActIs u base st a r
-asked {len} {u} {from} {base} {p0} {v0} {t₀} {q₀} {w₀} {t} {q} {w} {a} {st} x e = act-is len u base st a (x .deep) (λ h. x .skip .ends ∙ x .ready .calm h) e
+    → {r : Act} → r ≡ nextAct len u base st a → ActIs u base st a r
+asked {len} {u} {from} {base} {p0} {v0} {t₀} {q₀} {w₀} {t} {q} {w} {a} {st} x e = act-is len u base st a (x .deep) (λ h. x .skip .ends ∙ x .ready .faultless h) e

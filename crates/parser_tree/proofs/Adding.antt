@@ -1,7 +1,7 @@
 -- A turn of the walk at a property: added, or the tree stops. Assumes nothing.
 use Rattle.lists.proofs.Prelude.{ℕ, _+_, _≤_, _<_, _≡_, refl, sym, ap, _∙_, subst, subst⁻¹, Bool, true, false, List, [], _∷_, _++_, reverse, reverse-cons, arith, length}
 use Rattle.lexer.specs.Token.{prop, lexed, lexAt}
-use Rattle.lexer_scan.specs.Scan.{valuesAt}
+use Rattle.lexer_scan.specs.Scan.{valuesEndAt}
 use Rattle.lexer.specs.Step.{valsAt, propAt, headAt}
 use Rattle.lexer_close.specs.declared.Close.{Close}
 use Rattle.lexer_close.specs.declared.Close.the-variants.{At, Open}
@@ -14,7 +14,7 @@ use Rattle.tables.specs.declared.Reason.the-variants.{UnexpectedProperty}
 use Rattle.parser.specs.Walk.{Walk, walk, refuse, adds, gated, walked}
 use Rattle.parser.specs.LocalsSlice.{sliceFrom, Shallow}
 use Rattle.parser_tree.specs.LocalsWalks.{walkOf, Stored}
-use Rattle.parser_step.specs.LocalsAsks.{stackOf}
+use Rattle.parser_step.specs.LocalsActs.{stackOf}
 use Rattle.parser_tree.specs.LocalsTurns.{added, Closes, AddIs}
 use Rattle.parser_step.specs.declared.State.{State}
 use Rattle.parser_tree.proofs.Stored.{stored-prop}
@@ -25,7 +25,7 @@ use Rattle.parser_tree.proofs.Walking.{Walking, Last, onto, shallow-ont
 
 module _ {len : Bool} {u : List ℕ} {from base p0 v0 : ℕ} {t₀ q₀ w₀ t q w a : List ℕ} {st : State} (x : Walking len u from base p0 v0 t₀ q₀ w₀ t q w a st) (i k : ℕ)
     (g : headAt u (st .at) ≡ Name i k) where
-  module _ {e : ℕ} (h : valuesAt u k ≡ At e) where
+  module _ {e : ℕ} (h : valuesEndAt u k ≡ At e) where
     met : lexAt u (st .at) ≡ lexed (prop (propAt u i k) e ∷ []) (lexAt u e)
     met = step-meets u (st .at) (name-next u (st .at) i k g h)
 
@@ -55,17 +55,17 @@ module _ {len : Bool} {u : List ℕ} {from base p0 v0 : ℕ} {t₀ q₀ w₀ t q
         go : Last (x .ns) p0 (st .first) → Walking len u from base p0 v0 t₀ q₀ w₀ t′ q′ w′ a (added st e (length (valsAt u k)))
         go z =
             let b = lies in
-            let fe = x .few in
-            let li = x .little in
-            let sm = x .small in
+            let fe = x .node-bound in
+            let li = x .prop-bound in
+            let sm = x .val-bound in
             record {
               ready = x .ready;
               ns = record { parent = z .top .parent; props = z .top .props ++ (propAt u i k ∷ []) } ∷ z .below;
               array = x .array;
               deep = x .deep;
-              few = omega arith;
-              little = omega arith;
-              small = omega arith;
+              node-bound = omega arith;
+              prop-bound = omega arith;
+              val-bound = omega arith;
               stored =
                   subst⁻¹ (λ (l : List Node). Stored base p0 v0 l t₀ q₀ w₀ t′ q′ w′ (st .nodes) (st .props + 1) (st .vals + length (valsAt u k))) (reverse-cons (record { parent = z .top .parent; props = z .top .props ++ (propAt u i k ∷ []) }) (z .below))
                   (stored-prop (reverse (z .below)) (z .top)
@@ -85,12 +85,12 @@ module _ {len : Bool} {u : List ℕ} {from base p0 v0 : ℕ} {t₀ q₀ w₀ t q
   walking-added f {y} {t′} {q′} {w′} z = subst⁻¹ (λ (r : State). Walking len u from base p0 v0 t₀ q₀ w₀ t′ q′ w′ a r) (z .is) (walking-add (z .ends) f z)
 
   -- a property that closes moves on
-  pub property-moves : {e : ℕ} → valuesAt u k ≡ At e → (st .at < e) × (e ≤ length u)
+  pub property-moves : {e : ℕ} → valuesEndAt u k ≡ At e → (st .at < e) × (e ≤ length u)
   property-moves h = let b = lies h in (omega arith, b .4)
 
   pub property-stops : Closes u k → st .follows ≡ false → walkOf len base (lexAt u from .toks) ≡ refuse len UnexpectedProperty (x .ns)
-  property-stops c f = closed (valuesAt u k) refl
+  property-stops c f = closed (valuesEndAt u k) refl
     where
-      closed : (v : Close) → valuesAt u k ≡ v → walkOf len base (lexAt u from .toks) ≡ refuse len UnexpectedProperty (x .ns)
+      closed : (v : Close) → valuesEndAt u k ≡ v → walkOf len base (lexAt u from .toks) ≡ refuse len UnexpectedProperty (x .ns)
       closed (At e) h = reaches h f ∙ stays h UnexpectedProperty
       closed Open h = absurd (c h)

@@ -11,8 +11,8 @@ use Rattle.tables.specs.Columns.{nodeStride}
 use Rattle.parser.specs.Walk.{Walk, walk, refuse, closes, walked}
 use Rattle.parser.specs.LocalsSlice.{sliceFrom, Shallow}
 use Rattle.parser_tree.specs.LocalsWalks.{walkOf, Stored}
-use Rattle.parser_step.specs.LocalsAsks.{stackOf, mayOpen}
-use Rattle.parser_tree.specs.LocalsTurns.{shutAt, ended, noded}
+use Rattle.parser_step.specs.LocalsActs.{stackOf, mayOpen}
+use Rattle.parser_tree.specs.LocalsTurns.{shutAt, stateAfterEnd, noded}
 use Rattle.parser_step.specs.declared.State.{State}
 use Rattle.parser_tree.proofs.Stored.{stored-node}
 use Rattle.parser_step.proofs.Stacks.{stack-none, stack-pop}
@@ -54,9 +54,9 @@ module _ {len : Bool} {u : List ℕ} {from base p0 v0 : ℕ} {t₀ q₀ w₀ t q
         let ar = x .array in
         let b = head-lies u (st .at) g in
         let d = below in
-        let fe = x .few in
-        let li = x .little in
-        let sm = x .small in
+        let fe = x .node-bound in
+        let li = x .prop-bound in
+        let sm = x .val-bound in
         let s : stackOf a′ (st .depth + 1) ≡ st .cur ∷ stackOf a (st .depth) = ap (λ (z : List ℕ). stackOf z (st .depth + 1)) ea ∙ stack-push a (st .depth) (st .cur) (omega arith) in
         subst⁻¹ (Walking len u from base p0 v0 t₀ q₀ w₀ t q w a′) ey
         record {
@@ -64,9 +64,9 @@ module _ {len : Bool} {u : List ℕ} {from base p0 v0 : ℕ} {t₀ q₀ w₀ t q
           ns = x .ns;
           array = ap length ea ∙ length-set a (st .depth) (st .cur) ∙ x .array;
           deep = omega arith;
-          few = omega arith;
-          little = omega arith;
-          small = omega arith;
+          node-bound = omega arith;
+          prop-bound = omega arith;
+          val-bound = omega arith;
           stored = x .stored;
           skip = skipping-start (x .skip) (b .0) (b .1) (head-meets u (st .at) g);
           same =
@@ -94,22 +94,22 @@ module _ {len : Bool} {u : List ℕ} {from base p0 v0 : ℕ} {t₀ q₀ w₀ t q
     pub end-last : st .depth ≡ 1 → walkOf len base (lexAt u from .toks) ≡ walk (getD a (st .depth - 1) 0) (stackOf a (st .depth - 1)) false (x .ns)
     end-last h = last-token (omega arith) ∙ popped (λ z. omega arith)
 
-    pub walking-end : 1 < st .depth → {y : State} → y ≡ ended st i a → Walking len u from base p0 v0 t₀ q₀ w₀ t q w a y
+    pub walking-end : 1 < st .depth → {y : State} → y ≡ stateAfterEnd st i a → Walking len u from base p0 v0 t₀ q₀ w₀ t q w a y
     walking-end h ey =
         let b = head-lies u (st .at) g in
         let d = x .deep in
-        let fe = x .few in
-        let li = x .little in
-        let sm = x .small in
+        let fe = x .node-bound in
+        let li = x .prop-bound in
+        let sm = x .val-bound in
         subst⁻¹ (Walking len u from base p0 v0 t₀ q₀ w₀ t q w a) ey
         record {
           ready = x .ready;
           ns = x .ns;
           array = x .array;
           deep = omega arith;
-          few = omega arith;
-          little = omega arith;
-          small = omega arith;
+          node-bound = omega arith;
+          prop-bound = omega arith;
+          val-bound = omega arith;
           stored = x .stored;
           skip = skipping-end (x .skip) (b .0) (b .1) (head-meets u (st .at) g) h;
           same =
@@ -130,9 +130,9 @@ module _ {len : Bool} {u : List ℕ} {from base p0 v0 : ℕ} {t₀ q₀ w₀ t q
   unfolding sliceFrom Shallow
   walking-node g {t′} pu ey =
       let b = head-lies u (st .at) g in
-      let fe = x .few in
-      let li = x .little in
-      let sm = x .small in
+      let fe = x .node-bound in
+      let li = x .prop-bound in
+      let sm = x .val-bound in
       let co = count x in
       let rd = x .ready in
       let sk = x .skip in
@@ -142,9 +142,9 @@ module _ {len : Bool} {u : List ℕ} {from base p0 v0 : ℕ} {t₀ q₀ w₀ t q
         ns = record { parent = st .cur; props = [] } ∷ x .ns;
         array = x .array;
         deep = x .deep;
-        few = omega arith;
-        little = omega arith;
-        small = omega arith;
+        node-bound = omega arith;
+        prop-bound = omega arith;
+        val-bound = omega arith;
         stored =
             subst⁻¹ (λ (z : List Noded). Stored base p0 v0 z t₀ q₀ w₀ t′ q w (st .nodes + 1) (st .props) (st .vals)) (reverse-cons (record { parent = st .cur; props = [] }) (x .ns))
             (stored-node (reverse (x .ns)) (x .stored) (st .cur) pu);

@@ -12,7 +12,7 @@ use Rattle.tables.specs.declared.Reason.the-variants.{UnexpectedEndOfData}
 use Rattle.tables.specs.Columns.{nodeStride}
 use Rattle.parser.specs.Walk.{Walk, walk, refuse, walked}
 use Rattle.parser.specs.LocalsSlice.{sliceFrom}
-use Rattle.parser.specs.Read.{growing, rooted, grown}
+use Rattle.parser.specs.Read.{treesSoFar, treeOfNodes, treeOfWalk}
 use Rattle.parser_tree.specs.LocalsWalks.{walkOf, Stored, TreeIs, WalkIs}
 use Rattle.parser_tree.specs.LocalsTurns.{StopAt, OverAt, BehindIs, RootBy, RootIs, StopIs}
 use Rattle.parser_step.specs.declared.State.{State}
@@ -27,24 +27,24 @@ use Rattle.parser_tree.proofs.Adding.{property-stops}
 use Rattle.parser_tree.proofs.Faults.{unclosed-over}
 
 -- the tree of some nodes, and of none
-rooted-some : (len : Bool) (base k : ℕ) (ns : List Noded) (ts : List Tree) → (length ns ≡ 0 → ⊥) → rooted len base k ns ts ≡ growing (base + length (reverse ns)) (record { root = base; kind = k; nodes = reverse ns } ∷ ts)
+rooted-some : (len : Bool) (base k : ℕ) (ns : List Noded) (ts : List Tree) → (length ns ≡ 0 → ⊥) → treeOfNodes len base k ns ts ≡ treesSoFar (base + length (reverse ns)) (record { root = base; game = k; nodes = reverse ns } ∷ ts)
 rooted-some len base k [] ts h = absurd (h refl)
-rooted-some len base k (n ∷ ns) ts h = ap (λ (z : ℕ). growing (base + z) (record { root = base; kind = k; nodes = reverse (n ∷ ns) } ∷ ts)) (sym (length-reverse (n ∷ ns)))
+rooted-some len base k (n ∷ ns) ts h = ap (λ (z : ℕ). treesSoFar (base + z) (record { root = base; game = k; nodes = reverse (n ∷ ns) } ∷ ts)) (sym (length-reverse (n ∷ ns)))
 
 empty : {A : Type 0} (l : List A) → length l ≡ 0 → l ≡ []
 empty [] h = refl
 empty (y ∷ l) h = absurd (omega arith)
 
 module _ {len : Bool} {u : List ℕ} {from base p0 v0 : ℕ} {t₀ q₀ w₀ t q w a : List ℕ} {st : State} (x : Walking len u from base p0 v0 t₀ q₀ w₀ t q w a st) where
-  module _ (s : (k : ℕ) (ts : List Tree) → grown len base k (walkOf len base (lexAt u from .toks)) ts ≡ rooted len base k (x .ns) ts) {o : ℕ} (b : BehindIs u (st .at) (st .depth) o) where
+  module _ (s : (k : ℕ) (ts : List Tree) → treeOfWalk len base k (walkOf len base (lexAt u from .toks)) ts ≡ treeOfNodes len base k (x .ns) ts) {o : ℕ} (b : BehindIs u (st .at) (st .depth) o) where
     gives-tree : (st .nodes ≡ base → ⊥) → TreeIs len u from base p0 v0 t₀ q₀ w₀ t q w o (st .nodes) (st .props) (st .vals)
     gives-tree h =
         let c = count x in
         let r = skipping-behind (x .skip) b in
         let bo = b .on in
-        let fe = x .few in
-        let li = x .little in
-        let sm = x .small in
+        let fe = x .node-bound in
+        let li = x .prop-bound in
+        let sm = x .val-bound in
         let m : base < st .nodes = bigger (length (x .ns)) c in
         record {
           es = reverse (x .ns);
@@ -55,9 +55,9 @@ module _ {len : Bool} {u : List ℕ} {from base p0 v0 : ℕ} {t₀ q₀ w₀ t q
           ends = r .ends;
           on = r .on;
           inside = r .inside;
-          few = omega arith;
-          little = omega arith;
-          small = omega arith;
+          node-bound = omega arith;
+          prop-bound = omega arith;
+          val-bound = omega arith;
         }
       where
         bigger : (l : ℕ) → st .nodes ≡ base + l → base < st .nodes
@@ -70,17 +70,17 @@ module _ {len : Bool} {u : List ℕ} {from base p0 v0 : ℕ} {t₀ q₀ w₀ t q
         let n : x .ns ≡ [] = empty (x .ns) (omega arith) in
         let r = skipping-behind (x .skip) b in
         let bo = b .on in
-        let fe = x .few in
-        let li = x .little in
-        let sm = x .small in
+        let fe = x .node-bound in
+        let li = x .prop-bound in
+        let sm = x .val-bound in
         let one : base + 1 ≡ suc base = omega arith in
         record {
           es = record { parent = none; props = [] } ∷ [];
           tree = λ k ts.
               s k ts
-              ∙ ap (λ (z : Bool). rooted z base k (x .ns) ts) l
-              ∙ ap (λ (z : List Noded). rooted true base k z ts) n
-              ∙ ap (λ (z : ℕ). growing z (record { root = base; kind = k; nodes = record { parent = none; props = [] } ∷ [] } ∷ ts)) (sym one);
+              ∙ ap (λ (z : Bool). treeOfNodes z base k (x .ns) ts) l
+              ∙ ap (λ (z : List Noded). treeOfNodes true base k z ts) n
+              ∙ ap (λ (z : ℕ). treesSoFar z (record { root = base; game = k; nodes = record { parent = none; props = [] } ∷ [] } ∷ ts)) (sym one);
           stored =
               stored-node [] (subst (λ (z : List Noded). Stored base p0 v0 (reverse z) t₀ q₀ w₀ t q w (st .nodes) (st .props) (st .vals)) n (x .stored)) none p;
           more = omega arith;
@@ -88,16 +88,16 @@ module _ {len : Bool} {u : List ℕ} {from base p0 v0 : ℕ} {t₀ q₀ w₀ t q
           ends = r .ends;
           on = r .on;
           inside = r .inside;
-          few = omega arith;
-          little = omega arith;
-          small = omega arith;
+          node-bound = omega arith;
+          prop-bound = omega arith;
+          val-bound = omega arith;
         }
 
     gives-refused : len ≡ false → st .nodes ≡ base → WalkIs len u from base p0 v0 t₀ q₀ w₀ t q w (refused UnexpectedEndOfData)
     gives-refused l h =
         let c = count x in
         let n : x .ns ≡ [] = empty (x .ns) (omega arith) in
-        (l, λ k ts. s k ts ∙ ap (λ (z : Bool). rooted z base k (x .ns) ts) l ∙ ap (λ (z : List Noded). rooted false base k z ts) n)
+        (l, λ k ts. s k ts ∙ ap (λ (z : Bool). treeOfNodes z base k (x .ns) ts) l ∙ ap (λ (z : List Noded). treeOfNodes false base k z ts) n)
 
     gives-finished : (r : Walked) (t′ : List ℕ) → RootIs len base st o t r t′ → WalkIs len u from base p0 v0 t₀ q₀ w₀ t′ q w r
     gives-finished r t′ = go (eqb (st .nodes) base) len refl refl
@@ -113,19 +113,19 @@ module _ {len : Bool} {u : List ℕ} {from base p0 v0 : ℕ} {t₀ q₀ w₀ t q
   -- the slice is at its end
   gives : {cur : ℕ} {l : List ℕ} {g : Bool} → walkOf len base (lexAt u from .toks) ≡ walk cur l g (x .ns) → {o : ℕ} → BehindIs u (st .at) (st .depth) o → (r : Walked) (t′ : List ℕ)
       → RootIs len base st o t r t′ → WalkIs len u from base p0 v0 t₀ q₀ w₀ t′ q w r
-  gives e b r t′ y = gives-finished (λ k ts. ap (λ (z : Walk). grown len base k z ts) e) b r t′ y
+  gives e b r t′ y = gives-finished (λ k ts. ap (λ (z : Walk). treeOfWalk len base k z ts) e) b r t′ y
 
   -- the tree stops
   pub gives-stop : (reason : Reason) → walkOf len base (lexAt u from .toks) ≡ refuse len reason (x .ns) → (r : Walked) (t′ : List ℕ) → StopIs len u base st reason t r t′ → WalkIs len u from base p0 v0 t₀ q₀ w₀ t′ q w r
   gives-stop reason e r t′ = go len refl
     where
-      stops : (l : Bool) → len ≡ l → (k : ℕ) (ts : List Tree) → grown len base k (walkOf len base (lexAt u from .toks)) ts ≡ grown l base k (refuse l reason (x .ns)) ts
-      stops l h k ts = ap (λ (z : Walk). grown len base k z ts) e ∙ ap (λ (z : Bool). grown z base k (refuse z reason (x .ns)) ts) h
+      stops : (l : Bool) → len ≡ l → (k : ℕ) (ts : List Tree) → treeOfWalk len base k (walkOf len base (lexAt u from .toks)) ts ≡ treeOfWalk l base k (refuse l reason (x .ns)) ts
+      stops l h k ts = ap (λ (z : Walk). treeOfWalk len base k z ts) e ∙ ap (λ (z : Bool). treeOfWalk z base k (refuse z reason (x .ns)) ts) h
 
       go : (l : Bool) → len ≡ l → StopIs l u base st reason t r t′ → WalkIs len u from base p0 v0 t₀ q₀ w₀ t′ q w r
       go false h y = subst⁻¹ (WalkIs len u from base p0 v0 t₀ q₀ w₀ t′ q w) y (h, stops false h)
       go true h y =
-          gives-finished (λ k ts. stops true h k ts ∙ ap (λ (z : Bool). rooted z base k (x .ns) ts) (sym h)) (y .1) r t′
+          gives-finished (λ k ts. stops true h k ts ∙ ap (λ (z : Bool). treeOfNodes z base k (x .ns) ts) (sym h)) (y .1) r t′
           (subst⁻¹ (λ (z : Bool). RootIs z base st (y .0) t r t′) h (y .2))
 
   -- no token is left

@@ -5,18 +5,18 @@ use Rattle.tables.specs.Numbers.{none}
 use Rattle.tables.specs.Record.{Node}
 use Rattle.tables.specs.declared.Reason.the-variants.{UnexpectedGameTreeStart}
 use Rattle.parser.specs.Walk.{children, walk, refuse, opens}
-use Rattle.parser_step.specs.LocalsAsks.{fuller, mayOpen}
+use Rattle.parser_step.specs.LocalsActs.{hasChild, mayOpen}
 
 abbrev In : ℕ → ℕ → Type 0
 In n y = (y ≡ none) ⊎ (y < n)
 
--- each on the stack: its list is not empty exactly where `fuller` says so; it is the one above it, or its list is not empty
+-- each on the stack: its list is not empty exactly where `hasChild` says so; it is the one above it, or its list is not empty
 abbrev Held : (base n : ℕ) → List Node → ℕ → List ℕ → Type 0
 Held base n ns x [] = Unit {0}
-Held base n ns x (y ∷ st) = (children y ns ≡ fuller base n y) × In n y × ((y ≡ x) ⊎ (fuller base n y ≡ true)) × Held base n ns y st
+Held base n ns x (y ∷ st) = (children y ns ≡ hasChild base n y) × In n y × ((y ≡ x) ⊎ (hasChild base n y ≡ true)) × Held base n ns y st
 
 pub record Line (base : ℕ) (ns : List Node) (cur : ℕ) (st : List ℕ) : Type 0 where
-  pub fine : children cur ns ≡ fuller base (base + length ns) cur
+  pub fine : children cur ns ≡ hasChild base (base + length ns) cur
   pub inside : In (base + length ns) cur
   pub held : Held base (base + length ns) ns cur st
   pub fresh : (y : ℕ) → base + length ns ≤ y → (y ≡ none → ⊥) → children y ns ≡ false
@@ -25,14 +25,14 @@ or-true : (b : Bool) {x : Bool} → x ≡ true → (b || x) ≡ true
 or-true true e = refl
 or-true false e = e
 
-fuller-more : (base n y : ℕ) → fuller base n y ≡ true → fuller base (suc n) y ≡ true
+fuller-more : (base n y : ℕ) → hasChild base n y ≡ true → hasChild base (suc n) y ≡ true
 fuller-more base n y = go (eqb y none)
   where
     go : (b : Bool) → pick b (ltb base n) (ltb (y + 1) n) ≡ true → pick b (ltb base (suc n)) (ltb (y + 1) (suc n)) ≡ true
     go true e = let h = ltb-true base n e in lt-ltb base (suc n) (omega arith)
     go false e = let h = ltb-true (y + 1) n e in lt-ltb (y + 1) (suc n) (omega arith)
 
-fuller-cur : (base n y : ℕ) → base ≤ n → In n y → fuller base (suc n) y ≡ true
+fuller-cur : (base n y : ℕ) → base ≤ n → In n y → hasChild base (suc n) y ≡ true
 fuller-cur base n y h (inl e) = ap (λ (z : Bool). pick z (ltb base (suc n)) (ltb (y + 1) (suc n))) (eq-eqb y none e) ∙ lt-ltb base (suc n) (omega arith)
 fuller-cur base n y h (inr l) = go (eqb y none)
   where
@@ -60,23 +60,23 @@ line-prop {base} {n} {ns} {cur} {st} ps x = record { fine = x .fine; inside = x 
     same z [] h = tt
     same z (y ∷ st) h = (h .0, h .1, h .2, same y st (h .3))
 
-held-node : (base n : ℕ) (ns : List Node) (cur : ℕ) → base ≤ n → In n cur → (ps : List Prop) (x : ℕ) (st : List ℕ) → (x ≡ cur) ⊎ (fuller base n x ≡ true)
+held-node : (base n : ℕ) (ns : List Node) (cur : ℕ) → base ≤ n → In n cur → (ps : List Prop) (x : ℕ) (st : List ℕ) → (x ≡ cur) ⊎ (hasChild base n x ≡ true)
     → Held base n ns x st → (z : ℕ) → Held base (suc n) (record { parent = cur; props = ps } ∷ ns) z st
 held-node base n ns cur hb hc ps x [] o h z = tt
 held-node base n ns cur hb hc ps x (y ∷ st) o h z = go (up o (h .2)) (λ w. held-node base n ns cur hb hc ps y st w (h .3) y)
   where
-    up : (x ≡ cur) ⊎ (fuller base n x ≡ true) → (y ≡ x) ⊎ (fuller base n y ≡ true) → (y ≡ cur) ⊎ (fuller base n y ≡ true)
+    up : (x ≡ cur) ⊎ (hasChild base n x ≡ true) → (y ≡ x) ⊎ (hasChild base n y ≡ true) → (y ≡ cur) ⊎ (hasChild base n y ≡ true)
     up (inl e) (inl f) = inl (f ∙ e)
-    up (inr e) (inl f) = inr (ap (fuller base n) f ∙ e)
+    up (inr e) (inl f) = inr (ap (hasChild base n) f ∙ e)
     up o (inr f) = inr f
 
-    go : (y ≡ cur) ⊎ (fuller base n y ≡ true) → ((y ≡ cur) ⊎ (fuller base n y ≡ true) → Held base (suc n) (record { parent = cur; props = ps } ∷ ns) y st)
+    go : (y ≡ cur) ⊎ (hasChild base n y ≡ true) → ((y ≡ cur) ⊎ (hasChild base n y ≡ true) → Held base (suc n) (record { parent = cur; props = ps } ∷ ns) y st)
         → Held base (suc n) (record { parent = cur; props = ps } ∷ ns) z (y ∷ st)
     go (inl e) k =
-        let f : fuller base (suc n) y ≡ true = fuller-cur base n y hb (h .1) in
+        let f : hasChild base (suc n) y ≡ true = fuller-cur base n y hb (h .1) in
         (ap (λ (b : Bool). b || children y ns) (eq-eqb cur y (sym e)) ∙ sym f, in-more n y (h .1), inr f, k (inl e))
     go (inr e) k =
-        let f : fuller base (suc n) y ≡ true = fuller-more base n y e in
+        let f : hasChild base (suc n) y ≡ true = fuller-more base n y e in
         (or-true (eqb cur y) (h .0 ∙ e) ∙ sym f, in-more n y (h .1), inr f, k (inr e))
 
 pub line-node : {base : ℕ} {ns : List Node} {cur : ℕ} {st : List ℕ} → base + length ns < none → Line base ns cur st

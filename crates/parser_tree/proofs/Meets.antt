@@ -1,7 +1,7 @@
 -- A token that was met, and what is left behind it. Assumes nothing.
 use Rattle.lists.proofs.Prelude.{ℕ, _≡_, ap, _∙_, subst, List}
 use Rattle.lexer.specs.Token.{lexAt}
-use Rattle.lexer_scan.specs.Scan.{valuesAt}
+use Rattle.lexer_scan.specs.Scan.{valuesEndAt}
 use Rattle.lexer.specs.Step.{headAt, onValues, onHead, nextAt, stepOn}
 use Rattle.lexer_close.specs.declared.Close.{Close}
 use Rattle.lexer.specs.declared.Head.{Head}
@@ -25,6 +25,6 @@ module _ (u : List ℕ) (i : ℕ) where
   head-lies g = subst (HeadWithin u i) g (head-within u i)
 
   -- a property is the next token where its values close
-  pub name-next : (j k : ℕ) {c : Close} → headAt u i ≡ Name j k → valuesAt u k ≡ c → nextAt u i ≡ onValues j k c
+  pub name-next : (j k : ℕ) {c : Close} → headAt u i ≡ Name j k → valuesEndAt u k ≡ c → nextAt u i ≡ onValues j k c
   unfolding nextAt
   name-next j k g h = ap (onHead u) g ∙ ap (onValues j k) h

@@ -1,6 +1,6 @@
 -- A push onto the stack in an array. Assumes nothing.
 use Rattle.lists.proofs.Prelude.{ℕ, zero, suc, _+_, _≤_, _<_, _≡_, refl, List, _∷_, arith, add-one, length, set, getD-set-same, getD-set-other}
-use Rattle.parser_step.specs.LocalsAsks.{stackOf}
+use Rattle.parser_step.specs.LocalsActs.{stackOf}
 
 stack-over : (a : List ℕ) (d k v : ℕ) → d ≤ k → stackOf (set a k v) d ≡ stackOf a d
 unfolding stackOf

@@ -3,7 +3,7 @@ use Rattle.lists.proofs.Prelude.{ℕ, _+_, _-_, _*_, _≤_, _≡_, refl, sym, a
 use Rattle.lists.specs.Put.{PutIs}
 use Rattle.lists.proofs.Put.{put-none, put-more}
 use Rattle.lexer.specs.Token.{Val}
-use Rattle.lexer_scan.specs.Scan.{valueAt, valuesAt}
+use Rattle.lexer_scan.specs.Scan.{valueStepAt, valuesEndAt}
 use Rattle.lexer.specs.Step.{valsAt}
 use Rattle.lexer_scan.specs.declared.ValueStep.the-variants.{Value, NoMore, Unclosed}
 use Rattle.lexer_scan.proofs.Bounds.{value-is}
@@ -19,7 +19,7 @@ use Rattle.parser_tree.proofs.Flats.{val-append, val-length}
 pub record Taking (u : List ℕ) (from v0 : ℕ) (t₀ t : List ℕ) (i v : ℕ) : Type 0 where
   pub vs : List Val
   pub all : valsAt u from ≡ vs ++ valsAt u i
-  pub same : valuesAt u from ≡ valuesAt u i
+  pub same : valuesEndAt u from ≡ valuesEndAt u i
   pub count : v ≡ v0 + length vs
   pub rows : PutIs t₀ (v0 * 2) (flatVals (valRows vs)) t
   pub low : v + from ≤ v0 + i
@@ -29,7 +29,7 @@ pub taking-first : (u : List ℕ) (from v0 : ℕ) (t : List ℕ) → from ≤ le
 taking-first u from v0 t h = record { vs = []; all = refl; same = refl; count = omega arith; rows = put-none t (v0 * 2); low = omega arith; inside = h }
 
 module _ {u : List ℕ} {from v0 : ℕ} {t₀ t : List ℕ} {i v : ℕ} (x : Taking u from v0 t₀ t i v) where
-  pub taking-more : (a e n : ℕ) → valueAt u i ≡ Value a e n → {t2 : List ℕ} → PutIs t (v * 2) (a ∷ e ∷ []) t2 → Taking u from v0 t₀ t2 n (v + 1)
+  pub taking-more : (a e n : ℕ) → valueStepAt u i ≡ Value a e n → {t2 : List ℕ} → PutIs t (v * 2) (a ∷ e ∷ []) t2 → Taking u from v0 t₀ t2 n (v + 1)
   taking-more a e n h {t2} w =
       let y : Val = record { from = a; to = e; raw = slice a e u } in
       let b = value-is u i a e n h in
@@ -48,7 +48,7 @@ module _ {u : List ℕ} {from v0 : ℕ} {t₀ t : List ℕ} {i v : ℕ} (x : Tak
         inside = omega arith;
       }
 
-  pub taking-end : valueAt u i ≡ NoMore → TakenIs u from v0 t₀ t (record { next = v; end = i })
+  pub taking-end : valueStepAt u i ≡ NoMore → TakenIs u from v0 t₀ t (record { next = v; end = i })
   taking-end h =
       let e : valsAt u from ≡ x .vs = x .all ∙ ap (λ (z : List Val). x .vs ++ z) (vals-none u i h) ∙ append-nil (x .vs) in
       record {
@@ -57,7 +57,7 @@ module _ {u : List ℕ} {from v0 : ℕ} {t₀ t : List ℕ} {i v : ℕ} (x : Tak
         rows = subst (λ (z : List Val). PutIs t₀ (v0 * 2) (flatVals (valRows z)) t) (sym e) (x .rows);
       }
 
-  pub taking-unclosed : Closes u from → valueAt u i ≡ Unclosed → ⊥
+  pub taking-unclosed : Closes u from → valueStepAt u i ≡ Unclosed → ⊥
   taking-unclosed c h = c (x .same ∙ values-unclosed u i h)
 
 -- how many were taken

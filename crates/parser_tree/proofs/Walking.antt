@@ -7,8 +7,8 @@ use Rattle.tables.specs.declared.Reason.{Reason}
 use Rattle.parser.specs.Walk.{Walk, walk, refuse, walked}
 use Rattle.parser.specs.LocalsSlice.{sliceFrom, Shallow}
 use Rattle.parser_tree.specs.LocalsWalks.{walkOf, Ready, Stored}
-use Rattle.parser_step.specs.LocalsAsks.{stackOf}
-use Rattle.parser_tree.specs.LocalsTurns.{Small, begun}
+use Rattle.parser_step.specs.LocalsActs.{stackOf}
+use Rattle.parser_tree.specs.LocalsTurns.{Small, firstState}
 use Rattle.parser_step.specs.declared.State.{State}
 use Rattle.parser_tree.proofs.Flats.{props-append}
 use Rattle.parser_tree.proofs.Stored.{stored-none}
@@ -32,9 +32,9 @@ pub record Walking (len : Bool) (u : List ℕ) (from base p0 v0 : ℕ) (t₀ q�
   pub ns : List Node
   pub array : length a ≡ depthLimit
   pub deep : st .depth ≤ depthLimit
-  pub few : st .nodes + from ≤ base + st .at
-  pub little : st .props + from ≤ p0 + st .at
-  pub small : st .vals + from ≤ v0 + st .at
+  pub node-bound : st .nodes + from ≤ base + st .at
+  pub prop-bound : st .props + from ≤ p0 + st .at
+  pub val-bound : st .vals + from ≤ v0 + st .at
   pub stored : Stored base p0 v0 (reverse ns) t₀ q₀ w₀ t q w (st .nodes) (st .props) (st .vals)
   pub skip : Skipping u from 0 (st .at) (st .depth)
   pub same : walkOf len base (lexAt u from .toks) ≡ walked len base (held st a ns) (sliceFrom (st .depth) (lexAt u (st .at) .toks))
@@ -43,7 +43,7 @@ pub record Walking (len : Bool) (u : List ℕ) (from base p0 v0 : ℕ) (t₀ q�
   pub line : Line base ns (st .cur) (stackOf a (st .depth))
 
 pub walking-first : {len : Bool} {u : List ℕ} {from base p0 v0 : ℕ} (t q w a : List ℕ) → Ready len u from base p0 v0 → length a ≡ depthLimit
-    → {y : State} → y ≡ begun from base p0 v0 → Walking len u from base p0 v0 t q w t q w a y
+    → {y : State} → y ≡ firstState from base p0 v0 → Walking len u from base p0 v0 t q w t q w a y
 unfolding stackOf walkOf
 walking-first {len} {u} {from} {base} {p0} {v0} t q w a x h e =
     subst⁻¹ (Walking len u from base p0 v0 t q w t q w a) e
@@ -52,9 +52,9 @@ walking-first {len} {u} {from} {base} {p0} {v0} t q w a x h e =
       ns = [];
       array = h;
       deep = omega arith;
-      few = omega arith;
-      little = omega arith;
-      small = omega arith;
+      node-bound = omega arith;
+      prop-bound = omega arith;
+      val-bound = omega arith;
       stored = stored-none base p0 v0 t q w;
       skip = skipping-first u from 0 (x .inside);
       same = refl;
@@ -77,9 +77,9 @@ module _ {len : Bool} {u : List ℕ} {from base p0 v0 : ℕ} {t₀ q₀ w₀ t q
   small-state =
       let r = x .ready in
       let k = x .skip in
-      let f = x .few in
-      let l = x .little in
-      let s = x .small in
+      let f = x .node-bound in
+      let l = x .prop-bound in
+      let s = x .val-bound in
       record { deep = x .deep; nodes = omega arith; props = omega arith; vals = omega arith }
 
   -- a node is there where a property may follow

@@ -2,7 +2,7 @@
 use Rattle.lists.specs.Prelude.{ℕ, _+_, _-_, _*_, _≤_, _<_, _≡_, Bool, true, false, List, [], _∷_, length, getD, eqb}
 use Rattle.lists.specs.Put.{PutIs}
 use Rattle.lexer.specs.Token.{lexAt}
-use Rattle.lexer_scan.specs.Scan.{valuesAt}
+use Rattle.lexer_scan.specs.Scan.{valuesEndAt}
 use Rattle.lexer.specs.Step.{valsAt, headAt}
 use Rattle.lexer.specs.declared.Head.{Head}
 use Rattle.lexer.specs.declared.Head.the-variants.{Start as start, End as end, Node as node, Name as name, Refused as refused, Done as done}
@@ -15,7 +15,7 @@ use Rattle.tables.specs.declared.Reason.{Reason}
 use Rattle.tables.specs.declared.Reason.the-variants.{UnexpectedEndOfData, UnexpectedGameTreeStart, UnexpectedGameTreeEnd, UnexpectedProperty}
 use Rattle.parser.specs.LocalsSlice.{restFrom}
 use Rattle.parser_tree.specs.declared.Taken.{Taken}
-use Rattle.parser_step.specs.LocalsAsks.{stackOf, mayOpen}
+use Rattle.parser_step.specs.LocalsActs.{stackOf, mayOpen}
 use Rattle.parser_step.specs.declared.State.{State}
 use Rattle.parser_step.specs.declared.Act.{Act}
 use Rattle.parser_step.specs.declared.Act.the-variants.{Start, End, Node, Add, Stop, Over}
@@ -36,8 +36,8 @@ pub record Small (st : State) : Type 0 where
 -- ---- the state after a token
 
 -- before the first
-abbrev pub begun : (at n p v : ℕ) → State
-begun at n p v = record { at = at; depth = 0; cur = none; nodes = n; props = p; vals = v; first = p; follows = false }
+abbrev pub firstState : (at n p v : ℕ) → State
+firstState at n p v = record { at = at; depth = 0; cur = none; nodes = n; props = p; vals = v; first = p; follows = false }
 
 -- behind a start or an end
 abbrev pub shutAt : State → (at depth : ℕ) → State
@@ -54,8 +54,8 @@ shutAt st at depth =
     }
 
 -- behind an end at i that leaves a tree open
-abbrev pub ended : State → ℕ → List ℕ → State
-ended st i a =
+abbrev pub stateAfterEnd : State → ℕ → List ℕ → State
+stateAfterEnd st i a =
     record {
       at = i + 1;
       depth = st .depth - 1;
@@ -99,17 +99,17 @@ added st e c =
 
 -- each value from k on closes
 abbrev pub Closes : List ℕ → ℕ → Type 0
-Closes u k = valuesAt u k ≡ Open → ⊥
+Closes u k = valuesEndAt u k ≡ Open → ⊥
 
 -- the values from k on are rows from v0 on
 pub record TakenIs (u : List ℕ) (k v0 : ℕ) (w w′ : List ℕ) (r : Taken) : Type 0 where
-  pub ends : valuesAt u k ≡ At (r .end)
+  pub ends : valuesEndAt u k ≡ At (r .end)
   pub next : r .next ≡ v0 + length (valsAt u k)
   pub rows : PutIs w (v0 * valueStride) (flatVals (valRows (valsAt u k))) w′
 
 -- the property from i, whose first `[` is at k, is a row, its values are, and its node counts it
 pub record AddIs (u : List ℕ) (st : State) (i k : ℕ) (t q w : List ℕ) (r : State) (t′ q′ w′ : List ℕ) : Type 0 where
-  pub ends : valuesAt u k ≡ At (r .at)
+  pub ends : valuesEndAt u k ≡ At (r .at)
   pub is : r ≡ added st (r .at) (length (valsAt u k))
   pub vals : PutIs w (st .vals * valueStride) (flatVals (valRows (valsAt u k))) w′
   pub props : PutIs q (st .props * propertyStride) (i ∷ k ∷ st .vals ∷ length (valsAt u k) ∷ []) q′
@@ -131,7 +131,7 @@ abbrev pub OverAt : List ℕ → State → (o : ℕ) → Head → Type 0
 OverAt u st o (start i) = ⊥
 OverAt u st o (end i) = (st .depth ≡ 1) × (o ≡ i + 1)
 OverAt u st o (node i) = ⊥
-OverAt u st o (name i k) = (valuesAt u k ≡ Open) × (o ≡ st .at)
+OverAt u st o (name i k) = (valuesEndAt u k ≡ Open) × (o ≡ st .at)
 OverAt u st o (refused f i) = o ≡ st .at
 OverAt u st o done = o ≡ st .at
 

@@ -8,7 +8,7 @@ use Rattle.tables.specs.Columns.{nodeStride, propertyStride, valueStride}
 use Rattle.tables.specs.Rows.{propRows, valRows}
 use Rattle.tables.specs.Flat.{flatNodes, flatProps, flatVals}
 use Rattle.parser.specs.Walk.{Walk, walk, walked}
-use Rattle.parser.specs.Read.{growing, failing, grown}
+use Rattle.parser.specs.Read.{treesSoFar, noTrees, treeOfWalk}
 use Rattle.parser.specs.LocalsSlice.{sliceFrom, restFrom, Shallow}
 use Rattle.parser_tree.specs.LocalsFlat.{bareRows}
 use Rattle.parser_tree.specs.declared.Walked.{Walked}
@@ -26,7 +26,7 @@ pub record Ready (len : Bool) (u : List ℕ) (from base p v : ℕ) : Type 0 wher
   pub props : p ≤ textLimit
   pub vals : v ≤ textLimit
   pub shallow : Shallow 0 (sliceFrom 0 (lexAt u from .toks))
-  pub calm : len ≡ false → lexAt u from .end ≡ done
+  pub faultless : len ≡ false → lexAt u from .end ≡ done
 
 -- es stand in the tables from the rows base, p0 and v0 on; n, p and v are the next rows
 pub record Stored (base p0 v0 : ℕ) (es : List Node) (t₀ q₀ w₀ t q w : List ℕ) (n p v : ℕ) : Type 0 where
@@ -42,20 +42,20 @@ pub record TreeIs (len : Bool) (u : List ℕ) (from base p0 v0 : ℕ) (t₀ q₀
   pub es : List Node
   pub tree :
       (k : ℕ) (ts : List Tree)
-      → grown len base k (walkOf len base (lexAt u from .toks)) ts
-      ≡ growing (base + length es) (record { root = base; kind = k; nodes = es } ∷ ts)
+      → treeOfWalk len base k (walkOf len base (lexAt u from .toks)) ts
+      ≡ treesSoFar (base + length es) (record { root = base; game = k; nodes = es } ∷ ts)
   pub stored : Stored base p0 v0 es t₀ q₀ w₀ t q w n p v
   pub more : base < n
   pub rest : restFrom 0 (lexAt u from .toks) ≡ lexAt u at .toks
   pub ends : lexAt u at .end ≡ lexAt u from .end
   pub on : from ≤ at
   pub inside : at ≤ length u
-  pub few : n + from ≤ base + at + 1
-  pub little : p + from ≤ p0 + at
-  pub small : v + from ≤ v0 + at
+  pub node-bound : n + from ≤ base + at + 1
+  pub prop-bound : p + from ≤ p0 + at
+  pub val-bound : v + from ≤ v0 + at
 
 -- what a walk gives
 abbrev pub WalkIs : Bool → (u : List ℕ) (from base p0 v0 : ℕ) (t₀ q₀ w₀ t q w : List ℕ) → Walked → Type 0
 WalkIs len u from base p0 v0 t₀ q₀ w₀ t q w (tree at n p v) = TreeIs len u from base p0 v0 t₀ q₀ w₀ t q w at n p v
 WalkIs len u from base p0 v0 t₀ q₀ w₀ t q w (refused r) =
-    (len ≡ false) × ((k : ℕ) (ts : List Tree) → grown len base k (walkOf len base (lexAt u from .toks)) ts ≡ failing r)
+    (len ≡ false) × ((k : ℕ) (ts : List Tree) → treeOfWalk len base k (walkOf len base (lexAt u from .toks)) ts ≡ noTrees r)

@@ -16,7 +16,7 @@ ghost use Rattle.lists.specs.Put.{PutIs};
 ghost use Rattle.tables.specs.Numbers.{textLimit, depthLimit, none};
 ghost use Rattle.tables.specs.Columns.{nodeStride};
 ghost use Rattle.parser_tree.specs.LocalsWalks.{Ready, WalkIs};
-ghost use Rattle.parser_tree.specs.LocalsTurns.{rowLimit, Small, begun, shutAt, ended, noded, Closes, TakenIs, AddIs, BehindIs, RootIs, StopIs};
+ghost use Rattle.parser_tree.specs.LocalsTurns.{rowLimit, Small, firstState, shutAt, stateAfterEnd, noded, Closes, TakenIs, AddIs, BehindIs, RootIs, StopIs};
 
 // What a walk gives: the place behind the slice and the next row of each table (nodes, properties, values); or why there is no tree.
 pub enum Walked {
@@ -53,7 +53,7 @@ fn start(w: State, i: usize, stack: &mut [u32; 1024]) -> State
 // An end that leaves a tree open: the list on top of the stack is current again.
 fn end(mut w: State, i: usize, stack: &[u32; 1024]) -> State
     requires { ⌜ (0 < w .depth) × (w .depth ≤ 1024) × (i < textLimit) ⌝ }
-    ensures { λ r. ⌜ r ≡ ended w i (now (stack .entry)) ⌝ }
+    ensures { λ r. ⌜ r ≡ stateAfterEnd w i (now (stack .entry)) ⌝ }
 {
     let depth = w.depth - 1;
     w.cur = stack[depth];
@@ -205,7 +205,7 @@ fn stop(s: &[u8], lenient: bool, base: usize, w: State, reason: Reason, nodes: &
 
 // Before the first token.
 fn begin(at: usize, nodes: usize, props: usize, vals: usize) -> State
-    ensures { λ r. ⌜ r ≡ begun at nodes props vals ⌝ }
+    ensures { λ r. ⌜ r ≡ firstState at nodes props vals ⌝ }
 {
     State {
         at: at,

@@ -4,37 +4,37 @@ use Rattle.lists.proofs.Places.{drop-next}
 use Rattle.lists.proofs.Tests.{eqb-sym}
 use Rattle.tables.specs.Numbers.{none}
 use Rattle.tables.specs.Record.{Node}
-use Rattle.tables.specs.Rows.{next, parents}
+use Rattle.tables.specs.Rows.{firstChildFrom, parents}
 use Rattle.tables.specs.Flat.{flatNodes}
 use Rattle.tables.specs.Columns.{nodeStride, parentAt, childAt}
-use Rattle.tables.specs.LocalsLinks.{least}
+use Rattle.tables.specs.LocalsLinks.{firstUnderOr}
 use Rattle.parser_tree.specs.LocalsFlat.{bareRows}
 
 -- ---- the first of the nodes with a parent
 
 module _ (t : List ℕ) (p : ℕ) (empty : childAt t p ≡ none) where
-  pub next-least : (lo k : ℕ) (ps : List ℕ) → lo ≤ k → ((j : ℕ) → j < length ps → parentAt t (k + j) ≡ getD ps j 0) → next p lo k ps ≡ least t p k (length ps)
-  unfolding least
+  pub next-least : (lo k : ℕ) (ps : List ℕ) → lo ≤ k → ((j : ℕ) → j < length ps → parentAt t (k + j) ≡ getD ps j 0) → firstChildFrom p lo k ps ≡ firstUnderOr t p k (length ps)
+  unfolding firstUnderOr
   next-least lo k [] h f = sym empty
   next-least lo k (q ∷ qs) h f =
       let e : k + 0 ≡ k = omega arith in
       let eq : parentAt t k ≡ q = ap (parentAt t) (sym e) ∙ f 0 (omega arith) in
       let b : (eqb p q && leb lo k) ≡ eqb (parentAt t k) p =
       ap (λ (z : Bool). eqb p q && z) (le-leb lo k h) ∙ and-true (eqb p q) ∙ eqb-sym p q ∙ ap (λ (z : ℕ). eqb z p) (sym eq) in
-      ap (λ (z : Bool). pick z k (next p lo (suc k) qs)) b
+      ap (λ (z : Bool). pick z k (firstChildFrom p lo (suc k) qs)) b
       ∙ ap (pick (eqb (parentAt t k) p) k)
       (next-least lo (suc k) qs (omega arith) (λ j l. let s : suc k + j ≡ k + suc j = omega arith in ap (parentAt t) s ∙ f (suc j) (omega arith)))
 
 -- the numbers below lo are passed over
-pub next-skip : (p d k : ℕ) (ps : List ℕ) → next p (k + d) k ps ≡ next p (k + d) (k + d) (drop d ps)
-next-skip p zero k ps = let e : k ≡ k + 0 = omega arith in ap (λ (z : ℕ). next p (k + 0) z ps) e
+pub next-skip : (p d k : ℕ) (ps : List ℕ) → firstChildFrom p (k + d) k ps ≡ firstChildFrom p (k + d) (k + d) (drop d ps)
+next-skip p zero k ps = let e : k ≡ k + 0 = omega arith in ap (λ (z : ℕ). firstChildFrom p (k + 0) z ps) e
 next-skip p (suc d) k [] = refl
 next-skip p (suc d) k (q ∷ qs) =
     let e : k + suc d ≡ suc k + d = omega arith in
-    ap (λ (z : Bool). pick z k (next p (k + suc d) (suc k) qs)) (ap (λ (z : Bool). eqb p q && z) (lt-leb (k + suc d) k (omega arith)) ∙ and-false (eqb p q))
-    ∙ ap (λ (z : ℕ). next p z (suc k) qs) e
+    ap (λ (z : Bool). pick z k (firstChildFrom p (k + suc d) (suc k) qs)) (ap (λ (z : Bool). eqb p q && z) (lt-leb (k + suc d) k (omega arith)) ∙ and-false (eqb p q))
+    ∙ ap (λ (z : ℕ). firstChildFrom p z (suc k) qs) e
     ∙ next-skip p d (suc k) qs
-    ∙ ap (λ (z : ℕ). next p z z (drop d qs)) (sym e)
+    ∙ ap (λ (z : ℕ). firstChildFrom p z z (drop d qs)) (sym e)
 
 -- ---- cells of rows
 

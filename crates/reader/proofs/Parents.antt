@@ -8,8 +8,8 @@ use Rattle.tables.specs.Numbers.{none}
 use Rattle.tables.specs.Record.{Node, Tree, allNodes}
 use Rattle.tables.specs.declared.Reason.{Reason}
 use Rattle.parser.specs.Walk.{Walk, walk, halted, stopped, children, refuse, opens, closes, adds, gated, walks, walked}
-use Rattle.parser.specs.Kind.{Kind, is, unkind, kind}
-use Rattle.parser.specs.Read.{Growing, growing, failing, rooted, grown, kinded, growAll}
+use Rattle.parser.specs.Game.{Game, is, noGame, findGametype}
+use Rattle.parser.specs.Read.{Trees, treesSoFar, noTrees, treeOfNodes, treeOfWalk, treeOfGame, parseGametrees}
 
 -- none, or one of n nodes
 abbrev NodeOf : ℕ → ℕ → Type 0
@@ -73,42 +73,42 @@ module _ (base : ℕ) where
 abbrev InTree : ℕ → Tree → Type 0
 InTree n t = All (Below n) (t .nodes)
 
-abbrev Sound : Growing → Type 0
-Sound (growing n ts) = All (InTree n) ts
-Sound (failing r) = Unit {0}
+abbrev Sound : Trees → Type 0
+Sound (treesSoFar n ts) = All (InTree n) ts
+Sound (noTrees r) = Unit {0}
 
 tree-up : {n m : ℕ} → n ≤ m → (t : Tree) → InTree n t → InTree m t
 tree-up h t a = all-map _ _ (below-up h) (t .nodes) a
 
-sound-rooted : (len : Bool) (base k : ℕ) (ns : List Node) (ts : List Tree) → All (Below (base + length ns)) ns → All (InTree base) ts → Sound (rooted len base k ns ts)
+sound-rooted : (len : Bool) (base k : ℕ) (ns : List Node) (ts : List Tree) → All (Below (base + length ns)) ns → All (InTree base) ts → Sound (treeOfNodes len base k ns ts)
 sound-rooted len base k (n ∷ ns) ts h a = (all-reverse (Below (base + length (n ∷ ns))) (n ∷ ns) h, all-map _ _ (tree-up (omega arith)) ts a)
 sound-rooted true base k [] ts h a = ((inl refl, tt), all-map _ _ (tree-up (omega arith)) ts a)
 sound-rooted false base k [] ts h a = tt
 
-sound-grown : (len : Bool) (base k : ℕ) (w : Walk) (ts : List Tree) → Placed base w → All (InTree base) ts → Sound (grown len base k w ts)
+sound-grown : (len : Bool) (base k : ℕ) (w : Walk) (ts : List Tree) → Placed base w → All (InTree base) ts → Sound (treeOfWalk len base k w ts)
 sound-grown len base k (walk cur st g ns) ts h a = sound-rooted len base k ns ts (h .2) a
 sound-grown len base k (halted ns) ts h a = sound-rooted len base k ns ts h a
 sound-grown len base k (stopped r) ts h a = tt
 
-sound-kinded : (len : Bool) (base : ℕ) (x : Kind) (s : List Tok) (ts : List Tree) → All (InTree base) ts → Sound (kinded len base x s ts)
+sound-kinded : (len : Bool) (base : ℕ) (x : Game) (s : List Tok) (ts : List Tree) → All (InTree base) ts → Sound (treeOfGame len base x s ts)
 sound-kinded len base (is k) s ts a =
     sound-grown len base k (walked len base (walk none [] false []) s) ts (placed-walked base len (walk none [] false []) s (inl refl, tt, tt)) a
-sound-kinded len base (unkind r) s ts a =
+sound-kinded len base (noGame r) s ts a =
     pick-elim Sound len
     (λ _. sound-grown true base 0 (walked len base (walk none [] false []) s) ts (placed-walked base len (walk none [] false []) s (inl refl, tt, tt)) a)
     (λ _. tt)
 
-sound-all : (len : Bool) (x : Growing) (ss : List (List Tok)) → Sound x → Sound (growAll len x ss)
+sound-all : (len : Bool) (x : Trees) (ss : List (List Tok)) → Sound x → Sound (parseGametrees len x ss)
 sound-all len x [] h = h
-sound-all len (growing n ts) (s ∷ ss) h = sound-all len (kinded len n (kind s) s ts) ss (sound-kinded len n (kind s) s ts h)
-sound-all len (failing r) (s ∷ ss) h = sound-all len (failing r) ss tt
+sound-all len (treesSoFar n ts) (s ∷ ss) h = sound-all len (treeOfGame len n (findGametype s) s ts) ss (sound-kinded len n (findGametype s) s ts h)
+sound-all len (noTrees r) (s ∷ ss) h = sound-all len (noTrees r) ss tt
 
 in-trees : (n : ℕ) (ts : List Tree) → All (InTree n) ts → All (Below n) (allNodes ts)
 in-trees n [] h = tt
 in-trees n (t ∷ ts) h = all-append (Below n) (t .nodes) (allNodes ts) (h .0) (in-trees n ts (h .1))
 
 -- the parents of the nodes of all slices, n nodes in all
-pub parents-below : (len : Bool) (ss : List (List Tok)) (n : ℕ) (ts : List Tree) → growAll len (growing 0 []) ss ≡ growing n (reverse ts) → All (Below n) (allNodes ts)
+pub parents-below : (len : Bool) (ss : List (List Tok)) (n : ℕ) (ts : List Tree) → parseGametrees len (treesSoFar 0 []) ss ≡ treesSoFar n (reverse ts) → All (Below n) (allNodes ts)
 parents-below len ss n ts e =
     in-trees n ts
-    (subst (All (InTree n)) (reverse-reverse ts) (all-reverse (InTree n) (reverse ts) (subst Sound e (sound-all len (growing 0 []) ss tt))))
+    (subst (All (InTree n)) (reverse-reverse ts) (all-reverse (InTree n) (reverse ts) (subst Sound e (sound-all len (treesSoFar 0 []) ss tt))))

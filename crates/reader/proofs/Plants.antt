@@ -8,16 +8,16 @@ use Rattle.tables.specs.Record.{Node, Tree, allNodes}
 use Rattle.tables.specs.Rows.{treeRows}
 use Rattle.tables.specs.Flat.{flatTrees}
 use Rattle.tables.specs.declared.Reason.{Reason}
-use Rattle.parser.specs.Kind.{Kind, is, kind}
-use Rattle.parser.specs.LocalsSlice.{sliceFrom, restFrom, cut, Shallow}
-use Rattle.parser.specs.Read.{Growing, growing, failing, grown, kinded, growAll}
+use Rattle.parser.specs.Game.{Game, is, findGametype}
+use Rattle.parser.specs.LocalsSlice.{sliceFrom, restFrom, firstSlices, Shallow}
+use Rattle.parser.specs.Read.{Trees, treesSoFar, noTrees, treeOfWalk, treeOfGame, parseGametrees}
 use Rattle.parser_tree.specs.LocalsWalks.{walkOf, Ready, Stored, TreeIs, WalkIs}
 use Rattle.parser_tree.specs.declared.Walked.{Walked}
 use Rattle.parser_tree.specs.declared.Walked.the-variants.{Tree as tree, Refused as refusedWalk}
 use Rattle.parser_tree.proofs.Between.{Between, between-ready, between-next}
 use Rattle.parser_tree.proofs.Stored.{stored-none, stored-both}
 use Rattle.reader.specs.Lent.{Lent, lent}
-use Rattle.reader.specs.LocalsSlices.{leniently, readOf, SlicesReady, GoIf, GrownIs}
+use Rattle.reader.specs.LocalsSlices.{leniently, readOf, SlicesReady, GoIf, TreesPutIs}
 use Rattle.parser_game.specs.LocalsGame.{typeOf}
 use Rattle.reader.proofs.Kinded.{fails, kinded-is, kinded-refused}
 use Rattle.parser_game.specs.declared.GameType.{GameType}
@@ -25,7 +25,7 @@ use Rattle.parser_game.specs.declared.GameType.the-variants.{Is, Refused}
 
 tree-append : (xs ys : List Tree) → flatTrees (treeRows (xs ++ ys)) ≡ flatTrees (treeRows xs) ++ flatTrees (treeRows ys)
 tree-append [] ys = refl
-tree-append (x ∷ xs) ys = ap (λ (z : List ℕ). x .root ∷ x .kind ∷ z) (tree-append xs ys)
+tree-append (x ∷ xs) ys = ap (λ (z : List ℕ). x .root ∷ x .game ∷ z) (tree-append xs ys)
 
 pub tree-length : (xs : List Tree) → length (flatTrees (treeRows xs)) ≡ length xs * 2
 tree-length [] = refl
@@ -41,22 +41,22 @@ pub record Planting (len go : Bool) (u : List ℕ) (l : List Tok) (count : ℕ) 
   pub ts : List Tree
   pub made : length ts ≡ k
   pub below : k ≤ count
-  pub same : readOf len count l ≡ growAll len (growing n ts) (cut (count - k) (lexAt u at .toks))
+  pub same : readOf len count l ≡ parseGametrees len (treesSoFar n ts) (firstSlices (count - k) (lexAt u at .toks))
   pub trees : PutIs (before .trees) 0 (flatTrees (treeRows (reverse ts))) (after .trees)
   pub rows : Stored 0 0 0 (allNodes (reverse ts)) (before .nodes) (before .props) (before .vals) (after .nodes) (after .props) (after .vals) n p v
   pub ready : Between len u at k n p v (count - k)
-  pub kinds : GoIf go (cut (count - k) (lexAt u at .toks))
+  pub games : GoIf go (firstSlices (count - k) (lexAt u at .toks))
 
-pub plant-first : {len go : Bool} {u : List ℕ} {from count : ℕ} (b : Lent) → SlicesReady len u from count → GoIf go (cut count (lexAt u from .toks)) → Planting len go u (lexAt u from .toks) count b b from 0 0 0 0
+pub plant-first : {len go : Bool} {u : List ℕ} {from count : ℕ} (b : Lent) → SlicesReady len u from count → GoIf go (firstSlices count (lexAt u from .toks)) → Planting len go u (lexAt u from .toks) count b b from 0 0 0 0
 unfolding readOf
 plant-first {len} {go} {u} {from} {count} b x ks =
     let e : count - 0 ≡ count = omega arith in
-    let f = x .few in
+    let f = x .bound in
     record {
       ts = [];
       made = refl;
       below = omega arith;
-      same = ap (λ (z : ℕ). growAll len (growing 0 []) (cut z (lexAt u from .toks))) (sym e);
+      same = ap (λ (z : ℕ). parseGametrees len (treesSoFar 0 []) (firstSlices z (lexAt u from .toks))) (sym e);
       trees = put-none (b .trees) 0;
       rows = stored-none 0 0 0 (b .nodes) (b .props) (b .vals);
       ready = record {
@@ -66,10 +66,10 @@ plant-first {len} {go} {u} {from} {count} b x ks =
         nodes = omega arith;
         props = omega arith;
         vals = omega arith;
-        shallow = subst⁻¹ (λ (z : ℕ). All (Shallow 0) (cut z (lexAt u from .toks))) e (x .shallow);
-        calm = x .calm;
+        shallow = subst⁻¹ (λ (z : ℕ). All (Shallow 0) (firstSlices z (lexAt u from .toks))) e (x .shallow);
+        faultless = x .faultless;
       };
-      kinds = subst⁻¹ (λ (z : ℕ). GoIf go (cut z (lexAt u from .toks))) e ks;
+      games = subst⁻¹ (λ (z : ℕ). GoIf go (firstSlices z (lexAt u from .toks))) e ks;
     }
 
 module _ {len go : Bool} {u : List ℕ} {l : List Tok} {count : ℕ} {before after : Lent} {at n p v k : ℕ}
@@ -80,8 +80,8 @@ module _ {len go : Bool} {u : List ℕ} {l : List Tok} {count : ℕ} {before aft
   pub plant-keeps : (length (after .trees) ≡ length (before .trees)) × (length (after .nodes) ≡ length (before .nodes)) × (length (after .props) ≡ length (before .props)) × (length (after .vals) ≡ length (before .vals))
   plant-keeps = (x .trees .len, x .rows .tnodes .len, x .rows .tprops .len, x .rows .tvals .len)
 
-  pub plant-end : count ≤ k → GrownIs (readOf len count l) count before after n p v
-  unfolding cut
+  pub plant-end : count ≤ k → TreesPutIs (readOf len count l) count before after n p v
+  unfolding firstSlices
   plant-end h =
       let b = x .below in
       let e : count - k ≡ 0 = omega arith in
@@ -89,9 +89,9 @@ module _ {len go : Bool} {u : List ℕ} {l : List Tok} {count : ℕ} {before aft
       let r = x .ready in
       record {
         ts = reverse (x .ts);
-        grown = x .same ∙ ap (λ (z : ℕ). growAll len (growing n (x .ts)) (cut z toks)) e ∙ ap (growing n) (sym (reverse-reverse (x .ts)));
+        trees-are = x .same ∙ ap (λ (z : ℕ). parseGametrees len (treesSoFar n (x .ts)) (firstSlices z toks)) e ∙ ap (treesSoFar n) (sym (reverse-reverse (x .ts)));
         count-is = length-reverse (x .ts) ∙ x .made ∙ f;
-        few = omega arith;
+        bound = omega arith;
         ttrees = x .trees;
         stored = x .rows;
       }
@@ -106,34 +106,34 @@ module _ {len go : Bool} {u : List ℕ} {l : List Tok} {count : ℕ} {before aft
     pub plant-ready : Ready len u at n p v
     plant-ready = between-ready plant-between
 
-    plant-kinds : GoIf go (cut (suc (count - (k + 1))) toks)
-    plant-kinds = subst (λ (z : ℕ). GoIf go (cut z toks)) left (x .kinds)
+    plant-games : GoIf go (firstSlices (suc (count - (k + 1))) toks)
+    plant-games = subst (λ (z : ℕ). GoIf go (firstSlices z toks)) left (x .games)
 
-    pub plant-go : go ≡ true → kind (sliceFrom 0 toks) ≡ is 0
-    unfolding cut
-    plant-go e = plant-kinds e .0
+    pub plant-go : go ≡ true → findGametype (sliceFrom 0 toks) ≡ is 0
+    unfolding firstSlices
+    plant-go e = plant-games e .0
 
-    plant-others : GoIf go (cut (count - (k + 1)) (restFrom 0 toks))
-    unfolding cut
-    plant-others e = plant-kinds e .1
+    plant-others : GoIf go (firstSlices (count - (k + 1)) (restFrom 0 toks))
+    unfolding firstSlices
+    plant-others e = plant-games e .1
 
-    turn : readOf len count l ≡ growAll len (kinded len n (kind (sliceFrom 0 toks)) (sliceFrom 0 toks) (x .ts)) (cut (count - (k + 1)) (restFrom 0 toks))
-    unfolding cut
-    turn = x .same ∙ ap (λ (z : ℕ). growAll len (growing n (x .ts)) (cut z toks)) left
+    turn : readOf len count l ≡ parseGametrees len (treeOfGame len n (findGametype (sliceFrom 0 toks)) (sliceFrom 0 toks) (x .ts)) (firstSlices (count - (k + 1)) (restFrom 0 toks))
+    unfolding firstSlices
+    turn = x .same ∙ ap (λ (z : ℕ). parseGametrees len (treesSoFar n (x .ts)) (firstSlices z toks)) left
 
-    pub plant-no : {r : Reason} {g : GameType} → g ≡ typeOf (leniently len (kind (sliceFrom 0 toks))) → g ≡ Refused r → readOf len count l ≡ failing r
+    pub plant-no : {r : Reason} {g : GameType} → g ≡ typeOf (leniently len (findGametype (sliceFrom 0 toks))) → g ≡ Refused r → readOf len count l ≡ noTrees r
     plant-no {r} e q =
         turn
-        ∙ ap (λ (j : Growing). growAll len j (cut (count - (k + 1)) (restFrom 0 toks))) (kinded-refused len n (sliceFrom 0 toks) (x .ts) (kind (sliceFrom 0 toks)) r (sym q ∙ e))
-        ∙ fails len r (cut (count - (k + 1)) (restFrom 0 toks))
+        ∙ ap (λ (j : Trees). parseGametrees len j (firstSlices (count - (k + 1)) (restFrom 0 toks))) (kinded-refused len n (sliceFrom 0 toks) (x .ts) (findGametype (sliceFrom 0 toks)) r (sym q ∙ e))
+        ∙ fails len r (firstSlices (count - (k + 1)) (restFrom 0 toks))
 
-    module _ {g : GameType} {j : ℕ} (e : g ≡ typeOf (leniently len (kind (sliceFrom 0 toks)))) (q : g ≡ Is j) where
-      turned : readOf len count l ≡ growAll len (grown len n j (walkOf len n toks) (x .ts)) (cut (count - (k + 1)) (restFrom 0 toks))
+    module _ {g : GameType} {j : ℕ} (e : g ≡ typeOf (leniently len (findGametype (sliceFrom 0 toks)))) (q : g ≡ Is j) where
+      turned : readOf len count l ≡ parseGametrees len (treeOfWalk len n j (walkOf len n toks) (x .ts)) (firstSlices (count - (k + 1)) (restFrom 0 toks))
       unfolding walkOf
-      turned = turn ∙ ap (λ (y : Growing). growAll len y (cut (count - (k + 1)) (restFrom 0 toks))) (kinded-is len n (sliceFrom 0 toks) (x .ts) (kind (sliceFrom 0 toks)) j (sym q ∙ e))
+      turned = turn ∙ ap (λ (y : Trees). parseGametrees len y (firstSlices (count - (k + 1)) (restFrom 0 toks))) (kinded-is len n (sliceFrom 0 toks) (x .ts) (findGametype (sliceFrom 0 toks)) j (sym q ∙ e))
 
-      pub plant-stop : {r : Reason} → ((i : ℕ) (ts : List Tree) → grown len n i (walkOf len n toks) ts ≡ failing r) → readOf len count l ≡ failing r
-      plant-stop {r} f = turned ∙ ap (λ (y : Growing). growAll len y (cut (count - (k + 1)) (restFrom 0 toks))) (f j (x .ts)) ∙ fails len r (cut (count - (k + 1)) (restFrom 0 toks))
+      pub plant-stop : {r : Reason} → ((i : ℕ) (ts : List Tree) → treeOfWalk len n i (walkOf len n toks) ts ≡ noTrees r) → readOf len count l ≡ noTrees r
+      plant-stop {r} f = turned ∙ ap (λ (y : Trees). parseGametrees len y (firstSlices (count - (k + 1)) (restFrom 0 toks))) (f j (x .ts)) ∙ fails len r (firstSlices (count - (k + 1)) (restFrom 0 toks))
 
       pub plant-more : {t q w r : List ℕ} {at′ n′ p′ v′ : ℕ} → TreeIs len u at n p v (after .nodes) (after .props) (after .vals) t q w at′ n′ p′ v′ → PutIs (after .trees) (k * 2) (n ∷ j ∷ []) r
           → Planting len go u l count before (lent r t q w) at′ n′ p′ v′ (k + 1)
@@ -143,24 +143,24 @@ module _ {len go : Bool} {u : List ℕ} {l : List Tok} {count : ℕ} {before aft
           let lr : length (reverse (x .ts)) ≡ length (x .ts) = length-reverse (x .ts) in
           let sk : suc k ≡ k + 1 = omega arith in
           record {
-            ts = record { root = n; kind = j; nodes = y .es } ∷ x .ts;
+            ts = record { root = n; game = j; nodes = y .es } ∷ x .ts;
             made = omega arith;
             below = omega arith;
             same =
                 turned
-                ∙ ap (λ (z : Growing). growAll len z (cut (count - (k + 1)) (restFrom 0 toks))) (y .tree j (x .ts) ∙ ap (λ (z : ℕ). growing z (record { root = n; kind = j; nodes = y .es } ∷ x .ts)) (sym rn))
-                ∙ ap (λ (z : List Tok). growAll len (growing n′ (record { root = n; kind = j; nodes = y .es } ∷ x .ts)) (cut (count - (k + 1)) z)) (y .rest);
+                ∙ ap (λ (z : Trees). parseGametrees len z (firstSlices (count - (k + 1)) (restFrom 0 toks))) (y .tree j (x .ts) ∙ ap (λ (z : ℕ). treesSoFar z (record { root = n; game = j; nodes = y .es } ∷ x .ts)) (sym rn))
+                ∙ ap (λ (z : List Tok). parseGametrees len (treesSoFar n′ (record { root = n; game = j; nodes = y .es } ∷ x .ts)) (firstSlices (count - (k + 1)) z)) (y .rest);
             trees =
-                subst⁻¹ (λ (z : List Tree). PutIs (before .trees) 0 (flatTrees (treeRows z)) r) (reverse-cons (record { root = n; kind = j; nodes = y .es }) (x .ts))
-                (subst⁻¹ (λ (z : List ℕ). PutIs (before .trees) 0 z r) (tree-append (reverse (x .ts)) (record { root = n; kind = j; nodes = y .es } ∷ []))
+                subst⁻¹ (λ (z : List Tree). PutIs (before .trees) 0 (flatTrees (treeRows z)) r) (reverse-cons (record { root = n; game = j; nodes = y .es }) (x .ts))
+                (subst⁻¹ (λ (z : List ℕ). PutIs (before .trees) 0 z r) (tree-append (reverse (x .ts)) (record { root = n; game = j; nodes = y .es } ∷ []))
                 (put-more (x .trees) pt (omega (arith, tree-length (reverse (x .ts))))));
             rows =
-                subst⁻¹ (λ (z : List Tree). Stored 0 0 0 (allNodes z) (before .nodes) (before .props) (before .vals) t q w n′ p′ v′) (reverse-cons (record { root = n; kind = j; nodes = y .es }) (x .ts))
+                subst⁻¹ (λ (z : List Tree). Stored 0 0 0 (allNodes z) (before .nodes) (before .props) (before .vals) t q w n′ p′ v′) (reverse-cons (record { root = n; game = j; nodes = y .es }) (x .ts))
                 (subst⁻¹ (λ (z : List Node). Stored 0 0 0 z (before .nodes) (before .props) (before .vals) t q w n′ p′ v′)
-                (nodes-append (reverse (x .ts)) (record { root = n; kind = j; nodes = y .es } ∷ []) ∙ ap (λ (z : List Node). allNodes (reverse (x .ts)) ++ z) (append-nil (y .es)))
+                (nodes-append (reverse (x .ts)) (record { root = n; game = j; nodes = y .es } ∷ []) ∙ ap (λ (z : List Node). allNodes (reverse (x .ts)) ++ z) (append-nil (y .es)))
                 (stored-both (allNodes (reverse (x .ts))) (y .es) (x .rows) (y .stored)));
             ready = subst (λ (z : ℕ). Between len u at′ z n′ p′ v′ (count - (k + 1))) sk (between-next plant-between y);
-            kinds = subst (λ (z : List Tok). GoIf go (cut (count - (k + 1)) z)) (y .rest) plant-others;
+            games = subst (λ (z : List Tok). GoIf go (firstSlices (count - (k + 1)) z)) (y .rest) plant-others;
           }
 
 -- what a walk gave
@@ -168,12 +168,12 @@ module _ (len : Bool) (u : List ℕ) (from base p0 v0 : ℕ) (t₀ q₀ w₀ t q
   pub walk-tree-as : {at n p v : ℕ} → x ≡ tree at n p v → TreeIs len u from base p0 v0 t₀ q₀ w₀ t q w at n p v
   walk-tree-as e = subst (WalkIs len u from base p0 v0 t₀ q₀ w₀ t q w) e y
 
-  pub walk-refused-as : {r : Reason} → x ≡ refusedWalk r → (k : ℕ) (ts : List Tree) → grown len base k (walkOf len base (lexAt u from .toks)) ts ≡ failing r
+  pub walk-refused-as : {r : Reason} → x ≡ refusedWalk r → (k : ℕ) (ts : List Tree) → treeOfWalk len base k (walkOf len base (lexAt u from .toks)) ts ≡ noTrees r
   walk-refused-as e = subst (WalkIs len u from base p0 v0 t₀ q₀ w₀ t q w) e y .1
 
 -- a game type that is known
-pub go-type : (len : Bool) {K : Kind} → K ≡ is 0 → Is 0 ≡ typeOf (leniently len K)
-go-type len e = go len ∙ ap (λ (z : Kind). typeOf (leniently len z)) (sym e)
+pub go-type : (len : Bool) {K : Game} → K ≡ is 0 → Is 0 ≡ typeOf (leniently len K)
+go-type len e = go len ∙ ap (λ (z : Game). typeOf (leniently len z)) (sym e)
   where
     go : (len : Bool) → Is 0 ≡ typeOf (leniently len (is 0))
     go true = refl

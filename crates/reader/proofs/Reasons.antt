@@ -12,10 +12,10 @@ use Rattle.tables.specs.Numbers.{none, textLimit, depthLimit, reasonOf}
 use Rattle.tables.specs.Record.{Node, Tree}
 use Rattle.tables.specs.declared.Reason.{Reason}
 use Rattle.tables.specs.declared.Reason.the-variants.{TextTooLong, NotUtf8, MissingPropertyIdentifier, UnexpectedEndOfPropertyIdentifier, UnexpectedEndOfPropertyValue, UnexpectedGameTreeEnd, UnexpectedEndOfData, NoGameTrees, TooDeep, UnexpectedGameTreeStart, UnexpectedProperty, InvalidGameType}
-use Rattle.parser.specs.Split.{Splitting, splitting, over, wrong, ended, split, Slices, no, slices, filled, sliced, slicesOf}
+use Rattle.parser.specs.Split.{Splitting, splitting, over, wrong, ended, split, Slices, no, slices, filled, sliced, splitByGametree}
 use Rattle.parser.specs.Walk.{Walk, walk, halted, stopped, children, refuse, opens, closes, adds, gated, walked}
-use Rattle.parser.specs.Kind.{Kind, is, unkind, numbered, kindVals, kindProps, kind, named, props, GM}
-use Rattle.parser.specs.Read.{Answer, refused, accepted, Growing, growing, failing, rooted, grown, kinded, growAll, answer, planted, parsed, lexing, lex, decoded, read}
+use Rattle.parser.specs.Game.{Game, is, noGame, isI32, gameVals, gameProps, findGametype, propsNamed, props, GM}
+use Rattle.parser.specs.Read.{Answer, refused, accepted, Trees, treesSoFar, noTrees, treeOfNodes, treeOfWalk, treeOfGame, parseGametrees, answer, parseSlices, parsed, lexing, tokenize, parseUtf8, read}
 
 -- the reasons that only strict reading gives, by their numbers
 pub record Strict (P : Reason → ℕ → Type 0) : Type 0 where
@@ -105,45 +105,45 @@ module _ (len : Bool) (P : Reason → ℕ → Type 0) (long : P TextTooLong 0) (
 
   -- ---- all trees
 
-  abbrev GrowOk : Growing → Type 0
-  GrowOk (growing n ts) = Unit {0}
-  GrowOk (failing r) = P r 0
+  abbrev GrowOk : Trees → Type 0
+  GrowOk (treesSoFar n ts) = Unit {0}
+  GrowOk (noTrees r) = P r 0
 
-  grow-rooted : (l : Bool) → len ≡ l → (base k : ℕ) (ns : List Node) (ts : List Tree) → GrowOk (rooted l base k ns ts)
+  grow-rooted : (l : Bool) → len ≡ l → (base k : ℕ) (ns : List Node) (ts : List Tree) → GrowOk (treeOfNodes l base k ns ts)
   grow-rooted l e base k (n ∷ ns) ts = tt
   grow-rooted true e base k [] ts = tt
   grow-rooted false e base k [] ts = strict e .no7
 
-  grow-grown : (l : Bool) → len ≡ l → (base k : ℕ) (w : Walk) (ts : List Tree) → WalkOk w → GrowOk (grown l base k w ts)
+  grow-grown : (l : Bool) → len ≡ l → (base k : ℕ) (w : Walk) (ts : List Tree) → WalkOk w → GrowOk (treeOfWalk l base k w ts)
   grow-grown l e base k (walk cur st g ns) ts h = grow-rooted l e base k ns ts
   grow-grown l e base k (halted ns) ts h = grow-rooted l e base k ns ts
   grow-grown l e base k (stopped r) ts h = h
 
   -- the reasons that a game type is refused with
-  abbrev KindOk : Kind → Type 0
+  abbrev KindOk : Game → Type 0
   KindOk (is k) = Unit {0}
-  KindOk (unkind r) = len ≡ false → P r 0
+  KindOk (noGame r) = len ≡ false → P r 0
 
-  kind-ok : (ps : List Prop) → KindOk (kindProps ps)
-  kind-ok [] = tt
-  kind-ok (p ∷ []) = vals (p .vals)
+  game-ok : (ps : List Prop) → KindOk (gameProps ps)
+  game-ok [] = tt
+  game-ok (p ∷ []) = vals (p .vals)
     where
-      vals : (vs : List Val) → KindOk (kindVals vs)
+      vals : (vs : List Val) → KindOk (gameVals vs)
       vals [] = λ e. strict e .no12
       vals (v ∷ []) =
-          pick-elim KindOk (numbered (decimalOf (2 ^ 31 - 1) (readValue (v .raw)))) {a = is (pick (same (readValue (v .raw)) (0x31 ∷ [])) 0 1)} {b = unkind InvalidGameType} (λ _. tt) (λ _ e. strict e .no12)
+          pick-elim KindOk (isI32 (decimalOf (2 ^ 31 - 1) (readValue (v .raw)))) {a = is (pick (same (readValue (v .raw)) (0x31 ∷ [])) 0 1)} {b = noGame InvalidGameType} (λ _. tt) (λ _ e. strict e .no12)
       vals (v ∷ u ∷ vs) = λ e. strict e .no12
-  kind-ok (p ∷ q ∷ ps) = λ e. strict e .no11
+  game-ok (p ∷ q ∷ ps) = λ e. strict e .no11
 
-  grow-kinded : (base : ℕ) (x : Kind) → KindOk x → (s : List Tok) (ts : List Tree) → GrowOk (kinded len base x s ts)
+  grow-kinded : (base : ℕ) (x : Game) → KindOk x → (s : List Tok) (ts : List Tree) → GrowOk (treeOfGame len base x s ts)
   grow-kinded base (is k) h s ts = grow-grown len refl base k (walked len base (walk none [] false []) s) ts (walk-ok base (walk none [] false []) s tt)
-  grow-kinded base (unkind r) h s ts =
+  grow-kinded base (noGame r) h s ts =
       pick-elim GrowOk len (λ e. grow-grown true e base 0 (walked len base (walk none [] false []) s) ts (walk-ok base (walk none [] false []) s tt)) h
 
-  grow-ok : (x : Growing) (ss : List (List Tok)) → GrowOk x → GrowOk (growAll len x ss)
+  grow-ok : (x : Trees) (ss : List (List Tok)) → GrowOk x → GrowOk (parseGametrees len x ss)
   grow-ok x [] h = h
-  grow-ok (growing n ts) (s ∷ ss) h = grow-ok (kinded len n (kind s) s ts) ss (grow-kinded n (kind s) (kind-ok (named GM (props (drop 2 s)))) s ts)
-  grow-ok (failing r) (s ∷ ss) h = grow-ok (failing r) ss h
+  grow-ok (treesSoFar n ts) (s ∷ ss) h = grow-ok (treeOfGame len n (findGametype s) s ts) ss (grow-kinded n (findGametype s) (game-ok (propsNamed GM (props (drop 2 s)))) s ts)
+  grow-ok (noTrees r) (s ∷ ss) h = grow-ok (noTrees r) ss h
 
   -- ---- the whole
 
@@ -151,16 +151,16 @@ module _ (len : Bool) (P : Reason → ℕ → Type 0) (long : P TextTooLong 0) (
   AnswerOk (refused r p) = P r p
   AnswerOk (accepted ts) = Unit {0}
 
-  answer-ok : (x : Growing) → GrowOk x → AnswerOk (answer x)
-  answer-ok (growing n ts) h = tt
-  answer-ok (failing r) h = h
+  answer-ok : (x : Trees) → GrowOk x → AnswerOk (answer x)
+  answer-ok (treesSoFar n ts) h = tt
+  answer-ok (noTrees r) h = h
 
-  planted-ok : (s : Slices) → SlicesOk s → AnswerOk (planted len s)
+  planted-ok : (s : Slices) → SlicesOk s → AnswerOk (parseSlices len s)
   planted-ok (no r) h = h
-  planted-ok (slices ss) h = answer-ok (growAll len (growing 0 []) ss) (grow-ok (growing 0 []) ss tt)
+  planted-ok (slices ss) h = answer-ok (parseGametrees len (treesSoFar 0 []) ss) (grow-ok (treesSoFar 0 []) ss tt)
 
   parsed-ok : (ts : List Tok) → AnswerOk (parsed len ts)
-  parsed-ok ts = planted-ok (slicesOf len ts) (slices-ok len refl (split len (splitting 0 0 [] []) ts) (split-ok (splitting 0 0 [] []) ts tt))
+  parsed-ok ts = planted-ok (splitByGametree len ts) (slices-ok len refl (split len (splitting 0 0 [] []) ts) (split-ok (splitting 0 0 [] []) ts tt))
 
   fault-ok : (f : Fault) (p : ℕ) → len ≡ false → P (reasonOf f) p
   fault-ok no-identifier p e = strict e .no3 p
@@ -172,8 +172,8 @@ module _ (len : Bool) (P : Reason → ℕ → Type 0) (long : P TextTooLong 0) (
   lexing-ok false q done ts = subst (λ (z : Bool). AnswerOk (parsed z ts)) q (parsed-ok ts)
   lexing-ok false q (broken f s) ts = fault-ok f s q
 
-  decoded-ok : (u : Utf) (t : List ℕ) → AnswerOk (decoded len u t)
-  decoded-ok (whole k) t = lexing-ok len refl (lex k t .end) (lex k t .toks)
+  decoded-ok : (u : Utf) (t : List ℕ) → AnswerOk (parseUtf8 len u t)
+  decoded-ok (whole k) t = lexing-ok len refl (tokenize k t .end) (tokenize k t .toks)
   decoded-ok (part k s n r c) t = utf s
   decoded-ok (bad p) t = utf p
 

@@ -13,9 +13,9 @@ use Rattle.tables.specs.Rows.{treeRows, nodeRows, parents, propRows, valRows}
 use Rattle.tables.specs.declared.Counts.{Counts}
 use Rattle.tables.specs.declared.Reason.the-variants.{TextTooLong}
 use Rattle.tables.proofs.Lengths.{prop-rows-length, val-rows-length, node-rows-length}
-use Rattle.parser.specs.Kind.{is, kind}
-use Rattle.parser.specs.LocalsSlice.{cut}
-use Rattle.parser.specs.Read.{growing, growAll, read}
+use Rattle.parser.specs.Game.{is, findGametype}
+use Rattle.parser.specs.LocalsSlice.{firstSlices}
+use Rattle.parser.specs.Read.{treesSoFar, parseGametrees, read}
 use Rattle.parser_split.specs.LocalsPlans.{planFound, planKept, planText}
 use Rattle.parser_split.specs.declared.Plan.{Plan}
 use Rattle.parser_split.specs.declared.Plan.the-variants.{Slices, Refused}
@@ -35,7 +35,7 @@ use Rattle.reader.proofs.Texts.{planned}
 -- ---- the trees, whose rows the census counts
 
 module _ (len : Bool) (l : Lexed) (c : Counts) (h : censusOf l ≡ Simple (c .trees) (c .nodes) (c .properties) (c .values)) where
-  pub census-counted : CountedAs (readOf len (c .trees) (l .toks)) c × All (λ (s : List Tok). kind s ≡ is 0) (cut (c .trees) (l .toks))
+  pub census-counted : CountedAs (readOf len (c .trees) (l .toks)) c × All (λ (s : List Tok). findGametype s ≡ is 0) (firstSlices (c .trees) (l .toks))
   unfolding censusOf readOf
   census-counted =
       let g = shown (c .trees) (c .nodes) (c .properties) (c .values) (l .end) len (l .toks) .outer 0 0 0 0 h in
@@ -46,10 +46,10 @@ module _ (len : Bool) (l : Lexed) (c : Counts) (h : censusOf l ≡ Simple (c .tr
       let e4 : length (valRows (allVals (allProps (allNodes (g .us))))) ≡ c .values = omega (arith, val-rows-length (allVals (allProps (allNodes (g .us)))), g .vals) in (
         record {
           ts = g .us;
-          grown = ap (λ (z : ℕ). growAll len (growing 0 []) (cut z (l .toks))) (sym e) ∙ g .grown [] ∙ ap (growing (c .nodes)) (append-nil (reverse (g .us)));
+          trees-are = ap (λ (z : ℕ). parseGametrees len (treesSoFar 0 []) (firstSlices z (l .toks))) (sym e) ∙ g .trees-are [] ∙ ap (treesSoFar (c .nodes)) (append-nil (reverse (g .us)));
           counts = rw (e1, e2, e3, e4);
         },
-        subst (λ (z : ℕ). All (λ (s : List Tok). kind s ≡ is 0) (cut z (l .toks))) e (g .kinds),
+        subst (λ (z : ℕ). All (λ (s : List Tok). findGametype s ≡ is 0) (firstSlices z (l .toks))) e (g .games),
       )
 
 -- ---- what is known of a text
@@ -106,7 +106,7 @@ module _ {t : List ℕ} {f l : ℕ} {c : Counts} (k : KnownIs t f l c) where
     pub known-ready : FillReady len true (take l t) f c
     known-ready =
         let w = census-counted len (lexAt (take l t) f) c (k .says) in
-        record { ready = known-plan .1; counted = w .0; kinds = λ e. w .1 }
+        record { ready = known-plan .1; counted = w .0; games = λ e. w .1 }
 
 -- ---- what the code is told
 

@@ -5,12 +5,12 @@ use Rattle.lexer.specs.Token.{End, done, broken, Lexed, lexAt}
 use Rattle.tables.specs.Numbers.{textLimit}
 use Rattle.tables.specs.declared.Reason.{Reason}
 use Rattle.tables.specs.declared.Reading.{Reading}
-use Rattle.parser.specs.Split.{Slices as Sliced, no, slices, slicesOf}
-use Rattle.parser.specs.LocalsSlice.{sliceFrom, restFrom, cut, Shallow}
-use Rattle.parser.specs.LocalsSurvey.{counted, strictly, surveyOf}
+use Rattle.parser.specs.Split.{Slices as Sliced, no, slices, splitByGametree}
+use Rattle.parser.specs.LocalsSlice.{sliceFrom, restFrom, firstSlices, Shallow}
+use Rattle.parser.specs.LocalsSurvey.{surveyOfSlices, surveyStrict, surveyOf}
 use Rattle.parser.specs.declared.Survey.{Survey}
 use Rattle.parser.specs.declared.Survey.the-variants.{Refused, Slices as found, Empty}
-use Rattle.parser.specs.Read.{Answer, refused, answer, planted, parsed, lexing}
+use Rattle.parser.specs.Read.{Answer, refused, answer, parseSlices, parsed, lexing}
 use Rattle.parser.proofs.Slices.{slices-cut}
 use Rattle.parser.proofs.Tokens.{tokens-few}
 use Rattle.reader.specs.Lent.{Lent, ReadIs}
@@ -40,22 +40,22 @@ calm-parsed true l c = refl
 calm-parsed false l c = ap (λ (e : End). lexing false e (l .toks)) (c refl)
 
 -- what is found is found in the slices
-survey-of : (len : Bool) (l : Lexed) {x : Survey} → ((r : Reason) (p : ℕ) → x ≡ Refused r p → ⊥) → surveyOf len l ≡ x → Calm len l × (counted (slicesOf len (l .toks)) ≡ x)
+survey-of : (len : Bool) (l : Lexed) {x : Survey} → ((r : Reason) (p : ℕ) → x ≡ Refused r p → ⊥) → surveyOf len l ≡ x → Calm len l × (surveyOfSlices (splitByGametree len (l .toks)) ≡ x)
 survey-of true l h e = ((λ z. never (cc)), e)
 survey-of false l {x} h e = go (l .end) refl e
   where
-    go : (d : End) → l .end ≡ d → strictly d (slicesOf false (l .toks)) ≡ x → Calm false l × (counted (slicesOf false (l .toks)) ≡ x)
+    go : (d : End) → l .end ≡ d → surveyStrict d (splitByGametree false (l .toks)) ≡ x → Calm false l × (surveyOfSlices (splitByGametree false (l .toks)) ≡ x)
     go done q w = ((λ z. q), w)
     go (broken f s) q w = absurd (h _ _ (sym w))
 
-counted-empty : (s : Sliced) → counted s ≡ Empty → s ≡ slices ([] ∷ [])
+counted-empty : (s : Sliced) → surveyOfSlices s ≡ Empty → s ≡ slices ([] ∷ [])
 counted-empty (no r) e = never (cc)
 counted-empty (slices []) e = never (cc)
 counted-empty (slices ([] ∷ [])) e = refl
 counted-empty (slices ((t ∷ ts) ∷ [])) e = never (cc)
 counted-empty (slices (s ∷ u ∷ ss)) e = never (cc)
 
-counted-refused : (s : Sliced) (r : Reason) (p : ℕ) → counted s ≡ Refused r p → (s ≡ no r) × (p ≡ 0)
+counted-refused : (s : Sliced) (r : Reason) (p : ℕ) → surveyOfSlices s ≡ Refused r p → (s ≡ no r) × (p ≡ 0)
 counted-refused (no q) r p e = let a : q ≡ r = cc in let b : 0 ≡ p = cc in (ap no a, sym b)
 counted-refused (slices []) r p e = never (cc)
 counted-refused (slices ([] ∷ [])) r p e = never (cc)
@@ -65,11 +65,11 @@ counted-refused (slices (s ∷ u ∷ ss)) r p e = never (cc)
 -- ---- refused
 
 answer-refused : (len : Bool) (l : Lexed) (r : Reason) (p : ℕ) → surveyOf len l ≡ Refused r p → tokensAnswer len l ≡ refused r p
-answer-refused true l r p e = let w = counted-refused (slicesOf true (l .toks)) r p e in ap (planted true) (w .0) ∙ ap (refused r) (sym (w .1))
+answer-refused true l r p e = let w = counted-refused (splitByGametree true (l .toks)) r p e in ap (parseSlices true) (w .0) ∙ ap (refused r) (sym (w .1))
 answer-refused false l r p e = go (l .end) e
   where
-    go : (d : End) → strictly d (slicesOf false (l .toks)) ≡ Refused r p → lexing false d (l .toks) ≡ refused r p
-    go done w = let v = counted-refused (slicesOf false (l .toks)) r p w in ap (planted false) (v .0) ∙ ap (refused r) (sym (v .1))
+    go : (d : End) → surveyStrict d (splitByGametree false (l .toks)) ≡ Refused r p → lexing false d (l .toks) ≡ refused r p
+    go done w = let v = counted-refused (splitByGametree false (l .toks)) r p w in ap (parseSlices false) (v .0) ∙ ap (refused r) (sym (v .1))
     go (broken f s) w = cc
 
 module _ (len : Bool) (u : List ℕ) (from : ℕ) {x : Survey} (e : x ≡ surveyOf len (lexAt u from)) where
@@ -82,18 +82,18 @@ module _ (len : Bool) (u : List ℕ) (from : ℕ) {x : Survey} (e : x ≡ survey
   -- ---- so many slices
 
   module _ {k : ℕ} (q : x ≡ found k) where
-    found-in : Calm len L × (counted (slicesOf len (L .toks)) ≡ found k)
+    found-in : Calm len L × (surveyOfSlices (splitByGametree len (L .toks)) ≡ found k)
     found-in = survey-of len L (λ r p z. never (cc)) (sym e ∙ q)
 
     slices-answer : tokensAnswer len L ≡ answer (readOf len k (L .toks))
     unfolding readOf
-    slices-answer = calm-parsed len L (found-in .0) ∙ ap (planted len) (slices-cut len (L .toks) k (found-in .1) .are)
+    slices-answer = calm-parsed len L (found-in .0) ∙ ap (parseSlices len) (slices-cut len (L .toks) k (found-in .1) .are)
 
     slices-ready : length u ≤ textLimit → from ≤ length u → SlicesReady len u from k
     slices-ready h i =
         let s = slices-cut len (L .toks) k (found-in .1) in
-        let f = s .few in
-        record { short = h; inside = i; few = omega (arith, tokens-few u from); shallow = s .shallow; calm = found-in .0 }
+        let f = s .bound in
+        record { short = h; inside = i; bound = omega (arith, tokens-few u from); shallow = s .shallow; faultless = found-in .0 }
 
     slices-plan : length u ≤ textLimit → from ≤ length u → PlanIs len u (tokensAnswer len L) (Slices from (length u) k)
     slices-plan h i =
@@ -102,14 +102,14 @@ module _ (len : Bool) (u : List ℕ) (from : ℕ) {x : Survey} (e : x ≡ survey
   -- ---- none: the empty text has the empty slice
 
   empty-answer : x ≡ Empty → tokensAnswer len L ≡ answer (readOf len 1 (lexAt [] 0 .toks))
-  unfolding readOf cut sliceFrom restFrom lexAt
+  unfolding readOf firstSlices sliceFrom restFrom lexAt
   empty-answer q =
       let w = survey-of len L (λ r p z. never (cc)) (sym e ∙ q) in
-      calm-parsed len L (w .0) ∙ ap (planted len) (counted-empty (slicesOf len (L .toks)) (w .1))
+      calm-parsed len L (w .0) ∙ ap (parseSlices len) (counted-empty (splitByGametree len (L .toks)) (w .1))
 
   empty-ready : SlicesReady len [] 0 1
-  unfolding cut sliceFrom restFrom Shallow lexAt
-  empty-ready = record { short = omega arith; inside = omega arith; few = omega arith; shallow = (tt, tt); calm = λ z. refl }
+  unfolding firstSlices sliceFrom restFrom Shallow lexAt
+  empty-ready = record { short = omega arith; inside = omega arith; bound = omega arith; shallow = (tt, tt); faultless = λ z. refl }
 
   empty-plan : x ≡ Empty → PlanIs len u (tokensAnswer len L) (Slices 0 0 1)
   empty-plan q = (empty-answer q, empty-ready, omega arith)

@@ -14,12 +14,12 @@ use Rattle.tables.specs.declared.Counts.{Counts}
 use Rattle.tables.specs.declared.Reading.the-variants.{Accepted, Refused}
 use Rattle.tables.specs.declared.Reason.{Reason}
 use Rattle.tables.specs.declared.Reason.the-variants.{NoRoom}
-use Rattle.parser.specs.LocalsSlice.{cut}
-use Rattle.parser.specs.Read.{Answer, accepted, Growing, growing, failing, answer}
+use Rattle.parser.specs.LocalsSlice.{firstSlices}
+use Rattle.parser.specs.Read.{Answer, accepted, Trees, treesSoFar, noTrees, answer}
 use Rattle.parser_tree.specs.LocalsFlat.{bareRows}
 use Rattle.parser_tree.proofs.Flats.{val-length, prop-length, node-length}
 use Rattle.reader.specs.Lent.{Lent, lent, roomFor, roomy, stored, ReadIs}
-use Rattle.reader.specs.LocalsSlices.{readOf, CountedAs, GrownIs, TreesIs, CountIs}
+use Rattle.reader.specs.LocalsSlices.{readOf, CountedAs, TreesPutIs, TreesIs, CountIs}
 use Rattle.reader.specs.declared.slices.Total.{Total}
 use Rattle.reader.specs.declared.slices.Total.the-variants.{Rows, Refused as refusedTotal}
 use Rattle.reader.proofs.Parents.{Below, parents-below}
@@ -34,8 +34,8 @@ lent-same er et eq ew = rw (er, et, eq, ew)
 
 -- ---- refused
 
-pub read-refused : {X : Growing} {r : Reason} → X ≡ failing r → {b : Lent} → ReadIs (answer X) b b (Refused r 0)
-read-refused {X} {r} e {b} = subst⁻¹ (λ (z : Growing). ReadIs (answer z) b b (Refused r 0)) e (record { answer = refl; tables = refl })
+pub read-refused : {X : Trees} {r : Reason} → X ≡ noTrees r → {b : Lent} → ReadIs (answer X) b b (Refused r 0)
+read-refused {X} {r} e {b} = subst⁻¹ (λ (z : Trees). ReadIs (answer z) b b (Refused r 0)) e (record { answer = refl; tables = refl })
 
 -- ---- the trees put
 
@@ -53,7 +53,7 @@ module _ (es : List Node) (n : ℕ) (e : n ≡ length es) (few : n ≤ none) (be
 
 -- ---- accepted
 
-module _ {X : Growing} {count n p v : ℕ} {b₀ a₀ : Lent} (G : GrownIs X count b₀ a₀ n p v) where
+module _ {X : Trees} {count n p v : ℕ} {b₀ a₀ : Lent} (G : TreesPutIs X count b₀ a₀ n p v) where
   abbrev counts : Counts
   counts = record { trees = count; nodes = n; properties = p; values = v }
 
@@ -66,13 +66,13 @@ module _ {X : Growing} {count n p v : ℕ} {b₀ a₀ : Lent} (G : GrownIs X cou
       rw (e1, e2, e3, e4)
 
   pub grown-counted : CountedAs X counts
-  grown-counted = record { ts = G .ts; grown = G .grown; counts = counts-are }
+  grown-counted = record { ts = G .ts; trees-are = G .trees-are; counts = counts-are }
 
-module _ {X : Growing} {c : Counts} (K : CountedAs X c) where
+module _ {X : Trees} {c : Counts} (K : CountedAs X c) where
   answer-is : answer X ≡ accepted (K .ts)
-  answer-is = ap answer (K .grown) ∙ ap accepted (reverse-reverse (K .ts))
+  answer-is = ap answer (K .trees-are) ∙ ap accepted (reverse-reverse (K .ts))
 
-module _ {X : Growing} {c : Counts} (K : CountedAs X c) (b : Lent)
+module _ {X : Trees} {c : Counts} (K : CountedAs X c) (b : Lent)
     {t : Bool} (e : t ≡ roomFor c (length (b .trees)) (length (b .nodes)) (length (b .props)) (length (b .vals))) where
   room-is : roomy (tables (K .ts)) b ≡ t
   room-is =
@@ -83,10 +83,10 @@ module _ {X : Growing} {c : Counts} (K : CountedAs X c) (b : Lent)
       subst⁻¹ (λ (z : Answer). ReadIs z b b (Refused NoRoom 0)) (answer-is K) (record { answer = rw (room-is, f); tables = rw (room-is, f) })
 
   -- the run that writes, the links and the depths
-  module _ (f : t ≡ true) {A : Lent} {n′ p′ v′ : ℕ} (Y : GrownIs X (c .trees) b A n′ p′ v′) (len : Bool) (l : List Tok) (ex : X ≡ readOf len (c .trees) l)
+  module _ (f : t ≡ true) {A : Lent} {n′ p′ v′ : ℕ} (Y : TreesPutIs X (c .trees) b A n′ p′ v′) (len : Bool) (l : List Tok) (ex : X ≡ readOf len (c .trees) l)
       {t2 t3 : List ℕ} (links : LinksIs (c .nodes) (A .nodes) t2) (levels : LevelsIs (c .nodes) t2 t3) where
-    grown-same : growing n′ (reverse (Y .ts)) ≡ growing (c .nodes) (reverse (K .ts))
-    grown-same = sym (Y .grown) ∙ K .grown
+    grown-same : treesSoFar n′ (reverse (Y .ts)) ≡ treesSoFar (c .nodes) (reverse (K .ts))
+    grown-same = sym (Y .trees-are) ∙ K .trees-are
 
     nodes-same : n′ ≡ c .nodes
     nodes-same = let z = grown-same in cc
@@ -110,10 +110,10 @@ module _ {X : Growing} {c : Counts} (K : CountedAs X c) (b : Lent)
         let yp = Y .stored .props in
         let yv = Y .stored .vals in
         let yc = Y .count-is in
-        let fe = Y .few in
+        let fe = Y .bound in
         let ns = nodes-same in
         let ln = Y .stored .tnodes .len in
-        let b1 : All (Below (c .nodes)) (allNodes (Y .ts)) = subst (λ (z : ℕ). All (Below z) (allNodes (Y .ts))) nodes-same (parents-below len (cut (c .trees) l) n′ (Y .ts) (sym ex ∙ Y .grown)) in
+        let b1 : All (Below (c .nodes)) (allNodes (Y .ts)) = subst (λ (z : ℕ). All (Below z) (allNodes (Y .ts))) nodes-same (parents-below len (firstSlices (c .trees) l) n′ (Y .ts) (sym ex ∙ Y .trees-are)) in
         lent-same
         (put-all (Y .ttrees) (omega (arith, tree-length (Y .ts))))
         (nodes-linked (allNodes (Y .ts)) (c .nodes) (omega arith) (omega arith) b1 (b .nodes) (put-all (Y .stored .tnodes) (omega (arith, node-length 0 (allNodes (Y .ts))))) (omega arith, omega arith) links levels)
@@ -133,12 +133,12 @@ module _ {X : Growing} {c : Counts} (K : CountedAs X c) (b : Lent)
       → ReadIs (answer X) b (lent (A .trees) t3 (A .props) (A .vals)) (Accepted c)
   read-accepted f A (Rows n′ p′ v′) Y len l ex t2 t3 links levels = read-filled f Y len l ex links levels
   read-accepted f A (refusedTotal r) Y len l ex t2 t3 links levels =
-      let w : failing r ≡ growing (c .nodes) (reverse (K .ts)) = sym Y ∙ K .grown in never cc
+      let w : noTrees r ≡ treesSoFar (c .nodes) (reverse (K .ts)) = sym Y ∙ K .trees-are in never cc
 
 -- what the run that counts gave
-module _ (X : Growing) (count : ℕ) {x : Total} (y : CountIs X count x) where
-  pub total-rows : {n p v : ℕ} → x ≡ Rows n p v → GrownIs X count (y .0) (y .1) n p v
+module _ (X : Trees) (count : ℕ) {x : Total} (y : CountIs X count x) where
+  pub total-rows : {n p v : ℕ} → x ≡ Rows n p v → TreesPutIs X count (y .0) (y .1) n p v
   total-rows e = subst (TreesIs X count (y .0) (y .1)) e (y .2)
 
-  pub total-refused : {r : Reason} → x ≡ refusedTotal r → X ≡ failing r
+  pub total-refused : {r : Reason} → x ≡ refusedTotal r → X ≡ noTrees r
   total-refused e = subst (TreesIs X count (y .0) (y .1)) e (y .2)

@@ -30,7 +30,7 @@ roomFor c r t q w =
     && leb (c .properties) (q / propertyStride)
     && leb (c .values) (w / valueStride)
 
--- so many rows are lent as the tables need
+-- so many rows are lent as the tables need (SCOPE 45)
 abbrev pub roomy : Tables → Lent → Bool
 roomy t l = roomFor (countsOf t) (length (l .trees)) (length (l .nodes)) (length (l .props)) (length (l .vals))
 
@@ -40,12 +40,12 @@ stored t l =
     lent (over (flatTrees (t .trees)) (l .trees)) (over (flatNodes (t .nodes)) (l .nodes))
     (over (flatProps (t .props)) (l .props)) (over (flatVals (t .vals)) (l .vals))
 
--- what is answered: the last reason to refuse is that there is no room
+-- what is answered: the last reason to refuse is that there is no room (SCOPE 54, 61)
 abbrev pub answers : Answer → Lent → Reading
 answers (refused r p) l = Refused r p
 answers (accepted ts) l = pick (roomy (tables ts) l) (Accepted (countsOf (tables ts))) (Refused NoRoom 0)
 
--- the lent tables after it: a refusal leaves every number
+-- the lent tables after it: a refusal leaves every number (SCOPE 57, 58)
 abbrev pub leaves : Answer → Lent → Lent
 leaves (refused r p) l = l
 leaves (accepted ts) l = pick (roomy (tables ts) l) (stored (tables ts) l) l

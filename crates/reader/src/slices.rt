@@ -2,9 +2,9 @@
 ghost use mathlib.Core.Path.{_≡_};
 ghost use mathlib.Core.Bool.{true};
 ghost use Rattle.lexer.specs.Token.{lexAt};
-ghost use Rattle.parser.specs.Kind.{is, kind};
+ghost use Rattle.parser.specs.Game.{is, findGametype};
 ghost use Rattle.parser.specs.Read.{answer};
-ghost use Rattle.parser.specs.LocalsSlice.{sliceFrom, cut};
+ghost use Rattle.parser.specs.LocalsSlice.{sliceFrom, firstSlices};
 ghost use Rattle.parser_game.specs.LocalsGame.{typeOf};
 ghost use Rattle.reader.specs.Lent.{lent, roomFor, ReadIs};
 ghost use Rattle.reader.specs.LocalsSlices.{leniently, readOf, SlicesReady, GoIf, FillReady, TreesIs, CountIs};
@@ -22,10 +22,10 @@ pub enum Total {
 
 // The game type of the slice at a place; lenient reading turns a refusal into Go.
 fn type_or_go(s: &[u8], at: usize, lenient: bool) -> GameType
-    ensures { λ r. ⌜ r ≡ typeOf (leniently lenient (kind (sliceFrom 0 (lexAt (now (s .entry)) at .toks)))) ⌝ }
+    ensures { λ r. ⌜ r ≡ typeOf (leniently lenient (findGametype (sliceFrom 0 (lexAt (now (s .entry)) at .toks)))) ⌝ }
 {
     match parser_game::game_type(s, at) {
-        GameType::Is(kind) => GameType::Is(kind),
+        GameType::Is(game) => GameType::Is(game),
         GameType::Refused(reason) => {
             if lenient {
                 return GameType::Is(0);
@@ -37,8 +37,8 @@ fn type_or_go(s: &[u8], at: usize, lenient: bool) -> GameType
 
 // The same, where it may be known that it is Go.
 fn type_unless(s: &[u8], at: usize, lenient: bool, go: bool) -> GameType
-    requires { ⌜ (go ≡ true → kind (sliceFrom 0 (lexAt (now s) at .toks)) ≡ is 0) ⌝ }
-    ensures { λ r. ⌜ r ≡ typeOf (leniently lenient (kind (sliceFrom 0 (lexAt (now (s .entry)) at .toks)))) ⌝ }
+    requires { ⌜ (go ≡ true → findGametype (sliceFrom 0 (lexAt (now s) at .toks)) ≡ is 0) ⌝ }
+    ensures { λ r. ⌜ r ≡ typeOf (leniently lenient (findGametype (sliceFrom 0 (lexAt (now (s .entry)) at .toks)))) ⌝ }
 {
     if go {
         return GameType::Is(0);
@@ -58,7 +58,7 @@ fn read_trees(
     properties: &mut [u32],
     values: &mut [u32],
 ) -> Total
-    requires { ⌜ SlicesReady lenient (now s) from count × GoIf go (cut count (lexAt (now s) from .toks)) ⌝ }
+    requires { ⌜ SlicesReady lenient (now s) from count × GoIf go (firstSlices count (lexAt (now s) from .toks)) ⌝ }
     ensures { λ r. ⌜ TreesIs (readOf lenient count (lexAt (now (s .entry)) from .toks)) count
         (lent (now (trees .entry)) (now (nodes .entry)) (now (properties .entry)) (now (values .entry)))
         (lent (now (trees .exit)) (now (nodes .exit)) (now (properties .exit)) (now (values .exit)))
@@ -72,11 +72,11 @@ fn read_trees(
     while k < count {
         match type_unless(s, at, lenient, go) {
             GameType::Refused(reason) => return Total::Refused(reason),
-            GameType::Is(kind) => {
+            GameType::Is(game) => {
                 match parser_tree::walk_tree(s, at, lenient, n, p, v, nodes, properties, values) {
                     Walked::Refused(reason) => return Total::Refused(reason),
                     Walked::Tree(next, node, property, value) => {
-                        store_numbers::put2(trees, k * tables::TREE_STRIDE, n as u32, kind);
+                        store_numbers::put2(trees, k * tables::TREE_STRIDE, n as u32, game);
                         at = next;
                         n = node;
                         p = property;

@@ -1,13 +1,13 @@
 -- Characters of table 3-7 in joined bytes: how wide they are, and what the machine makes of them. Assumes nothing.
 use Rattle.lists.proofs.Prelude.{ℕ, suc, _+_, _≤_, _≡_, refl, sym, ap, _∙_, subst, Bool, true, List, [], _∷_, _++_, arith, leb, length, take, drop, take-append-le, drop-append-le, le-leb, lt-leb, pick}
 use Rattle.text_chars.specs.White.{white}
-use Rattle.text_chars.specs.Table.{Bytes, to, table, fits, listed, scalar, WellFormed, empty, begins}
+use Rattle.text_chars.specs.Table.{Bytes, to, table37, fits, listed, scalar, WellFormed, empty, begins}
 use Rattle.text_chars.proofs.Rows.{listed-elim, fits-both, listed-long, listed-take}
 use Rattle.text_chars.proofs.Tests.{within-true}
 use Rattle.text_utf8.specs.Text.{Ink, inked, mark, whole, utfs}
 use Rattle.text_utf8.proofs.Blocks.{mark-inked}
 use Rattle.text_utf8.proofs.Taken.{listed-taken}
-use Rattle.reader_exactly.specs.Kept.{Begins, Blanks, no-space, space}
+use Rattle.reader_exactly.specs.Kept.{FirstChar, Blanks, no-space, space}
 
 -- ---- one width
 
@@ -38,9 +38,9 @@ width-4 b l = rw (lt-leb b 0x7f (omega arith), lt-leb b 0xdf (omega arith), lt-l
 
 -- the first byte says how wide the character is
 listed-width : (n : ℕ) (b : ℕ) (cs : List ℕ) → listed n (b ∷ cs) ≡ true → n ≡ width b
-unfolding listed table
+unfolding listed table37
 listed-width n b cs h =
-    listed-elim (λ m. m ≡ width b) table n (b ∷ cs) h (
+    listed-elim (λ m. m ≡ width b) table37 n (b ∷ cs) h (
       (λ f. row-width 0x00 0x7f [] (b ∷ cs) (λ x l g. width-1 x g) f b cs refl),
       (
         (λ f. row-width 0xc2 0xdf (to 0x80 0xbf ∷ []) (b ∷ cs) (λ x l g. width-2 x l g) f b cs refl),
@@ -82,7 +82,7 @@ module _ (u v : List ℕ) where
       let l = listed-long n u h in
       sym (listed-take n n (u ++ v) (omega arith)) ∙ ap (listed n) (take-append-le n u v (l .1)) ∙ listed-take n n u (omega arith) ∙ h
 
-  pub begins-more : (w : Bool) (n : ℕ) → Begins w n u → Begins w n (u ++ v)
+  pub begins-more : (w : Bool) (n : ℕ) → FirstChar w n u → FirstChar w n (u ++ v)
   begins-more w n b = (listed-more n (b .0), ap (λ (z : List ℕ). white (scalar z)) (take-append-le n u v (listed-long n u (b .0) .1)) ∙ b .1)
 
 pub well-append : {u : List ℕ} → WellFormed u → (v : List ℕ) → WellFormed v → WellFormed (u ++ v)
@@ -101,7 +101,7 @@ blanks-well (space n h x) = begins n (h .0) (blanks-well x)
 
 -- ---- the machine
 
-pub utfs-begins : (w : Bool) (n : ℕ) (t : List ℕ) → Begins w n t → (k : Ink) (o : ℕ) → utfs (whole k) o t ≡ utfs (whole (mark w k o (o + n))) (o + n) (drop n t)
+pub utfs-begins : (w : Bool) (n : ℕ) (t : List ℕ) → FirstChar w n t → (k : Ink) (o : ℕ) → utfs (whole k) o t ≡ utfs (whole (mark w k o (o + n))) (o + n) (drop n t)
 utfs-begins w n t h k o = listed-taken n t (h .0) k o ∙ ap (λ (z : Bool). utfs (whole (mark z k o (o + n))) (o + n) (drop n t)) (h .1)
 
 pub utfs-blanks : {t : List ℕ} → Blanks t → (k : Ink) (o : ℕ) → utfs (whole k) o t ≡ whole k

@@ -2,7 +2,7 @@
 use Rattle.lists.proofs.Prelude.{ℕ, zero, suc, _+_, _≤_, _<_, max, _≡_, refl, ap, false, _⊎_, inl, inr, ⊎-elim, List, [], _∷_, reverse, arith, take}
 use Rattle.lexer.specs.Token.{Tok, start, end, node, prop}
 use Rattle.tables.specs.declared.Reason.the-variants.{UnexpectedGameTreeEnd, UnexpectedEndOfData, NoGameTrees}
-use Rattle.parser.specs.Split.{Splitting, splitting, over, wrong, split, no, deep, sliced, slicesOf}
+use Rattle.parser.specs.Split.{Splitting, splitting, over, wrong, split, no, deep, sliced, splitByGametree}
 use Rattle.parser.proofs.Surveys.{wrong-stays}
 use Rattle.parser.specs.Balance.{starts, ends, Covered, Balanced}
 use Rattle.parser.proofs.Balanced.{Comes, comes}
@@ -52,7 +52,7 @@ six (end o ∷ ts) (suc (suc d)) m cur ss (suc k) h = six ts (suc d) m (end o �
 six (node o ∷ ts) d m cur ss (suc k) h = six ts d m (node o ∷ cur) ss k h
 six (prop p e ∷ ts) d m cur ss (suc k) h = six ts d m (prop p e ∷ cur) ss k h
 
-pub uncovered-six : (ts : List Tok) → Uncovered 0 ts → slicesOf false ts ≡ no UnexpectedGameTreeEnd
+pub uncovered-six : (ts : List Tok) → Uncovered 0 ts → splitByGametree false ts ≡ no UnexpectedGameTreeEnd
 uncovered-six ts u = ap (sliced false) (six ts 0 0 [] [] (u .0) (u .1))
 
 -- ---- 7
@@ -63,7 +63,7 @@ seven e s (splitting (suc d) m cur ss) c n = refl
 seven e s (over m ss) c n = absurd c
 seven e s (wrong r) c n = absurd c
 
-pub unclosed-seven : (ts : List Tok) → Unclosed ts → slicesOf false ts ≡ no UnexpectedEndOfData
+pub unclosed-seven : (ts : List Tok) → Unclosed ts → splitByGametree false ts ≡ no UnexpectedEndOfData
 unclosed-seven ts u = seven (ends ts) (starts ts) (split false (splitting 0 0 [] []) ts) (comes ts 0 0 [] [] (u .covered)) (u .differ)
 
 -- ---- 8
@@ -83,7 +83,7 @@ eight e s (splitting (suc d) m cur ss) (a, b, c, h) p q = absurd (omega (arith, 
 eight e s (over m ss) c p q = absurd c
 eight e s (wrong r) c p q = absurd c
 
-pub bare-eight : (ts : List Tok) → Bare ts → slicesOf false ts ≡ no NoGameTrees
+pub bare-eight : (ts : List Tok) → Bare ts → splitByGametree false ts ≡ no NoGameTrees
 bare-eight ts b =
     eight (ends ts) (starts ts) (split false (splitting 0 0 [] []) ts)
     (comes ts 0 0 [] [] (λ k. omega (arith, ends-take ts k, b .no-end))) (b .no-start) (b .no-end)
@@ -99,5 +99,5 @@ fill e s (wrong r) c q p = absurd c
 
 pub balanced-filled : (ts : List Tok) → Balanced ts
     → Right (split false (splitting 0 0 [] []) ts)
-    × (slicesOf false ts ≡ deep (deepest (split false (splitting 0 0 [] []) ts)) (reverse (standing (split false (splitting 0 0 [] []) ts))))
+    × (splitByGametree false ts ≡ deep (deepest (split false (splitting 0 0 [] []) ts)) (reverse (standing (split false (splitting 0 0 [] []) ts))))
 balanced-filled ts b = fill (ends ts) (starts ts) (split false (splitting 0 0 [] []) ts) (comes ts 0 0 [] [] (b .covered)) (b .equal) (b .some)

@@ -8,7 +8,7 @@ use Rattle.tables.specs.declared.Reason.the-variants.{UnexpectedGameTreeEnd}
 use Rattle.parser.specs.Split.{splitting, split}
 use Rattle.parser.proofs.Surveys.{wrong-stays, over-stays}
 use Rattle.parser.proofs.Cuts.{deepest, Right}
-use Rattle.reader_exactly.specs.Slicing.{Exactly, Any, onto, slicesFrom, Deep}
+use Rattle.reader_exactly.specs.Slicing.{Iff, Any, onto, slicesFrom, Deep}
 
 -- of slices, the first of which is at depth d
 abbrev DeepFrom : ℕ → List (List Tok) → Type 0
@@ -136,6 +136,6 @@ deep-over len (prop p e ∷ ts) d m cur ss l r h =
 
 -- the greatest depth of all tokens is too great exactly when some token of a slice is too deep
 pub deep-exactly : (len : Bool) (ts : List Tok) → Right (split len (splitting 0 0 [] []) ts)
-    → Exactly (depthLimit < deepest (split len (splitting 0 0 [] []) ts)) (Any (Deep 0) (slicesFrom 0 ts))
+    → Iff (depthLimit < deepest (split len (splitting 0 0 [] []) ts)) (Any (Deep 0) (slicesFrom 0 ts))
 deep-exactly len ts r =
     ((λ h. any-from (slicesFrom 0 ts) .0 (over-deep len ts 0 0 [] [] r (omega arith) h)), λ h. deep-over len ts 0 0 [] [] (omega arith) r (any-from (slicesFrom 0 ts) .1 h))

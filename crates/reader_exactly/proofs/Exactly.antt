@@ -9,7 +9,7 @@ use Rattle.tables.specs.declared.Reason.the-variants.{TextTooLong, NotUtf8, Mis
 use Rattle.parser.specs.Read.{Answer, refused, readStrict, readLenient}
 use Rattle.parser.specs.Balance.{Balanced}
 use Rattle.parser.proofs.Texts.{text-long}
-use Rattle.reader_exactly.specs.Slicing.{Exactly, Any, slicesFrom, Uncovered, Deep}
+use Rattle.reader_exactly.specs.Slicing.{Iff, Any, slicesFrom, Uncovered, Deep}
 use Rattle.reader_exactly.specs.When.{Valid, tokensOf, FailsAt, Lexes, Unclosed, Bare, Splits, First, StartsEmpty, Unexpected, WrongGame, Nodeless}
 use Rattle.reader_exactly.proofs.Cover.{uncovered-six, unclosed-seven, bare-eight}
 use Rattle.reader_exactly.proofs.Growths.{starts-fails, unexpected-fails, wrong-fails, nodeless-fails}
@@ -29,31 +29,31 @@ module _ (t : List ℕ) (p : ℕ) where
   -- ---- strict
 
   -- the text is over the limit
-  pub strict-1 : Exactly (readStrict t ≡ refused TextTooLong p) ((textLimit < length t) × (p ≡ 0))
+  pub strict-1 : Iff (readStrict t ≡ refused TextTooLong p) ((textLimit < length t) × (p ≡ 0))
   strict-1 = ((λ e. only t e), λ h. at-0 TextTooLong (text-long false t (h .0)) (h .1))
 
   -- within the limit, and the first bad sequence of table 3-7 starts at p
-  pub strict-2 : Exactly (readStrict t ≡ refused NotUtf8 p) ((length t ≤ textLimit) × BadFrom t p)
+  pub strict-2 : Iff (readStrict t ≡ refused NotUtf8 p) ((length t ≤ textLimit) × BadFrom t p)
   strict-2 = ((λ e. only t e), λ h. bad-read false t p (h .0) (h .1))
 
   -- the first failing token of what trimming keeps is a property that starts at p, whose identifier the text's end cuts off
-  pub strict-3 : Exactly (readStrict t ≡ refused MissingPropertyIdentifier p) (Valid t × FailsAt t no-identifier p)
+  pub strict-3 : Iff (readStrict t ≡ refused MissingPropertyIdentifier p) (Valid t × FailsAt t no-identifier p)
   strict-3 = ((λ e. only t e), λ h. fault-read t no-identifier p (h .0) (h .1))
 
   -- the same, whose identifier meets a character that is not ASCII
-  pub strict-4 : Exactly (readStrict t ≡ refused UnexpectedEndOfPropertyIdentifier p) (Valid t × FailsAt t foreign p)
+  pub strict-4 : Iff (readStrict t ≡ refused UnexpectedEndOfPropertyIdentifier p) (Valid t × FailsAt t foreign p)
   strict-4 = ((λ e. only t e), λ h. fault-read t foreign p (h .0) (h .1))
 
   -- the same, one of whose values has no closing bracket
-  pub strict-5 : Exactly (readStrict t ≡ refused UnexpectedEndOfPropertyValue p) (Valid t × FailsAt t unclosed p)
+  pub strict-5 : Iff (readStrict t ≡ refused UnexpectedEndOfPropertyValue p) (Valid t × FailsAt t unclosed p)
   strict-5 = ((λ e. only t e), λ h. fault-read t unclosed p (h .0) (h .1))
 
   -- some prefix of the tokens has more ends than starts
-  pub strict-6 : Exactly (readStrict t ≡ refused UnexpectedGameTreeEnd p) (Lexes t × Uncovered 0 toks × (p ≡ 0))
+  pub strict-6 : Iff (readStrict t ≡ refused UnexpectedGameTreeEnd p) (Lexes t × Uncovered 0 toks × (p ≡ 0))
   strict-6 = ((λ e. only t e), λ h. at-0 UnexpectedGameTreeEnd (split-read t (h .0) (uncovered-six toks (h .1))) (h .2))
 
   -- no prefix has more ends than starts, but their numbers differ; or the first slice that is refused has no node
-  pub strict-7 : Exactly (readStrict t ≡ refused UnexpectedEndOfData p)
+  pub strict-7 : Iff (readStrict t ≡ refused UnexpectedEndOfData p)
       (((Lexes t × Unclosed toks) ⊎ (Splits t × First Nodeless (slicesFrom 0 toks))) × (p ≡ 0))
   strict-7 = (
     (λ e. only t e),
@@ -63,15 +63,15 @@ module _ (t : List ℕ) (p : ℕ) where
   )
 
   -- neither a start nor an end
-  pub strict-8 : Exactly (readStrict t ≡ refused NoGameTrees p) (Lexes t × Bare toks × (p ≡ 0))
+  pub strict-8 : Iff (readStrict t ≡ refused NoGameTrees p) (Lexes t × Bare toks × (p ≡ 0))
   strict-8 = ((λ e. only t e), λ h. at-0 NoGameTrees (split-read t (h .0) (bare-eight toks (h .1))) (h .2))
 
   -- starts and ends match, and a token of a slice brings the depth above the limit
-  pub strict-9 : Exactly (readStrict t ≡ refused TooDeep p) (Lexes t × Balanced toks × Any (Deep 0) (slicesFrom 0 toks) × (p ≡ 0))
+  pub strict-9 : Iff (readStrict t ≡ refused TooDeep p) (Lexes t × Balanced toks × Any (Deep 0) (slicesFrom 0 toks) × (p ≡ 0))
   strict-9 = ((λ e. only t e), λ h. at-0 TooDeep (split-read t (h .0) (too-deep toks (h .1) (h .2))) (h .3))
 
   -- the first slice that is refused comes to a start where the list on top of the stack is empty
-  pub strict-10 : Exactly (readStrict t ≡ refused UnexpectedGameTreeStart p)
+  pub strict-10 : Iff (readStrict t ≡ refused UnexpectedGameTreeStart p)
       ((Splits t × First StartsEmpty (slicesFrom 0 toks)) × (p ≡ 0))
   strict-10 = (
     (λ e. only t e),
@@ -80,7 +80,7 @@ module _ (t : List ℕ) (p : ℕ) where
   )
 
   -- it has two or more GM, or a property that is not directly after a node or its properties
-  pub strict-11 : Exactly (readStrict t ≡ refused UnexpectedProperty p)
+  pub strict-11 : Iff (readStrict t ≡ refused UnexpectedProperty p)
       ((Splits t × First Unexpected (slicesFrom 0 toks)) × (p ≡ 0))
   strict-11 = (
     (λ e. only t e),
@@ -89,7 +89,7 @@ module _ (t : List ℕ) (p : ℕ) where
   )
 
   -- it has one GM, whose values are not one number within i32
-  pub strict-12 : Exactly (readStrict t ≡ refused InvalidGameType p)
+  pub strict-12 : Iff (readStrict t ≡ refused InvalidGameType p)
       ((Splits t × First (λ _ s. WrongGame s) (slicesFrom 0 toks)) × (p ≡ 0))
   strict-12 = (
     (λ e. only t e),
@@ -99,12 +99,12 @@ module _ (t : List ℕ) (p : ℕ) where
 
   -- ---- lenient: these three and no other
 
-  pub lenient-1 : Exactly (readLenient t ≡ refused TextTooLong p) ((textLimit < length t) × (p ≡ 0))
+  pub lenient-1 : Iff (readLenient t ≡ refused TextTooLong p) ((textLimit < length t) × (p ≡ 0))
   lenient-1 = ((λ e. only-mild t e), λ h. at-0 TextTooLong (text-long true t (h .0)) (h .1))
 
-  pub lenient-2 : Exactly (readLenient t ≡ refused NotUtf8 p) ((length t ≤ textLimit) × BadFrom t p)
+  pub lenient-2 : Iff (readLenient t ≡ refused NotUtf8 p) ((length t ≤ textLimit) × BadFrom t p)
   lenient-2 = ((λ e. only-mild t e), λ h. bad-read true t p (h .0) (h .1))
 
   -- a token of a slice, of the tokens before the first fault, brings the depth above the limit
-  pub lenient-9 : Exactly (readLenient t ≡ refused TooDeep p) (Valid t × Any (Deep 0) (slicesFrom 0 toks) × (p ≡ 0))
+  pub lenient-9 : Iff (readLenient t ≡ refused TooDeep p) (Valid t × Any (Deep 0) (slicesFrom 0 toks) × (p ≡ 0))
   lenient-9 = ((λ e. only-mild t e), λ h. at-0 TooDeep (deep-read t (h .0) (h .1)) (h .2))

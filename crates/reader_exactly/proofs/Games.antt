@@ -7,7 +7,7 @@ use Rattle.values.specs.Decimal.{decimalOf}
 use Rattle.lexer.specs.Token.{Val, Prop, Tok}
 use Rattle.tables.specs.declared.Reason.{Reason}
 use Rattle.tables.specs.declared.Reason.the-variants.{TextTooLong, NotUtf8, MissingPropertyIdentifier, UnexpectedEndOfPropertyIdentifier, UnexpectedEndOfPropertyValue, UnexpectedGameTreeEnd, UnexpectedEndOfData, NoGameTrees, TooDeep, UnexpectedGameTreeStart, UnexpectedProperty, InvalidGameType, NoRoom, EmptyIdentifier, NoSuchNumber, GameTypeFixed, NotClosed, NotFitting}
-use Rattle.parser.specs.Kind.{Kind, is, unkind, numbered, kindVals, kindProps, kind}
+use Rattle.parser.specs.Game.{Game, is, noGame, isI32, gameVals, gameProps, findGametype}
 use Rattle.reader_exactly.specs.When.{games, Numeric, WrongGame, TwoGames, StartsEmpty, Unexpected, Nodeless}
 
 -- why a slice is refused, by the reason
@@ -32,52 +32,52 @@ Refuses base s NotClosed = ⊥
 Refuses base s NotFitting = ⊥
 
 abbrev valid : Val → Bool
-valid v = numbered (decimalOf (2 ^ 31 - 1) (readValue (v .raw)))
+valid v = isI32 (decimalOf (2 ^ 31 - 1) (readValue (v .raw)))
 
 not-numeric : (v : Val) → valid v ≡ false → Numeric (v ∷ []) → ⊥
 not-numeric v e (w, q, n) = let z : v ≡ w = cc in false≢true (sym e ∙ ap valid z ∙ n)
 
 module _ (base : ℕ) (s : List Tok) where
-  abbrev KindWhy : Kind → Type 0
+  abbrev KindWhy : Game → Type 0
   KindWhy (is k) = Unit {0}
-  KindWhy (unkind r) = Refuses base s r
+  KindWhy (noGame r) = Refuses base s r
 
   -- one GM property, by its values
-  vals-why : (p : Prop) → games s ≡ p ∷ [] → (vs : List Val) → p .vals ≡ vs → KindWhy (kindVals vs)
+  vals-why : (p : Prop) → games s ≡ p ∷ [] → (vs : List Val) → p .vals ≡ vs → KindWhy (gameVals vs)
   vals-why p e [] q = (p, e, λ x. let y : [] ≡ x .0 ∷ [] = sym q ∙ x .1 in never cc)
   vals-why p e (v ∷ []) q = go (valid v) refl
     where
-      go : (b : Bool) → valid v ≡ b → KindWhy (pick b (is (pick (same (readValue (v .raw)) (0x31 ∷ [])) 0 1)) (unkind InvalidGameType))
+      go : (b : Bool) → valid v ≡ b → KindWhy (pick b (is (pick (same (readValue (v .raw)) (0x31 ∷ [])) 0 1)) (noGame InvalidGameType))
       go true f = tt
       go false f = (p, e, λ x. not-numeric v f (subst Numeric q x))
   vals-why p e (v ∷ u ∷ vs) q = (p, e, λ x. let y : v ∷ u ∷ vs ≡ x .0 ∷ [] = sym q ∙ x .1 in let z = ap length y in absurd (omega (arith, z)))
 
-  games-why : (ps : List Prop) → games s ≡ ps → KindWhy (kindProps ps)
+  games-why : (ps : List Prop) → games s ≡ ps → KindWhy (gameProps ps)
   games-why [] e = tt
   games-why (p ∷ []) e = vals-why p e (p .vals) refl
   games-why (p ∷ q ∷ ps) e = inl (omega (arith, ap length e))
 
-  pub kind-why : (r : Reason) → kind s ≡ unkind r → Refuses base s r
-  kind-why r e = subst KindWhy e (games-why (games s) refl)
+  pub game-why : (r : Reason) → findGametype s ≡ noGame r → Refuses base s r
+  game-why r e = subst KindWhy e (games-why (games s) refl)
 
 -- ---- and so it is refused
 
-two-games : (ps : List Prop) → 2 ≤ length ps → kindProps ps ≡ unkind UnexpectedProperty
+two-games : (ps : List Prop) → 2 ≤ length ps → gameProps ps ≡ noGame UnexpectedProperty
 two-games [] h = absurd (omega arith)
 two-games (p ∷ []) h = absurd (omega arith)
 two-games (p ∷ q ∷ ps) h = refl
 
-wrong-vals : (vs : List Val) → (Numeric vs → ⊥) → kindVals vs ≡ unkind InvalidGameType
+wrong-vals : (vs : List Val) → (Numeric vs → ⊥) → gameVals vs ≡ noGame InvalidGameType
 wrong-vals [] n = refl
 wrong-vals (v ∷ []) n = go (valid v) refl
   where
-    go : (b : Bool) → valid v ≡ b → pick b (is (pick (same (readValue (v .raw)) (0x31 ∷ [])) 0 1)) (unkind InvalidGameType) ≡ unkind InvalidGameType
+    go : (b : Bool) → valid v ≡ b → pick b (is (pick (same (readValue (v .raw)) (0x31 ∷ [])) 0 1)) (noGame InvalidGameType) ≡ noGame InvalidGameType
     go true f = absurd (n (v, refl, f))
     go false f = refl
 wrong-vals (v ∷ u ∷ vs) n = refl
 
-pub two-unkind : (s : List Tok) → TwoGames s → kind s ≡ unkind UnexpectedProperty
+pub two-unkind : (s : List Tok) → TwoGames s → findGametype s ≡ noGame UnexpectedProperty
 two-unkind s h = two-games (games s) h
 
-pub wrong-unkind : (s : List Tok) → WrongGame s → kind s ≡ unkind InvalidGameType
-wrong-unkind s (p, e, n) = ap kindProps e ∙ wrong-vals (p .vals) n
+pub wrong-unkind : (s : List Tok) → WrongGame s → findGametype s ≡ noGame InvalidGameType
+wrong-unkind s (p, e, n) = ap gameProps e ∙ wrong-vals (p .vals) n

@@ -8,10 +8,10 @@ use Rattle.tables.specs.Numbers.{textLimit, depthLimit, none}
 use Rattle.tables.specs.Record.{Node, Tree}
 use Rattle.tables.specs.declared.Reason.{Reason}
 use Rattle.tables.specs.declared.Reason.the-variants.{TextTooLong, NotUtf8, MissingPropertyIdentifier, UnexpectedEndOfPropertyIdentifier, UnexpectedEndOfPropertyValue, UnexpectedGameTreeEnd, UnexpectedEndOfData, NoGameTrees, TooDeep, UnexpectedGameTreeStart, UnexpectedProperty, InvalidGameType, NoRoom, EmptyIdentifier, NoSuchNumber, GameTypeFixed, NotClosed, NotFitting}
-use Rattle.parser.specs.Split.{Splitting, splitting, over, wrong, split, Slices, no as unsplit, slices, deep, sliced, slicesOf}
-use Rattle.parser.specs.Kind.{Kind, is, unkind, kind}
+use Rattle.parser.specs.Split.{Splitting, splitting, over, wrong, split, Slices, no as unsplit, slices, deep, sliced, splitByGametree}
+use Rattle.parser.specs.Game.{Game, is, noGame, findGametype}
 use Rattle.parser.specs.Walk.{Walk, walk, halted, stopped, children, adds, walked}
-use Rattle.parser.specs.Read.{Answer, refused, accepted, Growing, growing, failing, rooted, grown, kinded, growAll, answer, planted, parsed, readLenient}
+use Rattle.parser.specs.Read.{Answer, refused, accepted, Trees, treesSoFar, noTrees, treeOfNodes, treeOfWalk, treeOfGame, parseGametrees, answer, parseSlices, parsed, readLenient}
 use Rattle.parser.proofs.Surveys.{over-stays}
 use Rattle.parser.proofs.Cuts.{standing, deepest, Right}
 use Rattle.parser.proofs.Texts.{text-long}
@@ -58,12 +58,12 @@ module _ (ts : List Tok) where
   some : Any (Deep 0) (slicesFrom 0 ts) → standing last ≡ [] → ⊥
   some h e = subst (Any (Deep 0)) (sym (slices-are true ts (right ts 0 0 [] [])) ∙ ap reverse e) h
 
-  lax-deep : Any (Deep 0) (slicesFrom 0 ts) → slicesOf true ts ≡ unsplit TooDeep
+  lax-deep : Any (Deep 0) (slicesFrom 0 ts) → splitByGametree true ts ≡ unsplit TooDeep
   lax-deep h =
       deep-sliced last (right ts 0 0 [] []) (some h)
       ∙ ap (λ (b : Bool). pick b (unsplit TooDeep) (slices (reverse (standing last)))) (lt-ltb depthLimit (deepest last) (deep-exactly true ts (right ts 0 0 [] []) .1 h))
 
-  lax-cases : {X : Type 0} → (Any (Deep 0) (slicesFrom 0 ts) → X) → ((ss : List (List Tok)) → slicesOf true ts ≡ slices ss → X) → X
+  lax-cases : {X : Type 0} → (Any (Deep 0) (slicesFrom 0 ts) → X) → ((ss : List (List Tok)) → splitByGametree true ts ≡ slices ss → X) → X
   lax-cases f g =
       elim (decLe (deepest last) depthLimit) [
         | yes l ↦ let x = shallow-sliced last (right ts 0 0 [] []) l in g (x .0) (x .1)
@@ -94,27 +94,27 @@ goes base (prop p e ∷ s) (walk cur st true ns) h = goes base s (adds true p cu
 goes base (t ∷ s) (halted ns) h = goes base s (halted ns) tt
 goes base (t ∷ s) (stopped r) h = absurd h
 
-abbrev Grows : Growing → Type 0
-Grows (growing n ts) = Unit {0}
-Grows (failing r) = ⊥
+abbrev Grows : Trees → Type 0
+Grows (treesSoFar n ts) = Unit {0}
+Grows (noTrees r) = ⊥
 
-grows-rooted : (base k : ℕ) (ns : List Node) (ts : List Tree) → Grows (rooted true base k ns ts)
+grows-rooted : (base k : ℕ) (ns : List Node) (ts : List Tree) → Grows (treeOfNodes true base k ns ts)
 grows-rooted base k [] ts = tt
 grows-rooted base k (n ∷ ns) ts = tt
 
-grows-grown : (base k : ℕ) (w : Walk) → Goes w → (ts : List Tree) → Grows (grown true base k w ts)
+grows-grown : (base k : ℕ) (w : Walk) → Goes w → (ts : List Tree) → Grows (treeOfWalk true base k w ts)
 grows-grown base k (walk cur st g ns) h ts = grows-rooted base k ns ts
 grows-grown base k (halted ns) h ts = grows-rooted base k ns ts
 grows-grown base k (stopped r) h ts = absurd h
 
-grows-kinded : (base : ℕ) (x : Kind) (s : List Tok) (ts : List Tree) → Grows (kinded true base x s ts)
+grows-kinded : (base : ℕ) (x : Game) (s : List Tok) (ts : List Tree) → Grows (treeOfGame true base x s ts)
 grows-kinded base (is k) s ts = grows-grown base k (walked true base (walk none [] false []) s) (goes base s (walk none [] false []) tt) ts
-grows-kinded base (unkind r) s ts = grows-grown base 0 (walked true base (walk none [] false []) s) (goes base s (walk none [] false []) tt) ts
+grows-kinded base (noGame r) s ts = grows-grown base 0 (walked true base (walk none [] false []) s) (goes base s (walk none [] false []) tt) ts
 
-grows-all : (ss : List (List Tok)) (x : Growing) → Grows x → Grows (growAll true x ss)
+grows-all : (ss : List (List Tok)) (x : Trees) → Grows x → Grows (parseGametrees true x ss)
 grows-all [] x h = h
-grows-all (s ∷ ss) (growing n ts) h = grows-all ss (kinded true n (kind s) s ts) (grows-kinded n (kind s) s ts)
-grows-all (s ∷ ss) (failing r) h = absurd h
+grows-all (s ∷ ss) (treesSoFar n ts) h = grows-all ss (treeOfGame true n (findGametype s) s ts) (grows-kinded n (findGametype s) s ts)
+grows-all (s ∷ ss) (noTrees r) h = absurd h
 
 -- ---- the condition of each number
 
@@ -143,20 +143,20 @@ module _ (t : List ℕ) where
   AnswerMild (refused r p) = Mild r p
   AnswerMild (accepted ts) = Unit {0}
 
-  tree-mild : (x : Growing) → Grows x → AnswerMild (answer x)
-  tree-mild (growing n ts) h = tt
-  tree-mild (failing r) h = absurd h
+  tree-mild : (x : Trees) → Grows x → AnswerMild (answer x)
+  tree-mild (treesSoFar n ts) h = tt
+  tree-mild (noTrees r) h = absurd h
 
   pub deep-read : Valid t → Any (Deep 0) (slicesFrom 0 (tokensOf t .toks)) → readLenient t ≡ refused TooDeep 0
-  deep-read v h = valid-read true t v ∙ ap (planted true) (lax-deep (tokensOf t .toks) h)
+  deep-read v h = valid-read true t v ∙ ap (parseSlices true) (lax-deep (tokensOf t .toks) h)
 
   valid-mild : Valid t → AnswerMild (parsed true (tokensOf t .toks))
   valid-mild v =
       lax-cases (tokensOf t .toks) (λ h. said (lax-deep (tokensOf t .toks) h) (v, h, refl))
-      (λ ss e. said e (tree-mild (growAll true (growing 0 []) ss) (grows-all ss (growing 0 []) tt)))
+      (λ ss e. said e (tree-mild (parseGametrees true (treesSoFar 0 []) ss) (grows-all ss (treesSoFar 0 []) tt)))
     where
-      said : {x : Slices} → slicesOf true (tokensOf t .toks) ≡ x → AnswerMild (planted true x) → AnswerMild (parsed true (tokensOf t .toks))
-      said {x} e h = subst (λ (z : Slices). AnswerMild (planted true z)) (sym e) h
+      said : {x : Slices} → splitByGametree true (tokensOf t .toks) ≡ x → AnswerMild (parseSlices true x) → AnswerMild (parsed true (tokensOf t .toks))
+      said {x} e h = subst (λ (z : Slices). AnswerMild (parseSlices true z)) (sym e) h
 
   read-mild : AnswerMild (readLenient t)
   read-mild =

@@ -13,7 +13,7 @@ use Rattle.lexer.specs.declared.Fault.{Fault}
 use Rattle.lexer_laws.proofs.Faults.{fault-if, fault-only}
 use Rattle.tables.specs.Numbers.{textLimit, depthLimit}
 use Rattle.tables.specs.declared.Reason.the-variants.{NotUtf8 as notUtf8, TooDeep}
-use Rattle.parser.specs.Split.{splitting, split, no as unsplit, slices, slicesOf}
+use Rattle.parser.specs.Split.{splitting, split, no as unsplit, slices, splitByGametree}
 use Rattle.parser.specs.Read.{refused, lexing, read}
 use Rattle.parser.specs.Balance.{starts, ends, Balanced}
 use Rattle.parser.proofs.Cuts.{deepest}
@@ -70,10 +70,10 @@ module _ (ts : List Tok) (b : Balanced ts) where
   abbrev top : ℕ
   top = deepest (split false (splitting 0 0 [] []) ts)
 
-  filled : slicesOf false ts ≡ pick (ltb depthLimit top) (unsplit TooDeep) (slices (slicesFrom 0 ts))
+  filled : splitByGametree false ts ≡ pick (ltb depthLimit top) (unsplit TooDeep) (slices (slicesFrom 0 ts))
   filled = let f = balanced-filled ts b in f .1 ∙ ap (λ (z : List (List Tok)). pick (ltb depthLimit top) (unsplit TooDeep) (slices z)) (slices-are false ts (f .0))
 
-  pub too-deep : Any (Deep 0) (slicesFrom 0 ts) → slicesOf false ts ≡ unsplit TooDeep
+  pub too-deep : Any (Deep 0) (slicesFrom 0 ts) → splitByGametree false ts ≡ unsplit TooDeep
   too-deep h =
       filled ∙ ap (λ (z : Bool). pick z (unsplit TooDeep) (slices (slicesFrom 0 ts))) (lt-ltb depthLimit top (deep-exactly false ts (balanced-filled ts b .0) .1 h))
 
@@ -84,7 +84,7 @@ module _ (ts : List Tok) (b : Balanced ts) where
         | no n ↦ f (deep-exactly false ts (balanced-filled ts b .0) .0 (lt-of-not-le n))
       ]
 
-  pub not-deep : (Any (Deep 0) (slicesFrom 0 ts) → ⊥) → slicesOf false ts ≡ slices (slicesFrom 0 ts)
+  pub not-deep : (Any (Deep 0) (slicesFrom 0 ts) → ⊥) → splitByGametree false ts ≡ slices (slicesFrom 0 ts)
   not-deep n =
       let q : ltb depthLimit top ≡ false = elim (decLe top depthLimit) [ yes l ↦ le-ltb depthLimit top l | no h ↦ absurd (n (deep-exactly false ts (balanced-filled ts b .0) .0 (lt-of-not-le h))) ] in
       filled ∙ ap (λ (z : Bool). pick z (unsplit TooDeep) (slices (slicesFrom 0 ts))) q

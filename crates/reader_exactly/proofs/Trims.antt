@@ -5,13 +5,13 @@ use Rattle.text_chars.specs.White.{white}
 use Rattle.text_chars.specs.Table.{listed, scalar, WellFormed, empty, begins, BadFrom}
 use Rattle.text_chars.proofs.Rows.{listed-long, listed-take}
 use Rattle.text_utf8.specs.Text.{Ink, blank, inked, Utf, whole, utfs}
-use Rattle.text_utf8.specs.Trim.{shown, trimmed}
+use Rattle.text_utf8.specs.Trim.{trimOf, trimmed}
 use Rattle.text_utf8.specs.declared.Trimmed.{Trimmed}
 use Rattle.text_utf8.specs.declared.Trimmed.the-variants.{NotUtf8, Blank, Kept}
 use Rattle.text_utf8.proofs.Steps.{place-is, utfs-append}
 use Rattle.text_utf8.proofs.WellFormed.{bad-trimmed, trimmed-bad, trimmed-well-formed}
-use Rattle.reader_exactly.specs.Slicing.{Exactly}
-use Rattle.reader_exactly.specs.Kept.{Begins, Blanks, no-space, space, Keeps}
+use Rattle.reader_exactly.specs.Slicing.{Iff}
+use Rattle.reader_exactly.specs.Kept.{FirstChar, Blanks, no-space, space, Keeps}
 use Rattle.reader_exactly.proofs.Chars.{listed-once, begins-more, well-append, blanks-append, blanks-well, utfs-begins, utfs-blanks, utfs-inked}
 
 -- ---- what is kept is found
@@ -20,14 +20,14 @@ utfs-from : (u : Utf) (o : ℕ) (xs ys : List ℕ) → utfs u o (xs ++ ys) ≡ u
 utfs-from u o xs ys = utfs-append u o xs ys ∙ ap (λ (z : ℕ). utfs (utfs u o xs) z ys) (place-is o xs)
 
 -- the last character, with nothing behind it
-utfs-last : (char : List ℕ) → Begins false (length char) char → (k : Ink) (o : ℕ) → (a : ℕ) × (utfs (whole k) o char ≡ whole (inked a (o + length char))) × (k ≡ blank → a ≡ o) × ((x l : ℕ) → k ≡ inked x l → a ≡ x)
+utfs-last : (char : List ℕ) → FirstChar false (length char) char → (k : Ink) (o : ℕ) → (a : ℕ) × (utfs (whole k) o char ≡ whole (inked a (o + length char))) × (k ≡ blank → a ≡ o) × ((x l : ℕ) → k ≡ inked x l → a ≡ x)
 utfs-last char h blank o =
     (o, utfs-begins false (length char) char h blank o ∙ ap (utfs (whole (inked o (o + length char))) (o + length char)) (drop-length char), (λ _. refl), λ x l e. never cc)
 utfs-last char h (inked y l) o =
     (y, utfs-begins false (length char) char h (inked y l) o ∙ ap (utfs (whole (inked y (o + length char))) (o + length char)) (drop-length char), (λ e. never cc), λ x m e. cc)
 
 -- the characters before the last, where the first is no white space
-utfs-front : (front char : List ℕ) → WellFormed front → (n : ℕ) → Begins false n (front ++ char) → (o : ℕ)
+utfs-front : (front char : List ℕ) → WellFormed front → (n : ℕ) → FirstChar false n (front ++ char) → (o : ℕ)
     → ((front ≡ []) × (utfs (whole blank) o front ≡ whole blank)) ⊎ ((m : ℕ) × (utfs (whole blank) o front ≡ whole (inked o m)))
 utfs-front front char empty n h o = inl (refl, refl)
 utfs-front front char (begins m g x) n h o =
@@ -38,7 +38,7 @@ utfs-front front char (begins m g x) n h o =
     let r = utfs-inked x o (o + m) (o + m) in
     inr (r .0, utfs-begins false m front (g, w) blank o ∙ r .1)
 
-utfs-kept : (text : List ℕ) → (n : ℕ) → Begins false n text → (front char : List ℕ) → text ≡ front ++ char → WellFormed front → Begins false (length char) char → (o : ℕ)
+utfs-kept : (text : List ℕ) → (n : ℕ) → FirstChar false n text → (front char : List ℕ) → text ≡ front ++ char → WellFormed front → FirstChar false (length char) char → (o : ℕ)
     → utfs (whole blank) o text ≡ whole (inked o (o + length text))
 utfs-kept text n h front char e w b o =
     let l : length text ≡ length front + length char = ap length e ∙ length-append front char in
@@ -53,7 +53,7 @@ utfs-kept text n h front char e w b o =
     (λ z.
     let q = utfs-last char b (inked o (z .0)) (o + length front) in
     ap (λ (u : Utf). utfs u (o + length front) char) (z .1) ∙ q .1 ∙ ap (λ (y : ℕ). whole (inked y (o + length front + length char))) (q .3 o (z .0) refl))
-    (utfs-front front char w n (subst (Begins false n) e h) o)
+    (utfs-front front char w n (subst (FirstChar false n) e h) o)
     ∙ ap (λ (y : ℕ). whole (inked o y)) s
 
 keeps-trimmed : (t : List ℕ) (f l : ℕ) → Keeps t f l → trimmed t ≡ Kept f l
@@ -62,18 +62,18 @@ keeps-trimmed t f l x =
     let k = utfs-kept (x .kept) (x .first .0) (x .first .1) (x .last .0) (x .last .1) (x .last .2) (x .last .3) (x .last .4) (0 + length (x .before)) in
     let ef : 0 + length (x .before) ≡ f = omega (arith, x .from) in
     let el : 0 + length (x .before) + length (x .kept) ≡ l = omega (arith, x .to) in
-    ap (λ (z : List ℕ). shown (utfs (whole blank) 0 z)) (x .are)
-    ∙ ap shown (utfs-from (whole blank) 0 (x .before) (x .kept ++ x .behind))
-    ∙ ap (λ (u : Utf). shown (utfs u (0 + length (x .before)) (x .kept ++ x .behind))) (utfs-blanks (x .blank-before) blank 0)
-    ∙ ap shown (utfs-from (whole blank) (0 + length (x .before)) (x .kept) (x .behind))
-    ∙ ap (λ (u : Utf). shown (utfs u (0 + length (x .before) + length (x .kept)) (x .behind))) k
-    ∙ ap shown (utfs-blanks (x .blank-behind) (inked (0 + length (x .before)) (0 + length (x .before) + length (x .kept))) (0 + length (x .before) + length (x .kept)))
+    ap (λ (z : List ℕ). trimOf (utfs (whole blank) 0 z)) (x .are)
+    ∙ ap trimOf (utfs-from (whole blank) 0 (x .before) (x .kept ++ x .behind))
+    ∙ ap (λ (u : Utf). trimOf (utfs u (0 + length (x .before)) (x .kept ++ x .behind))) (utfs-blanks (x .blank-before) blank 0)
+    ∙ ap trimOf (utfs-from (whole blank) (0 + length (x .before)) (x .kept) (x .behind))
+    ∙ ap (λ (u : Utf). trimOf (utfs u (0 + length (x .before) + length (x .kept)) (x .behind))) k
+    ∙ ap trimOf (utfs-blanks (x .blank-behind) (inked (0 + length (x .before)) (0 + length (x .before) + length (x .kept))) (0 + length (x .before) + length (x .kept)))
     ∙ ap (λ (z : ℕ). Kept z (0 + length (x .before) + length (x .kept))) ef
     ∙ ap (Kept f) el
 
 blanks-trimmed : (t : List ℕ) → Blanks t → trimmed t ≡ Blank
 unfolding trimmed
-blanks-trimmed t b = ap shown (utfs-blanks b blank 0)
+blanks-trimmed t b = ap trimOf (utfs-blanks b blank 0)
 
 -- ---- and every well-formed text is blank or keeps something
 
@@ -87,7 +87,7 @@ module _ (t : List ℕ) (n : ℕ) (h : listed n t ≡ true) where
   char-long : length char ≡ n
   char-long = length-take-le n t (listed-long n t h .1)
 
-  char-begins : (w : Bool) → white (scalar (take n t)) ≡ w → Begins w n char
+  char-begins : (w : Bool) → white (scalar (take n t)) ≡ w → FirstChar w n char
   char-begins w e = (listed-take n n t (omega arith) ∙ h, ap (λ (z : List ℕ). white (scalar z)) (take-all-of) ∙ e)
     where
       take-all-of : take n (take n t) ≡ take n t
@@ -115,7 +115,7 @@ module _ (t : List ℕ) (n : ℕ) (h : listed n t ≡ true) where
           blank-before = no-space;
           blank-behind = b;
           first = (n, char-begins false e);
-          last = ([], char, refl, empty, subst (λ (z : ℕ). Begins false z char) (sym char-long) (char-begins false e));
+          last = ([], char, refl, empty, subst (λ (z : ℕ). FirstChar false z char) (sym char-long) (char-begins false e));
         },
       )
   one-more (inr (f, l, x)) true e =
@@ -169,14 +169,14 @@ module _ (t : List ℕ) where
   sure : (x : Trimmed) → trimmed t ≡ x → ((p : ℕ) → x ≡ NotUtf8 p → ⊥) → Blank-or-keeps t
   sure x e n = blank-or-keeps (trimmed-well-formed t (λ p q. n p (sym e ∙ q)))
 
-  pub trimmed-bad-exactly : (p : ℕ) → Exactly (trimmed t ≡ NotUtf8 p) (BadFrom t p)
+  pub trimmed-bad-exactly : (p : ℕ) → Iff (trimmed t ≡ NotUtf8 p) (BadFrom t p)
   trimmed-bad-exactly p = (trimmed-bad t p, bad-trimmed t p)
 
-  pub trimmed-blank-exactly : Exactly (trimmed t ≡ Blank) (Blanks t)
+  pub trimmed-blank-exactly : Iff (trimmed t ≡ Blank) (Blanks t)
   trimmed-blank-exactly =
       ((λ e. ⊎-elim (λ b. b) (λ x. let z : Blank ≡ Kept (x .0) (x .1) = sym e ∙ keeps-trimmed t (x .0) (x .1) (x .2) in never cc) (sure Blank e (λ p q. never cc))), blanks-trimmed t)
 
-  pub trimmed-kept-exactly : (f l : ℕ) → Exactly (trimmed t ≡ Kept f l) (Keeps t f l)
+  pub trimmed-kept-exactly : (f l : ℕ) → Iff (trimmed t ≡ Kept f l) (Keeps t f l)
   trimmed-kept-exactly f l = (
     (λ e. ⊎-elim (λ b. let z : Kept f l ≡ Blank = sym e ∙ blanks-trimmed t b in never cc)
         (λ x.

@@ -4,7 +4,7 @@ use Rattle.lexer.specs.Token.{Prop, Tok, start, end, node, prop}
 use Rattle.tables.specs.Numbers.{none}
 use Rattle.tables.specs.Record.{Node}
 use Rattle.tables.specs.declared.Reason.the-variants.{UnexpectedGameTreeStart, UnexpectedProperty}
-use Rattle.parser.specs.Kind.{is, kind}
+use Rattle.parser.specs.Game.{is, findGametype}
 use Rattle.parser.specs.Walk.{Walk, walk, halted, stopped, children, walks, walked}
 use Rattle.parser.proofs.Runs.{walked-append, stopped-stays}
 use Rattle.parser.specs.Balance.{Covered}
@@ -27,7 +27,7 @@ abbrev Open : Bool → List Node → Type 0
 Open false ns = Unit {0}
 Open true ns = 0 < length ns
 
-module _ (base : ℕ) (s : List Tok) (k : ℕ) (typed : kind s ≡ is k) where
+module _ (base : ℕ) (s : List Tok) (k : ℕ) (typed : findGametype s ≡ is k) where
   abbrev run : Walk → List Tok → Walk
   run w v = walked false base w v
 

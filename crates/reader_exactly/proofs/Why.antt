@@ -7,8 +7,8 @@ use Rattle.lexer.specs.declared.Fault.the-variants.{MissingPropertyIdentifier a
 use Rattle.tables.specs.Numbers.{textLimit, reasonOf}
 use Rattle.tables.specs.declared.Reason.{Reason}
 use Rattle.tables.specs.declared.Reason.the-variants.{TextTooLong, NotUtf8 as notUtf8, MissingPropertyIdentifier, UnexpectedEndOfPropertyIdentifier, UnexpectedEndOfPropertyValue, UnexpectedGameTreeEnd, UnexpectedEndOfData, NoGameTrees, TooDeep, UnexpectedGameTreeStart, UnexpectedProperty, InvalidGameType, NoRoom, EmptyIdentifier, NoSuchNumber, GameTypeFixed, NotClosed, NotFitting}
-use Rattle.parser.specs.Split.{Slices, slicesOf}
-use Rattle.parser.specs.Read.{Answer, refused, accepted, Growing, growing, failing, growAll, answer, planted, parsed, lexing, readStrict}
+use Rattle.parser.specs.Split.{Slices, splitByGametree}
+use Rattle.parser.specs.Read.{Answer, refused, accepted, Trees, treesSoFar, noTrees, parseGametrees, answer, parseSlices, parsed, lexing, readStrict}
 use Rattle.parser.specs.Balance.{Balanced}
 use Rattle.parser.proofs.Texts.{text-long}
 use Rattle.reader_exactly.specs.Slicing.{Any, slicesFrom, Uncovered, Deep}
@@ -52,11 +52,11 @@ module _ (t : List ℕ) where
   AnswerWhy (accepted ts) = Unit {0}
 
   -- the trees
-  tree-why : Splits t → (x : Growing) → AllWhy (slicesFrom 0 toks) x → AnswerWhy (answer x)
-  tree-why s (growing n ts) w = tt
-  tree-why s (failing r) w = go r w
+  tree-why : Splits t → (x : Trees) → AllWhy (slicesFrom 0 toks) x → AnswerWhy (answer x)
+  tree-why s (treesSoFar n ts) w = tt
+  tree-why s (noTrees r) w = go r w
     where
-      go : (r : Reason) → AllWhy (slicesFrom 0 toks) (failing r) → Why r 0
+      go : (r : Reason) → AllWhy (slicesFrom 0 toks) (noTrees r) → Why r 0
       go TextTooLong w = absurd (w .holds)
       go notUtf8 w = absurd (w .holds)
       go MissingPropertyIdentifier w = absurd (w .holds)
@@ -84,10 +84,10 @@ module _ (t : List ℕ) where
       (λ u. said (bare-eight toks u) (l, u, refl))
       (λ b d. said (too-deep toks b d) (l, b, d, refl))
       (λ b n. said (not-deep toks b n)
-      (tree-why (record { lexes = l; balanced = b; shallow = n }) (growAll false (growing 0 []) (slicesFrom 0 toks)) (all-why (slicesFrom 0 toks) (slices-covered toks))))
+      (tree-why (record { lexes = l; balanced = b; shallow = n }) (parseGametrees false (treesSoFar 0 []) (slicesFrom 0 toks)) (all-why (slicesFrom 0 toks) (slices-covered toks))))
     where
-      said : {x : Slices} → slicesOf false toks ≡ x → AnswerWhy (planted false x) → AnswerWhy (parsed false toks)
-      said {x} e h = subst (λ (z : Slices). AnswerWhy (planted false z)) (sym e) h
+      said : {x : Slices} → splitByGametree false toks ≡ x → AnswerWhy (parseSlices false x) → AnswerWhy (parsed false toks)
+      said {x} e h = subst (λ (z : Slices). AnswerWhy (parseSlices false z)) (sym e) h
 
   fault-why : Valid t → (f : Fault) (p : ℕ) → FailsAt t f p → Why (reasonOf f) p
   fault-why v no-identifier p x = (v, x)
@@ -95,7 +95,7 @@ module _ (t : List ℕ) where
   fault-why v unclosed p x = (v, x)
 
   lexing-why : Valid t → (e : End) → tokensOf t .end ≡ e → AnswerWhy (lexing false e toks)
-  lexing-why v done q = parsed-why (record { valid = v; calm = q })
+  lexing-why v done q = parsed-why (record { valid = v; faultless = q })
   lexing-why v (broken f p) q = fault-why v f p (broken-fails t f p q)
 
   pub read-why : AnswerWhy (readStrict t)

@@ -13,9 +13,9 @@ use Rattle.lexer.specs.declared.Step.the-variants.{Refused}
 use Rattle.lexer_laws.specs.Reach.{Reaches}
 use Rattle.tables.specs.Numbers.{textLimit, none}
 use Rattle.tables.specs.Record.{Node, Tree}
-use Rattle.parser.specs.Kind.{GM, props, named, numbered, is, kind}
+use Rattle.parser.specs.Game.{GM, props, propsNamed, isI32, is, findGametype}
 use Rattle.parser.specs.Walk.{Walk, walk, children, walked}
-use Rattle.parser.specs.Read.{growing, growAll}
+use Rattle.parser.specs.Read.{treesSoFar, parseGametrees}
 use Rattle.parser.specs.Balance.{starts, ends, Covered, Balanced}
 use Rattle.reader_exactly.specs.Slicing.{Any, slicesFrom, Deep}
 
@@ -34,7 +34,7 @@ tokensIn t (NotUtf8 p) = record { toks = []; end = done }
 abbrev pub tokensOf : List ℕ → Lexed
 tokensOf t = tokensIn t (trimmed t)
 
--- trimming keeps the text from `first` to `last`; a place is reached by tokens from there, and the next token fails so, at p
+-- trimming keeps the text from `first` to `last`; a place is reached by tokens from there, and the next token fails so, at p (SCOPE 34-36)
 pub record FailsAt (t : List ℕ) (f : Fault) (p : ℕ) : Type 0 where
   pub first : ℕ
   pub last : ℕ
@@ -46,14 +46,14 @@ pub record FailsAt (t : List ℕ) (f : Fault) (p : ℕ) : Type 0 where
 -- none of 1 to 5
 pub record Lexes (t : List ℕ) : Type 0 where
   pub valid : Valid t
-  pub calm : tokensOf t .end ≡ done
+  pub faultless : tokensOf t .end ≡ done
 
--- no prefix has more ends than starts, but starts and ends differ in number
+-- no prefix has more ends than starts, but starts and ends differ in number (SCOPE 38)
 pub record Unclosed (ts : List Tok) : Type 0 where
   pub covered : Covered 0 ts
   pub differ : starts ts ≡ ends ts → ⊥
 
--- neither a start nor an end
+-- neither a start nor an end (SCOPE 39)
 pub record Bare (ts : List Tok) : Type 0 where
   pub no-start : starts ts ≡ 0
   pub no-end : ends ts ≡ 0
@@ -72,18 +72,18 @@ pub record First (P : ℕ → List Tok → Type 0) (ss : List (List Tok)) : Type
   pub are : ss ≡ before ++ (slice ∷ after)
   pub nodes : ℕ
   pub trees : List Tree
-  pub grown : growAll false (growing 0 []) before ≡ growing nodes trees
+  pub trees-are : parseGametrees false (treesSoFar 0 []) before ≡ treesSoFar nodes trees
   pub holds : P nodes slice
 
 -- the GM properties that the game type is taken from
 abbrev pub games : List Tok → List Prop
-games s = named GM (props (drop 2 s))
+games s = propsNamed GM (props (drop 2 s))
 
 -- one value that is an optional sign and digits within i32
 abbrev pub Numeric : List Val → Type 0
-Numeric vs = (v : Val) × (vs ≡ v ∷ []) × (numbered (decimalOf (2 ^ 31 - 1) (readValue (v .raw))) ≡ true)
+Numeric vs = (v : Val) × (vs ≡ v ∷ []) × (isI32 (decimalOf (2 ^ 31 - 1) (readValue (v .raw))) ≡ true)
 
--- 12: there is one, without such a value
+-- 12: there is one, without such a value (SCOPE 43)
 abbrev pub WrongGame : List Tok → Type 0
 WrongGame s = (p : Prop) × (games s ≡ p ∷ []) × (Numeric (p .vals) → ⊥)
 
@@ -94,12 +94,12 @@ TwoGames s = 2 ≤ length (games s)
 -- the game type is taken, and the walk comes behind the tokens `front` of the slice to `t`
 pub record Comes (base : ℕ) (s front : List Tok) (t : Tok) (w : Walk) : Type 0 where
   pub type : ℕ
-  pub typed : kind s ≡ is type
+  pub typed : findGametype s ≡ is type
   pub rest : List Tok
   pub are : s ≡ front ++ (t ∷ rest)
   pub walked-to : walked false base (walk none [] false []) front ≡ w
 
--- 10: a start, where the list on top of the stack is empty
+-- 10: a start, where the list on top of the stack is empty (SCOPE 41)
 abbrev pub StartsEmpty : (base : ℕ) → List Tok → Type 0
 StartsEmpty base s =
     (front : List Tok) × (o cur y : ℕ) × (st : List ℕ) × (g : Bool) × (ns : List Node)
@@ -110,7 +110,7 @@ abbrev pub Loose : (base : ℕ) → List Tok → Type 0
 Loose base s =
     (front : List Tok) × (p : Prop) × (e cur : ℕ) × (st : List ℕ) × (ns : List Node) × Comes base s front (prop p e) (walk cur st false ns)
 
--- 11: by the game type, or by the tree
+-- 11: by the game type, or by the tree (SCOPE 42)
 abbrev pub Unexpected : (base : ℕ) → List Tok → Type 0
 Unexpected base s = TwoGames s ⊎ Loose base s
 
@@ -122,10 +122,10 @@ nodes (end o ∷ ts) = nodes ts
 nodes (node o ∷ ts) = suc (nodes ts)
 nodes (prop p e ∷ ts) = nodes ts
 
--- 7 of the tree: the game type is taken, the walk ends, and the slice has no node
+-- 7 of the tree: the game type is taken, the walk ends, and the slice has no node (SCOPE 38)
 pub record Nodeless (base : ℕ) (s : List Tok) : Type 0 where
   pub type : ℕ
-  pub typed : kind s ≡ is type
+  pub typed : findGametype s ≡ is type
   pub cur : ℕ
   pub stack : List ℕ
   pub gate : Bool

@@ -4,7 +4,7 @@ use Rattle.lists.specs.All.{All}
 use Rattle.lists.proofs.All.{all-append}
 use Rattle.lists.proofs.Tests.{and-both}
 use Rattle.text_utf8.proofs.Steps.{place}
-use Rattle.lexer.specs.Token.{Val, Prop, Tok, St, between, ident, value, after, fault, Out, starts, begins, values, afters, step, emits, ends, finish, lexFrom}
+use Rattle.lexer.specs.Token.{Val, Prop, Tok, St, between, ident, value, after, fault, Out, propertyState, begins, values, afters, step, emits, stateAfter, finish, lexFrom}
 use Rattle.lexer_scan.specs.Scan.{space}
 use Rattle.lexer_laws.proofs.Invariant.{OfTok}
 use Rattle.fit_spans.specs.Spans.{span, plainName}
@@ -35,7 +35,7 @@ module _ (used : ℕ) where
   abbrev Gives : (m o : ℕ) → List Tok → St → Type 0
   Gives m o ts st = (n : ℕ) × Climb used m n (spansOf (propsOf ts)) × All (OfTok Plain) ts × Good n o st
 
-  good-starts : (c high : Bool) (m s : ℕ) (w : List ℕ) (o b : ℕ) → eqb b 0x5b ≡ c → leb 0x80 b ≡ high → o < used → m ≤ s → s ≤ o → plainName w ≡ true → Good m (suc o) (starts c high s w o b)
+  good-starts : (c high : Bool) (m s : ℕ) (w : List ℕ) (o b : ℕ) → eqb b 0x5b ≡ c → leb 0x80 b ≡ high → o < used → m ≤ s → s ≤ o → plainName w ≡ true → Good m (suc o) (propertyState c high s w o b)
   good-starts true high m s w o b e h l a z p = ((a, z, omega arith, omega arith), omega arith, p)
   good-starts false true m s w o b e h l a z p = tt
   good-starts false false m s w o b e h l a z p = (a, omega arith, plain-more w b h e p)
@@ -84,11 +84,11 @@ module _ (used : ℕ) where
   gives-more m n o xs ys st h a (k, b, c, d) =
       (k, rw (props-append xs ys, spans-append (propsOf xs) (propsOf ys)) (climb-append used m n k (spansOf (propsOf xs)) (spansOf (propsOf ys)) h b), all-append (OfTok Plain) xs ys a c, d)
 
-  good-run : (m : ℕ) (st : St) (o : ℕ) (bs : List ℕ) → o + length bs ≤ used → Good m o st → Gives m (place o bs) (emits st o bs) (ends st o bs)
+  good-run : (m : ℕ) (st : St) (o : ℕ) (bs : List ℕ) → o + length bs ≤ used → Good m o st → Gives m (place o bs) (emits st o bs) (stateAfter st o bs)
   good-run m st o [] l h = (m, omega arith, tt, h)
   good-run m st o (b ∷ bs) l h =
       let s = good-step m st o b (omega arith) h in
-      gives-more m (s .0) (place (suc o) bs) (step st o b .toks) (emits (step st o b .next) (suc o) bs) (ends (step st o b .next) (suc o) bs) (s .1) (s .2)
+      gives-more m (s .0) (place (suc o) bs) (step st o b .toks) (emits (step st o b .next) (suc o) bs) (stateAfter (step st o b .next) (suc o) bs) (s .1) (s .2)
       (good-run (s .0) (step st o b .next) (suc o) bs (omega arith) (s .3))
 
   -- of all tokens: their spans, and their identifiers
@@ -105,7 +105,7 @@ module _ (used : ℕ) where
   pub tokens-ascend : (f l : ℕ) (bs : List ℕ) → f + length bs ≤ used → Ascend 0 (lexFrom f l bs .toks)
   tokens-ascend f l bs h =
       let r = good-run 0 between f bs h (omega arith) in
-      let e = good-finish (r .0) (ends between f bs) (place f bs) l (r .3) in
+      let e = good-finish (r .0) (stateAfter between f bs) (place f bs) l (r .3) in
       let xs : List Tok = emits between f bs in
-      let ys : List Tok = finish (ends between f bs) l .toks in
+      let ys : List Tok = finish (stateAfter between f bs) l .toks in
       (e .0, rw (props-append xs ys, spans-append (propsOf xs) (propsOf ys)) (climb-append used 0 (r .0) (e .0) (spansOf (propsOf xs)) (spansOf (propsOf ys)) (r .1) (e .1)), all-append (OfTok Plain) xs ys (r .2) (e .2))

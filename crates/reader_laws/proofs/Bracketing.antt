@@ -5,7 +5,7 @@ use Rattle.lists.proofs.All.{all-reverse}
 use Rattle.lists.proofs.Pick.{pick-elim}
 use Rattle.lexer.specs.Token.{Tok, start, end, node, prop}
 use Rattle.tables.specs.Numbers.{depthLimit}
-use Rattle.parser.specs.Split.{Splitting, splitting, over, wrong, ended, splits, split, Slices, no, slices, deep, filled, sliced, slicesOf}
+use Rattle.parser.specs.Split.{Splitting, splitting, over, wrong, ended, splits, split, Slices, no, slices, deep, filled, sliced, splitByGametree}
 use Rattle.reader_laws.proofs.Weights.{propWeight, weight}
 
 abbrev pub startsIn : List Tok → ℕ
@@ -118,5 +118,5 @@ parted-sliced false (splitting (suc d) m cur ss) h = tt
 parted-sliced len (over m ss) h = parted-filled len m ss h
 parted-sliced len (wrong r) h = tt
 
-pub slices-parted : (len : Bool) (ts : List Tok) → Parted len (slicesOf len ts)
+pub slices-parted : (len : Bool) (ts : List Tok) → Parted len (splitByGametree len ts)
 slices-parted len ts = parted-sliced len (split len (splitting 0 0 [] []) ts) (balanced len (splitting 0 0 [] []) ts (refl, tt))

@@ -9,7 +9,7 @@ use Rattle.tables.specs.Columns.{parentAt, childAt, siblingAt}
 use Rattle.tables.specs.Each.{tabulate}
 use Rattle.tables.specs.Memory.{Memory, memory}
 use Rattle.fit.specs.Fit.{Fit}
-use Rattle.fit_nodes.specs.Nodes.{firstUnder, nextOf, childRight, siblingRight}
+use Rattle.fit_nodes.specs.Nodes.{firstUnder, nextSibling, childRight, siblingRight}
 use Rattle.fit.specs.Record.{treeRow, nodeRow, propRow, valRow, rowsOf, treesOf, recordOf, rowsIn}
 use Rattle.tables.proofs.Each.{each-at}
 use Rattle.fit.proofs.Clauses.{Clauses, fit-clauses}
@@ -36,11 +36,11 @@ module _ {s : List ℕ} {c : Counts} {tr nd pr vl : List ℕ} (k : Clauses s c t
       let len : length qs ≡ c .nodes = tabulate-length (parentAt nd) 0 (c .nodes) in
       let e : 0 + length qs - suc i ≡ c .nodes - suc i = omega arith in
       let a = eqb-true (childAt nd i) (firstUnder nd i 0 (c .nodes)) (each-at (childRight nd (c .nodes)) (c .nodes) i (k .children) l) in
-      let b = eqb-true (siblingAt nd i) (nextOf nd (c .nodes) i) (each-at (siblingRight nd (c .nodes)) (c .nodes) i (k .siblings) l) in (
+      let b = eqb-true (siblingAt nd i) (nextSibling nd (c .nodes) i) (each-at (siblingRight nd (c .nodes)) (c .nodes) i (k .siblings) l) in (
         a ∙ ap (firstUnder nd i 0) (sym len) ∙ sym (next-at nd i 0 0 qs (omega arith) (tells nd 0 (c .nodes))),
         b ∙ ap (λ (z : ℕ). pick (eqb (parentAt nd i) none) none z)
             (ap (firstUnder nd (parentAt nd i) (suc i)) (sym e) ∙ sym (next-from nd (parentAt nd i) (suc i) 0 qs (omega arith) (omega arith) (tells nd 0 (c .nodes)))),
-        depths-are {nd = nd} (record { most = k .held .few; rule = k .parents }) qs len
+        depths-are {nd = nd} (record { most = k .held .below-none; rule = k .parents }) qs len
             (λ j h. let z : 0 + j ≡ j = omega arith in sym (tabulate-at (parentAt nd) 0 (c .nodes) j 0 h ∙ ap (parentAt nd) z)) (k .depths) i l,
       )
 

@@ -6,9 +6,9 @@ use Rattle.tables.specs.Record.{Node, Tree, allNodes, allProps, allVals}
 use Rattle.tables.specs.Rows.{tables, parents, countsOf}
 use Rattle.tables.specs.declared.Counts.{Counts}
 use Rattle.tables.specs.declared.Reading.the-variants.{Accepted}
-use Rattle.parser.specs.LocalsSlice.{cut}
+use Rattle.parser.specs.LocalsSlice.{firstSlices}
 use Rattle.parser.specs.Split.{slices}
-use Rattle.parser.specs.Read.{Answer, accepted, lex, read}
+use Rattle.parser.specs.Read.{Answer, accepted, tokenize, read}
 use Rattle.reader.specs.Lent.{Lent, answers}
 use Rattle.reader.proofs.Rooms.{tree-count}
 use Rattle.tables.proofs.Lengths.{prop-rows-length, val-rows-length, node-rows-length}
@@ -22,20 +22,20 @@ use Rattle.reader_laws.proofs.Sizes.{few-toks, toks-have}
 use Rattle.reader_laws.proofs.Spaced.{Spaced, tokens-spaced}
 use Rattle.reader_laws.proofs.Totals.{strict-total, lenient-total}
 
-lex-spaced : (t : List ℕ) (k : Ink) → Spaced false (lex k t .toks)
+lex-spaced : (t : List ℕ) (k : Ink) → Spaced false (tokenize k t .toks)
 lex-spaced t blank = tt
 lex-spaced t (inked f l) = tokens-spaced f l (drop f (take l t))
 
-grew-some : (len : Bool) (base k : ℕ) (us : List Tok) (ts : List Tree) → Grew len base k us ts → 0 < length (cut k us) → 0 < length ts
-unfolding cut
+grew-some : (len : Bool) (base k : ℕ) (us : List Tok) (ts : List Tree) → Grew len base k us ts → 0 < length (firstSlices k us) → 0 < length ts
+unfolding firstSlices
 grew-some len base zero us [] g l = absurd (omega arith)
 grew-some len base (suc k) us [] g l = absurd g
 grew-some len base k us (t ∷ ts) g l = omega arith
 
 -- the slice without a token: one tree of one empty node
-grew-none : (len : Bool) (base k : ℕ) (us : List Tok) (ts : List Tree) → Grew len base k us ts → cut k us ≡ [] ∷ []
+grew-none : (len : Bool) (base k : ℕ) (us : List Tok) (ts : List Tree) → Grew len base k us ts → firstSlices k us ≡ [] ∷ []
     → (length ts ≡ 1) × (allNodes ts ≡ inOrder [])
-unfolding cut
+unfolding firstSlices
 grew-none len base zero us ts g e = never cc
 grew-none len base (suc (suc k)) us ts g e = never cc
 grew-none len base (suc zero) us [] g e = absurd g
@@ -52,8 +52,8 @@ module _ (len : Bool) (t : List ℕ) (ts : List Tree) (h : read len t ≡ accept
   spaced : Spaced false (r .toks)
   spaced = toks-have r (Spaced false) tt (lex-spaced t (r .ink))
 
-  parted : (b : Bool) → len ≡ b → Parted b (slices (cut (r .k) (r .toks)))
-  parted b e = subst (λ (z : Bool). Parted z (slices (cut (r .k) (r .toks)))) e (subst (Parted len) (r .cuts) (slices-parted len (lex (r .ink) t .toks)))
+  parted : (b : Bool) → len ≡ b → Parted b (slices (firstSlices (r .k) (r .toks)))
+  parted b e = subst (λ (z : Bool). Parted z (slices (firstSlices (r .k) (r .toks)))) e (subst (Parted len) (r .cuts) (slices-parted len (tokenize (r .ink) t .toks)))
 
   abbrev c : Counts
   c = countsOf (tables ts)
@@ -85,7 +85,7 @@ module _ (len : Bool) (t : List ℕ) (ts : List Tree) (h : read len t ≡ accept
   pub lenient-enough : len ≡ true → Suffices (lenientRows size) c
   lenient-enough s = go (parted true s)
     where
-      go : (cut (r .k) (r .toks) ≡ [] ∷ []) ⊎ Ending (cut (r .k) (r .toks)) → Suffices (lenientRows size) c
+      go : (firstSlices (r .k) (r .toks) ≡ [] ∷ []) ⊎ Ending (firstSlices (r .k) (r .toks)) → Suffices (lenientRows size) c
       go (inl e) =
           let x = grew-none len 0 (r .k) (r .toks) ts (r .grew) e in
           let n = ap (λ (ns : List Node). length ns) (x .1) in

@@ -1,7 +1,7 @@
 -- The tables of an accepted reading fit its text, strict or lenient. Assumes nothing.
 use Rattle.lists.proofs.Prelude.{_≡_, sym, ap, _∙_, ℕ, _≤_, arith, true, List, _++_, length, take, length-append, take-length, Bool}
 use Rattle.text_utf8.specs.Text.{Utf}
-use Rattle.text_utf8.specs.Trim.{trimmed, shown}
+use Rattle.text_utf8.specs.Trim.{trimmed, trimOf}
 use Rattle.lexer.specs.Token.{Prop}
 use Rattle.tables.specs.Flat.{flatTrees, flatNodes, flatProps, flatVals}
 use Rattle.tables.specs.Record.{Node, Tree, allNodes, allProps, allVals}
@@ -21,7 +21,7 @@ use Rattle.tables.proofs.Lengths.{prop-rows-length, val-rows-length}
 use Rattle.reader.proofs.Plants.{tree-length}
 use Rattle.parser_tree.proofs.Flats.{prop-length, val-length}
 use Rattle.reader_laws.proofs.Accepted.{Reading, reading-is}
-use Rattle.reader_laws.proofs.Nodes.{roots-fit, parents-fit, kinds-fit}
+use Rattle.reader_laws.proofs.Nodes.{roots-fit, parents-fit, games-fit}
 use Rattle.reader_laws.proofs.Sizes.{nodes-most}
 use Rattle.reader_laws.proofs.Spans.{names-fit, have-values, ascent-fits, values-fit}
 use Rattle.fit.proofs.Whole.{whole-sound}
@@ -63,19 +63,19 @@ module _ (len : Bool) (t : List ℕ) (ts : List Tree) (h : read len t ≡ accept
 
   valid : validUtf8 t ≡ true
   unfolding trimmed
-  valid = ap (λ (u : Utf). sound (shown u)) (r .valid) ∙ whole-sound (r .ink)
+  valid = ap (λ (u : Utf). sound (trimOf u)) (r .valid) ∙ whole-sound (r .ink)
 
   clauses : Room c (lent tr nd pr vl) → Clauses t c tr nd pr vl
   clauses room =
       record {
-        held = record { trees = room .trees; nodes = room .nodes; few = rw nodes-are (nodes-most r); properties = room .props; values = room .vals };
+        held = record { trees = room .trees; nodes = room .nodes; below-none = rw nodes-are (nodes-most r); properties = room .props; values = room .vals };
         short = r .short;
         utf8 = valid;
         roots = rw (trees-counted, nodes-are) (roots-fit r tr nd tree-rows node-rows);
         parents = rw nodes-are (parents-fit r tr nd tree-rows node-rows);
         children = record-children c tr nd pr vl ts rows;
         siblings = record-siblings c tr nd pr vl ts rows;
-        kinds = rw trees-counted (kinds-fit r tr nd tree-rows node-rows);
+        games = rw trees-counted (games-fit r tr nd tree-rows node-rows);
         depths = record-depths c tr nd pr vl ts rows (rw nodes-are (parents-fit r tr nd tree-rows node-rows)) (rw nodes-are (nodes-most r));
         node-ranges = record-properties c tr nd pr vl ts rows;
         prop-ranges = record-values c tr nd pr vl ts rows;

@@ -5,9 +5,9 @@ use Rattle.lists.specs.Same.{same}
 use Rattle.tables.specs.Numbers.{none}
 use Rattle.tables.specs.Record.{Node, Tree, allNodes}
 use Rattle.tables.specs.Rows.{TreeRow, NodeRow, treeRows, nodeRows, parents}
-use Rattle.tables.specs.Columns.{rootAt, kindAt, parentAt}
+use Rattle.tables.specs.Columns.{rootAt, gameAt, parentAt}
 use Rattle.tables.specs.Each.{each, tabulate}
-use Rattle.fit_nodes.specs.Nodes.{orphans, rootsRight, parentRight, kindRight}
+use Rattle.fit_nodes.specs.Nodes.{orphans, rootsRight, parentRight, gameRight}
 use Rattle.fit.specs.Record.{treeRow, nodeRow}
 use Rattle.tables.proofs.Cases.{below-or}
 use Rattle.lists.proofs.Tests.{same-or}
@@ -117,12 +117,12 @@ roots-are tr b (t ∷ ts) e = ap₂ (λ (x : ℕ) (xs : List ℕ). x ∷ xs) (ap
 
 -- ---- game types
 
-kinds-are : (tr : List ℕ) (b : ℕ) (ts : List Tree) → tabulate (treeRow tr) b (length ts) ≡ treeRows ts → All (λ t. t .kind ≤ 1) ts → (i : ℕ) → b ≤ i → i < b + length ts → kindAt tr i ≤ 1
+games-are : (tr : List ℕ) (b : ℕ) (ts : List Tree) → tabulate (treeRow tr) b (length ts) ≡ treeRows ts → All (λ t. t .game ≤ 1) ts → (i : ℕ) → b ≤ i → i < b + length ts → gameAt tr i ≤ 1
 unfolding tabulate
-kinds-are tr b [] e h i a l = absurd (omega arith)
-kinds-are tr b (t ∷ ts) e h i a l =
-    let k : kindAt tr b ≡ t .kind = ap (λ (z : TreeRow). z .kind) (head-eq-of-cons-eq e) in
-    same-or i b (λ w. omega (arith, ap (kindAt tr) w, k, h .0)) (λ w. kinds-are tr (suc b) ts (tail-eq-of-cons-eq e) (h .1) i (omega arith) (omega arith))
+games-are tr b [] e h i a l = absurd (omega arith)
+games-are tr b (t ∷ ts) e h i a l =
+    let k : gameAt tr b ≡ t .game = ap (λ (z : TreeRow). z .game) (head-eq-of-cons-eq e) in
+    same-or i b (λ w. omega (arith, ap (gameAt tr) w, k, h .0)) (λ w. games-are tr (suc b) ts (tail-eq-of-cons-eq e) (h .1) i (omega arith) (omega arith))
 
 -- ---- of a reading
 
@@ -143,7 +143,7 @@ module _ {len : Bool} {t : List ℕ} {ts : List Tree} (r : Reading len t ts) (tr
       let h = each-tree r (λ x. Ruled (x .root) (x .nodes)) (λ us x k e b. rw e (ruled-order (x .root) (walkOf len (x .root) (sliceFrom 0 us)) (walk-ruled (x .root) len (sliceFrom 0 us)))) in
       each-all (parentRight nd) (length (allNodes ts)) (λ i l. trees-ruled nd 0 ts rooted h has (omega (arith, nodes-most r)) i (omega arith) (omega arith))
 
-  pub kinds-fit : each (length ts) (kindRight tr) ≡ true
-  kinds-fit =
-      let h = each-tree r (λ x. x .kind ≤ 1) (λ us x k e b. k) in
-      each-all (kindRight tr) (length ts) (λ i l. le-leb (kindAt tr i) 1 (kinds-are tr 0 ts trees h i (omega arith) (omega arith)))
+  pub games-fit : each (length ts) (gameRight tr) ≡ true
+  games-fit =
+      let h = each-tree r (λ x. x .game ≤ 1) (λ us x k e b. k) in
+      each-all (gameRight tr) (length ts) (λ i l. le-leb (gameAt tr i) 1 (games-are tr 0 ts trees h i (omega arith) (omega arith)))

@@ -3,7 +3,7 @@ use Rattle.lists.proofs.Prelude.{_≡_, ap, subst, ℕ, _-_, arith, true, false
 use Rattle.lists.specs.All.{All}
 use Rattle.lists.proofs.All.{all-append, all-left, all-right}
 use Rattle.text_utf8.specs.Text.{Ink, blank, inked, whole, utfs}
-use Rattle.text_utf8.specs.Trim.{trimmed, shown}
+use Rattle.text_utf8.specs.Trim.{trimmed, trimOf}
 use Rattle.text_utf8.proofs.Extent.{trim-bounds}
 use Rattle.lexer.specs.Closed.{closedFrom}
 use Rattle.lexer.specs.Token.{Val, Prop, Tok, start, end, node, prop}
@@ -11,8 +11,8 @@ use Rattle.lexer_laws.proofs.Contents.{Stands, Denotes}
 use Rattle.lexer_laws.proofs.Invariant.{OfTok}
 use Rattle.lexer_laws.proofs.Proper.{Proper, HasProper}
 use Rattle.tables.specs.Record.{Tree, allNodes, allProps, allVals}
-use Rattle.fit_spans.specs.Spans.{ascending, plainName, boxed}
-use Rattle.parser.specs.Read.{accepted, lex, read}
+use Rattle.fit_spans.specs.Spans.{ascending, plainName, inBracketsClosed}
+use Rattle.parser.specs.Read.{accepted, tokenize, read}
 use Rattle.parser.proofs.Denoted.{read-denotes}
 use Rattle.reader_laws.proofs.Accepted.{Reading, reading-is}
 use Rattle.reader_laws.proofs.Ascends.{Plain, Ascend, tokens-ascend}
@@ -24,15 +24,15 @@ use Rattle.reader_laws.proofs.Thinned.{Thins, reading-thin}
 -- ---- of the tokens
 
 module _ (t : List ℕ) where
-  lex-boxed : (k : Ink) → All (OfTok (AllBoxed t)) (lex k t .toks)
+  lex-boxed : (k : Ink) → All (OfTok (AllBoxed t)) (tokenize k t .toks)
   lex-boxed blank = tt
   lex-boxed (inked f l) = tokens-boxed t f l
 
-  lex-ascend : (k : Ink) → utfs (whole blank) 0 t ≡ whole k → Ascend (length t) 0 (lex k t .toks)
+  lex-ascend : (k : Ink) → utfs (whole blank) 0 t ≡ whole k → Ascend (length t) 0 (tokenize k t .toks)
   unfolding trimmed
   lex-ascend blank h = (0, omega arith, tt)
   lex-ascend (inked f l) h =
-      let b = trim-bounds t f l (ap shown h) in
+      let b = trim-bounds t f l (ap trimOf h) in
       tokens-ascend (length t) f l (drop f (take l t)) (omega (arith, b .0, b .1, length-drop f (take l t), length-take-le l t (b .1)))
 
 -- ---- from the tokens to the record
@@ -64,8 +64,8 @@ module _ (len : Bool) (t : List ℕ) (ts : List Tree) (h : read len t ≡ accept
   abbrev ps : List Prop
   ps = allProps (allNodes ts)
 
-  reading-all : (P : Prop → Type 0) → All (OfTok P) (lex (r .ink) t .toks) → All P ps
-  reading-all P a = reading-thin len (All P) (all-thin P) r (all-props P (lex (r .ink) t .toks) a)
+  reading-all : (P : Prop → Type 0) → All (OfTok P) (tokenize (r .ink) t .toks) → All P ps
+  reading-all P a = reading-thin len (All P) (all-thin P) r (all-props P (tokenize (r .ink) t .toks) a)
 
   pub props-ascend : ascending (length t) 0 (spansOf ps) ≡ true
   props-ascend =
@@ -82,18 +82,18 @@ module _ (len : Bool) (t : List ℕ) (ts : List Tree) (h : read len t ≡ accept
       go [] d a = tt
       go (q ∷ qs) d a = (subst (λ (z : List ℕ). plainName z ≡ true) (d .0 .0) (a .0), go qs (d .1) (a .1))
 
-  value-boxed : (v : Val) → Stands t v → Proper v → Boxed t v → boxed t (v .from) (v .to) ≡ true
+  value-boxed : (v : Val) → Stands t v → Proper v → Boxed t v → inBracketsClosed t (v .from) (v .to) ≡ true
   value-boxed v s p b =
       let c : closedFrom false (slice (v .from) (v .to) t) ≡ true = subst (λ (z : List ℕ). closedFrom false z ≡ true) s (p .0) in
       rw (lt-ltb 0 (v .from) (b .0 .0), eq-eqb (getD t (v .from - 1) 0) 0x5b (b .0 .1), eq-eqb (getD t (v .to) 0) 0x5d (b .1)) c
 
-  pub values-boxed : All (λ v. boxed t (v .from) (v .to) ≡ true) (allVals ps)
-  values-boxed = all-values (λ v. boxed t (v .from) (v .to) ≡ true) ps (go ps (read-denotes len t ts h) props-proper (reading-all (AllBoxed t) (lex-boxed t (r .ink))))
+  pub values-boxed : All (λ v. inBracketsClosed t (v .from) (v .to) ≡ true) (allVals ps)
+  values-boxed = all-values (λ v. inBracketsClosed t (v .from) (v .to) ≡ true) ps (go ps (read-denotes len t ts h) props-proper (reading-all (AllBoxed t) (lex-boxed t (r .ink))))
     where
-      each-value : (vs : List Val) → All (Stands t) vs → All Proper vs → All (Boxed t) vs → All (λ v. boxed t (v .from) (v .to) ≡ true) vs
+      each-value : (vs : List Val) → All (Stands t) vs → All Proper vs → All (Boxed t) vs → All (λ v. inBracketsClosed t (v .from) (v .to) ≡ true) vs
       each-value [] s p b = tt
       each-value (v ∷ vs) s p b = (value-boxed v (s .0) (p .0) (b .0), each-value vs (s .1) (p .1) (b .1))
 
-      go : (qs : List Prop) → All (Denotes t) qs → All HasProper qs → All (AllBoxed t) qs → All (λ p. All (λ v. boxed t (v .from) (v .to) ≡ true) (p .vals)) qs
+      go : (qs : List Prop) → All (Denotes t) qs → All HasProper qs → All (AllBoxed t) qs → All (λ p. All (λ v. inBracketsClosed t (v .from) (v .to) ≡ true) (p .vals)) qs
       go [] d p b = tt
       go (q ∷ qs) d p b = (each-value (q .vals) (d .0 .1) (p .0 .1) (b .0), go qs (d .1) (p .1) (b .1))

@@ -8,7 +8,7 @@ use Rattle.lexer_laws.proofs.Proper.{HasProper, proper-tokens}
 use Rattle.tables.specs.Numbers.{none}
 use Rattle.tables.specs.Record.{Node, Tree, allNodes}
 use Rattle.parser.specs.LocalsSlice.{sliceFrom, restFrom}
-use Rattle.parser.specs.Read.{lex}
+use Rattle.parser.specs.Read.{tokenize}
 use Rattle.reader_laws.proofs.Grown.{Grew, walkOf, inOrder}
 use Rattle.reader_laws.proofs.Accepted.{Reading}
 use Rattle.reader_laws.proofs.Walks.{Kept, keep-walk}
@@ -66,30 +66,30 @@ grew-few len base (suc k) us (t ∷ ts) g =
 
 -- what holds of the tree of each slice; its nodes' numbers are below none
 grew-each : (len : Bool) (P : Tree → Type 0)
-    → ((us : List Tok) (t : Tree) → t .kind ≤ 1 → t .nodes ≡ inOrder (walkOf len (t .root) (sliceFrom 0 us)) → t .root + length (sliceFrom 0 us) ≤ none → P t)
+    → ((us : List Tok) (t : Tree) → t .game ≤ 1 → t .nodes ≡ inOrder (walkOf len (t .root) (sliceFrom 0 us)) → t .root + length (sliceFrom 0 us) ≤ none → P t)
     → (base k : ℕ) (us : List Tok) (ts : List Tree) → Grew len base k us ts → base + length us + k ≤ none → All P ts
 grew-each len P f base zero us [] g b = tt
 grew-each len P f base zero us (t ∷ ts) g b = absurd g
 grew-each len P f base (suc k) us [] g b = absurd g
 grew-each len P f base (suc k) us (t ∷ ts) g b =
     let e : t .nodes ≡ inOrder (walkOf len (t .root) (sliceFrom 0 us)) = rw (g .0 .root) (g .0 .nodes) in (
-      f us t (g .0 .kind) e (omega (arith, g .0 .root, slice-room len base us (t .nodes) (g .0 .nodes))),
+      f us t (g .0 .game) e (omega (arith, g .0 .root, slice-room len base us (t .nodes) (g .0 .nodes))),
       grew-each len P f (base + length (t .nodes)) k (restFrom 0 us) ts (g .1) (omega (arith, tree-room len base us (t .nodes) (g .0 .nodes))),
     )
 
 -- ---- tokens and bytes
 
-pub lex-proper : (t : List ℕ) (k : Ink) → utfs (whole blank) 0 t ≡ whole k → All (OfTok HasProper) (lex k t .toks)
+pub lex-proper : (t : List ℕ) (k : Ink) → utfs (whole blank) 0 t ≡ whole k → All (OfTok HasProper) (tokenize k t .toks)
 lex-proper t blank h = tt
 lex-proper t (inked f l) h = proper-tokens t (inked f l) h f l
 
-lex-weighs : (t : List ℕ) (k : Ink) → weight (lex k t .toks) ≤ length t
+lex-weighs : (t : List ℕ) (k : Ink) → weight (tokenize k t .toks) ≤ length t
 lex-weighs t blank = omega arith
 lex-weighs t (inked f l) = omega (arith, tokens-weigh f l (drop f (take l t)), length-drop f (take l t), length-take l t)
 
 module _ {len : Bool} {t : List ℕ} {ts : List Tree} (r : Reading len t ts) where
   -- the tokens that slices are cut from have what all tokens have
-  pub toks-have : (P : List Tok → Type 0) → P [] → P (lex (r .ink) t .toks) → P (r .toks)
+  pub toks-have : (P : List Tok → Type 0) → P [] → P (tokenize (r .ink) t .toks) → P (r .toks)
   toks-have P a b = elim (r .from) [ inl e ↦ subst P (sym e) b | inr e ↦ subst P (sym e) a ]
 
   pub proper-toks : All (OfTok HasProper) (r .toks)
@@ -99,11 +99,11 @@ module _ {len : Bool} {t : List ℕ} {ts : List Tree} (r : Reading len t ts) whe
   few-toks = toks-have (λ us. weight us ≤ length t) (omega arith) (lex-weighs t (r .ink))
 
   room : length (r .toks) + r .k ≤ none
-  room = omega (arith, r .few, fewer-tokens (r .toks) proper-toks, few-toks, r .short)
+  room = omega (arith, r .bound, fewer-tokens (r .toks) proper-toks, few-toks, r .short)
 
   -- what holds of the tree of each slice
   pub each-tree : (P : Tree → Type 0)
-      → ((us : List Tok) (t : Tree) → t .kind ≤ 1 → t .nodes ≡ inOrder (walkOf len (t .root) (sliceFrom 0 us)) → t .root + length (sliceFrom 0 us) ≤ none → P t) → All P ts
+      → ((us : List Tok) (t : Tree) → t .game ≤ 1 → t .nodes ≡ inOrder (walkOf len (t .root) (sliceFrom 0 us)) → t .root + length (sliceFrom 0 us) ≤ none → P t) → All P ts
   each-tree P f = grew-each len P f 0 (r .k) (r .toks) ts (r .grew) (omega (arith, room))
 
   pub nodes-most : length (allNodes ts) ≤ none

@@ -1,6 +1,6 @@
 -- A property token directly behind another has an identifier that is not empty. Assumes nothing.
 use Rattle.lists.proofs.Prelude.{_≡_, refl, sym, _∙_, ℕ, suc, _<_, arith, Bool, true, false, true≢false, List, [], _∷_, _++_, append-assoc, leb, eqb, length, length-append}
-use Rattle.lexer.specs.Token.{Val, Prop, Tok, start, end, node, prop, St, between, ident, value, after, fault, Out, starts, begins, values, afters, step, emits, ends, finish, lexFrom}
+use Rattle.lexer.specs.Token.{Val, Prop, Tok, start, end, node, prop, St, between, ident, value, after, fault, Out, propertyState, begins, values, afters, step, emits, stateAfter, finish, lexFrom}
 use Rattle.lexer_scan.specs.Scan.{space}
 
 -- b: there is a property directly before these tokens
@@ -30,7 +30,7 @@ Fine b (fault f s) = Unit {0}
 abbrev Gives : Bool → Out → Type 0
 Gives b t = (c : Bool) × Fine c (t .next) × ((ts : List Tok) → Spaced c ts → Spaced b (t .toks ++ ts))
 
-fine-starts : (c high b : Bool) (s : ℕ) (w : List ℕ) (o x : ℕ) → (c ≡ true → b ≡ true → 0 < length w) → Fine b (starts c high s w o x)
+fine-starts : (c high b : Bool) (s : ℕ) (w : List ℕ) (o x : ℕ) → (c ≡ true → b ≡ true → 0 < length w) → Fine b (propertyState c high s w o x)
 fine-starts true high b s w o x h = h refl
 fine-starts false true b s w o x h = tt
 fine-starts false false b s w o x h = omega (arith, length-append w (x ∷ []))
@@ -75,13 +75,13 @@ spaced-finish b (value s i w vs esc v r) l h = tt
 spaced-finish b (after p) l h = (h .0, h .1, tt)
 spaced-finish b (fault f s) l h = tt
 
-spaced-run : (b : Bool) (st : St) (o l : ℕ) (bs : List ℕ) → Fine b st → Spaced b (emits st o bs ++ finish (ends st o bs) l .toks)
+spaced-run : (b : Bool) (st : St) (o l : ℕ) (bs : List ℕ) → Fine b st → Spaced b (emits st o bs ++ finish (stateAfter st o bs) l .toks)
 spaced-run b st o l [] h = spaced-finish b st l h
 spaced-run b st o l (x ∷ bs) h =
     let r = give-step b st o x h in
     let n : St = step st o x .next in
-    rw (append-assoc (step st o x .toks) (emits n (suc o) bs) (finish (ends n (suc o) bs) l .toks))
-    (r .2 (emits n (suc o) bs ++ finish (ends n (suc o) bs) l .toks) (spaced-run (r .0) n (suc o) l bs (r .1)))
+    rw (append-assoc (step st o x .toks) (emits n (suc o) bs) (finish (stateAfter n (suc o) bs) l .toks))
+    (r .2 (emits n (suc o) bs ++ finish (stateAfter n (suc o) bs) l .toks) (spaced-run (r .0) n (suc o) l bs (r .1)))
 
 pub tokens-spaced : (f l : ℕ) (bs : List ℕ) → Spaced false (lexFrom f l bs .toks)
 tokens-spaced f l bs = spaced-run false between f l bs refl

@@ -10,7 +10,7 @@ use Rattle.tables.specs.Columns.{nameFromAt, nameToAt, valCountAt, valFromAt, v
 use Rattle.tables.specs.Each.{each, tabulate}
 use Rattle.fit_spans.specs.Ranges.{hasValue}
 use Rattle.fit.specs.Record.{propRow, valRow}
-use Rattle.fit_spans.specs.Spans.{Span, span, valSpan, propSpans, spans, ascending, plainName, nameRight, boxed, valueRight}
+use Rattle.fit_spans.specs.Spans.{Span, span, valSpan, propSpans, spans, ascending, plainName, nameRight, inBracketsClosed, valueRight}
 use Rattle.lists.proofs.Tests.{same-or}
 use Rattle.tables.proofs.Each.{each-all}
 use Rattle.parser.specs.Read.{accepted, read}
@@ -86,4 +86,4 @@ module _ (len : Bool) (t : List ℕ) (ts : List Tree) (h : read len t ≡ accept
   pub values-fit : tabulate (valRow vl) 0 (length (allVals ps)) ≡ valRows (allVals ps) → each (length (allVals ps)) (valueRight t vl) ≡ true
   values-fit vals =
       each-all (valueRight t vl) (length (allVals ps))
-      (λ i l. value-each (λ a e. boxed t a e ≡ true) vl 0 (allVals ps) vals (values-boxed len t ts h) i (omega arith) (omega arith))
+      (λ i l. value-each (λ a e. inBracketsClosed t a e ≡ true) vl 0 (allVals ps) vals (values-boxed len t ts h) i (omega arith) (omega arith))

@@ -4,7 +4,7 @@ use Rattle.lexer.specs.Token.{Prop, Tok}
 use Rattle.tables.specs.Numbers.{none}
 use Rattle.tables.specs.Record.{Node, Tree, allNodes, allProps}
 use Rattle.parser.specs.LocalsSlice.{sliceFrom, restFrom}
-use Rattle.parser.specs.Read.{lex}
+use Rattle.parser.specs.Read.{tokenize}
 use Rattle.parser_tree.proofs.Flats.{props-append as nodes-append}
 use Rattle.reader_laws.proofs.Accepted.{Reading}
 use Rattle.reader_laws.proofs.Climbs.{propsOf, props-append}
@@ -79,7 +79,7 @@ module _ (len : Bool) (Q : List Prop → Type 0) (thin : Thins Q) where
       rw (nodes-append (t .nodes) (allNodes ts)) (subst Q (append-assoc A own (allProps (allNodes ts))) b)
 
   -- from the tokens to the record
-  pub reading-thin : {t : List ℕ} {ts : List Tree} (r : Reading len t ts) → Q (propsOf (lex (r .ink) t .toks)) → Q (allProps (allNodes ts))
+  pub reading-thin : {t : List ℕ} {ts : List Tree} (r : Reading len t ts) → Q (propsOf (tokenize (r .ink) t .toks)) → Q (allProps (allNodes ts))
   reading-thin {t} {ts} r h =
-      let q : Q (propsOf (r .toks)) = toks-have r (λ us. Q (propsOf us)) (thin-all Q thin [] (propsOf (lex (r .ink) t .toks)) h) h in
+      let q : Q (propsOf (r .toks)) = toks-have r (λ us. Q (propsOf us)) (thin-all Q thin [] (propsOf (tokenize (r .ink) t .toks)) h) h in
       grew-thin 0 (r .k) (r .toks) ts [] (r .grew) q

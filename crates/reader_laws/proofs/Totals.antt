@@ -3,7 +3,7 @@ use Rattle.lists.proofs.Prelude.{_≡_, refl, sym, ap, _∙_, subst, ℕ, zero,
 use Rattle.lists.specs.All.{All}
 use Rattle.lexer.specs.Token.{Tok, start, end, node, prop}
 use Rattle.tables.specs.Record.{Node, Tree, allNodes, allProps}
-use Rattle.parser.specs.LocalsSlice.{sliceFrom, restFrom, cut}
+use Rattle.parser.specs.LocalsSlice.{sliceFrom, restFrom, firstSlices}
 use Rattle.parser_tree.proofs.Flats.{props-append}
 use Rattle.reader_laws.proofs.Bracketing.{startsIn, endsIn, inner, weight-parts, Complete, Ending}
 use Rattle.reader_laws.proofs.Grown.{FromSlice, Grew, walkOf, inOrder}
@@ -85,8 +85,8 @@ module _ (t : Tree) (ts : List Tree) where
 abbrev pub StrictTotal : ℕ → List Tree → Type 0
 StrictTotal w ts = (3 * length ts ≤ w) × (nodeCount ts + 2 * length ts ≤ w) × (3 * propCount ts + 2 * length ts ≤ w) × (2 * valCount ts + nodeCount ts + 2 * length ts ≤ w) × (length ts ≤ nodeCount ts)
 
-pub strict-total : (len : Bool) → len ≡ false → (base k : ℕ) (us : List Tok) (ts : List Tree) → Grew len base k us ts → All Complete (cut k us) → Spaced false us → StrictTotal (weight us) ts
-unfolding cut
+pub strict-total : (len : Bool) → len ≡ false → (base k : ℕ) (us : List Tok) (ts : List Tree) → Grew len base k us ts → All Complete (firstSlices k us) → Spaced false us → StrictTotal (weight us) ts
+unfolding firstSlices
 strict-total len s base zero us [] g c h = (omega arith, omega arith, omega arith, omega arith, omega arith)
 strict-total len s base zero us (t ∷ ts) g c h = absurd g
 strict-total len s base (suc k) us [] g c h = absurd g
@@ -117,8 +117,8 @@ open-values : (n v i w : ℕ) → 2 * v + n ≤ i → (n ≡ 0 → v ≡ 0) → 
 open-values zero v i w h b l = let z = b refl in omega arith
 open-values (suc n) v i w h b l = omega arith
 
-pub lenient-total : (len : Bool) (base k : ℕ) (us : List Tok) (ts : List Tree) → Grew len base k us ts → Ending (cut k us) → Spaced false us → LenientTotal (weight us) ts
-unfolding cut
+pub lenient-total : (len : Bool) (base k : ℕ) (us : List Tok) (ts : List Tree) → Grew len base k us ts → Ending (firstSlices k us) → Spaced false us → LenientTotal (weight us) ts
+unfolding firstSlices
 lenient-total len base zero us ts g c h = absurd c
 lenient-total len base (suc k) us [] g c h = absurd g
 lenient-total len base (suc zero) us (t ∷ u ∷ ts) g c h = absurd (g .1)

@@ -1,7 +1,7 @@
 -- What tokens weigh, in bytes: no more than the text has. Assumes nothing.
 use Rattle.lists.proofs.Prelude.{_≡_, ℕ, suc, _+_, _*_, _≤_, _<_, arith, Bool, true, false, List, [], _∷_, _++_, leb, eqb, length, length-append}
 use Rattle.lists.specs.All.{All}
-use Rattle.lexer.specs.Token.{Val, Prop, Tok, start, end, node, prop, St, between, ident, value, after, fault, Out, starts, begins, values, afters, step, emits, ends, finish, lexFrom}
+use Rattle.lexer.specs.Token.{Val, Prop, Tok, start, end, node, prop, St, between, ident, value, after, fault, Out, propertyState, begins, values, afters, step, emits, stateAfter, finish, lexFrom}
 use Rattle.lexer_scan.specs.Scan.{space}
 use Rattle.lexer_laws.proofs.Invariant.{OfTok}
 use Rattle.lexer_laws.proofs.Proper.{HasProper}
@@ -35,7 +35,7 @@ pending (fault f s) = 0
 abbrev Grows : ℕ → Out → Type 0
 Grows n t = weight (t .toks) + pending (t .next) ≤ suc n
 
-grow-starts : (c high : Bool) (s : ℕ) (w : List ℕ) (o b : ℕ) → pending (starts c high s w o b) ≤ suc (length w)
+grow-starts : (c high : Bool) (s : ℕ) (w : List ℕ) (o b : ℕ) → pending (propertyState c high s w o b) ≤ suc (length w)
 grow-starts true high s w o b = omega arith
 grow-starts false true s w o b = omega arith
 grow-starts false false s w o b = omega (arith, length-append w (b ∷ []))
@@ -65,7 +65,7 @@ grow-step (value s i w vs esc v r) o b = let h = grow-values esc (eqb b 0x5d) (e
 grow-step (after p) o b = grow-afters (space b) (eqb b 0x5b) p (step between o b) o (grow-begins (eqb b 0x28) (eqb b 0x29) (eqb b 0x3b) (space b) o b)
 grow-step (fault f s) o b = omega arith
 
-grow-run : (st : St) (o : ℕ) (bs : List ℕ) → weight (emits st o bs) + pending (ends st o bs) ≤ pending st + length bs
+grow-run : (st : St) (o : ℕ) (bs : List ℕ) → weight (emits st o bs) + pending (stateAfter st o bs) ≤ pending st + length bs
 grow-run st o [] = omega arith
 grow-run st o (b ∷ bs) =
     omega (arith, grow-step st o b, grow-run (step st o b .next) (suc o) bs, weight-append (step st o b .toks) (emits (step st o b .next) (suc o) bs))
@@ -79,7 +79,7 @@ grow-finish (fault f s) l = omega arith
 
 pub tokens-weigh : (f l : ℕ) (bs : List ℕ) → weight (lexFrom f l bs .toks) ≤ length bs
 tokens-weigh f l bs =
-    omega (arith, grow-run between f bs, grow-finish (ends between f bs) l, weight-append (emits between f bs) (finish (ends between f bs) l .toks))
+    omega (arith, grow-run between f bs, grow-finish (stateAfter between f bs) l, weight-append (emits between f bs) (finish (stateAfter between f bs) l .toks))
 
 -- a token weighs something
 tok-weighs : (t : Tok) → OfTok HasProper t → 0 < tokWeight t

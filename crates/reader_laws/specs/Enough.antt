@@ -11,7 +11,7 @@ pub record Rows : Type 0 where
   pub properties : ℕ
   pub values : ℕ
 
--- for a strict reading of n bytes
+-- for a strict reading of n bytes (SCOPE 120)
 abbrev pub strictRows : ℕ → Rows
 strictRows n = record { trees = n / 3; nodes = n - 2; properties = (n - 2) / 3; values = (n - 3) / 2 }
 

@@ -4,7 +4,7 @@ use Rattle.tables.specs.Numbers.{none}
 use Rattle.tables.specs.Record.{Node}
 use Rattle.tables.specs.Rows.{parents}
 use Rattle.serialize.specs.Branch.{Nodes, bare, stand, Hung, under, hung, writeProps, several, enclosed, nodesText}
-use Rattle.serialize.specs.LocalsWrite.{Open, times, bracketed, shuts, ends, left, opened, writeNodes}
+use Rattle.serialize.specs.LocalsWrite.{Open, times, bracketed, shuts, endsText, pathLeft, opened, writeNodes}
 
 abbrev pub opening : List ℕ → ℕ → ℕ → Open
 opening ps k p = record { num = k; brk = bracketed ps p }
@@ -17,7 +17,7 @@ On p (x ∷ xs) = (x .num ≡ p) ⊎ ((x .num ≡ p → ⊥) × On p xs)
 -- each node's parent is open when the node is written
 abbrev pub Good : List ℕ → ℕ → List Open → List Node → Type 0
 Good ps k path [] = Unit {0}
-Good ps k path (n ∷ ns) = On (n .parent) path × Good ps (suc k) (opening ps k (n .parent) ∷ left (n .parent) path) ns
+Good ps k path (n ∷ ns) = On (n .parent) path × Good ps (suc k) (opening ps k (n .parent) ∷ pathLeft (n .parent) path) ns
 
 -- ---- how many nodes stand under a number
 
@@ -56,11 +56,11 @@ falls-up : (k l : ℕ) (xs : List Open) → k ≤ l → Falls k xs → Falls l x
 falls-up k l [] h f = tt
 falls-up k l (x ∷ xs) h f = (omega (arith, f .0), f .1)
 
-falls-left : (k p : ℕ) (xs : List Open) → Falls k xs → Falls k (left p xs)
+falls-left : (k p : ℕ) (xs : List Open) → Falls k xs → Falls k (pathLeft p xs)
 falls-left k p [] f = tt
-falls-left k p (x ∷ xs) f = go (eqb (x .num) p) (falls-up (x .num) k (left p xs) (omega (arith, f .0)) (falls-left (x .num) p xs (f .1)))
+falls-left k p (x ∷ xs) f = go (eqb (x .num) p) (falls-up (x .num) k (pathLeft p xs) (omega (arith, f .0)) (falls-left (x .num) p xs (f .1)))
   where
-    go : (b : Bool) → Falls k (left p xs) → Falls k (pick b (x ∷ xs) (left p xs))
+    go : (b : Bool) → Falls k (pathLeft p xs) → Falls k (pick b (x ∷ xs) (pathLeft p xs))
     go true h = f
     go false h = h
 
@@ -70,7 +70,7 @@ on-less k p (x ∷ xs) f (inl e) = omega (arith, f .0)
 on-less k p (x ∷ xs) f (inr o) = let l = on-less (x .num) p xs (f .1) (o .1) in omega (arith, f .0)
 
 -- what is left from p on has no number above p
-left-falls : (k p : ℕ) (xs : List Open) → Falls k xs → On p xs → Falls (suc p) (left p xs)
+left-falls : (k p : ℕ) (xs : List Open) → Falls k xs → On p xs → Falls (suc p) (pathLeft p xs)
 left-falls k p [] f o = absurd o
 left-falls k p (x ∷ xs) f (inl e) = rw (eq-eqb (x .num) p e) (omega arith, f .1)
 left-falls k p (x ∷ xs) f (inr o) = rw (ne-eqb (x .num) p (o .0)) (left-falls (x .num) p xs (f .1) (o .1))
@@ -84,11 +84,11 @@ off-high : (k q : ℕ) (xs : List Open) → Falls k xs → k ≤ q → Off q xs
 off-high k q [] f l = tt
 off-high k q (x ∷ xs) f l = ((λ e. omega (arith, f .0)), off-high (x .num) q xs (f .1) (omega (arith, f .0)))
 
-off-left : (q p : ℕ) (xs : List Open) → Off q xs → Off q (left p xs)
+off-left : (q p : ℕ) (xs : List Open) → Off q xs → Off q (pathLeft p xs)
 off-left q p [] o = tt
 off-left q p (x ∷ xs) o = go (eqb (x .num) p) (off-left q p xs (o .1))
   where
-    go : (b : Bool) → Off q (left p xs) → Off q (pick b (x ∷ xs) (left p xs))
+    go : (b : Bool) → Off q (pathLeft p xs) → Off q (pick b (x ∷ xs) (pathLeft p xs))
     go true h = o
     go false h = h
 
@@ -116,7 +116,7 @@ module _ (ps : List ℕ) where
   under-none q k path [] g l o = refl
   under-none q k path (n ∷ ns) g l o =
       rw (ne-eqb (n .parent) q (on-off (n .parent) q path (g .0) o))
-      (under-none q (suc k) (opening ps k (n .parent) ∷ left (n .parent) path) ns (g .1) (omega arith) ((λ e. omega arith), off-left q (n .parent) path o))
+      (under-none q (suc k) (opening ps k (n .parent) ∷ pathLeft (n .parent) path) ns (g .1) (omega arith) ((λ e. omega arith), off-left q (n .parent) path o))
 
   -- what is still to be written behind a path: more children of each open node, and its end
   abbrev pub rest : List Open → List Hung → List ℕ
@@ -131,7 +131,7 @@ module _ (ps : List ℕ) where
       (rest-skip h hs xs (falls-up (x .num) (h .parent) xs (omega (arith, f .0)) (f .1))))
 
   node-rest : (k : ℕ) (h : Hung) (hs : List Hung) (path : List Open) → Falls k path → On (h .parent) path → ((q : ℕ) → h .parent < q → q < k → under q hs ≡ bare)
-      → ends (h .parent) path ++ opened (bracketed ps (h .parent)) (textOf h ++ shuts (bracketed ps (h .parent)) (rest (left (h .parent) path) hs)) ≡ rest path (h ∷ hs)
+      → endsText (h .parent) path ++ opened (bracketed ps (h .parent)) (textOf h ++ shuts (bracketed ps (h .parent)) (rest (pathLeft (h .parent) path) hs)) ≡ rest path (h ∷ hs)
   node-rest k h hs [] f o u = absurd o
   node-rest k h hs (x ∷ xs) f (inl e) u =
       rw (eq-eqb (x .num) (h .parent) e, eq-eqb (h .parent) (x .num) (sym e))
@@ -142,11 +142,11 @@ module _ (ps : List ℕ) where
   node-rest k h hs (x ∷ xs) f (inr o) u =
       let p : ℕ = h .parent in
       rw (ne-eqb (x .num) p (o .0), ne-eqb p (x .num) (λ z. o .0 (sym z)))
-      (shuts-append (x .brk) (ends p xs) (opened (bracketed ps p) (textOf h ++ shuts (bracketed ps p) (rest (left p xs) hs)))
+      (shuts-append (x .brk) (endsText p xs) (opened (bracketed ps p) (textOf h ++ shuts (bracketed ps p) (rest (pathLeft p xs) hs)))
       ∙ ap (shuts (x .brk)) (node-rest (x .num) h hs xs (f .1) (o .1) (λ q a b. u q a (omega (arith, f .0))))
       ∙ ap (λ (z : Nodes). nodesText (bracketed ps (x .num)) z ++ shuts (x .brk) (rest xs (h ∷ hs))) (sym (u (x .num) (on-less (x .num) p xs (f .1) (o .1)) (f .0))))
 
-  ends-rest : (k : ℕ) (path : List Open) → Falls k path → k ≤ none → ends none path ≡ rest path []
+  ends-rest : (k : ℕ) (path : List Open) → Falls k path → k ≤ none → endsText none path ≡ rest path []
   ends-rest k [] f l = refl
   ends-rest k (x ∷ xs) f l =
       rw (ne-eqb (x .num) none (λ e. omega (arith, f .0))) (ap (shuts (x .brk)) (ends-rest (x .num) xs (f .1) (omega (arith, f .0))))
@@ -158,15 +158,15 @@ module _ (ps : List ℕ) where
   walk-rest k path (n ∷ ns) g f l t =
       let p : ℕ = n .parent in
       let hs : List Hung = hung (suc k) ns in
-      let xs : List Open = left p path in
+      let xs : List Open = pathLeft p path in
       let b : Bool = bracketed ps p in
       let w : List ℕ = writeProps (n .props) in
       let low : p < k = on-less k p path f (g .0) in
       let later : (q : ℕ) → k ≤ q → q < none → times q ps ≡ times q (parents ns) = λ q a c. t q a c ∙ rw (ne-eqb p q (λ e. omega arith)) in
       let s : bracketed ps k ≡ several (under k hs) = ap (leb 2) (later k (omega arith) (omega arith)) ∙ sym (several-under k (suc k) ns) in
-      ap (λ (z : List ℕ). ends p path ++ opened b (0x3b ∷ (w ++ z)))
+      ap (λ (z : List ℕ). endsText p path ++ opened b (0x3b ∷ (w ++ z)))
       (walk-rest (suc k) (opening ps k p ∷ xs) ns (g .1) (omega arith, falls-left k p path f) (omega arith) (λ q a c. later q (omega arith) c))
-      ∙ ap (λ (c : Bool). ends p path ++ opened b (0x3b ∷ (w ++ (nodesText c (under k hs) ++ shuts b (rest xs hs))))) s
-      ∙ ap (λ (z : List ℕ). ends p path ++ opened b (0x3b ∷ z)) (sym (append-assoc w (nodesText (several (under k hs)) (under k hs)) (shuts b (rest xs hs))))
+      ∙ ap (λ (c : Bool). endsText p path ++ opened b (0x3b ∷ (w ++ (nodesText c (under k hs) ++ shuts b (rest xs hs))))) s
+      ∙ ap (λ (z : List ℕ). endsText p path ++ opened b (0x3b ∷ z)) (sym (append-assoc w (nodesText (several (under k hs)) (under k hs)) (shuts b (rest xs hs))))
       ∙ node-rest k (record { parent = p; props = n .props; children = under k hs }) hs path f (g .0)
       (λ q a c. under-none q (suc k) (opening ps k p ∷ xs) ns (g .1) (omega arith) ((λ e. omega arith), off-high (suc p) q xs (left-falls k p path f (g .0)) (omega arith)))

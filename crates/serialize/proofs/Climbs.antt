@@ -8,7 +8,7 @@ use Rattle.lists.proofs.Tests.{same-or}
 use Rattle.fit_nodes.proofs.Path.{has-before, path-down, path-le}
 use Rattle.fit_nodes.proofs.Rule.{rule-before}
 use Rattle.serialize.specs.Locals.{Placed, Above}
-use Rattle.serialize.specs.LocalsWalk.{inBrackets, shut, begun, climbs, endsBefore}
+use Rattle.serialize.specs.LocalsWalk.{inBrackets, endText, startText, climbs, endsBefore}
 use Rattle.serialize_values.proofs.Writing.{Writing, writing-first, writing-is, writing-next, writing-last}
 
 module _ (nd : List ℕ) (k : ℕ) where
@@ -23,10 +23,10 @@ module _ (nd : List ℕ) (k : ℕ) where
 
   -- what is written where the answer r to that question is b
   module _ {r b : Bool} (e : r ≡ inBrackets nd k) (h : r ≡ b) where
-    pub shut-by : pick b (0x29 ∷ []) [] ≡ shut nd k
+    pub shut-by : pick b (0x29 ∷ []) [] ≡ endText nd k
     shut-by = ap (λ (z : Bool). pick z (0x29 ∷ []) []) (sym h ∙ e)
 
-    pub begun-by : pick b (0x28 ∷ []) [] ≡ begun nd k
+    pub begun-by : pick b (0x28 ∷ []) [] ≡ startText nd k
     begun-by = ap (λ (z : Bool). pick z (0x28 ∷ []) []) (sym h ∙ e)
 
 -- ---- the climb
@@ -47,12 +47,12 @@ module _ (nd : List ℕ) where
   ends-climbs zero p h e = absurd (h refl)
   ends-climbs (suc k) p h e = let z : suc k - 1 ≡ k = omega arith in rw (z, ne-eqb k p (λ w. e (omega arith)))
 
-  climbs-last : (f j p : ℕ) → parentAt nd j ≡ p → climbs nd f j p ≡ shut nd j
+  climbs-last : (f j p : ℕ) → parentAt nd j ≡ p → climbs nd f j p ≡ endText nd j
   unfolding climbs
   climbs-last zero j p e = refl
-  climbs-last (suc f) j p e = rw (eq-eqb (parentAt nd j) p e) (append-nil (shut nd j))
+  climbs-last (suc f) j p e = rw (eq-eqb (parentAt nd j) p e) (append-nil (endText nd j))
 
-  climbs-more : (f j p : ℕ) → 0 < f → (parentAt nd j ≡ p → ⊥) → climbs nd f j p ≡ shut nd j ++ climbs nd (f - 1) (parentAt nd j) p
+  climbs-more : (f j p : ℕ) → 0 < f → (parentAt nd j ≡ p → ⊥) → climbs nd f j p ≡ endText nd j ++ climbs nd (f - 1) (parentAt nd j) p
   unfolding climbs
   climbs-more zero j p h e = absurd (omega arith)
   climbs-more (suc f) j p h e = let z : suc f - 1 ≡ f = omega arith in rw (z, ne-eqb (parentAt nd j) p e)
@@ -81,7 +81,7 @@ module _ {nd : List ℕ} {k p : ℕ} (x : Above nd k p) where
     pub ends-placed : Placed nd j
     ends-placed =
         let u = y .under in
-        let r = x .rows in
+        let r = x .lent in
         record { row = omega arith; above = λ w. (let b = rule-before (x .ruled) j u w in omega arith) }
 
     pub ends-before : (parentAt nd j ≡ p → ⊥) → parentAt nd j < j
@@ -89,7 +89,7 @@ module _ {nd : List ℕ} {k p : ℕ} (x : Above nd k p) where
         same-or p none (λ z. rule-before (x .ruled) j (y .under) (λ v. h (v ∙ sym z)))
         (λ z. let a = y .above z in has-before nd j (path-down nd j p (λ v. let b = a .1 in omega arith) (a .0) .0) .0)
 
-    module _ {out′ : List ℕ} {to′ : ℕ} (w : Wrote (shut nd j) out to out′ to′) where
+    module _ {out′ : List ℕ} {to′ : ℕ} (w : Wrote (endText nd j) out to out′ to′) where
       pub ends-done : parentAt nd j ≡ p → Wrote (endsBefore nd k p) out₀ at out′ to′
       ends-done e = writing-last w (writing-is (climbs-last nd (y .fuel) j p e) (y .writing))
 

@@ -9,17 +9,17 @@ use Rattle.fit.proofs.Parts.{map-tabulate, tabulate-drop, tabulate-part}
 use Rattle.fit.proofs.RecordRows.{propsIn, first-root, no-trees}
 use Rattle.fit_spans.proofs.Ranges.{gapless-in}
 use Rattle.fit.proofs.RootRows.{root-in}
-use Rattle.tables.specs.Columns.{rootAt, kindAt, parentAt, firstPropAt, propCountAt, firstValAt, valCountAt}
+use Rattle.tables.specs.Columns.{rootAt, gameAt, parentAt, firstPropAt, propCountAt, firstValAt, valCountAt}
 use Rattle.tables.specs.Each.{tabulate}
 use Rattle.tables.specs.Memory.{Memory}
 use Rattle.fit.specs.Fit.{Fit}
 use Rattle.fit.specs.Record.{treeRow, nodeRow, nodeOf, treesOf, textIn, recordIn}
 use Rattle.serialize.specs.Form.{formProp, formNode, formTree, writing}
-use Rattle.serialize.specs.LocalsWalk.{begun, endsBefore, kindOver, propsText, nodeBy, nodeText, linked}
+use Rattle.serialize.specs.LocalsWalk.{startText, endsBefore, nodeGame, propsText, nodeBy, nodeText, linksText}
 use Rattle.serialize.specs.Branch.{writeProps, treeText}
 use Rattle.serialize.proofs.Joined.{joined, joined-more, texts-joined}
 use Rattle.serialize.proofs.PropTexts.{node-text}
-use Rattle.serialize.proofs.TreeSlices.{linking, stretch-next, stretch-last, kind-here}
+use Rattle.serialize.proofs.TreeSlices.{linking, stretch-next, stretch-last, game-here}
 use Rattle.serialize.proofs.TreeWalk.{Stretch, textOf, tree-is}
 
 -- a tree's text, its ends, and the text of the next tree
@@ -51,31 +51,31 @@ module _ {t : List ℕ} {c : Counts} {tr nd pr vl : List ℕ} (fit : Clauses t c
   ns = map (nodeOf ps) (tabulate (nodeRow nd) 0 n)
 
   abbrev body : ℕ → List ℕ
-  body k = propsText t nd pr vl (kindOver tr nd k) k
+  body k = propsText t nd pr vl (nodeGame tr nd k) k
 
   abbrev head : ℕ → List ℕ
-  head k = begun nd k ++ (0x3b ∷ body k)
+  head k = startText nd k ++ (0x3b ∷ body k)
 
   abbrev T : ℕ → List ℕ
   T = textOf nd body
 
   module _ (i b : ℕ) (l : i < m) (x : Stretch nd n (R i) b) where
     abbrev propsOf : ℕ → List Prop
-    propsOf k = map (formProp (kindAt tr i)) (take (propCountAt nd k) (drop (firstPropAt nd k) ps))
+    propsOf k = map (formProp (gameAt tr i)) (take (propCountAt nd k) (drop (firstPropAt nd k) ps))
 
     body-is : (k : ℕ) → R i ≤ k → k < b → writeProps (propsOf k) ≡ body k
     body-is k u v =
         node-text t vl (c .values) (fit .held .values) pr (c .properties)
-        (gapless-in (firstValAt pr) (valCountAt pr) (c .properties) (c .values) (fit .prop-ranges)) nd (kindAt tr i) k
+        (gapless-in (firstValAt pr) (valCountAt pr) (c .properties) (c .values) (fit .prop-ranges)) nd (gameAt tr i) k
         (gapless-in (firstPropAt nd) (propCountAt nd) n (c .properties) (fit .node-ranges) k (omega (arith, x .inside)))
-        ∙ ap (λ (z : ℕ). propsText t nd pr vl z k) (sym (kind-here fit i l x k u v))
+        ∙ ap (λ (z : ℕ). propsText t nd pr vl z k) (sym (game-here fit i l x k u v))
 
     tree-text : (us : List Node) → us ≡ tabulate nodeK (R i) (b - R i)
-        → treeText (formTree (record { root = R i; kind = kindAt tr i; nodes = us })) ≡ head (R i) ++ (joined T (suc (R i)) (b - suc (R i)) ++ endsBefore nd b none)
+        → treeText (formTree (record { root = R i; game = gameAt tr i; nodes = us })) ≡ head (R i) ++ (joined T (suc (R i)) (b - suc (R i)) ++ endsBefore nd b none)
     tree-text us e =
-        ap (λ (z : List Node). treeText (formTree (record { root = R i; kind = kindAt tr i; nodes = z }))) e
-        ∙ ap (λ (z : List Node). treeText (record { root = R i; kind = kindAt tr i; nodes = z })) (map-tabulate nodeK (formNode (kindAt tr i)) (R i) (b - R i))
-        ∙ tree-is (linking fit) x propsOf body body-is (kindAt tr i)
+        ap (λ (z : List Node). treeText (formTree (record { root = R i; game = gameAt tr i; nodes = z }))) e
+        ∙ ap (λ (z : List Node). treeText (record { root = R i; game = gameAt tr i; nodes = z })) (map-tabulate nodeK (formNode (gameAt tr i)) (R i) (b - R i))
+        ∙ tree-is (linking fit) x propsOf body body-is (gameAt tr i)
 
   nodes-are : ns ≡ tabulate nodeK 0 n
   nodes-are = map-tabulate (nodeRow nd) (nodeOf ps) 0 n
@@ -99,7 +99,7 @@ module _ {t : List ℕ} {c : Counts} {tr nd pr vl : List ℕ} (fit : Clauses t c
   trees-from : (j i : ℕ) → i + suc j ≡ m → writing (treesOf ns (tabulate (treeRow tr) i (suc j))) ≡ head (R i) ++ (joined T (suc (R i)) (n - suc (R i)) ++ endsBefore nd n none)
   unfolding tabulate
   trees-from zero i e =
-      append-nil (treeText (formTree (record { root = R i; kind = kindAt tr i; nodes = drop (R i) ns })))
+      append-nil (treeText (formTree (record { root = R i; game = gameAt tr i; nodes = drop (R i) ns })))
       ∙ tree-text i n (omega arith) (stretch-last fit i (omega arith)) (drop (R i) ns) (from-root (R i))
   trees-from (suc j) i e =
       let x = stretch-next fit i (omega arith) in
@@ -129,8 +129,8 @@ module _ {t : List ℕ} {c : Counts} {tr nd pr vl : List ℕ} (fit : Clauses t c
       ∙ sym (trees-from j 0 (omega arith) ∙ ap r f)
 
 pub linked-is : (m : Memory) → Fit m ≡ true
-    → linked (textIn m) (m .trees) (m .nodes) (m .properties) (m .values) (m .counts .nodes) ≡ writing (recordIn m)
-unfolding linked nodeBy
+    → linksText (textIn m) (m .trees) (m .nodes) (m .properties) (m .values) (m .counts .nodes) ≡ writing (recordIn m)
+unfolding linksText nodeBy
 linked-is m h =
     let f = fit-clauses m h in
     ap (λ (z : List ℕ). z ++ endsBefore (m .nodes) (m .counts .nodes) none) (texts-joined (nodeText (textIn m) (m .trees) (m .nodes) (m .properties) (m .values)) (m .counts .nodes)) ∙ all-trees f (m .counts .trees) refl

@@ -6,8 +6,8 @@ use Rattle.lists.proofs.Tests.{same-or}
 use Rattle.fit_nodes.proofs.Path.{has-before, has-none, path-out, path-down}
 use Rattle.tables.specs.Columns.{parentAt}
 use Rattle.fit_nodes.specs.Nodes.{hasParent, onPath}
-use Rattle.serialize.specs.LocalsWalk.{inBrackets, shut, climbs, endsBefore}
-use Rattle.serialize.specs.LocalsWrite.{Open, ends, left, shuts}
+use Rattle.serialize.specs.LocalsWalk.{inBrackets, endText, climbs, endsBefore}
+use Rattle.serialize.specs.LocalsWrite.{Open, endsText, pathLeft, shuts}
 use Rattle.serialize.proofs.Branches.{On}
 
 module _ (nd : List ℕ) where
@@ -20,7 +20,7 @@ module _ (nd : List ℕ) where
   root-only : (j p : ℕ) → parentAt nd j ≡ none → onPath nd j p ≡ true → j ≡ p
   root-only j p e o = same-or j p (λ z. z) (λ z. true-false (onPath nd j p) o (path-out nd j p z (has-none nd j e)))
 
-  pub left-path : (j p : ℕ) (xs : List Open) → PathFrom j xs → onPath nd j p ≡ true → PathFrom p (left p xs)
+  pub left-path : (j p : ℕ) (xs : List Open) → PathFrom j xs → onPath nd j p ≡ true → PathFrom p (pathLeft p xs)
   left-path j p [] h o = h
   left-path j p (x ∷ []) h o =
       let e = root-only j p (h .2) o in
@@ -40,7 +40,7 @@ module _ (nd : List ℕ) where
   shuts-end false r = refl
 
   -- up to p, with enough steps
-  ends-climb : (f j p : ℕ) (xs : List Open) → PathFrom j xs → onPath nd j p ≡ true → j ≤ f → ends p xs ≡ pick (eqb j p) [] (climbs nd f j p)
+  ends-climb : (f j p : ℕ) (xs : List Open) → PathFrom j xs → onPath nd j p ≡ true → j ≤ f → endsText p xs ≡ pick (eqb j p) [] (climbs nd f j p)
   unfolding climbs
   ends-climb f j p [] h o l = absurd h
   ends-climb f j p (x ∷ []) h o l = let e = root-only j p (h .2) o in rw (eq-eqb (x .num) p (h .0 ∙ e), eq-eqb j p e)
@@ -53,7 +53,7 @@ module _ (nd : List ℕ) where
       ∙ shuts-end (inBrackets nd j) (pick (eqb (parentAt nd j) p) [] (climbs nd f (parentAt nd j) p))))
 
   -- up to the root, whose end is its tree's
-  ends-top : (f j : ℕ) (xs : List Open) → PathFrom j xs → j ≤ f → j < none → ends none xs ++ (0x29 ∷ []) ≡ climbs nd f j none
+  ends-top : (f j : ℕ) (xs : List Open) → PathFrom j xs → j ≤ f → j < none → endsText none xs ++ (0x29 ∷ []) ≡ climbs nd f j none
   unfolding climbs
   ends-top f j [] h l u = absurd h
   ends-top zero j (x ∷ []) h l u = rw (ne-eqb (x .num) none (λ z. omega (arith, h .0)), h .1, eq-eqb (parentAt nd j) none (h .2))
@@ -63,17 +63,17 @@ module _ (nd : List ℕ) where
       let q = has-before nd j (h .2) in
       let r = ends-top f (parentAt nd j) (y ∷ ys) (h .3) (omega (arith, q .0)) (omega (arith, q .0)) in
       rw (ne-eqb (x .num) none (λ z. omega (arith, h .0)))
-      (ap (λ (z : Bool). shuts z (ends none (y ∷ ys)) ++ (0x29 ∷ [])) (h .1)
-      ∙ ap (λ (z : List ℕ). z ++ (0x29 ∷ [])) (shuts-end (inBrackets nd j) (ends none (y ∷ ys)))
-      ∙ append-assoc (shut nd j) (ends none (y ∷ ys)) (0x29 ∷ [])
-      ∙ ap (λ (z : List ℕ). shut nd j ++ z) r
-      ∙ ap (λ (z : Bool). shut nd j ++ pick z [] (climbs nd f (parentAt nd j) none)) (sym (ne-eqb (parentAt nd j) none (q .1))))
+      (ap (λ (z : Bool). shuts z (endsText none (y ∷ ys)) ++ (0x29 ∷ [])) (h .1)
+      ∙ ap (λ (z : List ℕ). z ++ (0x29 ∷ [])) (shuts-end (inBrackets nd j) (endsText none (y ∷ ys)))
+      ∙ append-assoc (endText nd j) (endsText none (y ∷ ys)) (0x29 ∷ [])
+      ∙ ap (λ (z : List ℕ). endText nd j ++ z) r
+      ∙ ap (λ (z : Bool). endText nd j ++ pick z [] (climbs nd f (parentAt nd j) none)) (sym (ne-eqb (parentAt nd j) none (q .1))))
 
   module _ (j : ℕ) (xs : List Open) (h : PathFrom j xs) where
-    pub ends-before : (p : ℕ) → onPath nd j p ≡ true → ends p xs ≡ endsBefore nd (suc j) p
+    pub ends-before : (p : ℕ) → onPath nd j p ≡ true → endsText p xs ≡ endsBefore nd (suc j) p
     unfolding endsBefore
     ends-before p o = ends-climb j j p xs h o (omega arith)
 
-    pub ends-last : j < none → ends none xs ++ (0x29 ∷ []) ≡ endsBefore nd (suc j) none
+    pub ends-last : j < none → endsText none xs ++ (0x29 ∷ []) ≡ endsBefore nd (suc j) none
     unfolding endsBefore
     ends-last u = rw (ne-eqb j none (λ z. omega arith)) (ends-top j j xs h (omega arith) u)

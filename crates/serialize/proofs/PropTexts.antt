@@ -10,22 +10,22 @@ use Rattle.fit.proofs.RecordRows.{valsIn, propsIn, raws-at}
 use Rattle.tables.specs.Columns.{firstPropAt, propCountAt, firstValAt, valCountAt}
 use Rattle.tables.specs.Each.{tabulate}
 use Rattle.fit.specs.Record.{nodeRow, propRow, propOf, nodeOf, rawOf}
-use Rattle.serialize.specs.Form.{placeless, formProp, formNode}
-use Rattle.serialize.specs.LocalsWalk.{nameAt, valuesText, propText, propsText}
-use Rattle.serialize_values.specs.LocalsBoxes.{boxes}
-use Rattle.serialize.specs.Branch.{writeProps, boxed}
+use Rattle.serialize.specs.Form.{placelessVal, formProp, formNode}
+use Rattle.serialize.specs.LocalsWalk.{readNameAt, valuesText, propText, propsText}
+use Rattle.serialize_values.specs.LocalsForm.{rawsText}
+use Rattle.serialize.specs.Branch.{writeProps, valsText}
 use Rattle.serialize.proofs.Joined.{joined, texts-from}
 
-boxed-boxes : (vs : List (List ℕ)) → boxed (map placeless vs) ≡ boxes vs
-unfolding boxes
+boxed-boxes : (vs : List (List ℕ)) → valsText (map placelessVal vs) ≡ rawsText vs
+unfolding rawsText
 boxed-boxes [] = refl
 boxed-boxes (v ∷ vs) = ap (λ (z : List ℕ). 0x5b ∷ (v ++ (0x5d ∷ z))) (boxed-boxes vs)
 
-write-joined : (p : ℕ → Prop) (f : ℕ → List ℕ) (m a : ℕ) → ((i : ℕ) → a ≤ i → i < a + m → readIdentifier (p i .name) ++ boxed (p i .vals) ≡ f i) → writeProps (tabulate p a m) ≡ joined f a m
+write-joined : (p : ℕ → Prop) (f : ℕ → List ℕ) (m a : ℕ) → ((i : ℕ) → a ≤ i → i < a + m → readIdentifier (p i .name) ++ valsText (p i .vals) ≡ f i) → writeProps (tabulate p a m) ≡ joined f a m
 unfolding tabulate joined
 write-joined p f zero a h = refl
 write-joined p f (suc m) a h =
-    sym (append-assoc (readIdentifier (p a .name)) (boxed (p a .vals)) (writeProps (tabulate p (suc a) m)))
+    sym (append-assoc (readIdentifier (p a .name)) (valsText (p a .vals)) (writeProps (tabulate p (suc a) m)))
     ∙ ap₂ (λ (y z : List ℕ). y ++ z) (h a (omega arith) (omega arith)) (write-joined p f m (suc a) (λ i l u. h i (omega arith) (omega arith)))
 
 module _ (t vl : List ℕ) (nv : ℕ) (lent : nv ≤ length vl / 2) where
@@ -33,20 +33,20 @@ module _ (t vl : List ℕ) (nv : ℕ) (lent : nv ≤ length vl / 2) where
   vals = valsIn t vl nv
 
   module _ (pr : List ℕ) (np : ℕ) (inside : (p : ℕ) → p < np → firstValAt pr p + valCountAt pr p ≤ nv) where
-    prop-text : (kind p : ℕ) → p < np
-        → nameAt t pr p ++ boxed (formProp kind (propOf t vals (propRow pr p)) .vals) ≡ propText t pr vl kind p
+    prop-text : (game p : ℕ) → p < np
+        → readNameAt t pr p ++ valsText (formProp game (propOf t vals (propRow pr p)) .vals) ≡ propText t pr vl game p
     unfolding propText valuesText
-    prop-text kind p h =
-        ap (λ (z : List ℕ). nameAt t pr p ++ z)
-        (boxed-boxes (normal kind (nameAt t pr p) (map rawOf (take (valCountAt pr p) (drop (firstValAt pr p) vals))))
-        ∙ ap (λ (z : List (List ℕ)). boxes (normal kind (nameAt t pr p) z)) (raws-at t vl nv (valuesAt t vl) (values-none t vl) (λ a m l. values-more t vl a m (omega arith)) (firstValAt pr p) (valCountAt pr p) (inside p h)))
+    prop-text game p h =
+        ap (λ (z : List ℕ). readNameAt t pr p ++ z)
+        (boxed-boxes (normal game (readNameAt t pr p) (map rawOf (take (valCountAt pr p) (drop (firstValAt pr p) vals))))
+        ∙ ap (λ (z : List (List ℕ)). rawsText (normal game (readNameAt t pr p) z)) (raws-at t vl nv (valuesAt t vl) (values-none t vl) (λ a m l. values-more t vl a m (omega arith)) (firstValAt pr p) (valCountAt pr p) (inside p h)))
 
-    pub node-text : (nd : List ℕ) (kind k : ℕ) → firstPropAt nd k + propCountAt nd k ≤ np
-        → writeProps (formNode kind (nodeOf (propsIn t pr vl np nv) (nodeRow nd k)) .props) ≡ propsText t nd pr vl kind k
+    pub node-text : (nd : List ℕ) (game k : ℕ) → firstPropAt nd k + propCountAt nd k ≤ np
+        → writeProps (formNode game (nodeOf (propsIn t pr vl np nv) (nodeRow nd k)) .props) ≡ propsText t nd pr vl game k
     unfolding propsText
-    node-text nd kind k h =
-        ap (λ (z : List Prop). writeProps (map (formProp kind) (take (propCountAt nd k) (drop (firstPropAt nd k) z)))) (map-tabulate (propRow pr) (propOf t vals) 0 np)
-        ∙ ap (λ (z : List Prop). writeProps (map (formProp kind) z)) (tabulate-part (λ p. propOf t vals (propRow pr p)) (firstPropAt nd k) (propCountAt nd k) np h)
-        ∙ ap writeProps (map-tabulate (λ p. propOf t vals (propRow pr p)) (formProp kind) (firstPropAt nd k) (propCountAt nd k))
-        ∙ write-joined (λ p. formProp kind (propOf t vals (propRow pr p))) (propText t pr vl kind) (propCountAt nd k) (firstPropAt nd k) (λ i l u. prop-text kind i (omega arith))
-        ∙ sym (texts-from (propText t pr vl kind) (firstPropAt nd k) (propCountAt nd k))
+    node-text nd game k h =
+        ap (λ (z : List Prop). writeProps (map (formProp game) (take (propCountAt nd k) (drop (firstPropAt nd k) z)))) (map-tabulate (propRow pr) (propOf t vals) 0 np)
+        ∙ ap (λ (z : List Prop). writeProps (map (formProp game) z)) (tabulate-part (λ p. propOf t vals (propRow pr p)) (firstPropAt nd k) (propCountAt nd k) np h)
+        ∙ ap writeProps (map-tabulate (λ p. propOf t vals (propRow pr p)) (formProp game) (firstPropAt nd k) (propCountAt nd k))
+        ∙ write-joined (λ p. formProp game (propOf t vals (propRow pr p))) (propText t pr vl game) (propCountAt nd k) (firstPropAt nd k) (λ i l u. prop-text game i (omega arith))
+        ∙ sym (texts-from (propText t pr vl game) (firstPropAt nd k) (propCountAt nd k))

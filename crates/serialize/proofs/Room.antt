@@ -6,13 +6,13 @@ use Rattle.tables.specs.Memory.{Memory}
 use Rattle.fit.specs.Fit.{Fit}
 use Rattle.fit.specs.Record.{recordIn}
 use Rattle.serialize.specs.Form.{writing, output, WriteIs}
-use Rattle.serialize.specs.Locals.{answer}
+use Rattle.serialize.specs.Locals.{writeAnswer}
 use Rattle.serialize.specs.Branch.{nameless}
 use Rattle.serialize.specs.declared.Written.{Written}
 use Rattle.serialize.specs.declared.Written.the-variants.{Wrote}
 
 -- an accepted writing has the length that is answered
-pub answer-length : (f b s : Bool) (n : ℕ) (w : List ℕ) → Wrote n ≡ answer f b s w → n ≡ length w
+pub answer-length : (f b s : Bool) (n : ℕ) (w : List ℕ) → Wrote n ≡ writeAnswer f b s w → n ≡ length w
 answer-length false b s n w h = never cc
 answer-length true true s n w h = never cc
 answer-length true false true n w h = never cc

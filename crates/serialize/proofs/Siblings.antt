@@ -9,7 +9,7 @@ use Rattle.fit_nodes.proofs.Rule.{rule-before, off-on, parent-on}
 use Rattle.tables.specs.Columns.{parentAt, childAt, siblingAt}
 use Rattle.tables.specs.Each.{tabulate}
 use Rattle.fit_nodes.specs.Locals.{Ruled}
-use Rattle.fit_nodes.specs.Nodes.{firstUnder, nextOf, onPath}
+use Rattle.fit_nodes.specs.Nodes.{firstUnder, nextSibling, onPath}
 use Rattle.serialize.specs.LocalsWalk.{inBrackets}
 use Rattle.serialize.specs.LocalsWrite.{times}
 
@@ -62,7 +62,7 @@ module _ (nd : List ℕ) (p : ℕ) where
 -- ---- a node that has a parent stands in brackets where its parent is counted twice
 
 module _ (nd : List ℕ) (n k : ℕ) (few : n ≤ none) (below : k < n) (has : parentAt nd k ≡ none → ⊥)
-    (child : childAt nd (parentAt nd k) ≡ firstUnder nd (parentAt nd k) 0 n) (sibling : siblingAt nd k ≡ nextOf nd n k) where
+    (child : childAt nd (parentAt nd k) ≡ firstUnder nd (parentAt nd k) 0 n) (sibling : siblingAt nd k ≡ nextSibling nd n k) where
   abbrev p : ℕ
   p = parentAt nd k
 

@@ -7,9 +7,9 @@ use Rattle.fit.proofs.Clauses.{Clauses}
 use Rattle.tables.proofs.Each.{each-at}
 use Rattle.fit.proofs.RecordRows.{ruled, first-root}
 use Rattle.fit.proofs.RootRows.{root-in, root-rises, orphan-root}
-use Rattle.tables.specs.Columns.{rootAt, kindAt, parentAt, childAt, siblingAt}
-use Rattle.fit_nodes.specs.Nodes.{firstUnder, nextOf, childRight, siblingRight}
-use Rattle.serialize.specs.LocalsWalk.{rootsBelow, kindOver}
+use Rattle.tables.specs.Columns.{rootAt, gameAt, parentAt, childAt, siblingAt}
+use Rattle.fit_nodes.specs.Nodes.{firstUnder, nextSibling, childRight, siblingRight}
+use Rattle.serialize.specs.LocalsWalk.{rootsBelow, nodeGame}
 use Rattle.serialize.proofs.TreeWalk.{Linking, Stretch}
 
 module _ {nd : List ℕ} {n a b : ℕ} (x : Stretch nd n a b) where
@@ -38,7 +38,7 @@ module _ {t : List ℕ} {c : Counts} {tr nd pr vl : List ℕ} (fit : Clauses t c
       record {
         ruled = ruled fit;
         child = λ k l. eqb-true (childAt nd k) (firstUnder nd k 0 n) (each-at (childRight nd n) n k (fit .children) l);
-        sibling = λ k l. eqb-true (siblingAt nd k) (nextOf nd n k) (each-at (siblingRight nd n) n k (fit .siblings) l);
+        sibling = λ k l. eqb-true (siblingAt nd k) (nextSibling nd n k) (each-at (siblingRight nd n) n k (fit .siblings) l);
       }
 
   roots-far : (d r : ℕ) → r + d < m → R r ≤ R (r + d)
@@ -95,8 +95,8 @@ module _ {t : List ℕ} {c : Counts} {tr nd pr vl : List ℕ} (fit : Clauses t c
       let e : suc (R (suc i) - 1) ≡ R (suc i) = omega arith in
       subst (λ (z : ℕ). rootsBelow nd z ≡ suc i) e (below-in x (R (suc i) - 1) (omega arith) (omega arith) ∙ ap suc (below-root i (omega arith)))
 
-  pub kind-here : {b : ℕ} (i : ℕ) → i < m → Stretch nd n (R i) b → (k : ℕ) → R i ≤ k → k < b → kindOver tr nd k ≡ kindAt tr i
-  kind-here i l x k u v =
+  pub game-here : {b : ℕ} (i : ℕ) → i < m → Stretch nd n (R i) b → (k : ℕ) → R i ≤ k → k < b → nodeGame tr nd k ≡ gameAt tr i
+  game-here i l x k u v =
       let w : rootsBelow nd (suc k) ≡ suc i = below-in x k u v ∙ ap suc (below-root i l) in
       let e : rootsBelow nd (suc k) - 1 ≡ i = omega arith in
-      ap (kindAt tr) e
+      ap (gameAt tr) e

@@ -8,7 +8,7 @@ use Rattle.serialize.specs.LocalsWrite.{bracketed, times, opened, shuts,
 use Rattle.serialize.proofs.Branches.{opening, Good, size-none, size-under, several-under, walk-rest}
 
 -- a root and the nodes after it, each under an open node
-module _ (r kind : ℕ) (n : Node) (ns : List Node) (root : n .parent ≡ none) (single : bracketed (none ∷ parents ns) none ≡ false)
+module _ (r game : ℕ) (n : Node) (ns : List Node) (root : n .parent ≡ none) (single : bracketed (none ∷ parents ns) none ≡ false)
     (good : Good (none ∷ parents ns) (suc r) (opening (none ∷ parents ns) r none ∷ []) ns) (few : suc r + length ns ≤ none) where
   abbrev ps : List ℕ
   ps = none ∷ parents ns
@@ -20,7 +20,7 @@ module _ (r kind : ℕ) (n : Node) (ns : List Node) (root : n .parent ≡ none) 
   w = writeProps (n .props)
 
   abbrev tree : Tree
-  tree = record { root = r; kind = kind; nodes = n ∷ ns }
+  tree = record { root = r; game = game; nodes = n ∷ ns }
 
   abbrev below : List ℕ
   below = nodesText (several (under r hs)) (under r hs)
@@ -84,5 +84,5 @@ alike-under b q k (n ∷ ns) (m ∷ ms) a =
     go false e f = e
 
 -- so have trees with one root
-pub alike-tree : (r k l : ℕ) (ns ms : List Node) → Alike ns ms → treeText (record { root = r; kind = k; nodes = ns }) ≡ treeText (record { root = r; kind = l; nodes = ms })
+pub alike-tree : (r k l : ℕ) (ns ms : List Node) → Alike ns ms → treeText (record { root = r; game = k; nodes = ns }) ≡ treeText (record { root = r; game = l; nodes = ms })
 alike-tree r k l ns ms a = ap (enclosed true) (alike-under false none r ns ms a)

@@ -11,10 +11,10 @@ use Rattle.fit_nodes.proofs.Rule.{rule-at, rule-has, off-on}
 use Rattle.tables.specs.Columns.{parentAt, childAt, siblingAt}
 use Rattle.tables.specs.Each.{tabulate}
 use Rattle.fit_nodes.specs.Locals.{Ruled}
-use Rattle.fit_nodes.specs.Nodes.{firstUnder, nextOf, onPath}
-use Rattle.serialize.specs.LocalsWalk.{inBrackets, begun, endsBefore}
+use Rattle.fit_nodes.specs.Nodes.{firstUnder, nextSibling, onPath}
+use Rattle.serialize.specs.LocalsWalk.{inBrackets, startText, endsBefore}
 use Rattle.serialize.specs.Branch.{treeText, writeProps}
-use Rattle.serialize.specs.LocalsWrite.{Open, bracketed, left, opened, ends, writeNodes, writeTree}
+use Rattle.serialize.specs.LocalsWrite.{Open, bracketed, pathLeft, opened, endsText, writeNodes, writeTree}
 use Rattle.serialize.proofs.Branches.{opening, Good}
 use Rattle.serialize.proofs.Joined.{joined}
 use Rattle.serialize.proofs.OpenPath.{PathFrom, left-path, path-on, ends-before, ends-last}
@@ -25,7 +25,7 @@ use Rattle.serialize.proofs.TreeTexts.{tree-text}
 pub record Linking (nd : List ℕ) (n : ℕ) : Type 0 where
   pub ruled : Ruled nd n
   pub child : (k : ℕ) → k < n → childAt nd k ≡ firstUnder nd k 0 n
-  pub sibling : (k : ℕ) → k < n → siblingAt nd k ≡ nextOf nd n k
+  pub sibling : (k : ℕ) → k < n → siblingAt nd k ≡ nextSibling nd n k
 
 -- the nodes from a up to b are one tree of them
 pub record Stretch (nd : List ℕ) (n a b : ℕ) : Type 0 where
@@ -37,7 +37,7 @@ pub record Stretch (nd : List ℕ) (n a b : ℕ) : Type 0 where
 
 -- a node's text where `body` are its properties
 abbrev pub textOf : (nd : List ℕ) (body : ℕ → List ℕ) → ℕ → List ℕ
-textOf nd body k = endsBefore nd k (parentAt nd k) ++ (begun nd k ++ (0x3b ∷ body k))
+textOf nd body k = endsBefore nd k (parentAt nd k) ++ (startText nd k ++ (0x3b ∷ body k))
 
 regroup : (e : List ℕ) (c : Bool) (w r z : List ℕ) → (e ++ opened c (0x3b ∷ (w ++ r))) ++ z ≡ (e ++ (pick c (0x28 ∷ []) [] ++ (0x3b ∷ w))) ++ (r ++ z)
 regroup e true w r z =
@@ -87,8 +87,8 @@ module _ {nd : List ℕ} {n a b : ℕ} (linking : Linking nd n) (stretch : Stret
         ap (leb 2) (counted-here (linking .ruled) a b (omega arith) (stretch .inside) (stretch .next) p in-tree (omega arith))
         ∙ brackets-are nd n (suc j) w in-n has (linking .child p (omega (arith, in-n))) (linking .sibling (suc j) in-n)
 
-    path-next : (c : Bool) (xs : List Open) → c ≡ inBrackets nd (suc j) → PathFrom nd j xs → PathFrom nd (suc j) (record { num = suc j; brk = c } ∷ left p xs)
-    path-next c xs e h = go (left p xs) (left-path nd j p xs h on-path)
+    path-next : (c : Bool) (xs : List Open) → c ≡ inBrackets nd (suc j) → PathFrom nd j xs → PathFrom nd (suc j) (record { num = suc j; brk = c } ∷ pathLeft p xs)
+    path-next c xs e h = go (pathLeft p xs) (left-path nd j p xs h on-path)
       where
         go : (ys : List Open) → PathFrom nd p ys → PathFrom nd (suc j) (record { num = suc j; brk = c } ∷ ys)
         go [] z = absurd z
@@ -105,9 +105,9 @@ module _ {nd : List ℕ} {n a b : ℕ} (linking : Linking nd n) (stretch : Stret
       let q : ℕ = parentAt nd (suc j) in
       let u : suc j < b = omega arith in
       let c : bracketed ps q ≡ inBrackets nd (suc j) = brackets-here j l u in
-      let r : List ℕ = writeNodes ps (suc (suc j)) (record { num = suc j; brk = bracketed ps q } ∷ left q xs) (tabulate nodeAt (suc (suc j)) m) in
-      let i : r ++ (0x29 ∷ []) ≡ joined (textOf nd body) (suc (suc j)) m ++ endsBefore nd b none = walk-is m (suc j) (record { num = suc j; brk = bracketed ps q } ∷ left q xs) (omega arith) (omega arith) (path-next j l u (bracketed ps q) xs c h) in
-      regroup (ends q xs) (bracketed ps q) (writeProps (props (suc j))) r (0x29 ∷ [])
+      let r : List ℕ = writeNodes ps (suc (suc j)) (record { num = suc j; brk = bracketed ps q } ∷ pathLeft q xs) (tabulate nodeAt (suc (suc j)) m) in
+      let i : r ++ (0x29 ∷ []) ≡ joined (textOf nd body) (suc (suc j)) m ++ endsBefore nd b none = walk-is m (suc j) (record { num = suc j; brk = bracketed ps q } ∷ pathLeft q xs) (omega arith) (omega arith) (path-next j l u (bracketed ps q) xs c h) in
+      regroup (endsText q xs) (bracketed ps q) (writeProps (props (suc j))) r (0x29 ∷ [])
       ∙ ap₂ (λ (x y : List ℕ). x ++ y)
       (ap₂ (λ (x y : List ℕ). x ++ y) (ends-before nd j xs h q (on-path j l u))
       (ap₂ (λ (x : Bool) (y : List ℕ). pick x (0x28 ∷ []) [] ++ (0x3b ∷ y)) c (body-is (suc j) (omega arith) u)))
@@ -120,15 +120,15 @@ module _ {nd : List ℕ} {n a b : ℕ} (linking : Linking nd n) (stretch : Stret
       let e : b - a ≡ suc (b - suc a) = omega (arith, stretch .some) in
       rw (e, eq-eqb (parentAt nd a) none (stretch .root), counted-none nd none (b - suc a) (suc a) (λ i l u. stretch .others i (omega arith) (omega arith)))
 
-  tree-walked : (kind : ℕ) → writeTree (record { root = a; kind = kind; nodes = tabulate nodeAt a (b - a) })
-      ≡ (begun nd a ++ (0x3b ∷ body a)) ++ (joined (textOf nd body) (suc a) (b - suc a) ++ endsBefore nd b none)
+  tree-walked : (game : ℕ) → writeTree (record { root = a; game = game; nodes = tabulate nodeAt a (b - a) })
+      ≡ (startText nd a ++ (0x3b ∷ body a)) ++ (joined (textOf nd body) (suc a) (b - suc a) ++ endsBefore nd b none)
   unfolding tabulate
-  tree-walked kind =
+  tree-walked game =
       let s = stretch .some in
       let e : b - a ≡ suc (b - suc a) = omega arith in
       let top : Open = record { num = a; brk = bracketed ps (parentAt nd a) } in
       let f : bracketed ps (parentAt nd a) ≡ false = ap (bracketed ps) (stretch .root) ∙ root-counted in
-      let g : 0x28 ∷ 0x3b ∷ body a ≡ begun nd a ++ (0x3b ∷ body a) = rw (eq-eqb (parentAt nd a) none (stretch .root)) in
+      let g : 0x28 ∷ 0x3b ∷ body a ≡ startText nd a ++ (0x3b ∷ body a) = rw (eq-eqb (parentAt nd a) none (stretch .root)) in
       let r : List ℕ = writeNodes ps (suc a) (top ∷ []) (tabulate nodeAt (suc a) (b - suc a)) in
       ap (λ (z : List ℕ). 0x28 ∷ (writeNodes z a [] (tabulate nodeAt a (b - a)) ++ (0x29 ∷ []))) (parents-are (b - a) a)
       ∙ ap (λ (z : ℕ). 0x28 ∷ (writeNodes ps a [] (tabulate nodeAt a z) ++ (0x29 ∷ []))) e
@@ -146,7 +146,7 @@ module _ {nd : List ℕ} {n a b : ℕ} (linking : Linking nd n) (stretch : Stret
   good-from (suc m) j xs e l h =
       let q : ℕ = parentAt nd (suc j) in
       let u : suc j < b = omega arith in
-      (path-on nd j q xs h (on-path j l u), good-from m (suc j) (opening ps (suc j) q ∷ left q xs) (omega arith) (omega arith) (path-next j l u (bracketed ps q) xs (brackets-here j l u) h))
+      (path-on nd j q xs h (on-path j l u), good-from m (suc j) (opening ps (suc j) q ∷ pathLeft q xs) (omega arith) (omega arith) (path-next j l u (bracketed ps q) xs (brackets-here j l u) h))
 
   parents-from : ps ≡ none ∷ parents (tabulate nodeAt (suc a) (b - suc a))
   unfolding tabulate
@@ -154,17 +154,17 @@ module _ {nd : List ℕ} {n a b : ℕ} (linking : Linking nd n) (stretch : Stret
       let e : b - a ≡ suc (b - suc a) = omega (arith, stretch .some) in
       ap (tabulate (parentAt nd) a) e ∙ ap₂ (λ (x : ℕ) (y : List ℕ). x ∷ y) (stretch .root) (sym (parents-are (b - suc a) (suc a)))
 
-  pub tree-is : (kind : ℕ) → treeText (record { root = a; kind = kind; nodes = tabulate nodeAt a (b - a) })
-      ≡ (begun nd a ++ (0x3b ∷ body a)) ++ (joined (textOf nd body) (suc a) (b - suc a) ++ endsBefore nd b none)
+  pub tree-is : (game : ℕ) → treeText (record { root = a; game = game; nodes = tabulate nodeAt a (b - a) })
+      ≡ (startText nd a ++ (0x3b ∷ body a)) ++ (joined (textOf nd body) (suc a) (b - suc a) ++ endsBefore nd b none)
   unfolding tabulate
-  tree-is kind =
+  tree-is game =
       let s = stretch .some in
       let e : b - a ≡ suc (b - suc a) = omega arith in
       let ns : List Node = tabulate nodeAt (suc a) (b - suc a) in
       let top : List ℕ → Open = λ z. opening z a none in
-      ap (λ (z : ℕ). treeText (record { root = a; kind = kind; nodes = tabulate nodeAt a z })) e
-      ∙ sym (tree-text a kind (nodeAt a) ns (stretch .root) (subst (λ (z : List ℕ). bracketed z none ≡ false) parents-from root-counted)
+      ap (λ (z : ℕ). treeText (record { root = a; game = game; nodes = tabulate nodeAt a z })) e
+      ∙ sym (tree-text a game (nodeAt a) ns (stretch .root) (subst (λ (z : List ℕ). bracketed z none ≡ false) parents-from root-counted)
       (subst (λ (z : List ℕ). Good z (suc a) (top z ∷ []) ns) parents-from (good-from (b - suc a) a (top ps ∷ []) (omega arith) (omega arith) (refl, root-counted, stretch .root)))
       (omega (arith, tabulate-length nodeAt (suc a) (b - suc a), linking .ruled .most, stretch .inside)))
-      ∙ ap (λ (z : ℕ). writeTree (record { root = a; kind = kind; nodes = tabulate nodeAt a z })) (sym e)
-      ∙ tree-walked kind
+      ∙ ap (λ (z : ℕ). writeTree (record { root = a; game = game; nodes = tabulate nodeAt a z })) (sym e)
+      ∙ tree-walked game

@@ -8,17 +8,18 @@ use Rattle.tables.specs.Numbers.{none}
 use Rattle.go.specs.Normal.{normal}
 use Rattle.parts.specs.Rows.{valuesAt}
 use Rattle.go_shape.proofs.Identifiers.{letter-past, letter-here}
-use Rattle.tables.specs.Columns.{kindAt, parentAt, firstPropAt, propCountAt, nameFromAt, nameToAt, firstValAt, valCountAt}
+use Rattle.tables.specs.Columns.{gameAt, parentAt, firstPropAt, propCountAt, nameFromAt, nameToAt, firstValAt, valCountAt}
 use Rattle.lists.proofs.Tests.{same-or}
 use Rattle.tables.proofs.Each.{each-at, each-all}
 use Rattle.fit_spans.proofs.Lists.{part-slice}
 use Rattle.fit_nodes.proofs.Rule.{rule-at, rule-before}
 use Rattle.fit_nodes.specs.Nodes.{parentRight}
 use Rattle.fit_nodes.specs.Locals.{Ruled}
-use Rattle.serialize.specs.Locals.{PropHeld, Placed, Above, NodesHeld}
-use Rattle.serialize.specs.LocalsWalk.{texts, rootsBelow, nameAt, valuesText, propText, propsText, begun, endsBefore, nodeBy, nodeText, linked, named}
-use Rattle.serialize_values.specs.LocalsBoxes.{boxes}
+use Rattle.serialize.specs.Locals.{Placed, Above, NodesHeld}
+use Rattle.serialize.specs.LocalsWalk.{texts, rootsBelow, readNameAt, valuesText, propText, propsText, startText, endsBefore, nodeBy, nodeText, linksText, hasName}
+use Rattle.serialize_values.specs.LocalsForm.{rawsText}
 use Rattle.serialize_values.proofs.Writing.{writing-first, writing-is, writing-next, writing-last}
+use Rattle.tables.specs.LocalsNames.{NameHeld}
 
 -- the rule of the parents holds of fewer nodes too
 ruled-up : {nd : List ℕ} {n : ℕ} → Ruled nd n → (k : ℕ) → k ≤ n → Ruled nd k
@@ -38,31 +39,31 @@ module _ (s : List ℕ) (i : ℕ) where
       sym (lt-ltb 0 (suc (length r)) (omega arith)) ∙ ap (λ (z : List ℕ). ltb 0 (length z)) (sym (letter-here s i h t) ∙ e)
 
 -- a part of the text that was asked is the name
-pub name-part : (t pr : List ℕ) (p : ℕ) {a e : ℕ} → a ≡ nameFromAt pr p → e ≡ nameToAt pr p → readIdentifier (take (e - a) (drop a t)) ≡ nameAt t pr p
+pub name-part : (t pr : List ℕ) (p : ℕ) {a e : ℕ} → a ≡ nameFromAt pr p → e ≡ nameToAt pr p → readIdentifier (take (e - a) (drop a t)) ≡ readNameAt t pr p
 name-part t pr p {a} {e} q r = ap readIdentifier (part-slice a e t) ∙ ap₂ (λ (x y : ℕ). readIdentifier (drop x (take y t))) q r
 
-pub name-tested : (t pr : List ℕ) (p : ℕ) {a e : ℕ} {b : Bool} → a ≡ nameFromAt pr p → e ≡ nameToAt pr p → b ≡ ltb 0 (length (readIdentifier (take (e - a) (drop a t)))) → b ≡ named t pr p
+pub name-tested : (t pr : List ℕ) (p : ℕ) {a e : ℕ} {b : Bool} → a ≡ nameFromAt pr p → e ≡ nameToAt pr p → b ≡ ltb 0 (length (readIdentifier (take (e - a) (drop a t)))) → b ≡ hasName t pr p
 name-tested t pr p q r h = h ∙ ap (λ (z : List ℕ). ltb 0 (length z)) (name-part t pr p q r)
 
 -- ---- a property
 
-module _ (t pr vl : List ℕ) (kind p : ℕ) {a e first count : ℕ} (ea : a ≡ nameFromAt pr p) (ee : e ≡ nameToAt pr p) (ef : first ≡ firstValAt pr p) (ec : count ≡ valCountAt pr p) where
-  values-are : boxes (normal kind (readIdentifier (take (e - a) (drop a t))) (valuesAt t vl first count)) ≡ valuesText t pr vl kind p
+module _ (t pr vl : List ℕ) (game p : ℕ) {a e first count : ℕ} (ea : a ≡ nameFromAt pr p) (ee : e ≡ nameToAt pr p) (ef : first ≡ firstValAt pr p) (ec : count ≡ valCountAt pr p) where
+  values-are : rawsText (normal game (readIdentifier (take (e - a) (drop a t))) (valuesAt t vl first count)) ≡ valuesText t pr vl game p
   unfolding valuesText
   values-are =
-      ap₂ (λ (n : List ℕ) (vs : List (List ℕ)). boxes (normal kind n vs)) (name-part t pr p ea ee) (ap₂ (valuesAt t vl) ef ec)
+      ap₂ (λ (n : List ℕ) (vs : List (List ℕ)). rawsText (normal game n vs)) (name-part t pr p ea ee) (ap₂ (valuesAt t vl) ef ec)
 
   pub property-wrote : {o : List ℕ} {at : ℕ} {o1 : List ℕ} {r1 : ℕ} {o2 : List ℕ} {r2 : ℕ} → length o < 2 ^ 64 → at < 2 ^ 64
       → Wrote (readIdentifier (take (e - a) (drop a t))) o at o1 r1
-      → Wrote (boxes (normal kind (readIdentifier (take (e - a) (drop a t))) (valuesAt t vl first count))) o1 r1 o2 r2 → Wrote (propText t pr vl kind p) o at o2 r2
+      → Wrote (rawsText (normal game (readIdentifier (take (e - a) (drop a t))) (valuesAt t vl first count))) o1 r1 o2 r2 → Wrote (propText t pr vl game p) o at o2 r2
   unfolding propText
   property-wrote s b x y =
-      writing-last y (writing-next x (writing-is (sym (ap₂ (λ (u v : List ℕ). u ++ v) (name-part t pr p ea ee) values-are)) (writing-first (propText t pr vl kind p) _ _ s b)))
+      writing-last y (writing-next x (writing-is (sym (ap₂ (λ (u v : List ℕ). u ++ v) (name-part t pr p ea ee) values-are)) (writing-first (propText t pr vl game p) _ _ s b)))
 
-pub properties-are : (t nd pr vl : List ℕ) (kind k : ℕ) {first count : ℕ} → first ≡ firstPropAt nd k → count ≡ propCountAt nd k
-    → texts (λ i. propText t pr vl kind (first + i)) count ≡ propsText t nd pr vl kind k
+pub properties-are : (t nd pr vl : List ℕ) (game k : ℕ) {first count : ℕ} → first ≡ firstPropAt nd k → count ≡ propCountAt nd k
+    → texts (λ i. propText t pr vl game (first + i)) count ≡ propsText t nd pr vl game k
 unfolding propsText
-properties-are t nd pr vl kind k ef ec = ap₂ (λ (f c : ℕ). texts (λ i. propText t pr vl kind (f + i)) c) ef ec
+properties-are t nd pr vl game k ef ec = ap₂ (λ (f c : ℕ). texts (λ i. propText t pr vl game (f + i)) c) ef ec
 
 -- ---- game types
 
@@ -88,7 +89,7 @@ roots-some nd (suc k) x =
     pick-elim (λ (n : ℕ). 0 < n) (eqb (parentAt nd (suc k)) none) (λ e. omega arith) (λ e. r)
 
 module _ (tr : List ℕ) (r : ℕ) (h : 0 < r) where
-  pub type-none : length tr / 2 < r → 0 ≡ kindAt tr (r - 1)
+  pub type-none : length tr / 2 < r → 0 ≡ gameAt tr (r - 1)
   type-none l = sym (List·getD-eq-default tr 0 (omega arith))
 
 -- ---- a node
@@ -96,44 +97,44 @@ module _ (tr : List ℕ) (r : ℕ) (h : 0 < r) where
 module _ {t nd pr : List ℕ} {k : ℕ} (x : NodesHeld t nd pr (suc k)) where
   pub node-placed : Placed nd k
   node-placed =
-      let r = x .rows in
+      let r = x .lent in
       record { row = omega arith; above = λ w. (let b = rule-before (x .ruled) k (omega arith) w in omega arith) }
 
   pub node-above : Above nd k (parentAt nd k)
   node-above =
-      let r = x .rows in
+      let r = x .lent in
       record {
-        rows = omega arith;
+        lent = omega arith;
         ruled = ruled-up (x .ruled) k (omega arith);
         above = λ s z. rule-at (x .ruled) k (omega arith) z .1;
       }
 
-  pub node-property : {first count : ℕ} → first ≡ firstPropAt nd k → count ≡ propCountAt nd k → (i : ℕ) → i < count → PropHeld t pr (first + i)
-  node-property {first = first} ef ec i l = let z : first + i ≡ firstPropAt nd k + i = omega arith in subst (λ (q : ℕ). PropHeld t pr q) (sym z) (x .props k (omega arith) i (omega arith))
+  pub node-property : {first count : ℕ} → first ≡ firstPropAt nd k → count ≡ propCountAt nd k → (i : ℕ) → i < count → NameHeld t pr (first + i)
+  node-property {first = first} ef ec i l = let z : first + i ≡ firstPropAt nd k + i = omega arith in subst (λ (q : ℕ). NameHeld t pr q) (sym z) (x .props k (omega arith) i (omega arith))
 
 pub nodes-up : {t nd pr : List ℕ} {n : ℕ} → NodesHeld t nd pr n → (k : ℕ) → k < n → NodesHeld t nd pr (suc k)
 nodes-up x k h =
-    let r = x .rows in
+    let r = x .lent in
     record {
-      rows = omega arith;
+      lent = omega arith;
       ruled = ruled-up (x .ruled) (suc k) (omega arith);
       props = λ j l. x .props j (omega arith);
     }
 
 pub nodes-above : {t nd pr : List ℕ} {n : ℕ} → NodesHeld t nd pr n → Above nd n none
-nodes-above x = record { rows = x .rows; ruled = x .ruled; above = λ s z. absurd (z refl) }
+nodes-above x = record { lent = x .lent; ruled = x .ruled; above = λ s z. absurd (z refl) }
 
-pub node-wrote : (t nd pr vl : List ℕ) (kind k : ℕ) {o : List ℕ} {at : ℕ} {o1 : List ℕ} {r1 : ℕ} {o2 : List ℕ} {r2 : ℕ} {o3 : List ℕ} {r3 : ℕ} {o4 : List ℕ} {r4 : ℕ} → length o < 2 ^ 64 → at < 2 ^ 64
-    → Wrote (endsBefore nd k (parentAt nd k)) o at o1 r1 → Wrote (begun nd k) o1 r1 o2 r2 → Wrote (0x3b ∷ []) o2 r2 o3 r3 → Wrote (propsText t nd pr vl kind k) o3 r3 o4 r4
-    → Wrote (nodeBy t nd pr vl kind k) o at o4 r4
+pub node-wrote : (t nd pr vl : List ℕ) (game k : ℕ) {o : List ℕ} {at : ℕ} {o1 : List ℕ} {r1 : ℕ} {o2 : List ℕ} {r2 : ℕ} {o3 : List ℕ} {r3 : ℕ} {o4 : List ℕ} {r4 : ℕ} → length o < 2 ^ 64 → at < 2 ^ 64
+    → Wrote (endsBefore nd k (parentAt nd k)) o at o1 r1 → Wrote (startText nd k) o1 r1 o2 r2 → Wrote (0x3b ∷ []) o2 r2 o3 r3 → Wrote (propsText t nd pr vl game k) o3 r3 o4 r4
+    → Wrote (nodeBy t nd pr vl game k) o at o4 r4
 unfolding nodeBy
-node-wrote t nd pr vl kind k s l a b c d = writing-last d (writing-next c (writing-next b (writing-next a (writing-first (nodeBy t nd pr vl kind k) _ _ s l))))
+node-wrote t nd pr vl game k s l a b c d = writing-last d (writing-next c (writing-next b (writing-next a (writing-first (nodeBy t nd pr vl game k) _ _ s l))))
 
 -- its game type was counted
-pub node-typed : (t tr nd pr vl : List ℕ) (k : ℕ) {r kind : ℕ} → r ≡ rootsBelow nd (suc k) → kind ≡ kindAt tr (r - 1) → nodeBy t nd pr vl kind k ≡ nodeText t tr nd pr vl k
-node-typed t tr nd pr vl k e h = ap (λ (z : ℕ). nodeBy t nd pr vl z k) (h ∙ ap (λ (z : ℕ). kindAt tr (z - 1)) e)
+pub node-typed : (t tr nd pr vl : List ℕ) (k : ℕ) {r game : ℕ} → r ≡ rootsBelow nd (suc k) → game ≡ gameAt tr (r - 1) → nodeBy t nd pr vl game k ≡ nodeText t tr nd pr vl k
+node-typed t tr nd pr vl k e h = ap (λ (z : ℕ). nodeBy t nd pr vl z k) (h ∙ ap (λ (z : ℕ). gameAt tr (z - 1)) e)
 
 pub linked-wrote : (t tr nd pr vl : List ℕ) (n : ℕ) {o : List ℕ} {at : ℕ} {o1 : List ℕ} {r1 : ℕ} {o2 : List ℕ} {r2 : ℕ} → length o < 2 ^ 64
-    → Wrote (texts (nodeText t tr nd pr vl) n) o at o1 r1 → Wrote (endsBefore nd n none) o1 r1 o2 r2 → Wrote (linked t tr nd pr vl n) o at o2 r2
-unfolding linked
+    → Wrote (texts (nodeText t tr nd pr vl) n) o at o1 r1 → Wrote (endsBefore nd n none) o1 r1 o2 r2 → Wrote (linksText t tr nd pr vl n) o at o2 r2
+unfolding linksText
 linked-wrote t tr nd pr vl n s a b = wrote-more s a b

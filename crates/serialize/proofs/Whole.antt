@@ -13,12 +13,13 @@ use Rattle.fit.proofs.Clauses.{Clauses, fit-clauses, name-in}
 use Rattle.fit_spans.proofs.Ranges.{gapless-in}
 use Rattle.fit.proofs.Whole.{fit-lent}
 use Rattle.serialize.specs.Form.{writing, written, WriteIs}
-use Rattle.serialize.specs.Locals.{answer, PropHeld, NodesHeld}
-use Rattle.serialize.specs.LocalsWalk.{linked, namesGood}
+use Rattle.serialize.specs.Locals.{writeAnswer, NodesHeld}
+use Rattle.serialize.specs.LocalsWalk.{linksText, namesGood}
 use Rattle.serialize.specs.Branch.{nameless}
 use Rattle.serialize.specs.declared.Written.the-variants.{Wrote as Done, Refused}
 use Rattle.serialize.proofs.AllNames.{names-are}
 use Rattle.serialize.proofs.Linked.{linked-is}
+use Rattle.tables.specs.LocalsNames.{NameHeld}
 
 -- the measure leaves its empty part, and so the bytes lent
 pub measure-kept : {w e : List ℕ} {need : ℕ} (out : List ℕ) → Wrote w [] 0 e need → e ++ out ≡ out
@@ -35,7 +36,7 @@ module _ (m : Memory) (out : List ℕ) where
   short = ltb (length out) (length (writing trees))
 
   pub write-unfit : {f : Bool} → f ≡ Fit m → f ≡ false → WriteIs m out out (Refused NotFitting)
-  write-unfit e h = record { is = ap (λ (z : Bool). answer z blank short (writing trees)) (sym h ∙ e); bytes = refl }
+  write-unfit e h = record { is = ap (λ (z : Bool). writeAnswer z blank short (writing trees)) (sym h ∙ e); bytes = refl }
 
   module _ (fit : Fit m ≡ true) where
     clauses : Clauses (textIn m) (m .counts) (m .trees) (m .nodes) (m .properties) (m .values)
@@ -44,24 +45,24 @@ module _ (m : Memory) (out : List ℕ) where
     pub fit-used : m .used ≡ length (textIn m)
     fit-used = sym (length-take-le (m .used) (m .text) (fit-lent m fit .0))
 
-    pub fit-property : (p : ℕ) → p < m .counts .properties → PropHeld (textIn m) (m .properties) p
+    pub fit-property : (p : ℕ) → p < m .counts .properties → NameHeld (textIn m) (m .properties) p
     fit-property p h =
         let l = name-in clauses p h in
-        record { row = omega (arith, clauses .held .properties); some = l .0; inside = l .1 }
+        record { row = omega (arith, clauses .held .properties); rises = l .0; inside = l .1 }
 
     pub fit-nodes : NodesHeld (textIn m) (m .nodes) (m .properties) (m .counts .nodes)
     fit-nodes =
         let g = gapless-in (firstPropAt (m .nodes)) (propCountAt (m .nodes)) (m .counts .nodes) (m .counts .properties) (clauses .node-ranges) in
         record {
-          rows = clauses .held .nodes;
-          ruled = record { most = clauses .held .few; rule = clauses .parents };
+          lent = clauses .held .nodes;
+          ruled = record { most = clauses .held .below-none; rule = clauses .parents };
           props = λ k h i l. fit-property (firstPropAt (m .nodes) k + i) (omega (arith, g k h));
         }
 
     -- the answer, where the names and the room are known
-    decided : {b s : Bool} → blank ≡ b → short ≡ s → answer true b s (writing trees) ≡ written m (length out)
+    decided : {b s : Bool} → blank ≡ b → short ≡ s → writeAnswer true b s (writing trees) ≡ written m (length out)
     decided {b} {s} eb es =
-        ap₂ (λ (x y : Bool). answer true x y (writing trees)) (sym eb) (sym es) ∙ ap (λ (z : Bool). answer z blank short (writing trees)) (sym fit)
+        ap₂ (λ (x y : Bool). writeAnswer true x y (writing trees)) (sym eb) (sym es) ∙ ap (λ (z : Bool). writeAnswer z blank short (writing trees)) (sym fit)
 
     names : namesGood (textIn m) (m .properties) (m .counts .properties) ≡ not blank
     names = names-are m fit
@@ -71,7 +72,7 @@ module _ (m : Memory) (out : List ℕ) where
 
     module _ (good : namesGood (textIn m) (m .properties) (m .counts .properties) ≡ true) (small : length out < 2 ^ 63) where
       abbrev walked : List ℕ
-      walked = linked (textIn m) (m .trees) (m .nodes) (m .properties) (m .values) (m .counts .nodes)
+      walked = linksText (textIn m) (m .trees) (m .nodes) (m .properties) (m .values) (m .counts .nodes)
 
       same : walked ≡ writing trees
       same = linked-is m fit

@@ -21,20 +21,20 @@ abbrev pub under : (p : ℕ) → List Hung → Nodes
 under p [] = bare
 under p (h ∷ hs) = let r = under p hs in pick (eqb (h .parent) p) (stand (h .props) (h .children) r) r
 
--- the nodes from number k on with their children: of node k, the later nodes whose parent is k
+-- the nodes from number k on with their children: of node k, the later nodes whose parent is k (SCOPE 109)
 abbrev pub hung : (k : ℕ) → List Node → List Hung
 hung k [] = []
 hung k (n ∷ ns) = let r = hung (suc k) ns in record { parent = n .parent; props = n .props; children = under k r } ∷ r
 
 -- the values in their brackets
-abbrev pub boxed : List Val → List ℕ
-boxed [] = []
-boxed (v ∷ vs) = 0x5b ∷ (v .raw ++ (0x5d ∷ boxed vs))
+abbrev pub valsText : List Val → List ℕ
+valsText [] = []
+valsText (v ∷ vs) = 0x5b ∷ (v .raw ++ (0x5d ∷ valsText vs))
 
--- read identifiers and values
+-- read identifiers and values (SCOPE 110)
 abbrev pub writeProps : List Prop → List ℕ
 writeProps [] = []
-writeProps (p ∷ ps) = readIdentifier (p .name) ++ (boxed (p .vals) ++ writeProps ps)
+writeProps (p ∷ ps) = readIdentifier (p .name) ++ (valsText (p .vals) ++ writeProps ps)
 
 -- two or more
 abbrev pub several : Nodes → Bool
@@ -47,12 +47,12 @@ abbrev pub enclosed : (brackets : Bool) → List ℕ → List ℕ
 enclosed true w = 0x28 ∷ (w ++ (0x29 ∷ []))
 enclosed false w = w
 
--- a node is `;`, properties, then its children: one child follows directly, two or more stand each in brackets
+-- a node is `;`, properties, then its children: one child follows directly, two or more stand each in brackets (SCOPE 109)
 abbrev pub nodesText : (brackets : Bool) → Nodes → List ℕ
 nodesText b bare = []
 nodesText b (stand ps cs ns) = enclosed b (0x3b ∷ (writeProps ps ++ nodesText (several cs) cs)) ++ nodesText b ns
 
--- each tree is `(`, its root, `)`: the root is the node that has no parent
+-- each tree is `(`, its root, `)`: the root is the node that has no parent (SCOPE 108)
 abbrev pub treeText : Tree → List ℕ
 treeText t = enclosed true (nodesText false (under none (hung (t .root) (t .nodes))))
 
@@ -61,7 +61,7 @@ abbrev pub treesText : List Tree → List ℕ
 treesText [] = []
 treesText (t ∷ ts) = treeText t ++ treesText ts
 
--- an identifier reads as empty
+-- an identifier reads as empty (SCOPE 46)
 abbrev pub nameless : List Prop → Bool
 nameless [] = false
 nameless (p ∷ ps) = leb (length (readIdentifier (p .name))) 0 || nameless ps

@@ -13,12 +13,12 @@ use Rattle.serialize.specs.declared.Written.{Written}
 use Rattle.serialize.specs.declared.Written.the-variants.{Wrote, Refused}
 
 -- a value with these bytes that stands in no text yet
-abbrev pub placeless : List ℕ → Val
-placeless r = record { from = 0; to = 0; raw = r }
+abbrev pub placelessVal : List ℕ → Val
+placelessVal r = record { from = 0; to = 0; raw = r }
 
 -- a property of a tree with game type k: its values in their normal form
 abbrev pub formProp : (k : ℕ) → Prop → Prop
-formProp k p = record { from = p .from; to = p .to; name = p .name; vals = map placeless (normal k (readIdentifier (p .name)) (rawsOf p)) }
+formProp k p = record { from = p .from; to = p .to; name = p .name; vals = map placelessVal (normal k (readIdentifier (p .name)) (rawsOf p)) }
 
 -- a node
 abbrev pub formNode : (k : ℕ) → Node → Node
@@ -26,13 +26,13 @@ formNode k n = record { parent = n .parent; props = map (formProp k) (n .props) 
 
 -- a tree
 abbrev pub formTree : Tree → Tree
-formTree t = record { root = t .root; kind = t .kind; nodes = map (formNode (t .kind)) (t .nodes) }
+formTree t = record { root = t .root; game = t .game; nodes = map (formNode (t .game)) (t .nodes) }
 
--- the writing of a record
+-- the writing of a record (SCOPE 2, 132, 134)
 abbrev pub writing : List Tree → List ℕ
 writing ts = treesText (map formTree ts)
 
--- the writer's answer over lent memory: the first refusal that applies, else how many bytes are written
+-- the writer's answer over lent memory: the first refusal that applies, else how many bytes are written (SCOPE 45, 50, 62, 131)
 abbrev pub written : Memory → (room : ℕ) → Written
 written m room =
     pick (not (Fit m)) (Refused NotFitting)
@@ -40,12 +40,12 @@ written m room =
     (pick (ltb room (length (writing (recordIn m)))) (Refused NoRoom)
     (Wrote (length (writing (recordIn m))))))
 
--- the lent bytes then: the writing and what was behind it; a refusal changes none
+-- the lent bytes then: the writing and what was behind it; a refusal changes none (SCOPE 57, 58)
 abbrev pub output : Written → (w out : List ℕ) → List ℕ
 output (Wrote n) w out = w ++ drop n out
 output (Refused r) w out = out
 
--- the writer's answer and the lent bytes
+-- the writer's answer and the lent bytes (SCOPE 122)
 pub record WriteIs (m : Memory) (out out′ : List ℕ) (r : Written) : Type 0 where
   pub is : r ≡ written m (length out)
   pub bytes : out′ ≡ output r (writing (recordIn m)) out

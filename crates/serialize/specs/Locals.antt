@@ -1,18 +1,13 @@
 -- What the writer's own functions promise and ask of each other.
 use Rattle.lists.specs.Prelude.{ℕ, suc, _+_, _/_, _<_, _≤_, _-_, Bool, true, not, List, _≡_, length, pick}
 use Rattle.tables.specs.Numbers.{none}
-use Rattle.tables.specs.Columns.{nodeStride, propertyStride, parentAt, firstPropAt, propCountAt, nameFromAt, nameToAt}
+use Rattle.tables.specs.Columns.{nodeStride, parentAt, firstPropAt, propCountAt}
 use Rattle.fit_nodes.specs.Locals.{Ruled}
 use Rattle.fit_nodes.specs.Nodes.{onPath}
 use Rattle.tables.specs.declared.Reason.the-variants.{NoRoom, EmptyIdentifier, NotFitting}
 use Rattle.serialize.specs.declared.Written.{Written}
 use Rattle.serialize.specs.declared.Written.the-variants.{Wrote, Refused}
-
--- row p of the properties is there, and its identifier lies in the text
-pub record PropHeld (t pr : List ℕ) (p : ℕ) : Type 0 where
-  pub row : p < length pr / propertyStride
-  pub some : nameFromAt pr p ≤ nameToAt pr p
-  pub inside : nameToAt pr p ≤ length t
+use Rattle.tables.specs.LocalsNames.{NameHeld}
 
 -- the rows of node k and of its parent are there
 pub record Placed (nd : List ℕ) (k : ℕ) : Type 0 where
@@ -21,20 +16,20 @@ pub record Placed (nd : List ℕ) (k : ℕ) : Type 0 where
 
 -- the first k nodes are there and have right parents, and p is none, node k - 1 or above it
 pub record Above (nd : List ℕ) (k p : ℕ) : Type 0 where
-  pub rows : k ≤ length nd / nodeStride
+  pub lent : k ≤ length nd / nodeStride
   pub ruled : Ruled nd k
   pub above : 0 < k → (p ≡ none → ⊥) → onPath nd (k - 1) p ≡ true
 
 -- so are n nodes, and their properties
 pub record NodesHeld (t nd pr : List ℕ) (n : ℕ) : Type 0 where
-  pub rows : n ≤ length nd / nodeStride
+  pub lent : n ≤ length nd / nodeStride
   pub ruled : Ruled nd n
-  pub props : (k : ℕ) → k < n → (i : ℕ) → i < propCountAt nd k → PropHeld t pr (firstPropAt nd k + i)
+  pub props : (k : ℕ) → k < n → (i : ℕ) → i < propCountAt nd k → NameHeld t pr (firstPropAt nd k + i)
 
 -- the nodes up to node k
 abbrev pub NodeHeld : (t nd pr : List ℕ) (k : ℕ) → Type 0
 NodeHeld t nd pr k = NodesHeld t nd pr (suc k)
 
 -- the writer's answer by its tests: do the tables fit; does an identifier read as empty; is the writing w longer than the bytes lent
-abbrev pub answer : (fits blank short : Bool) → (w : List ℕ) → Written
-answer fits blank short w = pick (not fits) (Refused NotFitting) (pick blank (Refused EmptyIdentifier) (pick short (Refused NoRoom) (Wrote (length w))))
+abbrev pub writeAnswer : (fits blank short : Bool) → (w : List ℕ) → Written
+writeAnswer fits blank short w = pick (not fits) (Refused NotFitting) (pick blank (Refused EmptyIdentifier) (pick short (Refused NoRoom) (Wrote (length w))))

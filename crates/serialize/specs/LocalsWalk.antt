@@ -5,8 +5,8 @@ use Rattle.go.specs.Normal.{normal}
 use Rattle.parts.specs.Rows.{valuesAt}
 use Rattle.tables.specs.Numbers.{none}
 use Rattle.tables.specs.Each.{each}
-use Rattle.serialize_values.specs.LocalsBoxes.{boxes}
-use Rattle.tables.specs.Columns.{kindAt, parentAt, childAt, siblingAt, firstPropAt, propCountAt, nameFromAt, nameToAt, firstValAt, valCountAt}
+use Rattle.serialize_values.specs.LocalsForm.{rawsText}
+use Rattle.tables.specs.Columns.{gameAt, parentAt, childAt, siblingAt, firstPropAt, propCountAt, nameFromAt, nameToAt, firstValAt, valCountAt}
 
 -- the texts of 0, 1, .. below m, one after another
 unfoldable pub texts : (ℕ → List ℕ) → ℕ → List ℕ
@@ -19,41 +19,41 @@ rootsBelow nd zero = 0
 rootsBelow nd (suc k) = let r = rootsBelow nd k in pick (eqb (parentAt nd k) none) (suc r) r
 
 -- the game type of node k's tree
-abbrev pub kindOver : (tr nd : List ℕ) → ℕ → ℕ
-kindOver tr nd k = kindAt tr (rootsBelow nd (suc k) - 1)
+abbrev pub nodeGame : (tr nd : List ℕ) → ℕ → ℕ
+nodeGame tr nd k = gameAt tr (rootsBelow nd (suc k) - 1)
 
 -- the read identifier of property p
-abbrev pub nameAt : (t pr : List ℕ) → ℕ → List ℕ
-nameAt t pr p = readIdentifier (slice (nameFromAt pr p) (nameToAt pr p) t)
+abbrev pub readNameAt : (t pr : List ℕ) → ℕ → List ℕ
+readNameAt t pr p = readIdentifier (slice (nameFromAt pr p) (nameToAt pr p) t)
 
 -- its values, in their normal form
-unfoldable pub valuesText : (t pr vl : List ℕ) → (kind p : ℕ) → List ℕ
-valuesText t pr vl kind p = boxes (normal kind (nameAt t pr p) (valuesAt t vl (firstValAt pr p) (valCountAt pr p)))
+unfoldable pub valuesText : (t pr vl : List ℕ) → (game p : ℕ) → List ℕ
+valuesText t pr vl game p = rawsText (normal game (readNameAt t pr p) (valuesAt t vl (firstValAt pr p) (valCountAt pr p)))
 
 -- property p
-unfoldable pub propText : (t pr vl : List ℕ) → (kind p : ℕ) → List ℕ
-propText t pr vl kind p = nameAt t pr p ++ valuesText t pr vl kind p
+unfoldable pub propText : (t pr vl : List ℕ) → (game p : ℕ) → List ℕ
+propText t pr vl game p = readNameAt t pr p ++ valuesText t pr vl game p
 
 -- the properties of node k
-unfoldable pub propsText : (t nd pr vl : List ℕ) → (kind k : ℕ) → List ℕ
-propsText t nd pr vl kind k = texts (λ i. propText t pr vl kind (firstPropAt nd k + i)) (propCountAt nd k)
+unfoldable pub propsText : (t nd pr vl : List ℕ) → (game k : ℕ) → List ℕ
+propsText t nd pr vl game k = texts (λ i. propText t pr vl game (firstPropAt nd k + i)) (propCountAt nd k)
 
 -- a node stands in brackets where it is a root, is not the first child, or has a next sibling
 abbrev pub inBrackets : List ℕ → ℕ → Bool
 inBrackets nd k = eqb (parentAt nd k) none || (not (eqb (childAt nd (parentAt nd k)) k) || not (eqb (siblingAt nd k) none))
 
 -- its end
-abbrev pub shut : List ℕ → ℕ → List ℕ
-shut nd k = pick (inBrackets nd k) (0x29 ∷ []) []
+abbrev pub endText : List ℕ → ℕ → List ℕ
+endText nd k = pick (inBrackets nd k) (0x29 ∷ []) []
 
 -- its start
-abbrev pub begun : List ℕ → ℕ → List ℕ
-begun nd k = pick (inBrackets nd k) (0x28 ∷ []) []
+abbrev pub startText : List ℕ → ℕ → List ℕ
+startText nd k = pick (inBrackets nd k) (0x28 ∷ []) []
 
 -- the ends of node j and of those above it that are below p, at most f of them
 unfoldable pub climbs : List ℕ → (f j p : ℕ) → List ℕ
-climbs nd zero j p = shut nd j
-climbs nd (suc f) j p = shut nd j ++ pick (eqb (parentAt nd j) p) [] (climbs nd f (parentAt nd j) p)
+climbs nd zero j p = endText nd j
+climbs nd (suc f) j p = endText nd j ++ pick (eqb (parentAt nd j) p) [] (climbs nd f (parentAt nd j) p)
 
 -- the ends between node k - 1 and a node whose parent is p; none: all ends
 unfoldable pub endsBefore : List ℕ → (k p : ℕ) → List ℕ
@@ -61,21 +61,21 @@ endsBefore nd zero p = []
 endsBefore nd (suc k) p = pick (eqb k p) [] (climbs nd k k p)
 
 -- node k of a tree with this game type
-unfoldable pub nodeBy : (t nd pr vl : List ℕ) → (kind k : ℕ) → List ℕ
-nodeBy t nd pr vl kind k = endsBefore nd k (parentAt nd k) ++ (begun nd k ++ (0x3b ∷ propsText t nd pr vl kind k))
+unfoldable pub nodeBy : (t nd pr vl : List ℕ) → (game k : ℕ) → List ℕ
+nodeBy t nd pr vl game k = endsBefore nd k (parentAt nd k) ++ (startText nd k ++ (0x3b ∷ propsText t nd pr vl game k))
 
 -- node k
 abbrev pub nodeText : (t tr nd pr vl : List ℕ) → ℕ → List ℕ
-nodeText t tr nd pr vl k = nodeBy t nd pr vl (kindOver tr nd k) k
+nodeText t tr nd pr vl k = nodeBy t nd pr vl (nodeGame tr nd k) k
 
 -- n nodes
-unfoldable pub linked : (t tr nd pr vl : List ℕ) → (n : ℕ) → List ℕ
-linked t tr nd pr vl n = texts (nodeText t tr nd pr vl) n ++ endsBefore nd n none
+unfoldable pub linksText : (t tr nd pr vl : List ℕ) → (n : ℕ) → List ℕ
+linksText t tr nd pr vl n = texts (nodeText t tr nd pr vl) n ++ endsBefore nd n none
 
 -- property p has a name
-abbrev pub named : (t pr : List ℕ) → ℕ → Bool
-named t pr p = ltb 0 (length (nameAt t pr p))
+abbrev pub hasName : (t pr : List ℕ) → ℕ → Bool
+hasName t pr p = ltb 0 (length (readNameAt t pr p))
 
 -- so has each of m properties
 unfoldable pub namesGood : (t pr : List ℕ) → ℕ → Bool
-namesGood t pr m = each m (named t pr)
+namesGood t pr m = each m (hasName t pr)

@@ -25,14 +25,14 @@ shuts true r = 0x29 ∷ r
 shuts false r = r
 
 -- the ends before a node whose parent is p
-abbrev pub ends : ℕ → List Open → List ℕ
-ends p [] = []
-ends p (x ∷ xs) = let r = shuts (x .brk) (ends p xs) in pick (eqb (x .num) p) [] r
+abbrev pub endsText : ℕ → List Open → List ℕ
+endsText p [] = []
+endsText p (x ∷ xs) = let r = shuts (x .brk) (endsText p xs) in pick (eqb (x .num) p) [] r
 
 -- the path that is left then
-abbrev pub left : ℕ → List Open → List Open
-left p [] = []
-left p (x ∷ xs) = let r = left p xs in pick (eqb (x .num) p) (x ∷ xs) r
+abbrev pub pathLeft : ℕ → List Open → List Open
+pathLeft p [] = []
+pathLeft p (x ∷ xs) = let r = pathLeft p xs in pick (eqb (x .num) p) (x ∷ xs) r
 
 -- a start for such a node
 abbrev pub opened : Bool → List ℕ → List ℕ
@@ -41,11 +41,11 @@ opened false r = r
 
 -- the nodes from number k on: ends, perhaps a start, `;`, properties; at last all ends
 abbrev pub writeNodes : (ps : List ℕ) (k : ℕ) → List Open → List Node → List ℕ
-writeNodes ps k path [] = ends none path
+writeNodes ps k path [] = endsText none path
 writeNodes ps k path (n ∷ ns) =
-    ends (n .parent) path
+    endsText (n .parent) path
     ++ opened (bracketed ps (n .parent))
-    (0x3b ∷ (writeProps (n .props) ++ writeNodes ps (suc k) (record { num = k; brk = bracketed ps (n .parent) } ∷ left (n .parent) path) ns))
+    (0x3b ∷ (writeProps (n .props) ++ writeNodes ps (suc k) (record { num = k; brk = bracketed ps (n .parent) } ∷ pathLeft (n .parent) path) ns))
 
 -- each tree is `(`, its root, `)`
 abbrev pub writeTree : Tree → List ℕ

@@ -2,7 +2,7 @@
 ghost use mathlib.Core.Path.{_≡_};
 ghost use Rattle.store_bytes.specs.LocalsWrote.{Wrote};
 ghost use Rattle.serialize.specs.Locals.{Placed, Above};
-ghost use Rattle.serialize.specs.LocalsWalk.{inBrackets, shut, begun, endsBefore};
+ghost use Rattle.serialize.specs.LocalsWalk.{inBrackets, endText, startText, endsBefore};
 use store_bytes::put_byte;
 
 // Whether node k stands in brackets.
@@ -23,7 +23,7 @@ fn in_brackets(nodes: &[u32], k: usize) -> bool
 // The start of node k.
 pub fn put_start(out: &mut [u8], at: usize, nodes: &[u32], k: usize) -> usize
     requires { ⌜ Placed (now nodes) k ⌝ }
-    ensures { λ r. ⌜ Wrote (begun (now (nodes .entry)) k) (now (out .entry)) at (now (out .exit)) r ⌝ }
+    ensures { λ r. ⌜ Wrote (startText (now (nodes .entry)) k) (now (out .entry)) at (now (out .exit)) r ⌝ }
 {
     if in_brackets(nodes, k) {
         return put_byte(out, at, b'(');
@@ -34,7 +34,7 @@ pub fn put_start(out: &mut [u8], at: usize, nodes: &[u32], k: usize) -> usize
 // Its end.
 fn put_end(out: &mut [u8], at: usize, nodes: &[u32], k: usize) -> usize
     requires { ⌜ Placed (now nodes) k ⌝ }
-    ensures { λ r. ⌜ Wrote (shut (now (nodes .entry)) k) (now (out .entry)) at (now (out .exit)) r ⌝ }
+    ensures { λ r. ⌜ Wrote (endText (now (nodes .entry)) k) (now (out .entry)) at (now (out .exit)) r ⌝ }
 {
     if in_brackets(nodes, k) {
         return put_byte(out, at, b')');

@@ -5,7 +5,7 @@ ghost use lib.Dec.{ltb};
 ghost use lib.ListN.{length};
 ghost use Rattle.values.specs.Read.{readIdentifier};
 ghost use Rattle.store_bytes.specs.LocalsWrote.{Wrote};
-ghost use Rattle.serialize.specs.Locals.{PropHeld};
+ghost use Rattle.tables.specs.LocalsNames.{NameHeld};
 ghost use Rattle.serialize.specs.LocalsWalk.{namesGood};
 use store_bytes::put_byte;
 
@@ -42,7 +42,7 @@ fn is_named(name: &[u8]) -> bool
 
 // Whether each of n identifiers has one.
 pub fn names_good(text: &[u8], properties: &[u32], n: usize) -> bool
-    requires { ⌜ ((p : ℕ) → p < n → PropHeld (now text) (now properties) p) ⌝ }
+    requires { ⌜ ((p : ℕ) → p < n → NameHeld (now text) (now properties) p) ⌝ }
     ensures { λ r. ⌜ r ≡ namesGood (now (text .entry)) (now (properties .entry)) n ⌝ }
 {
     let mut k: usize = 0;

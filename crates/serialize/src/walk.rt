@@ -3,9 +3,9 @@ ghost use mathlib.Core.Path.{_≡_};
 ghost use Prim.Native.Nat.{suc, _-_, _/_, _<_, _≤_};
 ghost use lib.ListN.{length};
 ghost use Rattle.store_bytes.specs.LocalsWrote.{Wrote};
-ghost use Rattle.tables.specs.Columns.{nodeStride, kindAt};
+ghost use Rattle.tables.specs.Columns.{nodeStride, gameAt};
 ghost use Rattle.serialize.specs.Locals.{NodeHeld, NodesHeld};
-ghost use Rattle.serialize.specs.LocalsWalk.{rootsBelow, nodeBy, linked};
+ghost use Rattle.serialize.specs.LocalsWalk.{rootsBelow, nodeBy, linksText};
 
 // How many of the first k + 1 nodes have no parent, where `roots` of the first k have none.
 fn roots_with(nodes: &[u32], k: usize, roots: usize) -> usize
@@ -19,9 +19,9 @@ fn roots_with(nodes: &[u32], k: usize, roots: usize) -> usize
 }
 
 // The game type of the last of `roots` trees; 0 where it has no row.
-fn kind_of(trees: &[u32], roots: usize) -> u32
+fn game_of(trees: &[u32], roots: usize) -> u32
     requires { ⌜ 0 < roots ⌝ }
-    ensures { λ r. ⌜ r ≡ kindAt (now (trees .entry)) (roots - 1) ⌝ }
+    ensures { λ r. ⌜ r ≡ gameAt (now (trees .entry)) (roots - 1) ⌝ }
 {
     if trees.len() / tables::TREE_STRIDE < roots {
         return 0;
@@ -37,17 +37,17 @@ fn put_node(
     nodes: &[u32],
     properties: &[u32],
     values: &[u32],
-    kind: u32,
+    game: u32,
     k: usize,
 ) -> usize
     requires { ⌜ NodeHeld (now text) (now nodes) (now properties) k ⌝ }
-    ensures { λ r. ⌜ Wrote (nodeBy (now (text .entry)) (now (nodes .entry)) (now (properties .entry)) (now (values .entry)) kind k)
+    ensures { λ r. ⌜ Wrote (nodeBy (now (text .entry)) (now (nodes .entry)) (now (properties .entry)) (now (values .entry)) game k)
         (now (out .entry)) at (now (out .exit)) r ⌝ }
 {
     let ended = crate::brackets::put_ends(out, at, nodes, k, nodes[k * tables::NODE_STRIDE]);
     let started = crate::brackets::put_start(out, ended, nodes, k);
     let to = store_bytes::put_byte(out, started, b';');
-    crate::property::put_properties(out, to, text, nodes, properties, values, kind, k)
+    crate::property::put_properties(out, to, text, nodes, properties, values, game, k)
 }
 
 // All n nodes.
@@ -61,7 +61,7 @@ pub fn put_all(
     values: &[u32],
 ) -> usize
     requires { ⌜ NodesHeld (now text) (now nodes) (now properties) n ⌝ }
-    ensures { λ r. ⌜ Wrote (linked (now (text .entry)) (now (trees .entry)) (now (nodes .entry)) (now (properties .entry)) (now (values .entry)) n)
+    ensures { λ r. ⌜ Wrote (linksText (now (text .entry)) (now (trees .entry)) (now (nodes .entry)) (now (properties .entry)) (now (values .entry)) n)
         (now (out .entry)) 0 (now (out .exit)) r ⌝ }
 {
     let mut to: usize = 0;
@@ -69,8 +69,8 @@ pub fn put_all(
     let mut k: usize = 0;
     while k < n {
         roots = roots_with(nodes, k, roots);
-        let kind = kind_of(trees, roots);
-        to = put_node(out, to, text, nodes, properties, values, kind, k);
+        let game = game_of(trees, roots);
+        to = put_node(out, to, text, nodes, properties, values, game, k);
         k += 1;
     }
     crate::brackets::put_ends(out, to, nodes, n, tables::NONE)

@@ -4,7 +4,7 @@ use Rattle.edit_laws.proofs.Reread.{in-textLimit}
 use Rattle.lexer.specs.Token.{End, Lexed, Tok, lexFrom}
 use Rattle.lists.proofs.Tests.{never}
 use Rattle.parser.proofs.Moved.{move-tokens, moveAnswer}
-use Rattle.parser.specs.Read.{Answer, accepted, decoded, lexing, planted, refused, readStrict}
+use Rattle.parser.specs.Read.{Answer, accepted, parseUtf8, lexing, parseSlices, refused, readStrict}
 use Rattle.parser.specs.Split.{Splitting, no, sliced, slices, split, splitting}
 use Rattle.serialize_laws.proofs.ReadBack.{Back, Form, gm-same, read-back-again, walk-writes}
 use Rattle.serialize_laws.proofs.Deep.{written-depth}
@@ -17,30 +17,30 @@ use Rattle.tables.specs.Numbers.{depthLimit, textLimit}
 use Rattle.tables.specs.Record.{Tree}
 use Rattle.tables.specs.declared.Reason.the-variants.{TooDeep}
 use Rattle.text_utf8.specs.Text.{Utf, blank, utfs, whole}
-use Rattle.serialize_laws.specs.Back.{Z, K}
+use Rattle.serialize_laws.specs.Back.{noPlace, sameBytes}
 use Rattle.serialize_laws.specs.Depth.{depthOf}
 
 -- the answer for a writing is the answer for its tokens, places aside
 read-tokens : (ts : List Tree) → Form ts → length (writeTrees ts) ≤ textLimit
-    → moveAnswer Z Z K (readStrict (writeTrees ts)) ≡ planted false (sliced false (split false (splitting 0 0 [] []) (tokTrees ts)))
+    → moveAnswer noPlace noPlace sameBytes (readStrict (writeTrees ts)) ≡ parseSlices false (sliced false (split false (splitting 0 0 [] []) (tokTrees ts)))
 read-tokens ts f s =
     let W : List ℕ = writeTrees ts in
     let n : ℕ = length W in
     let l = lex-written n ts (f .plain) in
     let X : Lexed = lexFrom 0 n W in
-    ap (moveAnswer Z Z K) (in-textLimit (ltb textLimit n) (decoded false (utfs (whole blank) 0 W) W) (le-ltb textLimit n s))
-    ∙ ap (λ (u : Utf). moveAnswer Z Z K (decoded false u W)) (written-ink ts (f .some) (f .plain) (f .valid))
-    ∙ ap (λ (z : List ℕ). moveAnswer Z Z K (lexing false (lexFrom 0 n z .end) (lexFrom 0 n z .toks))) (take-length W)
-    ∙ ap (λ (z : End). moveAnswer Z Z K (lexing false z (X .toks))) (l .0)
-    ∙ sym (move-tokens Z Z K false (X .toks) (gm-same (X .toks)))
-    ∙ ap (λ (z : List Tok). planted false (sliced false (split false (splitting 0 0 [] []) z))) (l .1)
+    ap (moveAnswer noPlace noPlace sameBytes) (in-textLimit (ltb textLimit n) (parseUtf8 false (utfs (whole blank) 0 W) W) (le-ltb textLimit n s))
+    ∙ ap (λ (u : Utf). moveAnswer noPlace noPlace sameBytes (parseUtf8 false u W)) (written-ink ts (f .some) (f .plain) (f .valid))
+    ∙ ap (λ (z : List ℕ). moveAnswer noPlace noPlace sameBytes (lexing false (lexFrom 0 n z .end) (lexFrom 0 n z .toks))) (take-length W)
+    ∙ ap (λ (z : End). moveAnswer noPlace noPlace sameBytes (lexing false z (X .toks))) (l .0)
+    ∙ sym (move-tokens noPlace noPlace sameBytes false (X .toks) (gm-same (X .toks)))
+    ∙ ap (λ (z : List Tok). parseSlices false (sliced false (split false (splitting 0 0 [] []) z))) (l .1)
 
 too-deep : (m : ℕ) (ss : List (List Tok)) (x : Splitting) → x ≡ splitting 0 m [] ss → depthLimit < deepest x → 0 < length ss → ltb depthLimit m ≡ true
-    → planted false (sliced false x) ≡ refused TooDeep 0
+    → parseSlices false (sliced false x) ≡ refused TooDeep 0
 too-deep m ss x e d n b =
-    ap (λ (z : Splitting). planted false (sliced false z)) e
-    ∙ ap (planted false) (filled-any m ss n)
-    ∙ ap (λ (q : Bool). planted false (pick q (no TooDeep) (slices (reverse ss)))) b
+    ap (λ (z : Splitting). parseSlices false (sliced false z)) e
+    ∙ ap (parseSlices false) (filled-any m ss n)
+    ∙ ap (λ (q : Bool). parseSlices false (pick q (no TooDeep) (slices (reverse ss)))) b
 
 nine : (ts : List Tree) → Form ts → length (writeTrees ts) ≤ textLimit → ltb depthLimit (deepest (split false (splitting 0 0 [] []) (tokTrees ts))) ≡ true
     → readStrict (writeTrees ts) ≡ refused TooDeep 0
@@ -52,7 +52,7 @@ nine ts f s b =
     go (readStrict (writeTrees ts)) refl
     (read-tokens ts f s ∙ too-deep (x .0) X (split false (splitting 0 0 [] []) (tokTrees ts)) (x .1) (ltb-true depthLimit (deepest (split false (splitting 0 0 [] []) (tokTrees ts))) b) ne (ap (ltb depthLimit) (sym dm) ∙ b))
   where
-    go : (a : Answer) → readStrict (writeTrees ts) ≡ a → moveAnswer Z Z K a ≡ refused TooDeep 0 → readStrict (writeTrees ts) ≡ refused TooDeep 0
+    go : (a : Answer) → readStrict (writeTrees ts) ≡ a → moveAnswer noPlace noPlace sameBytes a ≡ refused TooDeep 0 → readStrict (writeTrees ts) ≡ refused TooDeep 0
     go (refused n p) e h = e ∙ h
     go (accepted us) e h = never cc
 

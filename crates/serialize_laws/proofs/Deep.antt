@@ -7,7 +7,7 @@ use Rattle.serialize_laws.proofs.Inked.{written-ink}
 use Rattle.serialize_laws.proofs.ReadBack.{Form}
 use Rattle.serialize_laws.proofs.Resplit.{deepest, split-trees}
 use Rattle.serialize_laws.proofs.Written.{lex-written, tokTree, tokTrees}
-use Rattle.serialize_laws.specs.Back.{zTok, toksOf}
+use Rattle.serialize_laws.specs.Back.{placelessTok, toksOf}
 use Rattle.serialize_laws.specs.Depth.{deepestFrom, depthOf}
 use Rattle.serialize.specs.LocalsWrite.{writeTrees}
 use Rattle.tables.specs.Record.{Tree}
@@ -50,7 +50,7 @@ sees-split (node o ∷ ts) d m cur ss l = sees-split ts d m (node o ∷ cur) ss 
 sees-split (prop p e ∷ ts) d m cur ss l = sees-split ts d m (prop p e ∷ cur) ss l
 
 -- places don't count
-deepest-places : (d : ℕ) (ts : List Tok) → deepestFrom d (map zTok ts) ≡ deepestFrom d ts
+deepest-places : (d : ℕ) (ts : List Tok) → deepestFrom d (map placelessTok ts) ≡ deepestFrom d ts
 deepest-places d [] = refl
 deepest-places d (start o ∷ ts) = ap (max d) (deepest-places (suc d) ts)
 deepest-places d (end o ∷ ts) = ap (max d) (deepest-places (d - 1) ts)

@@ -9,11 +9,11 @@ use Rattle.lexer.specs.Move.{moveVal}
 use Rattle.lexer.specs.Token.{Prop, Val}
 use Rattle.lists.specs.All.{All}
 use Rattle.lists.specs.Same.{same}
-use Rattle.parser.specs.Kind.{GM, kindProps, kindVals, named}
+use Rattle.parser.specs.Game.{GM, gameProps, gameVals, propsNamed}
 use Rattle.serialize_laws.proofs.Inked.{ValidProp}
 use Rattle.serialize_laws.proofs.WrittenProps.{Plain}
-use Rattle.serialize_laws.specs.Back.{Z, K, zProp}
-use Rattle.serialize.specs.Form.{placeless, formProp}
+use Rattle.serialize_laws.specs.Back.{noPlace, sameBytes, placelessProp}
+use Rattle.serialize.specs.Form.{placelessVal, formProp}
 use Rattle.fit.specs.Record.{rawOf}
 use Rattle.text_chars.specs.White.{white}
 use Rattle.text_utf8.specs.Text.{Ink, blank, mark, utfs, whole}
@@ -34,15 +34,15 @@ safe-whole k o (b ∷ bs) h =
 
 -- ---- raw values of properties, and properties of raw values
 
-placeless-all : (P : Val → Type 0) (ws : List (List ℕ)) → All (λ w. P (placeless w)) ws → All P (map placeless ws)
+placeless-all : (P : Val → Type 0) (ws : List (List ℕ)) → All (λ w. P (placelessVal w)) ws → All P (map placelessVal ws)
 placeless-all P [] h = tt
 placeless-all P (w ∷ ws) h = (h .0, placeless-all P ws (h .1))
 
-pub raws-back : (ws : List (List ℕ)) → map rawOf (map placeless ws) ≡ ws
+pub raws-back : (ws : List (List ℕ)) → map rawOf (map placelessVal ws) ≡ ws
 raws-back [] = refl
 raws-back (w ∷ ws) = ap (λ (z : List (List ℕ)). w ∷ z) (raws-back ws)
 
-pub raws-aside : (vs : List Val) → map rawOf (map (moveVal Z Z K) vs) ≡ map rawOf vs
+pub raws-aside : (vs : List Val) → map rawOf (map (moveVal noPlace noPlace sameBytes) vs) ≡ map rawOf vs
 raws-aside [] = refl
 raws-aside (v ∷ vs) = ap (λ (z : List (List ℕ)). v .raw ∷ z) (raws-aside vs)
 
@@ -66,7 +66,7 @@ module _ (k : ℕ) (p : Prop) where
       record {
         named = h .named;
         upper-case = h .upper-case;
-        valued = subst (λ (n : ℕ). 0 < n) (sym (length-map normals placeless))
+        valued = subst (λ (n : ℕ). 0 < n) (sym (length-map normals placelessVal))
             (normal-some k (readIdentifier (p .name)) (map rawOf (p .vals)) (subst (λ (n : ℕ). 0 < n) (sym (length-map (p .vals) rawOf)) (h .valued)));
         shut = form-all (λ w. closedFrom false w ≡ true) safe-shut k p (h .shut);
       }
@@ -75,51 +75,51 @@ module _ (k : ℕ) (p : Prop) where
   form-valid h = form-all (λ w. (i : Ink) × (utfs (whole blank) 0 w ≡ whole i)) (safe-whole blank 0) k p h
 
   -- the form does not look at places
-  pub form-places : zProp (formProp k p) ≡ zProp (formProp k (zProp p))
-  form-places = ap (λ (z : List (List ℕ)). record { from = 0; to = 0; name = p .name; vals = map (moveVal Z Z K) (map placeless (normal k (readIdentifier (p .name)) z)) }) (sym (raws-aside (p .vals)))
+  pub form-places : placelessProp (formProp k p) ≡ placelessProp (formProp k (placelessProp p))
+  form-places = ap (λ (z : List (List ℕ)). record { from = 0; to = 0; name = p .name; vals = map (moveVal noPlace noPlace sameBytes) (map placelessVal (normal k (readIdentifier (p .name)) z)) }) (sym (raws-aside (p .vals)))
 
   -- a second time changes nothing, places aside
-  pub form-twice : zProp (formProp k (formProp k p)) ≡ zProp (formProp k p)
+  pub form-twice : placelessProp (formProp k (formProp k p)) ≡ placelessProp (formProp k p)
   form-twice =
-      ap (λ (z : List (List ℕ)). record { from = 0; to = 0; name = p .name; vals = map (moveVal Z Z K) (map placeless z) })
+      ap (λ (z : List (List ℕ)). record { from = 0; to = 0; name = p .name; vals = map (moveVal noPlace noPlace sameBytes) (map placelessVal z) })
       (ap (normal k (readIdentifier (p .name))) (raws-back normals) ∙ normal-twice k (readIdentifier (p .name)) (map rawOf (p .vals)))
 
 -- ---- the game type
 
-vals-placeless : (vs : List Val) → kindVals (map placeless (map rawOf vs)) ≡ kindVals vs
+vals-placeless : (vs : List Val) → gameVals (map placelessVal (map rawOf vs)) ≡ gameVals vs
 vals-placeless [] = refl
 vals-placeless (v ∷ []) = refl
 vals-placeless (v ∷ u ∷ vs) = refl
 
 module _ (k : ℕ) where
-  form-game : (p : Prop) → p .name ≡ GM → kindVals (formProp k p .vals) ≡ kindVals (p .vals)
+  form-game : (p : Prop) → p .name ≡ GM → gameVals (formProp k p .vals) ≡ gameVals (p .vals)
   unfolding readIdentifier
   form-game p e =
-      ap (λ (w : List ℕ). kindVals (map placeless (normal k (readIdentifier w) (map rawOf (p .vals))))) e
-      ∙ ap (λ (ws : List (List ℕ)). kindVals (map placeless ws)) (normal-game k (map rawOf (p .vals)))
+      ap (λ (w : List ℕ). gameVals (map placelessVal (normal k (readIdentifier w) (map rawOf (p .vals))))) e
+      ∙ ap (λ (ws : List (List ℕ)). gameVals (map placelessVal ws)) (normal-game k (map rawOf (p .vals)))
       ∙ vals-placeless (p .vals)
 
-  named-form : (w : List ℕ) (qs : List Prop) → named w (map (formProp k) qs) ≡ map (formProp k) (named w qs)
+  named-form : (w : List ℕ) (qs : List Prop) → propsNamed w (map (formProp k) qs) ≡ map (formProp k) (propsNamed w qs)
   named-form w [] = refl
   named-form w (q ∷ qs) = go (same (q .name) w) (named-form w qs)
     where
-      go : (b : Bool) → named w (map (formProp k) qs) ≡ map (formProp k) (named w qs)
-          → pick b (formProp k q ∷ named w (map (formProp k) qs)) (named w (map (formProp k) qs)) ≡ map (formProp k) (pick b (q ∷ named w qs) (named w qs))
+      go : (b : Bool) → propsNamed w (map (formProp k) qs) ≡ map (formProp k) (propsNamed w qs)
+          → pick b (formProp k q ∷ propsNamed w (map (formProp k) qs)) (propsNamed w (map (formProp k) qs)) ≡ map (formProp k) (pick b (q ∷ propsNamed w qs) (propsNamed w qs))
       go true h = ap (λ (z : List Prop). formProp k q ∷ z) h
       go false h = h
 
-  all-named : (w : List ℕ) (qs : List Prop) → All (λ q. q .name ≡ w) (named w qs)
+  all-named : (w : List ℕ) (qs : List Prop) → All (λ q. q .name ≡ w) (propsNamed w qs)
   all-named w [] = tt
   all-named w (q ∷ qs) = go (same (q .name) w) refl (all-named w qs)
     where
-      go : (b : Bool) → same (q .name) w ≡ b → All (λ q. q .name ≡ w) (named w qs) → All (λ q. q .name ≡ w) (pick b (q ∷ named w qs) (named w qs))
+      go : (b : Bool) → same (q .name) w ≡ b → All (λ q. q .name ≡ w) (propsNamed w qs) → All (λ q. q .name ≡ w) (pick b (q ∷ propsNamed w qs) (propsNamed w qs))
       go true e h = (same-equal (q .name) w e, h)
       go false e h = h
 
-  pub form-kinds : (qs : List Prop) → kindProps (named GM (map (formProp k) qs)) ≡ kindProps (named GM qs)
-  form-kinds qs = ap kindProps (named-form GM qs) ∙ go (named GM qs) (all-named GM qs)
+  pub form-games : (qs : List Prop) → gameProps (propsNamed GM (map (formProp k) qs)) ≡ gameProps (propsNamed GM qs)
+  form-games qs = ap gameProps (named-form GM qs) ∙ go (propsNamed GM qs) (all-named GM qs)
     where
-      go : (ps : List Prop) → All (λ q. q .name ≡ GM) ps → kindProps (map (formProp k) ps) ≡ kindProps ps
+      go : (ps : List Prop) → All (λ q. q .name ≡ GM) ps → gameProps (map (formProp k) ps) ≡ gameProps ps
       go [] h = refl
       go (p ∷ []) h = form-game p (h .0)
       go (p ∷ q ∷ ps) h = refl

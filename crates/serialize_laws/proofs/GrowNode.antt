@@ -6,11 +6,11 @@ use Rattle.parser.specs.Walk.{Walk, children, opens, walk, walked}
 use Rattle.serialize_laws.proofs.WrittenProps.{Plain}
 use Rattle.serialize_laws.proofs.Written.{tokEnds, tokOpened, tokProps, tokShuts}
 use Rattle.serialize.proofs.Branches.{On}
-use Rattle.serialize.specs.LocalsWrite.{Open, bracketed, left, times}
+use Rattle.serialize.specs.LocalsWrite.{Open, bracketed, pathLeft, times}
 use Rattle.tables.specs.Numbers.{none}
 use Rattle.tables.specs.Record.{Node}
 use Rattle.tables.specs.Rows.{parents}
-use Rattle.serialize_laws.specs.Back.{zProp}
+use Rattle.serialize_laws.specs.Back.{placelessProp}
 
 -- the number at the top of the path, and the reader's stack at that path
 abbrev pub top : List Open → ℕ
@@ -70,7 +70,7 @@ module _ (len : Bool) (base : ℕ) (ds : List Node) where
 
   -- down to p, which stands below the top of the path
   ends-below : (ps : List ℕ) (p c : ℕ) (g : Bool) (x : Open) (xs : List Open) → Chain ps ds (x ∷ xs) → (x .num ≡ p → ⊥) → On p xs → bracketed ps p ≡ true
-      → Comes (walk c (stk (x ∷ xs)) g ds) (tokEnds p (x ∷ xs)) p (stk (left p (x ∷ xs)))
+      → Comes (walk c (stk (x ∷ xs)) g ds) (tokEnds p (x ∷ xs)) p (stk (pathLeft p (x ∷ xs)))
   ends-below ps p c g x [] ch ne on br = absurd on
   ends-below ps p c g x (y ∷ ys) ch ne (inl e) br =
       let b : x .brk ≡ true = ch .1 ∙ ap (bracketed ps) e ∙ br in
@@ -78,13 +78,13 @@ module _ (len : Bool) (base : ℕ) (ds : List Node) where
   ends-below ps p c g x (y ∷ ys) ch ne (inr on) br =
       rw (ne-eqb (x .num) p ne) (go (x .brk) (λ c g. ends-below ps p c g y ys (ch .3) (on .0) (on .1) br))
     where
-      go : (b : Bool) → ((c : ℕ) (g : Bool) → Comes (walk c (stk (y ∷ ys)) g ds) (tokEnds p (y ∷ ys)) p (stk (left p (y ∷ ys))))
-          → Comes (walk c (push b (y .num) (stk (y ∷ ys))) g ds) (tokShuts b (tokEnds p (y ∷ ys))) p (stk (left p (y ∷ ys)))
+      go : (b : Bool) → ((c : ℕ) (g : Bool) → Comes (walk c (stk (y ∷ ys)) g ds) (tokEnds p (y ∷ ys)) p (stk (pathLeft p (y ∷ ys))))
+          → Comes (walk c (push b (y .num) (stk (y ∷ ys))) g ds) (tokShuts b (tokEnds p (y ∷ ys))) p (stk (pathLeft p (y ∷ ys)))
       go true k = k (y .num) false
       go false k = k c g
 
   pub ends-to : (ps : List ℕ) (p : ℕ) (g : Bool) (path : List Open) → Chain ps ds path → On p path → (children p ds ≡ true → bracketed ps p ≡ true)
-      → Comes (walk (top path) (stk path) g ds) (tokEnds p path) p (stk (left p path))
+      → Comes (walk (top path) (stk path) g ds) (tokEnds p path) p (stk (pathLeft p path))
   ends-to ps p g [] ch on br = absurd on
   ends-to ps p g (x ∷ xs) ch (inl e) br = rw (eq-eqb (x .num) p e) (g, ap (λ (z : ℕ). walk z (stk (x ∷ xs)) g ds) e)
   ends-to ps p g (x ∷ xs) ch (inr on) br = ends-below ps p (x .num) g x xs ch (on .0) (on .1) (br (on-child ps p x xs ch (on .1)))
@@ -102,16 +102,16 @@ module _ (len : Bool) (base : ℕ) (ds : List Node) where
 -- ---- one node
 
 -- the path after the ends: its top is p
-pub left-top : (p : ℕ) (path : List Open) → On p path → top (left p path) ≡ p
+pub left-top : (p : ℕ) (path : List Open) → On p path → top (pathLeft p path) ≡ p
 left-top p [] on = absurd on
 left-top p (x ∷ xs) (inl e) = rw (eq-eqb (x .num) p e) e
 left-top p (x ∷ xs) (inr on) = rw (ne-eqb (x .num) p (on .0)) (left-top p xs (on .1))
 
-pub left-chain : (ps : List ℕ) (ds : List Node) (p : ℕ) (path : List Open) → Chain ps ds path → Chain ps ds (left p path)
+pub left-chain : (ps : List ℕ) (ds : List Node) (p : ℕ) (path : List Open) → Chain ps ds path → Chain ps ds (pathLeft p path)
 left-chain ps ds p [] ch = tt
 left-chain ps ds p (x ∷ xs) ch = go (eqb (x .num) p) (left-chain ps ds p xs (ch .3))
   where
-    go : (b : Bool) → Chain ps ds (left p xs) → Chain ps ds (pick b (x ∷ xs) (left p xs))
+    go : (b : Bool) → Chain ps ds (pathLeft p xs) → Chain ps ds (pick b (x ∷ xs) (pathLeft p xs))
     go true k = ch
     go false k = k
 
@@ -137,11 +137,11 @@ top-child ps ds (x ∷ xs) ch r = go (x .brk) (top-child ps ds xs (ch .3) r)
 -- its properties
 pub props-run : (base cur : ℕ) (st : List ℕ) (pa : ℕ) (qs ps : List Prop) (ds : List Node) → All Plain ps
     → walked false base (walk cur st true (record { parent = pa; props = qs } ∷ ds)) (tokProps ps)
-    ≡ walk cur st true (record { parent = pa; props = qs ++ map zProp ps } ∷ ds)
+    ≡ walk cur st true (record { parent = pa; props = qs ++ map placelessProp ps } ∷ ds)
 props-run base cur st pa qs [] ds h = rw (append-nil qs)
 props-run base cur st pa qs (p ∷ ps) ds h =
-    props-run base cur st pa (qs ++ (zProp p ∷ [])) ps ds (h .1)
-    ∙ ap (λ (z : List Prop). walk cur st true (record { parent = pa; props = z } ∷ ds)) (append-assoc qs (zProp p ∷ []) (map zProp ps))
+    props-run base cur st pa (qs ++ (placelessProp p ∷ [])) ps ds (h .1)
+    ∙ ap (λ (z : List Prop). walk cur st true (record { parent = pa; props = z } ∷ ds)) (append-assoc qs (placelessProp p ∷ []) (map placelessProp ps))
 
 -- its bracket
 pub open-run : (len : Bool) (base : ℕ) (ps : List ℕ) (ds : List Node) (p : ℕ) (path : List Open) (g : Bool) (b : Bool) (rest : List Tok) → len ≡ false

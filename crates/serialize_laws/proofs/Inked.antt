@@ -7,8 +7,8 @@ use Rattle.serialize_laws.specs.Back.{uppers}
 use Rattle.text_chars.proofs.Tests.{within-true}
 use Rattle.serialize_laws.proofs.WrittenProps.{Plain, letters-same}
 use Rattle.serialize_laws.proofs.Written.{PlainNode, PlainTree}
-use Rattle.serialize.specs.LocalsWrite.{Open, bracketed, ends, left, opened, shuts, writeNodes, writeTrees}
-use Rattle.serialize.specs.Branch.{writeProps, boxed}
+use Rattle.serialize.specs.LocalsWrite.{Open, bracketed, endsText, pathLeft, opened, shuts, writeNodes, writeTrees}
+use Rattle.serialize.specs.Branch.{writeProps, valsText}
 use Rattle.tables.specs.Numbers.{none}
 use Rattle.tables.specs.Record.{Node, Tree}
 use Rattle.tables.specs.Rows.{parents}
@@ -64,28 +64,28 @@ ValidNode n = All ValidProp (n .props)
 abbrev pub ValidTree : Tree → Type 0
 ValidTree t = All ValidNode (t .nodes)
 
-fine-boxed : (vs : List Val) → All Valid vs → Fine (boxed vs)
+fine-boxed : (vs : List Val) → All Valid vs → Fine (valsText vs)
 fine-boxed [] h = fine-nil
 fine-boxed (v ∷ vs) h =
-    fine-cons 0x5b (v .raw ++ (0x5d ∷ boxed vs)) refl
-    (fine-append (v .raw) (0x5d ∷ boxed vs) (fine-valid (v .raw) (h .0 .0) (h .0 .1)) (fine-cons 0x5d (boxed vs) refl (fine-boxed vs (h .1))))
+    fine-cons 0x5b (v .raw ++ (0x5d ∷ valsText vs)) refl
+    (fine-append (v .raw) (0x5d ∷ valsText vs) (fine-valid (v .raw) (h .0 .0) (h .0 .1)) (fine-cons 0x5d (valsText vs) refl (fine-boxed vs (h .1))))
 
 fine-props : (ps : List Prop) → All Plain ps → All ValidProp ps → Fine (writeProps ps)
 fine-props [] pl h = fine-nil
 fine-props (p ∷ ps) pl h =
-    fine-append (readIdentifier (p .name)) (boxed (p .vals) ++ writeProps ps)
+    fine-append (readIdentifier (p .name)) (valsText (p .vals) ++ writeProps ps)
     (subst Fine (sym (letters-same (p .name) (pl .0 .upper-case))) (fine-upper (p .name) (pl .0 .upper-case)))
-    (fine-append (boxed (p .vals)) (writeProps ps) (fine-boxed (p .vals) (h .0)) (fine-props ps (pl .1) (h .1)))
+    (fine-append (valsText (p .vals)) (writeProps ps) (fine-boxed (p .vals) (h .0)) (fine-props ps (pl .1) (h .1)))
 
 fine-shuts : (b : Bool) (bs : List ℕ) → Fine bs → Fine (shuts b bs)
 fine-shuts true bs h = fine-cons 0x29 bs refl h
 fine-shuts false bs h = h
 
-fine-ends : (p : ℕ) (path : List Open) → Fine (ends p path)
+fine-ends : (p : ℕ) (path : List Open) → Fine (endsText p path)
 fine-ends p [] = fine-nil
-fine-ends p (x ∷ xs) = go (eqb (x .num) p) (fine-shuts (x .brk) (ends p xs) (fine-ends p xs))
+fine-ends p (x ∷ xs) = go (eqb (x .num) p) (fine-shuts (x .brk) (endsText p xs) (fine-ends p xs))
   where
-    go : (b : Bool) → Fine (shuts (x .brk) (ends p xs)) → Fine (pick b [] (shuts (x .brk) (ends p xs)))
+    go : (b : Bool) → Fine (shuts (x .brk) (endsText p xs)) → Fine (pick b [] (shuts (x .brk) (endsText p xs)))
     go true h = fine-nil
     go false h = h
 
@@ -96,9 +96,9 @@ fine-opened false bs h = h
 fine-nodes : (ps : List ℕ) (k : ℕ) (path : List Open) (ns : List Node) → All PlainNode ns → All ValidNode ns → Fine (writeNodes ps k path ns)
 fine-nodes ps k path [] pl h = fine-ends none path
 fine-nodes ps k path (n ∷ ns) pl h =
-    let next : List Open = record { num = k; brk = bracketed ps (n .parent) } ∷ left (n .parent) path in
+    let next : List Open = record { num = k; brk = bracketed ps (n .parent) } ∷ pathLeft (n .parent) path in
     let rest : List ℕ = writeProps (n .props) ++ writeNodes ps (suc k) next ns in
-    fine-append (ends (n .parent) path) (opened (bracketed ps (n .parent)) (0x3b ∷ rest)) (fine-ends (n .parent) path)
+    fine-append (endsText (n .parent) path) (opened (bracketed ps (n .parent)) (0x3b ∷ rest)) (fine-ends (n .parent) path)
     (fine-opened (bracketed ps (n .parent)) (0x3b ∷ rest) (fine-cons 0x3b rest refl
     (fine-append (writeProps (n .props)) (writeNodes ps (suc k) next ns) (fine-props (n .props) (pl .0) (h .0)) (fine-nodes ps (suc k) next ns (pl .1) (h .1)))))
 

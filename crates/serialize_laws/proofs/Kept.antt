@@ -2,16 +2,16 @@
 use Rattle.lists.proofs.Prelude.{ℕ, suc, _+_, _≡_, refl, sym, ap, ap₂, _∙_, false, false≢true, List, [], _∷_, _++_, map, map-map, head-eq-of-cons-eq, tail-eq-of-cons-eq, length}
 use Rattle.lists.proofs.Tests.{never}
 use Rattle.go.proofs.ReadBack.{normal-value}
-use Rattle.go.specs.Normal.{normal, written}
+use Rattle.go.specs.Normal.{normal, normalBy}
 use Rattle.go.specs.Value.{goValue}
 use Rattle.go_points.specs.declared.Value.{Value}
 use Rattle.go_points.specs.declared.Value.the-variants.{Other, Invalid, Pass, Move, Handicap, Points}
 use Rattle.lexer.specs.Token.{Prop}
 use Rattle.serialize_laws.proofs.FormProps.{raws-aside, raws-back}
-use Rattle.serialize_laws.specs.Back.{zProp, zNode, zTree}
+use Rattle.serialize_laws.specs.Back.{placelessProp, placelessNode, placelessTree}
 use Rattle.serialize_laws.specs.Same.{Pairs, valid, SameProp, SameNode, SameTree}
 use Rattle.fit.specs.Record.{rawsOf, rawOf}
-use Rattle.serialize.specs.Form.{placeless, formProp, formNode, formTree}
+use Rattle.serialize.specs.Form.{placelessVal, formProp, formNode, formTree}
 use Rattle.tables.specs.Record.{Node, Tree, allNodes}
 use Rattle.tables.specs.Rows.{parents, nodeRows, tables}
 use Rattle.values.specs.Read.{readIdentifier}
@@ -27,10 +27,10 @@ module _ {A C : Type 0} (f g : A → C) (R : A → A → Type 0) (step : (x y : 
 
 -- a value that is not valid keeps its bytes
 pub normal-raws : (k : ℕ) (w : List ℕ) (vs : List (List ℕ)) → valid (goValue k w vs .value) ≡ false → normal k w vs ≡ vs
-unfolding normal written
+unfolding normal normalBy
 normal-raws k w vs h = go (goValue k w vs .value) h
   where
-    go : (v : Value) → valid v ≡ false → written v (goValue k w vs .marks) vs ≡ vs
+    go : (v : Value) → valid v ≡ false → normalBy v (goValue k w vs .marks) vs ≡ vs
     go Other e = refl
     go Invalid e = refl
     go Pass e = absurd (false≢true (sym e))
@@ -38,12 +38,12 @@ normal-raws k w vs h = go (goValue k w vs .value) h
     go (Handicap n) e = absurd (false≢true (sym e))
     go Points e = absurd (false≢true (sym e))
 
-same-prop : (k : ℕ) (p q : Prop) → zProp q ≡ zProp (formProp k p) → SameProp k p q
+same-prop : (k : ℕ) (p q : Prop) → placelessProp q ≡ placelessProp (formProp k p) → SameProp k p q
 same-prop k p q e =
     let name : q .name ≡ p .name = ap (λ (z : Prop). z .name) e in
     let form : List (List ℕ) = normal k (readIdentifier (p .name)) (rawsOf p) in
     let raw : rawsOf q ≡ form =
-    sym (raws-aside (q .vals)) ∙ ap (λ (z : Prop). map rawOf (z .vals)) e ∙ raws-aside (map placeless form) ∙ raws-back form in
+    sym (raws-aside (q .vals)) ∙ ap (λ (z : Prop). map rawOf (z .vals)) e ∙ raws-aside (map placelessVal form) ∙ raws-back form in
     record {
       name = name;
       normals = raw;
@@ -51,24 +51,24 @@ same-prop k p q e =
       raws = λ h. raw ∙ normal-raws k (readIdentifier (p .name)) (rawsOf p) h;
     }
 
-same-node : (k : ℕ) (n m : Node) → zNode m ≡ zNode (formNode k n) → SameNode k n m
+same-node : (k : ℕ) (n m : Node) → placelessNode m ≡ placelessNode (formNode k n) → SameNode k n m
 same-node k n m e =
     record {
       parent = ap (λ (z : Node). z .parent) e;
-      props = pairs-from zProp (λ p. zProp (formProp k p)) (SameProp k) (same-prop k) (n .props) (m .props) (ap (λ (z : Node). z .props) e ∙ map-map zProp (formProp k) (n .props));
+      props = pairs-from placelessProp (λ p. placelessProp (formProp k p)) (SameProp k) (same-prop k) (n .props) (m .props) (ap (λ (z : Node). z .props) e ∙ map-map placelessProp (formProp k) (n .props));
     }
 
-same-tree : (t u : Tree) → zTree u ≡ zTree (formTree t) → SameTree t u
+same-tree : (t u : Tree) → placelessTree u ≡ placelessTree (formTree t) → SameTree t u
 same-tree t u e =
     record {
       root = ap (λ (z : Tree). z .root) e;
-      kind = ap (λ (z : Tree). z .kind) e;
-      nodes = pairs-from zNode (λ n. zNode (formNode (t .kind) n)) (SameNode (t .kind)) (same-node (t .kind)) (t .nodes) (u .nodes)
-          (ap (λ (z : Tree). z .nodes) e ∙ map-map zNode (formNode (t .kind)) (t .nodes));
+      game = ap (λ (z : Tree). z .game) e;
+      nodes = pairs-from placelessNode (λ n. placelessNode (formNode (t .game) n)) (SameNode (t .game)) (same-node (t .game)) (t .nodes) (u .nodes)
+          (ap (λ (z : Tree). z .nodes) e ∙ map-map placelessNode (formNode (t .game)) (t .nodes));
     }
 
-pub same-trees : (ts us : List Tree) → map zTree us ≡ map zTree (map formTree ts) → Pairs SameTree ts us
-same-trees ts us e = pairs-from zTree (λ t. zTree (formTree t)) SameTree same-tree ts us (e ∙ map-map zTree formTree ts)
+pub same-trees : (ts us : List Tree) → map placelessTree us ≡ map placelessTree (map formTree ts) → Pairs SameTree ts us
+same-trees ts us e = pairs-from placelessTree (λ t. placelessTree (formTree t)) SameTree same-tree ts us (e ∙ map-map placelessTree formTree ts)
 
 -- ---- their rows
 
@@ -101,7 +101,7 @@ level-trees [] (u ∷ us) h = absurd h
 level-trees (t ∷ ts) [] h = absurd h
 level-trees (t ∷ ts) (u ∷ us) h =
     pairs-append Level (t .nodes) (u .nodes) (allNodes ts) (allNodes us)
-    (pairs-map (SameNode (t .kind)) Level (λ n m s. (s .parent, pairs-length (SameProp (t .kind)) (n .props) (m .props) (s .props))) (t .nodes) (u .nodes) (h .0 .nodes))
+    (pairs-map (SameNode (t .game)) Level (λ n m s. (s .parent, pairs-length (SameProp (t .game)) (n .props) (m .props) (s .props))) (t .nodes) (u .nodes) (h .0 .nodes))
     (level-trees ts us (h .1))
 
 level-parents : (ns ms : List Node) → Pairs Level ns ms → parents ms ≡ parents ns
@@ -120,7 +120,7 @@ pub same-tree-rows : (ts us : List Tree) → Pairs SameTree ts us → tables us 
 same-tree-rows [] [] h = refl
 same-tree-rows [] (u ∷ us) h = absurd h
 same-tree-rows (t ∷ ts) [] h = absurd h
-same-tree-rows (t ∷ ts) (u ∷ us) h = rw (h .0 .root, h .0 .kind, same-tree-rows ts us (h .1))
+same-tree-rows (t ∷ ts) (u ∷ us) h = rw (h .0 .root, h .0 .game, same-tree-rows ts us (h .1))
 
 pub same-node-rows : (ts us : List Tree) → Pairs SameTree ts us → tables us .nodes ≡ tables ts .nodes
 same-node-rows ts us h =

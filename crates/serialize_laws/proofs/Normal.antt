@@ -2,7 +2,7 @@
 use Rattle.lists.proofs.Prelude.{_≡_, refl, sym, ap, _∙_, subst, ℕ, suc, _+_, _≤_, _<_, List, [], _∷_, map, length, length-map}
 use Rattle.lexer.specs.Token.{Prop}
 use Rattle.lists.specs.All.{All}
-use Rattle.serialize_laws.proofs.FormProps.{form-plain, form-valid, form-kinds}
+use Rattle.serialize_laws.proofs.FormProps.{form-plain, form-valid, form-games}
 use Rattle.serialize_laws.proofs.ReadBack.{Form}
 use Rattle.serialize_laws.proofs.Inked.{ValidNode, ValidProp, ValidTree}
 use Rattle.serialize_laws.proofs.Resplit.{Few}
@@ -11,7 +11,7 @@ use Rattle.serialize_laws.proofs.WrittenProps.{Plain}
 use Rattle.serialize_laws.proofs.Written.{PlainNode, PlainTree}
 use Rattle.serialize.proofs.Branches.{opening, Good}
 use Rattle.serialize.specs.Form.{formProp, formNode, formTree}
-use Rattle.serialize.specs.LocalsWrite.{Open, bracketed, left}
+use Rattle.serialize.specs.LocalsWrite.{Open, bracketed, pathLeft}
 use Rattle.tables.specs.Numbers.{none}
 use Rattle.tables.specs.Record.{Node, Tree}
 use Rattle.tables.specs.Rows.{parents}
@@ -38,7 +38,7 @@ parents-same k (n ∷ ns) = ap (λ (z : List ℕ). n .parent ∷ z) (parents-sam
 
 good-map : (k : ℕ) (ps : List ℕ) (j : ℕ) (path : List Open) (ns : List Node) → Good ps j path ns → Good ps j path (map (formNode k) ns)
 good-map k ps j path [] h = tt
-good-map k ps j path (n ∷ ns) h = (h .0, good-map k ps (suc j) (opening ps j (n .parent) ∷ left (n .parent) path) ns (h .1))
+good-map k ps j path (n ∷ ns) h = (h .0, good-map k ps (suc j) (opening ps j (n .parent) ∷ pathLeft (n .parent) path) ns (h .1))
 
 sound-map : (r k : ℕ) (ns : List Node) → SoundNodes r k ns → SoundNodes r k (map (formNode k) ns)
 sound-map r k [] h = h
@@ -50,7 +50,7 @@ sound-map r k (n ∷ ns) h = (
     good = subst (λ (z : List ℕ). Good (none ∷ z) (suc r) (opening (none ∷ z) r none ∷ []) (map (formNode k) ns)) (sym (parents-same k ns))
         (good-map k (none ∷ parents ns) (suc r) (opening (none ∷ parents ns) r none ∷ []) ns (h .1 .good));
     few = subst (λ (z : ℕ). suc r + z ≤ none) (sym (length-map ns (formNode k))) (h .1 .few);
-    kind-is = form-kinds k (n .props) ∙ h .1 .kind-is;
+    game-is = form-games k (n .props) ∙ h .1 .game-is;
   },
 )
 
@@ -58,21 +58,21 @@ sound-trees : (base : ℕ) (ts : List Tree) → SoundTrees base ts → SoundTree
 sound-trees base [] h = tt
 sound-trees base (t ∷ ts) h = (
   h .0,
-  sound-map base (t .kind) (t .nodes) (h .1),
-  subst (λ (z : ℕ). SoundTrees (base + z) (map formTree ts)) (sym (length-map (t .nodes) (formNode (t .kind)))) (sound-trees (base + length (t .nodes)) ts (h .2)),
+  sound-map base (t .game) (t .nodes) (h .1),
+  subst (λ (z : ℕ). SoundTrees (base + z) (map formTree ts)) (sym (length-map (t .nodes) (formNode (t .game)))) (sound-trees (base + length (t .nodes)) ts (h .2)),
 )
 
 plain-trees : (ts : List Tree) → All PlainTree ts → All PlainTree (map formTree ts)
 plain-trees [] h = tt
-plain-trees (t ∷ ts) h = (plain-nodes (t .kind) (t .nodes) (h .0), plain-trees ts (h .1))
+plain-trees (t ∷ ts) h = (plain-nodes (t .game) (t .nodes) (h .0), plain-trees ts (h .1))
 
 valid-trees : (ts : List Tree) → All ValidTree ts → All ValidTree (map formTree ts)
 valid-trees [] v = tt
-valid-trees (t ∷ ts) v = (valid-nodes (t .kind) (t .nodes) (v .0), valid-trees ts (v .1))
+valid-trees (t ∷ ts) v = (valid-nodes (t .game) (t .nodes) (v .0), valid-trees ts (v .1))
 
 few-trees : (ts : List Tree) → Few ts → Few (map formTree ts)
 few-trees [] h = tt
-few-trees (t ∷ ts) h = (subst (λ (z : ℕ). t .root + z ≤ none) (sym (length-map (t .nodes) (formNode (t .kind)))) (h .0), few-trees ts (h .1))
+few-trees (t ∷ ts) h = (subst (λ (z : ℕ). t .root + z ≤ none) (sym (length-map (t .nodes) (formNode (t .game)))) (h .0), few-trees ts (h .1))
 
 pub normal-form : (ts : List Tree) → Form ts → Form (map formTree ts)
 normal-form ts w =

@@ -1,7 +1,7 @@
 -- Records that are alike have one writing: the order of a set's points, the spelling of rectangles, white space and places leave no trace. Assumes nothing.
 use Rattle.lists.proofs.Prelude.{ℕ, _≡_, refl, sym, ap, ap₂, _∙_, Bool, false, List, [], _∷_, _++_, map}
 use Rattle.fit.specs.Record.{rawsOf}
-use Rattle.go.specs.Normal.{normal, written}
+use Rattle.go.specs.Normal.{normal, normalBy}
 use Rattle.go.specs.declared.value.GoValue.{GoValue}
 use Rattle.lexer.specs.Token.{Prop}
 use Rattle.go_points.specs.declared.Value.{Value}
@@ -9,16 +9,16 @@ use Rattle.go_points.specs.declared.Value.the-variants.{Other, Invalid, Pass, M
 use Rattle.serialize_laws.specs.Alike.{AlikeProp, AlikeNode, AlikeTree, Alike}
 use Rattle.serialize_laws.specs.Same.{Pairs, valid}
 use Rattle.ask.specs.Ask.{goOf}
-use Rattle.serialize.specs.Form.{placeless, formProp, formNode, formTree, writing}
+use Rattle.serialize.specs.Form.{placelessVal, formProp, formNode, formTree, writing}
 use Rattle.serialize.proofs.TreeTexts as texts
 use Rattle.serialize.proofs.TreeTexts.{alike-tree}
-use Rattle.serialize.specs.Branch.{boxed, writeProps, treeText}
+use Rattle.serialize.specs.Branch.{valsText, writeProps, treeText}
 use Rattle.tables.specs.Record.{Node, Tree}
 use Rattle.values.specs.Read.{readIdentifier}
 
 -- the written form of a valid Go value does not look at the raw values
-written-valid : (v : Value) (ms : List Bool) (vs ws : List (List ℕ)) → (valid v ≡ false → vs ≡ ws) → written v ms vs ≡ written v ms ws
-unfolding written
+written-valid : (v : Value) (ms : List Bool) (vs ws : List (List ℕ)) → (valid v ≡ false → vs ≡ ws) → normalBy v ms vs ≡ normalBy v ms ws
+unfolding normalBy
 written-valid Other ms vs ws h = h refl
 written-valid Invalid ms vs ws h = h refl
 written-valid Pass ms vs ws h = refl
@@ -29,7 +29,7 @@ written-valid Points ms vs ws h = refl
 normal-alike : (k : ℕ) (p q : Prop) → AlikeProp k p q → normal k (readIdentifier (q .name)) (rawsOf q) ≡ normal k (readIdentifier (p .name)) (rawsOf p)
 unfolding normal
 normal-alike k p q h =
-    ap (λ (g : GoValue). written (g .value) (g .marks) (rawsOf q)) (h .value)
+    ap (λ (g : GoValue). normalBy (g .value) (g .marks) (rawsOf q)) (h .value)
     ∙ written-valid (goOf k p .value) (goOf k p .marks) (rawsOf q) (rawsOf p) (h .raws)
 
 props-alike : (k : ℕ) (ps qs : List Prop) → Pairs (AlikeProp k) ps qs → writeProps (map (formProp k) qs) ≡ writeProps (map (formProp k) ps)
@@ -38,7 +38,7 @@ props-alike k [] (q ∷ qs) h = absurd h
 props-alike k (p ∷ ps) [] h = absurd h
 props-alike k (p ∷ ps) (q ∷ qs) h =
     ap₂ (λ (w : List ℕ) (z : List ℕ). w ++ z) (h .0 .name)
-    (ap₂ (λ (vs : List (List ℕ)) (z : List ℕ). boxed (map placeless vs) ++ z) (normal-alike k p q (h .0)) (props-alike k ps qs (h .1)))
+    (ap₂ (λ (vs : List (List ℕ)) (z : List ℕ). valsText (map placelessVal vs) ++ z) (normal-alike k p q (h .0)) (props-alike k ps qs (h .1)))
 
 nodes-alike : (k : ℕ) (ns ms : List Node) → Pairs (AlikeNode k) ns ms → texts.Alike (map (formNode k) ms) (map (formNode k) ns)
 nodes-alike k [] [] h = tt
@@ -48,8 +48,8 @@ nodes-alike k (n ∷ ns) (m ∷ ms) h = (h .0 .parent, props-alike k (n .props) 
 
 tree-alike : (t u : Tree) → AlikeTree t u → treeText (formTree u) ≡ treeText (formTree t)
 tree-alike t u h =
-    ap₂ (λ (r k : ℕ). treeText (record { root = r; kind = k; nodes = map (formNode k) (u .nodes) })) (h .root) (h .kind)
-    ∙ alike-tree (t .root) (t .kind) (t .kind) (map (formNode (t .kind)) (u .nodes)) (map (formNode (t .kind)) (t .nodes)) (nodes-alike (t .kind) (t .nodes) (u .nodes) (h .nodes))
+    ap₂ (λ (r k : ℕ). treeText (record { root = r; game = k; nodes = map (formNode k) (u .nodes) })) (h .root) (h .game)
+    ∙ alike-tree (t .root) (t .game) (t .game) (map (formNode (t .game)) (u .nodes)) (map (formNode (t .game)) (t .nodes)) (nodes-alike (t .game) (t .nodes) (u .nodes) (h .nodes))
 
 -- THE VIEWER'S QUESTION
 pub same-written : (ts us : List Tree) → Alike ts us → writing ts ≡ writing us

@@ -1,11 +1,11 @@
 -- A tree whose first byte is `(` begins with that token: no other token stands at such a byte. Assumes nothing.
 use Rattle.lists.proofs.Prelude.{_≡_, refl, sym, _∙_, ℕ, suc, Bool, true, false, List, [], _∷_, _++_, leb, eqb, getD, take, drop, eqb-false}
-use Rattle.lexer.specs.Token.{Out, Prop, St, Tok, Val, after, afters, begins, between, emits, end, ends, fault, finish, ident, node, prop, start, starts, step, value, values}
+use Rattle.lexer.specs.Token.{Out, Prop, St, Tok, Val, after, afters, begins, between, emits, end, stateAfter, fault, finish, ident, node, prop, start, propertyState, step, value, values}
 use Rattle.lexer_scan.specs.Scan.{space}
 use Rattle.lists.proofs.Places.{at-place, part-begins}
 use Rattle.lists.specs.All.{All}
 use Rattle.parser.proofs.Lift.{OfSlices, of-split, of-sliced}
-use Rattle.parser.specs.Read.{lex}
+use Rattle.parser.specs.Read.{tokenize}
 use Rattle.parser.specs.Split.{Slices, no, slices, split, splitting}
 use Rattle.serialize_laws.specs.Back.{Begins, BeginsAll, Each, slicesIn, toksOf}
 use Rattle.text_utf8.specs.Text.{Ink, Utf, bad, blank, inked, part, utfs, whole}
@@ -41,7 +41,7 @@ module _ (t : List ℕ) where
   abbrev Both : Out → Type 0
   Both x = All Stands (x .toks) × Within (x .next)
 
-  within-starts : (c high : Bool) (s : ℕ) (w : List ℕ) (o b : ℕ) → Other s → Within (starts c high s w o b)
+  within-starts : (c high : Bool) (s : ℕ) (w : List ℕ) (o b : ℕ) → Other s → Within (propertyState c high s w o b)
   within-starts true high s w o b h = h
   within-starts false true s w o b h = tt
   within-starts false false s w o b h = h
@@ -77,19 +77,19 @@ module _ (t : List ℕ) where
   stand-finish (after p) o h = (h, tt)
   stand-finish (fault f s) o h = tt
 
-  stand-run : (st : St) (o l : ℕ) (bs xs : List ℕ) → drop o t ≡ bs ++ xs → Within st → All Stands (emits st o bs ++ finish (ends st o bs) l .toks)
+  stand-run : (st : St) (o l : ℕ) (bs xs : List ℕ) → drop o t ≡ bs ++ xs → Within st → All Stands (emits st o bs ++ finish (stateAfter st o bs) l .toks)
   stand-run st o l [] xs d h = stand-finish st l h
   stand-run st o l (b ∷ bs) xs d h =
       let p = at-place o t b (bs ++ xs) d in
       let s = both-step st o b (p .1) h in
       let r = stand-run (step st o b .next) (suc o) l bs xs (p .2) (s .1) in
-      all-more (step st o b .toks) (emits (step st o b .next) (suc o) bs) (finish (ends (step st o b .next) (suc o) bs) l .toks) (s .0) r
+      all-more (step st o b .toks) (emits (step st o b .next) (suc o) bs) (finish (stateAfter (step st o b .next) (suc o) bs) l .toks) (s .0) r
     where
       all-more : (x y z : List Tok) → All Stands x → All Stands (y ++ z) → All Stands ((x ++ y) ++ z)
       all-more [] y z h k = k
       all-more (x ∷ xs) y z h k = (h .0, all-more xs y z (h .1) k)
 
-  stand-lex : (k : Ink) → All Stands (lex k t .toks)
+  stand-lex : (k : Ink) → All Stands (tokenize k t .toks)
   stand-lex blank = tt
   stand-lex (inked f l) = let x = part-begins f l t in stand-run between f l (drop f (take l t)) (x .0) (x .1) tt
 

@@ -2,16 +2,16 @@
 use Rattle.lists.proofs.Prelude.{_≡_, refl, sym, ap, _∙_, ℕ, suc, _+_, _≤_, _<_, max, arith, Bool, true, false, List, [], _∷_, _++_, map, reverse, reverseAux, append-nil, ltb, eqb, length, length-map, length-reverseAux, le-ltb, ne-eqb, pick}
 use Rattle.lexer.specs.Token.{Prop, Tok, end, node, prop, start}
 use Rattle.lists.specs.All.{All}
-use Rattle.parser.specs.Read.{accepted, answer, growAll, growing, planted}
+use Rattle.parser.specs.Read.{accepted, answer, parseGametrees, treesSoFar, parseSlices}
 use Rattle.parser.specs.Split.{Splitting, deep, filled, no, over, sliced, slices, split, splits, splitting, wrong}
 use Rattle.serialize_laws.proofs.Written.{tokEnds, tokNodes, tokOpened, tokProps, tokShuts, tokTree, tokTrees}
 use Rattle.serialize.proofs.Branches.{opening}
-use Rattle.serialize.specs.LocalsWrite.{Open, bracketed, left}
+use Rattle.serialize.specs.LocalsWrite.{Open, bracketed, pathLeft}
 use Rattle.tables.specs.Numbers.{depthLimit, none}
 use Rattle.tables.specs.Record.{Node, Tree}
 use Rattle.tables.specs.Rows.{parents}
 use Rattle.tables.specs.declared.Reason.the-variants.{TooDeep}
-use Rattle.serialize_laws.specs.Back.{zProp, zTree}
+use Rattle.serialize_laws.specs.Back.{placelessProp, placelessTree}
 use Rattle.serialize_laws.proofs.Regrow.{reverse-reverseAux, SoundTrees, reads-all}
 
 split-append : (len : Bool) (s : Splitting) (xs ys : List Tok) → split len s (xs ++ ys) ≡ split len (split len s xs) ys
@@ -35,33 +35,33 @@ Low [] = Unit {0}
 Low (x ∷ xs) = (x .num < none) × Low xs
 
 split-ends : (p m : ℕ) (path : List Open) (cur : List Tok) (ss : List (List Tok))
-    → split false (splitting (suc (brks path)) m cur ss) (tokEnds p path) ≡ splitting (suc (brks (left p path))) m (reverseAux (tokEnds p path) cur) ss
+    → split false (splitting (suc (brks path)) m cur ss) (tokEnds p path) ≡ splitting (suc (brks (pathLeft p path))) m (reverseAux (tokEnds p path) cur) ss
 split-ends p m [] cur ss = refl
 split-ends p m (x ∷ xs) cur ss = go (eqb (x .num) p) (x .brk) refl (λ c. split-ends p m xs c ss)
   where
     go : (b d : Bool) → x .brk ≡ d
-        → ((c : List Tok) → split false (splitting (suc (brks xs)) m c ss) (tokEnds p xs) ≡ splitting (suc (brks (left p xs))) m (reverseAux (tokEnds p xs) c) ss)
+        → ((c : List Tok) → split false (splitting (suc (brks xs)) m c ss) (tokEnds p xs) ≡ splitting (suc (brks (pathLeft p xs))) m (reverseAux (tokEnds p xs) c) ss)
         → split false (splitting (suc (up (x .brk) (brks xs))) m cur ss) (pick b [] (tokShuts (x .brk) (tokEnds p xs)))
-        ≡ splitting (suc (brks (pick b (x ∷ xs) (left p xs)))) m (reverseAux (pick b [] (tokShuts (x .brk) (tokEnds p xs))) cur) ss
+        ≡ splitting (suc (brks (pick b (x ∷ xs) (pathLeft p xs)))) m (reverseAux (pick b [] (tokShuts (x .brk) (tokEnds p xs))) cur) ss
     go true d e k = refl
     go false true e k = rw e (k (end 0 ∷ cur))
     go false false e k = rw e (k cur)
 
-left-none : (path : List Open) → Low path → brks (left none path) ≡ 0
+left-none : (path : List Open) → Low path → brks (pathLeft none path) ≡ 0
 left-none [] l = refl
 left-none (x ∷ xs) l = rw (ne-eqb (x .num) none (λ e. omega (arith, l .0))) (left-none xs (l .1))
 
-left-low : (p : ℕ) (path : List Open) → Low path → Low (left p path)
+left-low : (p : ℕ) (path : List Open) → Low path → Low (pathLeft p path)
 left-low p [] l = tt
 left-low p (x ∷ xs) l = go (eqb (x .num) p) (left-low p xs (l .1))
   where
-    go : (b : Bool) → Low (left p xs) → Low (pick b (x ∷ xs) (left p xs))
+    go : (b : Bool) → Low (pathLeft p xs) → Low (pick b (x ∷ xs) (pathLeft p xs))
     go true k = l
     go false k = k
 
 split-props : (d m : ℕ) (qs : List Prop) (cur : List Tok) (ss : List (List Tok)) → split false (splitting d m cur ss) (tokProps qs) ≡ splitting d m (reverseAux (tokProps qs) cur) ss
 split-props d m [] cur ss = refl
-split-props d m (q ∷ qs) cur ss = split-props d m qs (prop (zProp q) 0 ∷ cur) ss
+split-props d m (q ∷ qs) cur ss = split-props d m qs (prop (placelessProp q) 0 ∷ cur) ss
 
 -- a bracket, if there is one
 split-opened : (b : Bool) (d m : ℕ) (ts cur : List Tok) (ss : List (List Tok))
@@ -76,10 +76,10 @@ split-nodes ps k path [] m cur ss l kl = (m, split-ends none m path cur ss ∙ a
 split-nodes ps k path (n ∷ ns) m cur ss l kl =
     let p : ℕ = n .parent in
     let b : Bool = bracketed ps p in
-    let path2 : List Open = opening ps k p ∷ left p path in
+    let path2 : List Open = opening ps k p ∷ pathLeft p path in
     let rest : List Tok = tokNodes ps (suc k) path2 ns in
     let ts : List Tok = node 0 ∷ (tokProps (n .props) ++ rest) in
-    let o = split-opened b (brks (left p path)) m ts (reverseAux (tokEnds p path) cur) ss in
+    let o = split-opened b (brks (pathLeft p path)) m ts (reverseAux (tokEnds p path) cur) ss in
     let x = split-nodes ps (suc k) path2 ns (o .0) (reverseAux (tokProps (n .props)) (node 0 ∷ o .1)) ss (omega arith, left-low p path l) (omega arith) in (
       x .0,
       split-append false (splitting (suc (brks path)) m cur ss) (tokEnds p path) (tokOpened b ts)
@@ -125,16 +125,16 @@ filled-any m (x ∷ xs) h = refl
 
 -- the answer for the tokens of a writing
 pub planted-written : (ts : List Tree) → 0 < length ts → SoundTrees 0 ts → Few ts → deepest (split false (splitting 0 0 [] []) (tokTrees ts)) ≤ 1024
-    → planted false (sliced false (split false (splitting 0 0 [] []) (tokTrees ts))) ≡ accepted (map zTree ts)
+    → parseSlices false (sliced false (split false (splitting 0 0 [] []) (tokTrees ts))) ≡ accepted (map placelessTree ts)
 planted-written ts ne s l d =
     let x = split-trees ts 0 [] l in
     let X : List (List Tok) = reverseAux (map tokTree ts) [] in
     let lx : length X ≡ length ts = length-reverseAux (map tokTree ts) [] ∙ omega (arith, length-map ts tokTree) in
     let r = reads-all 0 ts [] s in
     let dx : ltb depthLimit (x .0) ≡ false = le-ltb depthLimit (x .0) (omega (arith, ap deepest (x .1))) in
-    ap (λ (z : Splitting). planted false (sliced false z)) (x .1)
-    ∙ ap (planted false) (filled-any (x .0) X (omega (arith, lx)))
-    ∙ ap (λ (b : Bool). planted false (pick b (no TooDeep) (slices (reverse X)))) dx
-    ∙ ap (λ (z : List (List Tok)). answer (growAll false (growing 0 []) z)) (reverse-reverseAux (map tokTree ts) [] [] ∙ append-nil (map tokTree ts))
+    ap (λ (z : Splitting). parseSlices false (sliced false z)) (x .1)
+    ∙ ap (parseSlices false) (filled-any (x .0) X (omega (arith, lx)))
+    ∙ ap (λ (b : Bool). parseSlices false (pick b (no TooDeep) (slices (reverse X)))) dx
+    ∙ ap (λ (z : List (List Tok)). answer (parseGametrees false (treesSoFar 0 []) z)) (reverse-reverseAux (map tokTree ts) [] [] ∙ append-nil (map tokTree ts))
     ∙ ap answer (r .1)
-    ∙ ap accepted (reverse-reverseAux (map zTree ts) [] [] ∙ append-nil (map zTree ts))
+    ∙ ap accepted (reverse-reverseAux (map placelessTree ts) [] [] ∙ append-nil (map placelessTree ts))

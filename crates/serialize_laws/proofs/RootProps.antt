@@ -1,7 +1,7 @@
 -- The root's properties are the properties that follow the first two tokens of a slice. Assumes nothing.
 use Rattle.lists.proofs.Prelude.{_≡_, refl, sym, ap, _∙_, subst, ℕ, _+_, Bool, true, false, List, [], _∷_, _++_, append-assoc, append-nil, length, drop, pick}
 use Rattle.lexer.specs.Token.{Prop, Tok, end, node, prop, start}
-use Rattle.parser.specs.Kind.{props}
+use Rattle.parser.specs.Game.{props}
 use Rattle.parser.specs.Walk.{Walk, adds, children, halted, stopped, walk, walked}
 use Rattle.serialize_laws.proofs.Closing.{Closes}
 use Rattle.tables.specs.Numbers.{none}

@@ -1,6 +1,6 @@
 -- How many tokens, slices' tokens and nodes a text can have. Assumes nothing.
 use Rattle.lists.proofs.Prelude.{_≡_, ℕ, zero, suc, _+_, _≤_, arith, Bool, true, false, List, [], _∷_, reverse, reverseAux, ltb, eqb, length, length-append, length-reverse, pick}
-use Rattle.lexer.specs.Token.{Out, Prop, St, Tok, after, afters, begins, between, emits, end, ends, fault, finish, ident, lexFrom, node, prop, start, step, value}
+use Rattle.lexer.specs.Token.{Out, Prop, St, Tok, after, afters, begins, between, emits, end, stateAfter, fault, finish, ident, lexFrom, node, prop, start, step, value}
 use Rattle.lexer_scan.specs.Scan.{space}
 use Rattle.parser.specs.Split.{Slices, Splitting, ended, filled, no, over, sliced, slices, split, splits, splitting, wrong}
 use Rattle.parser.specs.Walk.{Walk, adds, children, closes, gated, halted, opens, stopped, walk, walked, walks}
@@ -41,7 +41,7 @@ few-finish (fault n s) l = omega arith
 
 pub few-tokens : (f0 l : ℕ) (bs : List ℕ) → length (lexFrom f0 l bs .toks) ≤ length bs + length bs + 1
 few-tokens f0 l bs =
-    omega (arith, few-emits between f0 bs, few-finish (ends between f0 bs) l, length-append (emits between f0 bs) (finish (ends between f0 bs) l .toks))
+    omega (arith, few-emits between f0 bs, few-finish (stateAfter between f0 bs) l, length-append (emits between f0 bs) (finish (stateAfter between f0 bs) l .toks))
 
 -- ---- slices
 

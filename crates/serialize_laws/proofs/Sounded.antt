@@ -3,8 +3,8 @@ use Rattle.lists.proofs.Prelude.{_≡_, refl, sym, ap, ap₂, _∙_, subst, ℕ
 use Rattle.lexer.specs.Token.{Prop, Tok, end, node, prop, start}
 use Rattle.lists.specs.All.{All}
 use Rattle.lists.proofs.Tests.{never}
-use Rattle.parser.specs.Kind.{GM, Kind, is, kind, kindProps, named, props, unkind}
-use Rattle.parser.specs.Read.{Growing, failing, growAll, growing, grown, grows, kinded, rooted}
+use Rattle.parser.specs.Game.{GM, Game, is, findGametype, gameProps, propsNamed, props, noGame}
+use Rattle.parser.specs.Read.{Trees, noTrees, parseGametrees, treesSoFar, treeOfWalk, parseGametree, treeOfGame, treeOfNodes}
 use Rattle.parser.specs.Walk.{Walk, halted, stopped, walk, walked}
 use Rattle.serialize_laws.proofs.Closing.{Closes, SliceOk}
 use Rattle.serialize_laws.proofs.Nested.{DescP, FInv, GoodR, desc-left, on-less, pathR, w-slice}
@@ -28,7 +28,7 @@ pub record Pre (r k : ℕ) (qs : List Prop) (ns : List Node) : Type 0 where
   pub single : bracketed (none ∷ parents ns) none ≡ false
   pub good : Good (none ∷ parents ns) (suc r) (opening (none ∷ parents ns) r none ∷ []) ns
   pub few : suc r + length ns ≤ none
-  pub kind-is : kindProps (named GM qs) ≡ is k
+  pub game-is : gameProps (propsNamed GM qs) ≡ is k
 
 abbrev pub PreNodes : ℕ → ℕ → List Node → Type 0
 PreNodes r k [] = ⊥
@@ -36,7 +36,7 @@ PreNodes r k (n ∷ ns) = (n .parent ≡ none) × Pre r k (n .props) ns
 
 abbrev pub PreTrees : ℕ → List Tree → Type 0
 PreTrees base [] = Unit {0}
-PreTrees base (t ∷ ts) = (t .root ≡ base) × PreNodes base (t .kind) (t .nodes) × PreTrees (base + length (t .nodes)) ts
+PreTrees base (t ∷ ts) = (t .root ≡ base) × PreNodes base (t .game) (t .nodes) × PreTrees (base + length (t .nodes)) ts
 
 -- no later node is without parent
 no-none : (base : ℕ) (ns : List Node) (d : Node) (ds : List Node) → GoodR base (reverseAux ns (d ∷ ds)) → DescP (base + suc (length ds)) (pathR base (d ∷ ds))
@@ -54,7 +54,7 @@ root-last n (m ∷ ns) ds = root-last m ns (n ∷ ds)
 
 -- the nodes in order, from the nodes last first
 pre-nodes : (base k : ℕ) (xs : List Node) (qs : List Prop) → GoodR base (reverseAux xs []) → base + length xs ≤ none → rootProps (reverseAux xs []) ≡ qs
-    → kindProps (named GM qs) ≡ is k → PreNodes base k xs
+    → gameProps (propsNamed GM qs) ≡ is k → PreNodes base k xs
 pre-nodes base k [] qs h l r e = h
 pre-nodes base k (x ∷ xs) qs h l r e =
     let ps : List ℕ = none ∷ parents xs in
@@ -66,13 +66,13 @@ pre-nodes base k (x ∷ xs) qs h l r e =
         good = subst (λ (j : ℕ). Good ps j (opening ps base none ∷ []) xs) one
             (good-nodes base ps (opening ps base none ∷ []) xs x [] h (ap (λ (j : ℕ). j ∷ []) (omega arith)));
         few = omega arith;
-        kind-is = ap (λ (q : List Prop). kindProps (named GM q)) (sym (root-last x xs []) ∙ r) ∙ e;
+        game-is = ap (λ (q : List Prop). gameProps (propsNamed GM q)) (sym (root-last x xs []) ∙ r) ∙ e;
       },
     )
 
 -- ---- a slice, and all slices
 
-failed : {A : Type 0} (n : Reason) (m : ℕ) (vs : List Tree) → failing n ≡ growing m vs → A
+failed : {A : Type 0} (n : Reason) (m : ℕ) (vs : List Tree) → noTrees n ≡ treesSoFar m vs → A
 failed n m vs e = never cc
 
 record Planted (base : ℕ) (s : List Tok) (us : List Tree) (n : ℕ) (vs : List Tree) : Type 0 where
@@ -80,7 +80,7 @@ record Planted (base : ℕ) (s : List Tok) (us : List Tree) (n : ℕ) (vs : List
   vs-is : vs ≡ t ∷ us
   n-is : n ≡ base + length (t .nodes)
   root-is : t .root ≡ base
-  pre : PreNodes base (t .kind) (t .nodes)
+  pre : PreNodes base (t .game) (t .nodes)
   small : length (t .nodes) ≤ length s
 
 pub back-again : {A : Type 0} (xs : List A) → reverseAux (reverse xs) [] ≡ xs
@@ -91,10 +91,10 @@ module _ (base o : ℕ) (ts : List Tok) (us : List Tree) (n : ℕ) (vs : List Tr
   s = start o ∷ ts
 
   planted-nodes : (k : ℕ) (d : Node) (ds : List Node) → GoodR base (d ∷ ds) → rootProps (d ∷ ds) ≡ props (drop 2 s) → length (d ∷ ds) ≤ length s
-      → kind s ≡ is k → base + length s ≤ none → rooted false base k (d ∷ ds) us ≡ growing n vs → Planted base s us n vs
+      → findGametype s ≡ is k → base + length s ≤ none → treeOfNodes false base k (d ∷ ds) us ≡ treesSoFar n vs → Planted base s us n vs
   planted-nodes k d ds g r m e l h =
-      let t : Tree = record { root = base; kind = k; nodes = reverse (d ∷ ds) } in
-      let h2 : growing (base + length (d ∷ ds)) (t ∷ us) ≡ growing n vs = h in
+      let t : Tree = record { root = base; game = k; nodes = reverse (d ∷ ds) } in
+      let h2 : treesSoFar (base + length (d ∷ ds)) (t ∷ us) ≡ treesSoFar n vs = h in
       let e1 : base + length (d ∷ ds) ≡ n = cc in
       let e2 : t ∷ us ≡ vs = cc in
       let lr : length (reverse (d ∷ ds)) ≡ length (d ∷ ds) = length-reverse (d ∷ ds) in
@@ -108,23 +108,23 @@ module _ (base o : ℕ) (ts : List Tok) (us : List Tree) (n : ℕ) (vs : List Tr
         small = omega (arith, lr);
       }
 
-  planted-walk : (k : ℕ) (w : Walk) → FInv base w → RootIs (props (drop 2 s)) w → AtMost (length s) w → kind s ≡ is k → base + length s ≤ none
-      → grown false base k w us ≡ growing n vs → Planted base s us n vs
+  planted-walk : (k : ℕ) (w : Walk) → FInv base w → RootIs (props (drop 2 s)) w → AtMost (length s) w → findGametype s ≡ is k → base + length s ≤ none
+      → treeOfWalk false base k w us ≡ treesSoFar n vs → Planted base s us n vs
   planted-walk k (walk cur st g []) f r m e l h = failed UnexpectedEndOfData n vs h
   planted-walk k (walk cur st g (d ∷ ds)) f r m e l h = planted-nodes k d ds (f .0) r m e l h
   planted-walk k (halted ns) f r m e l h = absurd f
   planted-walk k (stopped j) f r m e l h = failed j n vs h
 
-  planted-slice : Closes 0 ts → base + length s ≤ none → grows false (growing base us) s ≡ growing n vs → Planted base s us n vs
-  planted-slice k l h = go (kind s) refl h
+  planted-slice : Closes 0 ts → base + length s ≤ none → parseGametree false (treesSoFar base us) s ≡ treesSoFar n vs → Planted base s us n vs
+  planted-slice k l h = go (findGametype s) refl h
     where
-      go : (x : Kind) → kind s ≡ x → kinded false base x s us ≡ growing n vs → Planted base s us n vs
+      go : (x : Game) → findGametype s ≡ x → treeOfGame false base x s us ≡ treesSoFar n vs → Planted base s us n vs
       go (is j) e q =
           planted-walk j (walked false base (walk none [] false []) s) (w-slice base o ts k) (root-slice base o ts k)
           (subst (λ (z : ℕ). AtMost z (walked false base (walk none [] false []) s)) (zero-add (length s)) (most-walked base 0 (walk none [] false []) s (omega arith))) e l q
-      go (unkind j) e q = failed j n vs q
+      go (noGame j) e q = failed j n vs q
 
-failing-all : (j : Reason) (ss : List (List Tok)) → growAll false (failing j) ss ≡ failing j
+failing-all : (j : Reason) (ss : List (List Tok)) → parseGametrees false (noTrees j) ss ≡ noTrees j
 failing-all j [] = refl
 failing-all j (s ∷ ss) = failing-all j ss
 
@@ -133,26 +133,26 @@ Grown base ss us vs = (ws : List Tree) × (vs ≡ reverseAux ws us) × PreTrees 
 
 -- one tree more
 grown-more : (base n : ℕ) (s : List Tok) (ss : List (List Tok)) (us vs : List Tree) (n1 : ℕ) (vs1 : List Tree) → Planted base s us n1 vs1
-    → growAll false (growing n1 vs1) ss ≡ growing n vs → base + (length s + total ss) ≤ none
-    → ((b : ℕ) (t : Tree) → b + total ss ≤ none → growAll false (growing b (t ∷ us)) ss ≡ growing n vs → Grown b ss (t ∷ us) vs) → Grown base (s ∷ ss) us vs
+    → parseGametrees false (treesSoFar n1 vs1) ss ≡ treesSoFar n vs → base + (length s + total ss) ≤ none
+    → ((b : ℕ) (t : Tree) → b + total ss ≤ none → parseGametrees false (treesSoFar b (t ∷ us)) ss ≡ treesSoFar n vs → Grown b ss (t ∷ us) vs) → Grown base (s ∷ ss) us vs
 grown-more base n s ss us vs n1 vs1 p q l k =
     let t : Tree = p .t in
-    let q2 : growAll false (growing (base + length (t .nodes)) (t ∷ us)) ss ≡ growing n vs =
-    ap₂ (λ (x : ℕ) (y : List Tree). growAll false (growing x y) ss) (sym (p .n-is)) (sym (p .vs-is)) ∙ q in
+    let q2 : parseGametrees false (treesSoFar (base + length (t .nodes)) (t ∷ us)) ss ≡ treesSoFar n vs =
+    ap₂ (λ (x : ℕ) (y : List Tree). parseGametrees false (treesSoFar x y) ss) (sym (p .n-is)) (sym (p .vs-is)) ∙ q in
     let r = k (base + length (t .nodes)) t (omega (arith, p .small)) q2 in
     (t ∷ r .0, r .1, (p .root-is, p .pre, r .2), ap suc (r .3))
 
 pub all-trees : (base : ℕ) (ss : List (List Tok)) (us : List Tree) (n : ℕ) (vs : List Tree) → All Leads ss → All SliceOk ss → base + total ss ≤ none
-    → growAll false (growing base us) ss ≡ growing n vs → Grown base ss us vs
+    → parseGametrees false (treesSoFar base us) ss ≡ treesSoFar n vs → Grown base ss us vs
 all-trees base [] us n vs b k l h = let e : us ≡ vs = cc in ([], sym e, tt, refl)
 all-trees base ([] ∷ ss) us n vs b k l h = absurd (b .0)
 all-trees base ((end o ∷ ts) ∷ ss) us n vs b k l h = absurd (b .0)
 all-trees base ((node o ∷ ts) ∷ ss) us n vs b k l h = absurd (b .0)
 all-trees base ((prop p e ∷ ts) ∷ ss) us n vs b k l h = absurd (b .0)
 all-trees base ((start o ∷ ts) ∷ ss) us n vs b k l h =
-    go (grows false (growing base us) (start o ∷ ts)) refl h (λ x t m q. all-trees x ss (t ∷ us) n vs (b .1) (k .1) m q)
+    go (parseGametree false (treesSoFar base us) (start o ∷ ts)) refl h (λ x t m q. all-trees x ss (t ∷ us) n vs (b .1) (k .1) m q)
   where
-    go : (r : Growing) → grows false (growing base us) (start o ∷ ts) ≡ r → growAll false r ss ≡ growing n vs
-        → ((x : ℕ) (t : Tree) → x + total ss ≤ none → growAll false (growing x (t ∷ us)) ss ≡ growing n vs → Grown x ss (t ∷ us) vs) → Grown base ((start o ∷ ts) ∷ ss) us vs
-    go (growing n1 vs1) e q f = grown-more base n (start o ∷ ts) ss us vs n1 vs1 (planted-slice base o ts us n1 vs1 (k .0) (omega arith) e) q l f
-    go (failing j) e q f = failed j n vs (sym (failing-all j ss) ∙ q)
+    go : (r : Trees) → parseGametree false (treesSoFar base us) (start o ∷ ts) ≡ r → parseGametrees false r ss ≡ treesSoFar n vs
+        → ((x : ℕ) (t : Tree) → x + total ss ≤ none → parseGametrees false (treesSoFar x (t ∷ us)) ss ≡ treesSoFar n vs → Grown x ss (t ∷ us) vs) → Grown base ((start o ∷ ts) ∷ ss) us vs
+    go (treesSoFar n1 vs1) e q f = grown-more base n (start o ∷ ts) ss us vs n1 vs1 (planted-slice base o ts us n1 vs1 (k .0) (omega arith) e) q l f
+    go (noTrees j) e q f = failed j n vs (sym (failing-all j ss) ∙ q)

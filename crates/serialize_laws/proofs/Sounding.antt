@@ -6,7 +6,7 @@ use Rattle.lexer.specs.Token.{Prop, Tok, Val, lexFrom}
 use Rattle.lists.proofs.All.{all-map}
 use Rattle.lists.specs.All.{All}
 use Rattle.parser.proofs.Lift.{OfAnswer, OfNode, OfTree, of-tokens}
-use Rattle.parser.specs.Read.{Answer, Growing, accepted, answer, decoded, failing, growAll, growing, planted, refused, readStrict}
+use Rattle.parser.specs.Read.{Answer, Trees, accepted, answer, parseUtf8, noTrees, parseGametrees, treesSoFar, parseSlices, refused, readStrict}
 use Rattle.parser.specs.Split.{Slices, Splitting, filled, no, over, sliced, slices, split, splitting, wrong}
 use Rattle.serialize_laws.proofs.Closing.{OkSlices, SliceOk, ok-tokens}
 use Rattle.serialize_laws.proofs.Opening.{Leads, leads-all}
@@ -43,21 +43,21 @@ some-sliced (splitting (suc d) m cur ss) = tt
 some-sliced (over m ss) = some-filled m ss
 some-sliced (wrong n) = tt
 
-pre-answer : (ss : List (List Tok)) (r : Growing) (ts : List Tree) → growAll false (growing 0 []) ss ≡ r → answer r ≡ accepted ts
+pre-answer : (ss : List (List Tok)) (r : Trees) (ts : List Tree) → parseGametrees false (treesSoFar 0 []) ss ≡ r → answer r ≡ accepted ts
     → All Leads ss → All SliceOk ss → total ss ≤ none → PreTrees 0 ts × (length ts ≡ length ss)
-pre-answer ss (growing n vs) ts e h b k l =
+pre-answer ss (treesSoFar n vs) ts e h b k l =
     let g = all-trees 0 ss [] n vs b k (omega arith) e in
     let h2 : accepted (reverse vs) ≡ accepted ts = h in
     let q : reverse vs ≡ ts = cc in
     let w : g .0 ≡ ts = sym (back-again (g .0)) ∙ ap reverse (sym (g .1)) ∙ q in
     (subst (PreTrees 0) w (g .2), sym (ap length w) ∙ g .3)
-pre-answer ss (failing j) ts e h b k l = not-both j 0 ts h
+pre-answer ss (noTrees j) ts e h b k l = not-both j 0 ts h
 
-pre-planted : (x : Slices) (ts : List Tree) → planted false x ≡ accepted ts → Each Leads x → OkSlices x → Within none x → Some x
+pre-planted : (x : Slices) (ts : List Tree) → parseSlices false x ≡ accepted ts → Each Leads x → OkSlices x → Within none x → Some x
     → PreTrees 0 ts × (0 < length ts)
 pre-planted (no n) ts h b k l m = not-both n 0 ts h
 pre-planted (slices ss) ts h b k l m =
-    let r = pre-answer ss (growAll false (growing 0 []) ss) ts refl h b k l in (r .0, omega (arith, r .1))
+    let r = pre-answer ss (parseGametrees false (treesSoFar 0 []) ss) ts refl h b k l in (r .0, omega (arith, r .1))
 
 plain-props : (ps : List Prop) → All HasProper ps → All Named ps → All Plain ps
 plain-props [] h n = tt
@@ -89,11 +89,11 @@ valid-trees (t ∷ ts) h = (valid-nodes (t .nodes) (h .0), valid-trees ts (h .1)
 sound-nodes : (r k : ℕ) (ns : List Node) → PreNodes r k ns → All PlainNode ns → SoundNodes r k ns
 sound-nodes r k [] p h = p
 sound-nodes r k (n ∷ ns) p h =
-    (p .0, record { plain = (h .0, h .1); single = p .1 .single; good = p .1 .good; few = p .1 .few; kind-is = p .1 .kind-is })
+    (p .0, record { plain = (h .0, h .1); single = p .1 .single; good = p .1 .good; few = p .1 .few; game-is = p .1 .game-is })
 
 sound-trees : (base : ℕ) (ts : List Tree) → PreTrees base ts → All PlainTree ts → SoundTrees base ts
 sound-trees base [] p h = tt
-sound-trees base (t ∷ ts) p h = (p .0, sound-nodes base (t .kind) (t .nodes) (p .1) (h .0), sound-trees (base + length (t .nodes)) ts (p .2) (h .1))
+sound-trees base (t ∷ ts) p h = (p .0, sound-nodes base (t .game) (t .nodes) (p .1) (h .0), sound-trees (base + length (t .nodes)) ts (p .2) (h .1))
 
 few-nodes : (r k : ℕ) (ns : List Node) → PreNodes r k ns → r + length ns ≤ none
 few-nodes r k [] p = absurd p
@@ -101,7 +101,7 @@ few-nodes r k (n ∷ ns) p = omega (arith, p .1 .few)
 
 few-trees : (base : ℕ) (ts : List Tree) → PreTrees base ts → Few ts
 few-trees base [] p = tt
-few-trees base (t ∷ ts) p = (omega (arith, p .0, few-nodes base (t .kind) (t .nodes) (p .1)), few-trees (base + length (t .nodes)) ts (p .2))
+few-trees base (t ∷ ts) p = (omega (arith, p .0, few-nodes base (t .game) (t .nodes) (p .1)), few-trees (base + length (t .nodes)) ts (p .2))
 
 -- ---- the theorem
 
@@ -119,7 +119,7 @@ pub writable : (t : List ℕ) (ts : List Tree) → readStrict t ≡ accepted ts 
 writable t ts h b nm = go (accepted-is t ts h)
   where
     long : length t ≤ textLimit
-    long = ltb-false textLimit (length t) (in-bounds (ltb textLimit (length t)) (decoded false (utfs (whole blank) 0 t) t) ts h)
+    long = ltb-false textLimit (length t) (in-bounds (ltb textLimit (length t)) (parseUtf8 false (utfs (whole blank) 0 t) t) ts h)
 
     go : Accepted t ts → Form ts
     go A =

@@ -68,7 +68,7 @@ wanted [] = []
 wanted (r ∷ rs) = r .says ∷ wanted rs
 
 pub tabs-right : answered table ≡ wanted table
-unfolding white space readFrom readIdentifier decimalOf digitsFrom digitOf normal go.written goValue shapeOf valueBy moveOf moveTo letterOf letter outcomeOf Fit fitText nodesFit rangesFit spansFit trimmed each sum tabulate orphans upward onPath firstUnder spans ascending plainName
+unfolding white space readFrom readIdentifier decimalOf digitsFrom digitOf normal go.normalBy goValue shapeOf valueBy moveOf moveTo letterOf letter outcomeOf Fit fitText nodesFit rangesFit spansFit trimmed each sum tabulate orphans upward onPath firstUnder spans ascending plainName
 tabs-right = refl
 
 -- the property's span is 2 to 8, and a node follows
@@ -85,7 +85,7 @@ abbrev pub read-as : List Tree
 read-as =
     record {
       root = 0;
-      kind = 0;
+      game = 0;
       nodes =
           record { parent = none; props = record { from = 3; to = 4; name = 0x42 ∷ []; vals = record { from = 5; to = 7; raw = 0x61 ∷ 0x61 ∷ [] } ∷ [] } ∷ [] } ∷ [];
     }
@@ -96,5 +96,5 @@ unfolding white space
 tab-read = refl
 
 pub tab-back : ReadsBack read-as
-unfolding white space readFrom readIdentifier normal go.written goValue shapeOf valueBy moveOf moveTo letterOf letter
+unfolding white space readFrom readIdentifier normal go.normalBy goValue shapeOf valueBy moveOf moveTo letterOf letter
 tab-back = reads-back-within (tabbed "(;^B[aa])") read-as tab-read (refl, tt) ((refl, refl), tt) (leb-true _ _ refl) (leb-true _ _ refl)

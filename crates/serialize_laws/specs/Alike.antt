@@ -26,8 +26,8 @@ pub record AlikeNode (k : ℕ) (n m : Node) : Type 0 where
 -- trees: the same root and game type, and nodes that are alike, one by one
 pub record AlikeTree (t u : Tree) : Type 0 where
   pub root : u .root ≡ t .root
-  pub kind : u .kind ≡ t .kind
-  pub nodes : Pairs (AlikeNode (t .kind)) (t .nodes) (u .nodes)
+  pub game : u .game ≡ t .game
+  pub nodes : Pairs (AlikeNode (t .game)) (t .nodes) (u .nodes)
 
 -- records
 abbrev pub Alike : List Tree → List Tree → Type 0

@@ -12,6 +12,6 @@ deepestFrom d (end o ∷ ts) = max d (deepestFrom (d - 1) ts)
 deepestFrom d (node o ∷ ts) = deepestFrom d ts
 deepestFrom d (prop p e ∷ ts) = deepestFrom d ts
 
--- the depth of a text
+-- the depth of a text (SCOPE 120)
 abbrev pub depthOf : List ℕ → ℕ
 depthOf t = deepestFrom 0 (toksOf (utfs (whole blank) 0 t) t)

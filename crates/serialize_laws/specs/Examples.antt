@@ -70,8 +70,8 @@ abbrev twain : List ℕ
 twain = none ∷ 1 ∷ none ∷ 0 ∷ 1 ∷ 0 ∷ 0 ∷ none ∷ none ∷ 1 ∷ 1 ∷ 1 ∷ []
 
 -- P1 to P10, in this order
-abbrev pub table : List Row
-table =
+abbrev pub paperRows : List Row
+paperRows =
     row "" (reading strict) (number 8 0)
     ∷ row "" (reading lenient) (rows one alone [] [])
     ∷ row "(;);" (reading strict) (rows one alone [] [])
@@ -147,6 +147,6 @@ wanted [] = []
 wanted (r ∷ rs) = r .says ∷ wanted rs
 
 -- each row is answered as the scope wants
-pub examples : answered table ≡ wanted table
-unfolding white space readFrom readIdentifier decimalOf digitsFrom digitOf normal go.written goValue shapeOf valueBy outcomeOf Fit fitText nodesFit rangesFit spansFit trimmed each sum tabulate orphans upward onPath firstUnder spans ascending plainName
+pub examples : answered paperRows ≡ wanted paperRows
+unfolding white space readFrom readIdentifier decimalOf digitsFrom digitOf normal go.normalBy goValue shapeOf valueBy outcomeOf Fit fitText nodesFit rangesFit spansFit trimmed each sum tabulate orphans upward onPath firstUnder spans ascending plainName
 examples = refl

@@ -8,7 +8,7 @@ use Rattle.values.specs.Read.{readFrom, readIdentifier}
 use Rattle.values.specs.Decimal.{decimalOf, digitsFrom, digitOf}
 use Rattle.go_points.specs.Area.{areaOf, cornered, letterOf, letter}
 use Rattle.go.specs.Marks.{marksOf, marksFrom, inRect}
-use Rattle.go.specs.Normal.{normal, written, pointsFrom}
+use Rattle.go.specs.Normal.{normal, normalBy, pointsFrom}
 use Rattle.go_shape.specs.Shape.{shapeOf}
 use Rattle.go.specs.Value.{valueBy, goValue, pointsOf}
 use Rattle.tables.specs.Each.{each, sum, tabulate}
@@ -29,13 +29,13 @@ pub data Says : Type 0 where
   types : List ℕ → Says
 
 -- the game type of a tree
-abbrev kindOf : Tree → ℕ
-kindOf t = t .kind
+abbrev treeGame : Tree → ℕ
+treeGame t = t .game
 
 -- an answer shown
-abbrev pub shown : Answer → Says
-shown (refused r p) = number (numberOf r)
-shown (accepted ts) = types (map kindOf ts)
+abbrev pub says : Answer → Says
+says (refused r p) = number (numberOf r)
+says (accepted ts) = types (map treeGame ts)
 
 -- what is written for an answer
 abbrev pub writes : Answer → List ℕ
@@ -63,24 +63,24 @@ needed =
     ∷ []
 
 -- what is shown of a text
-pub record Shown : Type 0 where
+pub record ReadTwice : Type 0 where
   pub first : Says
   pub writing : List ℕ
   pub second : Says
 
 -- what reading, writing and reading again give, row by row
-abbrev right : List Row → List Shown
+abbrev right : List Row → List ReadTwice
 right [] = []
-right (r ∷ rs) = let a = read strict (bytes (r .text)) in record { first = shown a; writing = writes a; second = shown (read strict (writes a)) } ∷ right rs
+right (r ∷ rs) = let a = read strict (bytes (r .text)) in record { first = says a; writing = writes a; second = says (read strict (writes a)) } ∷ right rs
 
 -- what is wanted, row by row
-abbrev wanted : List Row → List Shown
+abbrev wanted : List Row → List ReadTwice
 wanted [] = []
 wanted (r ∷ rs) = record { first = r .first; writing = bytes (r .writing); second = r .second } ∷ wanted rs
 
 -- each text is read, written and read again as its row says
 pub needed-right : right needed ≡ wanted needed
-unfolding white space readFrom readIdentifier decimalOf digitsFrom digitOf normal written goValue shapeOf valueBy
+unfolding white space readFrom readIdentifier decimalOf digitsFrom digitOf normal normalBy goValue shapeOf valueBy
 needed-right = refl
 
 -- the scope's writing program; points by coordinates, not by the byte codes of their letters; one set in another order and spelling; an identifier that reads as empty
@@ -94,5 +94,5 @@ writings =
 
 -- each text is written as its row says
 pub writings-right : paper.answered writings ≡ paper.wanted writings
-unfolding white space readFrom readIdentifier normal written goValue shapeOf valueBy pointsOf pointsFrom marksOf marksFrom inRect areaOf cornered letterOf letter Fit fitText nodesFit rangesFit spansFit trimmed each sum tabulate orphans upward onPath firstUnder spans ascending plainName
+unfolding white space readFrom readIdentifier normal normalBy goValue shapeOf valueBy pointsOf pointsFrom marksOf marksFrom inRect areaOf cornered letterOf letter Fit fitText nodesFit rangesFit spansFit trimmed each sum tabulate orphans upward onPath firstUnder spans ascending plainName
 writings-right = refl

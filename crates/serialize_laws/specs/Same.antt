@@ -28,7 +28,7 @@ valid (Move x y) = true
 valid (Handicap n) = true
 valid Points = true
 
--- q is p read back: its values are the normal form of p's, so the Go value is the same, and so are raw values that are no valid Go value
+-- q is p read back: its values are the normal form of p's, so the Go value is the same, and so are raw values that are no valid Go value (SCOPE 121)
 pub record SameProp (k : ℕ) (p q : Prop) : Type 0 where
   pub name : q .name ≡ p .name
   pub normals : rawsOf q ≡ normal k (readIdentifier (p .name)) (rawsOf p)
@@ -40,11 +40,11 @@ pub record SameNode (k : ℕ) (n m : Node) : Type 0 where
   pub parent : m .parent ≡ n .parent
   pub props : Pairs (SameProp k) (n .props) (m .props)
 
--- a tree
+-- a tree (SCOPE 121)
 pub record SameTree (t u : Tree) : Type 0 where
   pub root : u .root ≡ t .root
-  pub kind : u .kind ≡ t .kind
-  pub nodes : Pairs (SameNode (t .kind)) (t .nodes) (u .nodes)
+  pub game : u .game ≡ t .game
+  pub nodes : Pairs (SameNode (t .game)) (t .nodes) (u .nodes)
 
 -- a strict reading of the writing: accepted with the same trees, the same tree and node rows; and writing these gives the same bytes
 pub record ReadsBack (ts : List Tree) : Type 0 where

@@ -6,29 +6,29 @@ use Rattle.go_points.specs.Area.{letter}
 use Rattle.go.specs.Normal.{pointText, pointsFrom}
 use Rattle.parts.specs.Rows.{valueAt, valuesAt}
 use Rattle.parts.proofs.Valued.{values-all, values-next, values-end}
-use Rattle.serialize_values.specs.LocalsBoxes.{boxes}
+use Rattle.serialize_values.specs.LocalsForm.{rawsText}
 use Rattle.serialize_values.proofs.Writing.{writing-first, writing-is, writing-next, writing-last}
 
-pub boxes-one : (v : List ℕ) → boxes (v ∷ []) ≡ 0x5b ∷ (v ++ (0x5d ∷ []))
-unfolding boxes
+pub boxes-one : (v : List ℕ) → rawsText (v ∷ []) ≡ 0x5b ∷ (v ++ (0x5d ∷ []))
+unfolding rawsText
 boxes-one v = refl
 
-pub boxes-none : boxes [] ≡ []
-unfolding boxes
+pub boxes-none : rawsText [] ≡ []
+unfolding rawsText
 boxes-none = refl
 
-pub boxes-cons : (v : List ℕ) (vs : List (List ℕ)) → boxes (v ∷ vs) ≡ boxes (v ∷ []) ++ boxes vs
-unfolding boxes
-boxes-cons v vs = ap (λ (z : List ℕ). 0x5b ∷ z) (sym (append-assoc v (0x5d ∷ []) (boxes vs)))
+pub boxes-cons : (v : List ℕ) (vs : List (List ℕ)) → rawsText (v ∷ vs) ≡ rawsText (v ∷ []) ++ rawsText vs
+unfolding rawsText
+boxes-cons v vs = ap (λ (z : List ℕ). 0x5b ∷ z) (sym (append-assoc v (0x5d ∷ []) (rawsText vs)))
 
 pub box-wrote : (v : List ℕ) {o : List ℕ} {at : ℕ} {o1 : List ℕ} {r1 : ℕ} {o2 : List ℕ} {r2 : ℕ} {o3 : List ℕ} {r3 : ℕ} → length o < 2 ^ 64 → at < 2 ^ 64
-    → Wrote (0x5b ∷ []) o at o1 r1 → Wrote v o1 r1 o2 r2 → Wrote (0x5d ∷ []) o2 r2 o3 r3 → Wrote (boxes (v ∷ [])) o at o3 r3
-box-wrote v s b x y z = writing-last z (writing-next y (writing-next x (writing-is (boxes-one v) (writing-first (boxes (v ∷ [])) _ _ s b))))
+    → Wrote (0x5b ∷ []) o at o1 r1 → Wrote v o1 r1 o2 r2 → Wrote (0x5d ∷ []) o2 r2 o3 r3 → Wrote (rawsText (v ∷ [])) o at o3 r3
+box-wrote v s b x y z = writing-last z (writing-next y (writing-next x (writing-is (boxes-one v) (writing-first (rawsText (v ∷ [])) _ _ s b))))
 
 -- a value of two bytes in its brackets, byte by byte
 pub pair-wrote : (v out : List ℕ) (at : ℕ) → length v ≡ 2 → at + 4 ≤ length out → length out < 2 ^ 64
-    → Wrote (boxes (v ∷ [])) out at (set (set (set (set out at 0x5b) (at + 1) (getD v 0 0)) (at + 2) (getD v 1 0)) (at + 3) 0x5d) (at + 4)
-unfolding boxes
+    → Wrote (rawsText (v ∷ [])) out at (set (set (set (set out at 0x5b) (at + 1) (getD v 0 0)) (at + 2) (getD v 1 0)) (at + 3) 0x5d) (at + 4)
+unfolding rawsText
 pair-wrote [] out at l h s = absurd (omega arith)
 pair-wrote (a ∷ []) out at l h s = absurd (omega arith)
 pair-wrote (a ∷ b ∷ []) out at l h s =
@@ -47,17 +47,17 @@ pair-wrote (a ∷ b ∷ c ∷ r) out at l h s = absurd (omega arith)
 -- ---- raw values
 
 module _ (text vals : List ℕ) (first count : ℕ) where
-  pub raw-all : boxes (valuesAt text vals first count) ≡ boxes (valuesAt text vals (first + 0) (count - 0))
-  raw-all = ap boxes (values-all text vals first count)
+  pub raw-all : rawsText (valuesAt text vals first count) ≡ rawsText (valuesAt text vals (first + 0) (count - 0))
+  raw-all = ap rawsText (values-all text vals first count)
 
   pub raw-next : (n : ℕ) → n < count
-      → {v : List ℕ} → v ≡ valueAt text vals (first + n) → boxes (valuesAt text vals (first + n) (count - n)) ≡ boxes (v ∷ []) ++ boxes (valuesAt text vals (first + (n + 1)) (count - (n + 1)))
+      → {v : List ℕ} → v ≡ valueAt text vals (first + n) → rawsText (valuesAt text vals (first + n) (count - n)) ≡ rawsText (v ∷ []) ++ rawsText (valuesAt text vals (first + (n + 1)) (count - (n + 1)))
   raw-next n h e =
       let r : List (List ℕ) = valuesAt text vals (first + (n + 1)) (count - (n + 1)) in
-      ap boxes (values-next text vals first count n h ∙ ap (λ (z : List ℕ). z ∷ r) (sym e)) ∙ boxes-cons _ r
+      ap rawsText (values-next text vals first count n h ∙ ap (λ (z : List ℕ). z ∷ r) (sym e)) ∙ boxes-cons _ r
 
-  pub raw-end : (n : ℕ) → count ≤ n → boxes (valuesAt text vals (first + n) (count - n)) ≡ []
-  raw-end n h = ap boxes (values-end text vals first count n h) ∙ boxes-none
+  pub raw-end : (n : ℕ) → count ≤ n → rawsText (valuesAt text vals (first + n) (count - n)) ≡ []
+  raw-end n h = ap rawsText (values-end text vals first count n h) ∙ boxes-none
 
 -- ---- points
 
@@ -70,30 +70,30 @@ unfolding letter
 letter-high n h = rw (le-ltb n 26 h)
 
 pub point-wrote : (x y : ℕ) {a b : ℕ} {o : List ℕ} {at : ℕ} {o1 : List ℕ} {r1 : ℕ} {o2 : List ℕ} {r2 : ℕ} {o3 : List ℕ} {r3 : ℕ} {o4 : List ℕ} {r4 : ℕ} → length o < 2 ^ 64 → at < 2 ^ 64 → a ≡ letter x → b ≡ letter y
-    → Wrote (0x5b ∷ []) o at o1 r1 → Wrote (a ∷ []) o1 r1 o2 r2 → Wrote (b ∷ []) o2 r2 o3 r3 → Wrote (0x5d ∷ []) o3 r3 o4 r4 → Wrote (boxes ((letter x ∷ letter y ∷ []) ∷ [])) o at o4 r4
+    → Wrote (0x5b ∷ []) o at o1 r1 → Wrote (a ∷ []) o1 r1 o2 r2 → Wrote (b ∷ []) o2 r2 o3 r3 → Wrote (0x5d ∷ []) o3 r3 o4 r4 → Wrote (rawsText ((letter x ∷ letter y ∷ []) ∷ [])) o at o4 r4
 point-wrote x y s l ea eb p q r z =
-    let w : List ℕ = boxes ((letter x ∷ letter y ∷ []) ∷ []) in
+    let w : List ℕ = rawsText ((letter x ∷ letter y ∷ []) ∷ []) in
     writing-last z
     (writing-next (wrote-is (ap (λ (n : ℕ). n ∷ []) eb) r)
     (writing-next (wrote-is (ap (λ (n : ℕ). n ∷ []) ea) q) (writing-next p (writing-is (boxes-one (letter x ∷ letter y ∷ [])) (writing-first w _ _ s l)))))
 
 module _ (i : ℕ) {mark : Bool} where
-  pub marked-point : mark ≡ true → boxes (pointText i ∷ []) ≡ boxes (pick mark (pointText i ∷ []) [])
-  marked-point h = ap (λ (m : Bool). boxes (pick m (pointText i ∷ []) [])) (sym h)
+  pub marked-point : mark ≡ true → rawsText (pointText i ∷ []) ≡ rawsText (pick mark (pointText i ∷ []) [])
+  marked-point h = ap (λ (m : Bool). rawsText (pick m (pointText i ∷ []) [])) (sym h)
 
-  pub unmarked-point : mark ≡ false → [] ≡ boxes (pick mark (pointText i ∷ []) [])
-  unmarked-point h = sym boxes-none ∙ ap (λ (m : Bool). boxes (pick m (pointText i ∷ []) [])) (sym h)
+  pub unmarked-point : mark ≡ false → [] ≡ rawsText (pick mark (pointText i ∷ []) [])
+  unmarked-point h = sym boxes-none ∙ ap (λ (m : Bool). rawsText (pick m (pointText i ∷ []) [])) (sym h)
 
 module _ (marks : List Bool) where
   pub points-next : (i : ℕ) → i < length marks
-      → boxes (pointsFrom i (drop i marks)) ≡ boxes (pick (getD marks i false) (pointText i ∷ []) []) ++ boxes (pointsFrom (i + 1) (drop (i + 1) marks))
-  unfolding pointsFrom boxes
+      → rawsText (pointsFrom i (drop i marks)) ≡ rawsText (pick (getD marks i false) (pointText i ∷ []) []) ++ rawsText (pointsFrom (i + 1) (drop (i + 1) marks))
+  unfolding pointsFrom rawsText
   points-next i h = rw (drop-cons marks i false h, add-one) (go (getD marks i false))
     where
-      go : (m : Bool) → (let r = pointsFrom (suc i) (drop (suc i) marks) in boxes (pick m (pointText i ∷ r) r) ≡ boxes (pick m (pointText i ∷ []) []) ++ boxes r)
+      go : (m : Bool) → (let r = pointsFrom (suc i) (drop (suc i) marks) in rawsText (pick m (pointText i ∷ r) r) ≡ rawsText (pick m (pointText i ∷ []) []) ++ rawsText r)
       go true = boxes-cons (pointText i) (pointsFrom (suc i) (drop (suc i) marks))
       go false = refl
 
-  pub points-end : (i : ℕ) → length marks ≤ i → boxes (pointsFrom i (drop i marks)) ≡ []
-  unfolding pointsFrom boxes
+  pub points-end : (i : ℕ) → length marks ≤ i → rawsText (pointsFrom i (drop i marks)) ≡ []
+  unfolding pointsFrom rawsText
   points-end i h = rw (drop-of-length-le marks h)

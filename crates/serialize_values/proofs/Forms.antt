@@ -5,7 +5,7 @@ use denote.Enum.Declared.{tagOf}
 use Rattle.values.specs.Decimal.{decimal}
 use Rattle.go_points.specs.Area.{letter}
 use Rattle.go.specs.Marks.{allGood, inSome, marksOf}
-use Rattle.go.specs.Normal.{pointsFrom, written, normal}
+use Rattle.go.specs.Normal.{pointsFrom, normalBy, normal}
 use Rattle.go_shape.specs.Shape.{shapeOf}
 use Rattle.go.specs.Value.{noMarks, unmarked, areasOf, pointsOf, valueBy, goValue}
 use Rattle.go.specs.declared.value.GoValue.{GoValue}
@@ -16,17 +16,17 @@ use Rattle.go_points.specs.declared.Value.the-variants.{Invalid, Pass, Move, Ha
 use Rattle.go_points.proofs.Value as value
 use Rattle.go.proofs.Marked.{marks-all}
 use Rattle.go.proofs.Shapes.{points-valid, points-invalid}
-use Rattle.serialize_values.specs.LocalsBoxes.{formBy}
+use Rattle.serialize_values.specs.LocalsForm.{formBy}
 use Rattle.serialize_values.proofs.Variants.{single, raw-only}
 
-pub normal-shaped : (kind : ℕ) (identifier : List ℕ) (vs : List (List ℕ)) {q s : Shape} → kind ≡ 0 → q ≡ shapeOf identifier → q ≡ s → formBy s vs ≡ normal kind identifier vs
+pub normal-shaped : (game : ℕ) (identifier : List ℕ) (vs : List (List ℕ)) {q s : Shape} → game ≡ 0 → q ≡ shapeOf identifier → q ≡ s → formBy s vs ≡ normal game identifier vs
 unfolding normal goValue formBy
-normal-shaped kind identifier vs h e f = rw (eq-eqb kind 0 h, ← e, f)
+normal-shaped game identifier vs h e f = rw (eq-eqb game 0 h, ← e, f)
 
 -- a Go value, written
-form-value : (s : Shape) (vs : List (List ℕ)) {g : GoValue} → g ≡ valueBy s vs → written (g .value) (g .marks) vs ≡ formBy s vs
+form-value : (s : Shape) (vs : List (List ℕ)) {g : GoValue} → g ≡ valueBy s vs → normalBy (g .value) (g .marks) vs ≡ formBy s vs
 unfolding formBy
-form-value s vs e = ap (λ (g : GoValue). written (g .value) (g .marks) vs) e
+form-value s vs e = ap (λ (g : GoValue). normalBy (g .value) (g .marks) vs) e
 
 -- ---- sets
 
@@ -43,32 +43,32 @@ module _ (vs : List (List ℕ)) {g : GoValue} (e : g ≡ pointsOf vs) where
       go false q = bad (e ∙ points-invalid vs q)
 
   pub set-raw : {v : Value} → v ≡ g .value → (v ≡ Points → ⊥) → vs ≡ formBy ManyPoints vs
-  unfolding written
+  unfolding normalBy
   set-raw q h =
-      either-set (λ p. ap (λ (x : GoValue). written (x .value) (x .marks) vs) (sym p) ∙ form-value ManyPoints vs by-points)
+      either-set (λ p. ap (λ (x : GoValue). normalBy (x .value) (x .marks) vs) (sym p) ∙ form-value ManyPoints vs by-points)
       (λ m l p k. absurd (h (q ∙ p)))
 
   module _ {v : Value} (q : v ≡ g .value) (h : v ≡ Points) where
     pub set-points : pointsFrom 0 (g .marks) ≡ formBy ManyPoints vs
-    unfolding written
-    set-points = ap (λ (x : Value). written x (g .marks) vs) (sym h ∙ q) ∙ form-value ManyPoints vs by-points
+    unfolding normalBy
+    set-points = ap (λ (x : Value). normalBy x (g .marks) vs) (sym h ∙ q) ∙ form-value ManyPoints vs by-points
 
 -- ---- moves and numbers
 
 module _ (s : Shape) (vs : List (List ℕ)) {x : Value} (e : unmarked x ≡ valueBy s vs) where
-  one-form : {y : Value} → x ≡ y → written y noMarks vs ≡ formBy s vs
-  one-form q = ap (λ (z : Value). written z noMarks vs) (sym q) ∙ form-value s vs e
+  one-form : {y : Value} → x ≡ y → normalBy y noMarks vs ≡ formBy s vs
+  one-form q = ap (λ (z : Value). normalBy z noMarks vs) (sym q) ∙ form-value s vs e
 
   pub one-pass : x ≡ Pass → [] ∷ [] ≡ formBy s vs
-  unfolding written
+  unfolding normalBy
   one-pass q = one-form q
 
   pub one-point : {a b : ℕ} → x ≡ Move a b → (letter a ∷ letter b ∷ []) ∷ [] ≡ formBy s vs
-  unfolding written
+  unfolding normalBy
   one-point q = one-form q
 
   pub one-stones : {n : ℕ} → x ≡ Handicap n → decimal n ∷ [] ≡ formBy s vs
-  unfolding written
+  unfolding normalBy
   one-stones q = one-form q
 
   module _ (h : s ≡ ManyPoints → ⊥) where

@@ -5,7 +5,7 @@ use Rattle.lists.proofs.Tests.{and-both}
 use Rattle.values.specs.Read.{readValue}
 use Rattle.go_points.specs.Area.{letterOf, letter, moveOf}
 use Rattle.go_points.proofs.Letters.{move-back}
-use Rattle.go.specs.Normal.{pointText, pointsFrom, written}
+use Rattle.go.specs.Normal.{pointText, pointsFrom, normalBy}
 use Rattle.go.specs.Value.{noMarks, unmarked, marked, pointsOf, valueBy}
 use Rattle.go.specs.declared.value.GoValue.{GoValue}
 use Rattle.go.proofs.Listed.{points-back}
@@ -14,7 +14,7 @@ use Rattle.go_shape.specs.declared.Shape.the-variants.{OneMove, ManyPoints}
 use Rattle.go_points.specs.declared.Value.{Value}
 use Rattle.go_points.specs.declared.Value.the-variants.{Move, Points}
 use Rattle.parts.specs.Rows.{valueAt, valuesAt}
-use Rattle.serialize_values.specs.LocalsBoxes.{formBy}
+use Rattle.serialize_values.specs.LocalsForm.{formBy}
 use Rattle.serialize_values.proofs.Boxed.{letter-low, letter-high}
 
 -- the letter of a letter's coordinate
@@ -58,10 +58,10 @@ one-listed k (suc n) zero h = let e : k ≡ k + 0 = omega arith in ap₂ (λ (a 
 one-listed k (suc n) (suc i) h = let e : suc k + i ≡ k + suc i = omega arith in one-listed (suc k) n i (omega arith) ∙ ap (λ (a : ℕ). pointText a ∷ []) e
 
 listed-form : (vs : List (List ℕ)) (ms : List Bool) → length ms ≡ 2704 → pointsFrom 0 ms ≡ vs → vs ≡ formBy ManyPoints vs
-unfolding formBy valueBy written
+unfolding formBy valueBy normalBy
 listed-form vs ms l e =
     let g : pointsOf vs ≡ marked ms = ap pointsOf (sym e) ∙ points-back ms l in
-    sym e ∙ ap (λ (x : GoValue). written (x .value) (x .marks) vs) (sym g)
+    sym e ∙ ap (λ (x : GoValue). normalBy (x .value) (x .marks) vs) (sym g)
 
 one-form : (n i : ℕ) → n ≡ 2704 → i < n → pointText i ∷ [] ≡ formBy ManyPoints (pointText i ∷ [])
 one-form n i e h =
@@ -76,11 +76,11 @@ module _ (v : List ℕ) (l : length v ≡ 2) {x y : ℕ} (ex : x ≡ letterOf (g
   letters = ap₂ (λ (m n : ℕ). letter m ∷ letter n ∷ []) ex ey ∙ as-letters v l (subst (λ (z : ℕ). z ≤ 51) ex p) (subst (λ (z : ℕ). z ≤ 51) ey q)
 
   pub plain-move : {s : Shape} → s ≡ OneMove → v ∷ [] ≡ formBy s (v ∷ [])
-  unfolding formBy valueBy written
+  unfolding formBy valueBy normalBy
   plain-move e =
       let m : Move x y ≡ moveOf (readValue v) = sym (move-back x y (omega arith) (omega arith)) ∙ ap (λ (z : List ℕ). moveOf (readValue z)) letters in
       ap (λ (z : List ℕ). z ∷ []) (sym letters)
-      ∙ ap (λ (z : Value). written z noMarks (v ∷ [])) m
+      ∙ ap (λ (z : Value). normalBy z noMarks (v ∷ [])) m
       ∙ ap (λ (z : Shape). formBy z (v ∷ [])) (sym e)
 
   pub plain-set : {s : Shape} → s ≡ ManyPoints → v ∷ [] ≡ formBy s (v ∷ [])

@@ -4,7 +4,7 @@ use types.Run.{OneOf, miss}
 use denote.Enum.Declared.{tagOf}
 use Rattle.go_points.specs.declared.Value.{Value}
 use Rattle.go_points.specs.declared.Value.the-variants.{Other, Invalid, Pass, Move, Handicap, Points}
-use Rattle.go.specs.Normal.{written}
+use Rattle.go.specs.Normal.{normalBy}
 use Rattle.go.specs.Value.{unmarked, valueBy}
 use Rattle.go.specs.declared.value.GoValue.{GoValue}
 use Rattle.go_shape.specs.declared.Shape.{Shape}
@@ -54,8 +54,8 @@ between n (inr (inl z)) p q = omega arith
 between n (inr (inr z)) p q = omega arith
 
 -- neither a move nor a number of stones
-pub raw-only : (x : Value) → OneOf (0 ∷ 1 ∷ 5 ∷ []) (tagOf value.the-type x) → Single x → (marks : List Bool) (vs : List (List ℕ)) → vs ≡ written x marks vs
-unfolding written
+pub raw-only : (x : Value) → OneOf (0 ∷ 1 ∷ 5 ∷ []) (tagOf value.the-type x) → Single x → (marks : List Bool) (vs : List (List ℕ)) → vs ≡ normalBy x marks vs
+unfolding normalBy
 raw-only Other h m marks vs = refl
 raw-only Invalid h m marks vs = refl
 raw-only Pass h m marks vs = absurd (between 2 h (omega arith) (omega arith))

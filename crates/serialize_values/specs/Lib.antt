@@ -1,1 +1,1 @@
-pub mod LocalsBoxes
+pub mod LocalsForm

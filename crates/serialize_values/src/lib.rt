@@ -11,7 +11,7 @@ ghost use Rattle.go_points.specs.Area.{letter};
 ghost use Rattle.go.specs.Normal.{pointText, pointsFrom, normal};
 ghost use Rattle.parts.specs.Rows.{valuesAt};
 ghost use Rattle.go_shape.specs.declared.Shape.the-variants.{ManyPoints};
-ghost use Rattle.serialize_values.specs.LocalsBoxes.{formBy, boxes};
+ghost use Rattle.serialize_values.specs.LocalsForm.{formBy, rawsText};
 use go_points::Value;
 use go_shape::Shape;
 use store_bytes::put_byte;
@@ -19,7 +19,7 @@ use store_bytes::put_bytes;
 
 // A value in its brackets.
 fn put_box(out: &mut [u8], at: usize, value: &[u8]) -> usize
-    ensures { λ r. ⌜ Wrote (boxes (now (value .entry) ∷ [])) (now (out .entry)) at (now (out .exit)) r ⌝ }
+    ensures { λ r. ⌜ Wrote (rawsText (now (value .entry) ∷ [])) (now (out .entry)) at (now (out .exit)) r ⌝ }
 {
     let from = put_byte(out, at, b'[');
     let to = put_bytes(out, from, value);
@@ -35,7 +35,7 @@ fn put_raw(
     first: usize,
     count: usize,
 ) -> usize
-    ensures { λ r. ⌜ Wrote (boxes (valuesAt (now (text .entry)) (now (values .entry)) first count)) (now (out .entry)) at (now (out .exit)) r ⌝ }
+    ensures { λ r. ⌜ Wrote (rawsText (valuesAt (now (text .entry)) (now (values .entry)) first count)) (now (out .entry)) at (now (out .exit)) r ⌝ }
 {
     let mut to = at;
     let mut i: usize = 0;
@@ -49,7 +49,7 @@ fn put_raw(
 // A value of two bytes in its brackets, at once where there is room.
 fn put_pair(out: &mut [u8], at: usize, value: &[u8]) -> usize
     requires { ⌜ length (now value) ≡ 2 ⌝ }
-    ensures { λ r. ⌜ Wrote (boxes (now (value .entry) ∷ [])) (now (out .entry)) at (now (out .exit)) r ⌝ }
+    ensures { λ r. ⌜ Wrote (rawsText (now (value .entry) ∷ [])) (now (out .entry)) at (now (out .exit)) r ⌝ }
 {
     if out.len() <= at {
         return put_box(out, at, value);
@@ -102,7 +102,7 @@ fn letter_at(n: u8) -> u8
 // A point.
 fn put_point(out: &mut [u8], at: usize, x: u8, y: u8) -> usize
     requires { ⌜ (x < 52) × (y < 52) ⌝ }
-    ensures { λ r. ⌜ Wrote (boxes ((letter x ∷ letter y ∷ []) ∷ [])) (now (out .entry)) at (now (out .exit)) r ⌝ }
+    ensures { λ r. ⌜ Wrote (rawsText ((letter x ∷ letter y ∷ []) ∷ [])) (now (out .entry)) at (now (out .exit)) r ⌝ }
 {
     let from = put_byte(out, at, b'[');
     let next = put_byte(out, from, letter_at(x));
@@ -113,7 +113,7 @@ fn put_point(out: &mut [u8], at: usize, x: u8, y: u8) -> usize
 // The point of place i, where it is marked.
 fn put_marked(out: &mut [u8], at: usize, mark: bool, i: usize) -> usize
     requires { ⌜ i < 2704 ⌝ }
-    ensures { λ r. ⌜ Wrote (boxes (pick mark (pointText i ∷ []) [])) (now (out .entry)) at (now (out .exit)) r ⌝ }
+    ensures { λ r. ⌜ Wrote (rawsText (pick mark (pointText i ∷ []) [])) (now (out .entry)) at (now (out .exit)) r ⌝ }
 {
     if mark {
         return put_point(out, at, (i / 52) as u8, (i % 52) as u8);
@@ -151,7 +151,7 @@ fn past_unmarked(marks: &[bool; 2704], i: usize) -> usize
 // The marked points in order.
 fn put_points(out: &mut [u8], at: usize, marks: &[bool; 2704]) -> usize
     requires { ⌜ length (now marks) ≡ 2704 ⌝ }
-    ensures { λ r. ⌜ Wrote (boxes (pointsFrom 0 (now (marks .entry)))) (now (out .entry)) at (now (out .exit)) r ⌝ }
+    ensures { λ r. ⌜ Wrote (rawsText (pointsFrom 0 (now (marks .entry)))) (now (out .entry)) at (now (out .exit)) r ⌝ }
 {
     let mut to = at;
     let mut i: usize = 0;
@@ -172,7 +172,7 @@ fn put_set(
     first: usize,
     count: usize,
 ) -> usize
-    ensures { λ r. ⌜ Wrote (boxes (formBy ManyPoints (valuesAt (now (text .entry)) (now (values .entry)) first count)))
+    ensures { λ r. ⌜ Wrote (rawsText (formBy ManyPoints (valuesAt (now (text .entry)) (now (values .entry)) first count)))
         (now (out .entry)) at (now (out .exit)) r ⌝ }
 {
     let set = go::set::read_points(text, values, first, count);
@@ -195,7 +195,8 @@ fn put_one(
     count: usize,
 ) -> usize
     requires { ⌜ (shape ≡ ManyPoints → ⊥) ⌝ }
-    ensures { λ r. ⌜ Wrote (boxes (formBy shape (valuesAt (now (text .entry)) (now (values .entry)) first count))) (now (out .entry)) at (now (out .exit)) r ⌝ }
+    ensures { λ r. ⌜ Wrote (rawsText (formBy shape (valuesAt (now (text .entry)) (now (values .entry)) first count)))
+        (now (out .entry)) at (now (out .exit)) r ⌝ }
 {
     match go::value::value_by(shape, text, values, first, count) {
         Value::Pass => put_box(out, at, &text[..0]),
@@ -213,17 +214,17 @@ fn put_one(
 pub fn put_values(
     out: &mut [u8],
     at: usize,
-    kind: u32,
+    game: u32,
     identifier: &[u8],
     text: &[u8],
     values: &[u32],
     first: usize,
     count: usize,
 ) -> usize
-    ensures { λ r. ⌜ Wrote (boxes (normal kind (readIdentifier (now (identifier .entry))) (valuesAt (now (text .entry)) (now (values .entry)) first count)))
+    ensures { λ r. ⌜ Wrote (rawsText (normal game (readIdentifier (now (identifier .entry))) (valuesAt (now (text .entry)) (now (values .entry)) first count)))
         (now (out .entry)) at (now (out .exit)) r ⌝ }
 {
-    if kind != 0 {
+    if game != 0 {
         return put_raw(out, at, text, values, first, count);
     }
     let shape = go_shape::shape_of(identifier);

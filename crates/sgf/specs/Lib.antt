@@ -1,3 +1,3 @@
-pub mod Asked
-pub mod Changed
-pub mod Shown
+pub mod AskInC
+pub mod ChangeInC
+pub mod ReadInC

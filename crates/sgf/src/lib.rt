@@ -15,7 +15,7 @@ use value_display::Kind;
 ghost use mathlib.Core.Path.{_≡_};
 ghost use lib.Dec.{eqb};
 ghost use Rattle.lists.specs.Pick.{pick};
-ghost use Rattle.lexer_scan.specs.Scan.{valueAt};
+ghost use Rattle.lexer_scan.specs.Scan.{valueStepAt};
 ghost use Rattle.lexer.specs.Step.{nextAt};
 ghost use Rattle.text_utf8.specs.Trim.{trimmed};
 ghost use Rattle.parser.specs.Read.{readStrict, readLenient};
@@ -28,10 +28,10 @@ ghost use Rattle.go_shape.specs.declared.Shape.the-variants.{Unread};
 ghost use Rattle.go.specs.Value.{goValue};
 ghost use Rattle.ask.specs.Ask.{refusalNumber, goAnswer};
 ghost use Rattle.values.specs.Read.{readIdentifier};
-ghost use Rattle.c_answers.specs.Shown.{spanShown, goShown};
-ghost use Rattle.sgf.specs.Changed.{WriteShown, EditShown};
-ghost use Rattle.sgf.specs.Asked.{kindOf, fitsShown, answerShown, DisplayShown, RawShown};
-ghost use Rattle.sgf.specs.Shown.{ignoredOf, ReadShown};
+ghost use Rattle.c_answers.specs.Structs.{spanInC, goInC};
+ghost use Rattle.sgf.specs.ChangeInC.{WriteInC, EditInC};
+ghost use Rattle.sgf.specs.AskInC.{displayKind, fitsInC, goAnswerInC, DisplayInC, RawInC};
+ghost use Rattle.sgf.specs.ReadInC.{ignoredOf, ReadInC};
 ghost use Rattle.c_tokens.specs.Tokens.{TrimIs, TokenIs, ValueIs};
 ghost use Rattle.tables.specs.Memory.{memory};
 ghost use Rattle.c_version.specs.Version.{version};
@@ -63,7 +63,7 @@ pub extern "C" fn sgf_token(text: &[u8], at: usize) -> SgfToken
 // The value of a property whose `[` stands at a place.
 #[no_mangle]
 pub extern "C" fn sgf_next_value(text: &[u8], at: usize) -> SgfValue
-    ensures { λ r. ⌜ ValueIs at (valueAt (now (text .entry)) at) (r .kind) (r .from) (r .to) (r .next) ⌝ }
+    ensures { λ r. ⌜ ValueIs at (valueStepAt (now (text .entry)) at) (r .kind) (r .from) (r .to) (r .next) ⌝ }
 {
     c_tokens::next_value(text, at)
 }
@@ -78,12 +78,12 @@ pub extern "C" fn sgf_read_strict(
     properties: &mut [u32],
     values: &mut [u32],
 ) -> SgfReading
-    ensures { λ r. ⌜ ReadShown (ignoredOf settings) (readStrict (now (text .entry)))
+    ensures { λ r. ⌜ ReadInC (ignoredOf settings) (readStrict (now (text .entry)))
         (lent (now (trees .entry)) (now (nodes .entry)) (now (properties .entry)) (now (values .entry)))
         (lent (now (trees .exit)) (now (nodes .exit)) (now (properties .exit)) (now (values .exit)))
         r ⌝ }
 {
-    c_answers::reading_shown(
+    c_answers::reading_in_c(
         settings % 4,
         reader::read_strict(text, trees, nodes, properties, values),
     )
@@ -99,12 +99,12 @@ pub extern "C" fn sgf_read_lenient(
     properties: &mut [u32],
     values: &mut [u32],
 ) -> SgfReading
-    ensures { λ r. ⌜ ReadShown (ignoredOf settings) (readLenient (now (text .entry)))
+    ensures { λ r. ⌜ ReadInC (ignoredOf settings) (readLenient (now (text .entry)))
         (lent (now (trees .entry)) (now (nodes .entry)) (now (properties .entry)) (now (values .entry)))
         (lent (now (trees .exit)) (now (nodes .exit)) (now (properties .exit)) (now (values .exit)))
         r ⌝ }
 {
-    c_answers::lenient_shown(
+    c_answers::lenient_in_c(
         settings % 4,
         reader::read_lenient(text, trees, nodes, properties, values),
     )
@@ -121,7 +121,7 @@ pub extern "C" fn sgf_fits(
     properties: &[u32],
     values: &[u32],
 ) -> u32
-    ensures { λ r. ⌜ r ≡ fitsShown (Fit
+    ensures { λ r. ⌜ r ≡ fitsInC (Fit
         (memory (now (text .entry)) used counts (now (trees .entry)) (now (nodes .entry)) (now (properties .entry)) (now (values .entry)))) ⌝ }
 {
     if fit::fits(text, used, counts, trees, nodes, properties, values) {
@@ -142,24 +142,15 @@ pub extern "C" fn sgf_value(
     values: &[u32],
     k: usize,
 ) -> SgfSpan
-    ensures { λ r. ⌜ r ≡ spanShown (accessed
+    ensures { λ r. ⌜ r ≡ spanInC (accessed
         (memory (now (text .entry)) used counts (now (trees .entry)) (now (nodes .entry)) (now (properties .entry)) (now (values .entry))) k) ⌝ }
 {
-    c_answers::span_shown(ask_value::access(
-        text,
-        used,
-        counts,
-        trees,
-        nodes,
-        properties,
-        values,
-        k,
-    ))
+    c_answers::span_in_c(ask_value::access(text, used, counts, trees, nodes, properties, values, k))
 }
 
 // The kind of display by its number.
 fn kind_of(kind: u32) -> Kind
-    ensures { λ r. ⌜ r ≡ kindOf kind ⌝ }
+    ensures { λ r. ⌜ r ≡ displayKind kind ⌝ }
 {
     if kind == 0 {
         return Kind::Text;
@@ -181,11 +172,11 @@ pub extern "C" fn sgf_display(
     kind: u32,
     out: &mut [u8],
 ) -> SgfDisplay
-    ensures { λ r. ⌜ DisplayShown
+    ensures { λ r. ⌜ DisplayInC
         (memory (now (text .entry)) used counts (now (trees .entry)) (now (nodes .entry)) (now (properties .entry)) (now (values .entry)))
-        k (kindOf kind) (now (out .entry)) (now (out .exit)) r ⌝ }
+        k (displayKind kind) (now (out .entry)) (now (out .exit)) r ⌝ }
 {
-    c_answers::display_shown(ask::display(
+    c_answers::display_in_c(ask::display(
         text,
         used,
         counts,
@@ -202,9 +193,9 @@ pub extern "C" fn sgf_display(
 // Displays a raw value in the output without a record, for callers whose tables are known to fit, or who have none.
 #[no_mangle]
 pub extern "C" fn sgf_display_value(kind: u32, raw: &[u8], out: &mut [u8]) -> SgfDisplay
-    ensures { λ r. ⌜ RawShown (kindOf kind) (now (raw .entry)) (now (out .entry)) (now (out .exit)) r ⌝ }
+    ensures { λ r. ⌜ RawInC (displayKind kind) (now (raw .entry)) (now (out .entry)) (now (out .exit)) r ⌝ }
 {
-    c_answers::value_shown(value_display::display(kind_of(kind), raw, out))
+    c_answers::value_in_c(value_display::display(kind_of(kind), raw, out))
 }
 
 // The number of a refusal, 0 for none.
@@ -229,13 +220,13 @@ pub extern "C" fn sgf_go_value(
     values: &[u32],
     p: usize,
 ) -> SgfGoValue
-    ensures { λ r. ⌜ r ≡ answerShown (goAnswer
+    ensures { λ r. ⌜ r ≡ goAnswerInC (goAnswer
         (memory (now (text .entry)) used counts (now (trees .entry)) (now (nodes .entry)) (now (properties .entry)) (now (values .entry))) p) ⌝ }
 {
     let answer = ask::go_value(text, used, counts, trees, nodes, properties, values, p);
     let refusal = answer.refusal;
     let go = answer.go;
-    c_answers::go_shown(refusal_number(refusal), go)
+    c_answers::go_in_c(refusal_number(refusal), go)
 }
 
 // What a property takes in a tree with this game type: nothing that is read where that is not Go.
@@ -258,14 +249,14 @@ pub extern "C" fn sgf_go_property(
     first: usize,
     count: usize,
 ) -> SgfGoValue
-    ensures { λ r. ⌜ r ≡ goShown 0 (goValue «game_type» (readIdentifier (now (identifier .entry)))
+    ensures { λ r. ⌜ r ≡ goInC 0 (goValue «game_type» (readIdentifier (now (identifier .entry)))
         (valuesAt (now (text .entry)) (now (values .entry)) first count)) ⌝ }
 {
     let shape = shape_in(game_type, identifier);
     if let Shape::ManyPoints = shape {
-        return c_answers::go_shown(0, go::set::read_points(text, values, first, count));
+        return c_answers::go_in_c(0, go::set::read_points(text, values, first, count));
     }
-    c_answers::unmarked_shown(go::value::value_by(shape, text, values, first, count))
+    c_answers::unmarked_in_c(go::value::value_by(shape, text, values, first, count))
 }
 
 // Writes the record into the output, or changes nothing: 19, 15, 14.
@@ -280,11 +271,11 @@ pub extern "C" fn sgf_write(
     values: &[u32],
     out: &mut [u8],
 ) -> SgfWriting
-    ensures { λ r. ⌜ WriteShown
+    ensures { λ r. ⌜ WriteInC
         (memory (now (text .entry)) used counts (now (trees .entry)) (now (nodes .entry)) (now (properties .entry)) (now (values .entry)))
         (now (out .entry)) (now (out .exit)) r ⌝ }
 {
-    c_answers::writing_shown(serialize::write(
+    c_answers::writing_in_c(serialize::write(
         text,
         used,
         counts,
@@ -309,7 +300,7 @@ pub extern "C" fn sgf_edit(
     k: usize,
     replacement: &[u8],
 ) -> SgfEdit
-    ensures { λ r. ⌜ EditShown
+    ensures { λ r. ⌜ EditInC
         (memory (now (text .entry)) used counts (now (trees .entry)) (now (nodes .entry)) (now (properties .entry)) (now (values .entry)))
         (memory (now (text .exit)) used counts (now (trees .entry)) (now (nodes .entry)) (now (properties .exit)) (now (values .exit)))
         k (now (replacement .entry)) r ⌝ }
@@ -325,5 +316,5 @@ pub extern "C" fn sgf_edit(
         k,
         replacement,
     );
-    c_answers::edit_shown(counts, edited)
+    c_answers::edit_in_c(counts, edited)
 }

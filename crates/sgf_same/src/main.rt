@@ -56,13 +56,7 @@ fn write_text(name: &[u8], text: &[u8], out: &mut [u8]) -> Outcome {
     let mut nodes = tool::node_rows();
     let mut properties = tool::property_rows();
     let mut values = tool::pair_rows();
-    match reader::read_strict(
-        text,
-        &mut trees,
-        &mut nodes,
-        &mut properties,
-        &mut values,
-    ) {
+    match reader::read_strict(text, &mut trees, &mut nodes, &mut properties, &mut values) {
         Reading::Accepted(counts) => write_record(
             name,
             text,

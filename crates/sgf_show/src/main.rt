@@ -107,13 +107,7 @@ fn show(text: &[u8]) {
     let mut nodes = tool::node_rows();
     let mut properties = tool::property_rows();
     let mut values = tool::pair_rows();
-    match reader::read_strict(
-        text,
-        &mut trees,
-        &mut nodes,
-        &mut properties,
-        &mut values,
-    ) {
+    match reader::read_strict(text, &mut trees, &mut nodes, &mut properties, &mut values) {
         Reading::Accepted(counts) => {
             say_record(text, counts, &trees, &nodes, &properties, &values);
         }
@@ -129,13 +123,7 @@ fn show_lenient(text: &[u8]) {
     let mut nodes = tool::node_rows();
     let mut properties = tool::property_rows();
     let mut values = tool::pair_rows();
-    match reader::read_lenient(
-        text,
-        &mut trees,
-        &mut nodes,
-        &mut properties,
-        &mut values,
-    ) {
+    match reader::read_lenient(text, &mut trees, &mut nodes, &mut properties, &mut values) {
         Lenient::Accepted(counts) => {
             say_record(text, counts, &trees, &nodes, &properties, &values);
         }

@@ -44,13 +44,7 @@ fn say_text(text: &[u8]) {
     let mut nodes = tool::node_rows();
     let mut properties = tool::property_rows();
     let mut values = tool::pair_rows();
-    match reader::read_strict(
-        text,
-        &mut trees,
-        &mut nodes,
-        &mut properties,
-        &mut values,
-    ) {
+    match reader::read_strict(text, &mut trees, &mut nodes, &mut properties, &mut values) {
         Reading::Accepted(counts) => {
             let mut out = tool::out_room();
             say_written(text, counts, &trees, &nodes, &properties, &values, &mut out);

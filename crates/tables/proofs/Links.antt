@@ -3,15 +3,15 @@ use Rattle.lists.proofs.Prelude.{_≡_, refl, sym, _∙_, subst, List, ℕ, suc
 use Rattle.lists.proofs.Tests.{same-or}
 use Rattle.tables.specs.Numbers.{none}
 use Rattle.tables.specs.Columns.{nodeStride, parentAt, childAt}
-use Rattle.tables.specs.LocalsLinks.{least, LinkedFrom, HasRows, LinksIs}
+use Rattle.tables.specs.LocalsLinks.{firstUnderOr, LinkedFrom, HasRows, LinksIs}
 
 -- one node more: the definition's own step
-least-step : (t : List ℕ) (p j n : ℕ) → j < n → least t p j (n - j) ≡ pick (eqb (parentAt t j) p) j (least t p (suc j) (n - suc j))
-unfolding least
+least-step : (t : List ℕ) (p j n : ℕ) → j < n → firstUnderOr t p j (n - j) ≡ pick (eqb (parentAt t j) p) j (firstUnderOr t p (suc j) (n - suc j))
+unfolding firstUnderOr
 least-step t p j n h = let e : n - j ≡ suc (n - suc j) = omega arith in rw e
 
 pub linked-none : (n : ℕ) (t : List ℕ) → LinkedFrom n t t n
-unfolding least
+unfolding firstUnderOr
 linked-none n t =
     let z : n - n ≡ 0 = omega arith in
     record { len = refl; first = λ i h. rw z; next = λ i a b. absurd (omega arith); kept = λ i o. refl }
@@ -22,10 +22,10 @@ module _ {n : ℕ} {t₀ t : List ℕ} {j : ℕ} (p : LinkedFrom n t₀ t (suc j
 
   module _ (q : ℕ) (e : parentAt t₀ j ≡ q) where
     -- the first child of i, where it is not q
-    first-other : (i : ℕ) → (i ≡ q → ⊥) → least t₀ i j (n - j) ≡ least t₀ i (suc j) (n - suc j)
+    first-other : (i : ℕ) → (i ≡ q → ⊥) → firstUnderOr t₀ i j (n - j) ≡ firstUnderOr t₀ i (suc j) (n - suc j)
     first-other i h = least-step t₀ i j n hj ∙ rw (ne-eqb (parentAt t₀ j) i (λ z. h (sym z ∙ e)))
 
-    first-same : least t₀ q j (n - j) ≡ j
+    first-same : firstUnderOr t₀ q j (n - j) ≡ j
     first-same = least-step t₀ q j n hj ∙ rw (eq-eqb (parentAt t₀ j) q e)
 
     linked-child : q < n → LinkedFrom n t₀ (set (set t (j * nodeStride + 2) (childAt t q)) (q * nodeStride + 1) j) j

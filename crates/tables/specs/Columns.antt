@@ -22,8 +22,8 @@ abbrev pub rootAt : List ℕ → ℕ → ℕ
 rootAt tr k = getD tr (k * treeStride) 0
 
 -- its game type
-abbrev pub kindAt : List ℕ → ℕ → ℕ
-kindAt tr k = getD tr (k * treeStride + 1) 0
+abbrev pub gameAt : List ℕ → ℕ → ℕ
+gameAt tr k = getD tr (k * treeStride + 1) 0
 
 -- node k: its parent
 abbrev pub parentAt : List ℕ → ℕ → ℕ

@@ -14,7 +14,7 @@ asReading (NotUtf8 p) = Refused reason.NotUtf8 p
 asReading TooDeep = Refused reason.TooDeep 0
 asReading NoRoom = Refused reason.NoRoom 0
 
--- its number
+-- its number (SCOPE 67)
 abbrev pub lenientNumber : Lenient → ℕ
 lenientNumber (accepted c) = 0
 lenientNumber TextTooLong = 1

@@ -4,6 +4,7 @@ pub mod Flat
 pub mod Lenient
 pub mod LocalsDepths
 pub mod LocalsLinks
+pub mod LocalsNames
 pub mod Memory
 pub mod Move
 pub mod Numbers

@@ -4,13 +4,13 @@ use Rattle.tables.specs.Columns.{nodeStride, parentAt, childAt, siblingA
 use Rattle.tables.specs.Numbers.{none}
 
 -- the first of the m nodes from k on whose parent is p; where there is none, the first child that stands in row p
-unfoldable pub least : List ℕ → (p k m : ℕ) → ℕ
-least t p k zero = childAt t p
-least t p k (suc m) = pick (eqb (parentAt t k) p) k (least t p (suc k) m)
+unfoldable pub firstUnderOr : List ℕ → (p k m : ℕ) → ℕ
+firstUnderOr t p k zero = childAt t p
+firstUnderOr t p k (suc m) = pick (eqb (parentAt t k) p) k (firstUnderOr t p (suc k) m)
 
 -- the next of n nodes with the parent of i; none where its parent is no node
-abbrev pub nextOf : ℕ → List ℕ → ℕ → ℕ
-nextOf n t i = pick (ltb (parentAt t i) n) (least t (parentAt t i) (suc i) (n - suc i)) none
+abbrev pub linkOf : ℕ → List ℕ → ℕ → ℕ
+linkOf n t i = pick (ltb (parentAt t i) n) (firstUnderOr t (parentAt t i) (suc i) (n - suc i)) none
 
 -- i is no cell of a link of the n rows
 abbrev pub NoLink : ℕ → ℕ → Type 0
@@ -19,8 +19,8 @@ NoLink n i = (r : ℕ) → r < n → (i ≡ r * nodeStride + 1 → ⊥) × (i �
 -- t is t₀ with the links of the nodes from k on
 pub record LinkedFrom (n : ℕ) (t₀ t : List ℕ) (k : ℕ) : Type 0 where
   pub len : length t ≡ length t₀
-  pub first : (i : ℕ) → i < n → childAt t i ≡ least t₀ i k (n - k)
-  pub next : (i : ℕ) → k ≤ i → i < n → siblingAt t i ≡ nextOf n t₀ i
+  pub first : (i : ℕ) → i < n → childAt t i ≡ firstUnderOr t₀ i k (n - k)
+  pub next : (i : ℕ) → k ≤ i → i < n → siblingAt t i ≡ linkOf n t₀ i
   pub kept : (i : ℕ) → NoLink n i → getD t i 0 ≡ getD t₀ i 0
 
 -- there are n rows, and none is no number of one

@@ -12,7 +12,7 @@ module _ (f g : ℕ → ℕ) (h : ℕ → List ℕ → List ℕ) where
 
   -- a tree moved
   abbrev pub moveTree : Tree → Tree
-  moveTree t = record { root = t .root; kind = t .kind; nodes = map moveNode (t .nodes) }
+  moveTree t = record { root = t .root; game = t .game; nodes = map moveNode (t .nodes) }
 
 -- f moves a start, g an end
 module _ (f g : ℕ → ℕ) where

@@ -5,19 +5,19 @@ use Rattle.lexer.specs.declared.Fault.the-variants.{MissingPropertyIdentifier a
 use Rattle.tables.specs.declared.Reason.{Reason}
 use Rattle.tables.specs.declared.Reason.the-variants.{TextTooLong, NotUtf8, MissingPropertyIdentifier, UnexpectedEndOfPropertyIdentifier, UnexpectedEndOfPropertyValue, UnexpectedGameTreeEnd, UnexpectedEndOfData, NoGameTrees, TooDeep, UnexpectedGameTreeStart, UnexpectedProperty, InvalidGameType, NoRoom, EmptyIdentifier, NoSuchNumber, GameTypeFixed, NotClosed, NotFitting}
 
--- the longest text
+-- the longest text (SCOPE 5, 28, 120)
 abbrev pub textLimit : ℕ
 textLimit = 1048576
 
--- the greatest number of open trees
+-- the greatest number of open trees (SCOPE 29)
 abbrev pub depthLimit : ℕ
 depthLimit = 1024
 
--- "none" in a row
+-- "none" in a row (SCOPE 14)
 abbrev pub none : ℕ
 none = 4294967295
 
--- the number of a refusal; 0 is acceptance, and 13 is given no more
+-- the number of a refusal; 0 is acceptance, and 13 is given no more (SCOPE 30, 31, 44, 160)
 abbrev pub numberOf : Reason → ℕ
 numberOf TextTooLong = 1
 numberOf NotUtf8 = 2

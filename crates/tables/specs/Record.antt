@@ -10,20 +10,20 @@ pub record Node : Type 0 where
 -- a tree: the number of its root, its game type (0 Go, 1 Unknown), its nodes in text order
 pub record Tree : Type 0 where
   pub root : ℕ
-  pub kind : ℕ
+  pub game : ℕ
   pub nodes : List Node
 
--- the nodes of the trees, numbered from 0
+-- the nodes of the trees, numbered from 0 (SCOPE 8)
 abbrev pub allNodes : List Tree → List Node
 allNodes [] = []
 allNodes (t ∷ ts) = t .nodes ++ allNodes ts
 
--- the properties of the nodes, numbered from 0
+-- the properties of the nodes, numbered from 0 (SCOPE 8)
 abbrev pub allProps : List Node → List Prop
 allProps [] = []
 allProps (n ∷ ns) = n .props ++ allProps ns
 
--- the values of the properties, numbered from 0
+-- the values of the properties, numbered from 0 (SCOPE 8)
 abbrev pub allVals : List Prop → List Val
 allVals [] = []
 allVals (p ∷ ps) = p .vals ++ allVals ps

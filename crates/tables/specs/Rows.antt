@@ -5,12 +5,12 @@ use Rattle.tables.specs.Numbers.{none}
 use Rattle.tables.specs.Record.{Node, Tree, allNodes, allProps, allVals}
 use Rattle.tables.specs.declared.Counts.{Counts}
 
--- a row of the tree table
+-- a row of the tree table (SCOPE 9)
 pub record TreeRow : Type 0 where
   pub root : ℕ
-  pub kind : ℕ
+  pub game : ℕ
 
--- a row of the node table: first child, next sibling, first property, property count and depth beside the parent
+-- a row of the node table: first child, next sibling, first property, property count and depth beside the parent (SCOPE 10)
 pub record NodeRow : Type 0 where
   pub parent : ℕ
   pub child : ℕ
@@ -19,14 +19,14 @@ pub record NodeRow : Type 0 where
   pub count : ℕ
   pub depth : ℕ
 
--- a row of the property table: identifier span, first value, value count
+-- a row of the property table: identifier span, first value, value count (SCOPE 11)
 pub record PropRow : Type 0 where
   pub from : ℕ
   pub to : ℕ
   pub first : ℕ
   pub count : ℕ
 
--- a row of the value table: the span between the brackets
+-- a row of the value table: the span between the brackets (SCOPE 12)
 pub record ValRow : Type 0 where
   pub from : ℕ
   pub to : ℕ
@@ -43,14 +43,14 @@ abbrev pub countsOf : Tables → Counts
 countsOf T = record { trees = length (T .trees); nodes = length (T .nodes); properties = length (T .props); values = length (T .vals) }
 
 -- the first of the nodes, numbered from k by their parents, whose parent is p and whose number is at least lo
-abbrev pub next : (p lo k : ℕ) → List ℕ → ℕ
-next p lo k [] = none
-next p lo k (q ∷ qs) = let r = next p lo (suc k) qs in pick (eqb p q && leb lo k) k r
+abbrev pub firstChildFrom : (p lo k : ℕ) → List ℕ → ℕ
+firstChildFrom p lo k [] = none
+firstChildFrom p lo k (q ∷ qs) = let r = firstChildFrom p lo (suc k) qs in pick (eqb p q && leb lo k) k r
 
 -- root and game type
 abbrev pub treeRows : List Tree → List TreeRow
 treeRows [] = []
-treeRows (t ∷ ts) = record { root = t .root; kind = t .kind } ∷ treeRows ts
+treeRows (t ∷ ts) = record { root = t .root; game = t .game } ∷ treeRows ts
 
 -- the parents of the nodes
 abbrev pub parents : List Node → List ℕ
@@ -70,14 +70,14 @@ depthsFrom ds (p ∷ ps) = depthsFrom (ds ++ (depthBehind ds p ∷ [])) ps
 abbrev pub depths : List ℕ → List ℕ
 depths ps = depthsFrom [] ps
 
--- ps: all parents; k: the number of the first of these nodes; f: its first property. Children are linked in ascending order, a root has no next sibling
+-- ps: all parents; k: the number of the first of these nodes; f: its first property. Children are linked in ascending order, a root has no next sibling (SCOPE 10)
 abbrev pub nodeRows : (ps : List ℕ) (k f : ℕ) → List Node → List NodeRow
 nodeRows ps k f [] = []
 nodeRows ps k f (n ∷ ns) =
     record {
       parent = n .parent;
-      child = next k 0 0 ps;
-      sibling = pick (eqb (n .parent) none) none (next (n .parent) (suc k) 0 ps);
+      child = firstChildFrom k 0 0 ps;
+      sibling = pick (eqb (n .parent) none) none (firstChildFrom (n .parent) (suc k) 0 ps);
       first = f;
       count = length (n .props);
       depth = getD (depths ps) k 0;
@@ -94,7 +94,7 @@ abbrev pub valRows : List Val → List ValRow
 valRows [] = []
 valRows (v ∷ vs) = record { from = v .from; to = v .to } ∷ valRows vs
 
--- the tables of a record
+-- the tables of a record (SCOPE 5, 8)
 abbrev pub tables : List Tree → Tables
 tables ts =
     record {

@@ -2,7 +2,7 @@
 use Rattle.lists.proofs.Prelude.{_≡_, refl, ap, _∙_, ℕ, zero, suc, _+_, _≤_, _<_, arith, lt-of-not-le, Bool, true, not, _&&_, List, [], _∷_, length, take, drop, getD, drop-of-length-le, List·getD-eq-default, drop-cons, not-true}
 use native.Mathlib.Decide.{decLe}
 use Rattle.text_chars.specs.White.{within}
-use Rattle.text_chars.specs.Table.{Bytes, table, fits, listed}
+use Rattle.text_chars.specs.Table.{Bytes, table37, fits, listed}
 use Rattle.lists.proofs.All.{all-every}
 use Rattle.text_chars.proofs.Rows.{listed-same}
 use Rattle.lists.proofs.Tests.{and-both}
@@ -40,7 +40,7 @@ row-bytes [] s i h f = refl
 row-bytes (r ∷ rs) s i h f = rw (drop-cons s i 0 h, fits-bytes rs s (suc i) f)
 
 pub listed-bytes : (n : ℕ) (s : List ℕ) (i : ℕ) → i < length s → listed n (drop i s) ≡ listed n (bytesAt s i n)
-unfolding listed table
+unfolding listed table37
 listed-bytes n s i h =
-    listed-same table n (drop i s) (bytesAt s i n)
-    (all-every firmTail (λ row. length row ≡ n → fits row (drop i s) ≡ fits row (bytesAt s i n)) (λ row f e. row-bytes row s i h f ∙ ap (λ (m : ℕ). fits row (bytesAt s i m)) e) table refl)
+    listed-same table37 n (drop i s) (bytesAt s i n)
+    (all-every firmTail (λ row. length row ≡ n → fits row (drop i s) ≡ fits row (bytesAt s i n)) (λ row f e. row-bytes row s i h f ∙ ap (λ (m : ℕ). fits row (bytesAt s i m)) e) table37 refl)

@@ -3,7 +3,7 @@ use Rattle.lists.proofs.Prelude.{_≡_, refl, ap, ap₂, subst, ℕ, zero, suc,
 use Rattle.lists.specs.All.{All}
 use Rattle.lists.proofs.All.{all-map}
 use Rattle.text_chars.specs.White.{within}
-use Rattle.text_chars.specs.Table.{Bytes, table, fits, listedIn, listed}
+use Rattle.text_chars.specs.Table.{Bytes, table37, fits, listedIn, listed}
 use Rattle.lists.proofs.All.{all-each, all-every}
 use Rattle.lists.proofs.Tests.{and-both, and-second, or-neither}
 
@@ -36,13 +36,13 @@ unlisted-all m (row ∷ rows) t h a =
     )
 
 -- no row has more than four bytes
-pub rows-short : All (λ row. length row ≤ 4) table
-unfolding table
-rows-short = all-every (λ row. leb (length row) 4) (λ row. length row ≤ 4) (λ row. leb-true (length row) 4) table refl
+pub rows-short : All (λ row. length row ≤ 4) table37
+unfolding table37
+rows-short = all-every (λ row. leb (length row) 4) (λ row. length row ≤ 4) (λ row. leb-true (length row) 4) table37 refl
 
 pub listed-short : (n : ℕ) (t : List ℕ) → listed n t ≡ true → n ≤ 4
 unfolding listed
-listed-short n t h = listed-elim (λ m. m ≤ 4) table n t h (all-map (λ row. length row ≤ 4) (λ row. fits row t ≡ true → length row ≤ 4) (λ row l f. l) table rows-short)
+listed-short n t h = listed-elim (λ m. m ≤ 4) table37 n t h (all-map (λ row. length row ≤ 4) (λ row. fits row t ≡ true → length row ≤ 4) (λ row l f. l) table37 rows-short)
 
 pub fits-both : (r : Bytes) (rs : List Bytes) (b : ℕ) (t : List ℕ) → fits (r ∷ rs) (b ∷ t) ≡ true → (within (r .low) (r .high) b ≡ true) × (fits rs t ≡ true)
 fits-both r rs b t h = and-both (within (r .low) (r .high) b) (fits rs t) h
@@ -54,10 +54,10 @@ fits-long (r ∷ rs) (b ∷ t) h = let k = fits-long rs t (fits-both r rs b t h 
 
 -- a sequence has at least one byte, and lies in the text
 pub listed-long : (n : ℕ) (t : List ℕ) → listed n t ≡ true → (0 < n) × (n ≤ length t)
-unfolding listed table
+unfolding listed table37
 listed-long zero t h = absurd (false≢true h)
 listed-long (suc n) t h =
-    (omega arith, listed-elim (λ m. m ≤ length t) table (suc n) t h (all-each (λ row. fits row t ≡ true → length row ≤ length t) (λ row. fits-long row t) table))
+    (omega arith, listed-elim (λ m. m ≤ length t) table37 (suc n) t h (all-each (λ row. fits row t ≡ true → length row ≤ length t) (λ row. fits-long row t) table37))
 
 fits-take : (row : List Bytes) (m : ℕ) (t : List ℕ) → length row ≤ m → fits row (take m t) ≡ fits row t
 fits-take [] m t h = refl
@@ -69,4 +69,4 @@ fits-take (r ∷ rs) (suc m) (b ∷ t) h = ap (λ (x : Bool). within (r .low) (r
 pub listed-take : (n m : ℕ) (t : List ℕ) → n ≤ m → listed n (take m t) ≡ listed n t
 unfolding listed
 listed-take n m t h =
-    listed-same table n (take m t) t (all-each (λ row. length row ≡ n → fits row (take m t) ≡ fits row t) (λ row e. fits-take row m t (omega arith)) table)
+    listed-same table37 n (take m t) t (all-each (λ row. length row ≡ n → fits row (take m t) ≡ fits row t) (λ row e. fits-take row m t (omega arith)) table37)

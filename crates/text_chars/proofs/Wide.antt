@@ -2,7 +2,7 @@
 use Rattle.lists.proofs.Prelude.{_≡_, refl, ap, _∙_, ℕ, suc, _+_, _-_, _≤_, _<_, arith, true, false, List, [], _∷_, length, take, drop, getD, length-drop, drop-of-length-le}
 use Rattle.text_chars.specs.declared.Decoded.the-variants.{Character, Bad}
 use Rattle.text_chars.specs.White.{white}
-use Rattle.text_chars.specs.Table.{table, listed, scalar}
+use Rattle.text_chars.specs.Table.{table37, listed, scalar}
 use Rattle.text_chars.specs.LocalsDecode.{decoded}
 use Rattle.text_chars.proofs.Padded.{bytesAt, take-bytes, listed-bytes}
 use Rattle.text_chars.proofs.Rows.{listed-long}
@@ -24,7 +24,7 @@ module _ (s : List ℕ) (i : ℕ) (h : i < length s) where
       (p, take-bytes s i (length us) (omega (arith, listed-long (length us) (drop i s) p, length-drop i s)) ∙ e)
 
   pub decoded-1 : getD s i 0 < 128 → decoded (drop i s) ≡ Character 1 (white (getD s i 0))
-  unfolding decoded Reads listed table
+  unfolding decoded Reads listed table37
   decoded-1 l =
       let b = getD s i 0 in
       let p = a-sequence (b ∷ []) refl (rw (in-within 0 0x7f b (omega arith) (omega arith))) in
@@ -33,7 +33,7 @@ module _ (s : List ℕ) (i : ℕ) (h : i < length s) where
 
   module _ (high : 128 ≤ getD s i 0) where
     no-1 : listed 1 (drop i s) ≡ false
-    unfolding Reads listed table
+    unfolding Reads listed table37
     no-1 = no-sequence (getD s i 0 ∷ []) refl (rw (above-within 0 0x7f (getD s i 0) (omega arith)))
 
     module _ (c : ℕ) (ec : c ≡ getD s (i + 1) 0) where
@@ -79,5 +79,5 @@ module _ (s : List ℕ) (i : ℕ) (h : i < length s) where
 
 -- none past the end
 pub decoded-past : (s : List ℕ) (i : ℕ) → length s ≤ i → decoded (drop i s) ≡ Bad
-unfolding decoded listed table
+unfolding decoded listed table37
 decoded-past s i h = rw (drop-of-length-le s h)

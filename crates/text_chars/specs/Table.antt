@@ -12,8 +12,8 @@ abbrev pub to : ℕ → ℕ → Bytes
 to a b = record { low = a; high = b }
 
 -- table 3-7: the well-formed sequences, a range for each byte
-unfoldable pub table : List (List Bytes)
-table =
+unfoldable pub table37 : List (List Bytes)
+table37 =
     (to 0x00 0x7f ∷ []) ∷
     (to 0xc2 0xdf ∷ to 0x80 0xbf ∷ []) ∷
     (to 0xe0 0xe0 ∷ to 0xa0 0xbf ∷ to 0x80 0xbf ∷ []) ∷
@@ -37,14 +37,14 @@ listedIn (row ∷ rows) n t = eqb (length row) n && fits row t || listedIn rows 
 
 -- the bytes begin with a well-formed sequence of n bytes
 unfoldable pub listed : ℕ → List ℕ → Bool
-listed n t = listedIn table n t
+listed n t = listedIn table37 n t
 
--- nothing, or a well-formed sequence and then a well-formed text
+-- nothing, or a well-formed sequence and then a well-formed text (SCOPE 33)
 pub data WellFormed : List ℕ → Type 0 where
   empty : WellFormed []
   begins : {t : List ℕ} (n : ℕ) → listed n t ≡ true → WellFormed (drop n t) → WellFormed t
 
--- p is the start of the first bad sequence: what stands before it is well formed, and no well-formed sequence begins there
+-- p is the start of the first bad sequence: what stands before it is well formed, and no well-formed sequence begins there (SCOPE 51)
 pub record BadFrom (t : List ℕ) (p : ℕ) : Type 0 where
   pub inside : p < length t
   pub before : WellFormed (take p t)

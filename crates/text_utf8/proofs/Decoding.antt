@@ -6,8 +6,8 @@ use Rattle.text_utf8.specs.declared.Trimmed.the-variants.{NotUtf8}
 use Rattle.text_chars.specs.declared.Decoded.the-variants.{Character, Bad}
 use Rattle.text_chars.specs.White.{white}
 use Rattle.text_utf8.specs.Text.{Ink, mark, whole, utfs}
-use Rattle.text_utf8.specs.Trim.{shown}
-use Rattle.text_chars.specs.Table.{table, listed, scalar}
+use Rattle.text_utf8.specs.Trim.{trimOf}
+use Rattle.text_chars.specs.Table.{table37, listed, scalar}
 use Rattle.text_chars.specs.LocalsDecode.{ofWidth, decoded}
 use Rattle.text_chars.proofs.Rows.{listed-long}
 use Rattle.text_utf8.proofs.Cut.{unlisted-bad}
@@ -28,7 +28,7 @@ decoded-listed t w x h = by-width (listed 1 t) (listed 2 t) (listed 3 t) (listed
 
 none-listed : (l1 l2 l3 l4 : Bool) (t : List ℕ) → listed 1 t ≡ l1 → listed 2 t ≡ l2 → listed 3 t ≡ l3 → listed 4 t ≡ l4
     → pick l1 (ofWidth 1 t) (pick l2 (ofWidth 2 t) (pick l3 (ofWidth 3 t) (pick l4 (ofWidth 4 t) Bad))) ≡ Bad → (n : ℕ) → n ≤ 4 → listed n t ≡ false
-unfolding listed table
+unfolding listed table37
 none-listed true l2 l3 l4 t e1 e2 e3 e4 h n l = never cc
 none-listed false true l3 l4 t e1 e2 e3 e4 h n l = never cc
 none-listed false false true l4 t e1 e2 e3 e4 h n l = never cc
@@ -54,5 +54,5 @@ module _ (s : List ℕ) (i : ℕ) where
       let p = decoded-listed (drop i s) w x h in
       listed-taken w (drop i s) (p .0) k i ∙ rw (p .1, drop-drop w i s)
 
-  pub decoded-bad : i < length s → decoded (drop i s) ≡ Bad → (k : Ink) → shown (utfs (whole k) i (drop i s)) ≡ NotUtf8 i
+  pub decoded-bad : i < length s → decoded (drop i s) ≡ Bad → (k : Ink) → trimOf (utfs (whole k) i (drop i s)) ≡ NotUtf8 i
   decoded-bad l h k = rw (drop-next s i l) (unlisted-bad (getD s i 0) (drop (i + 1) s) (decoded-none (getD s i 0 ∷ drop (i + 1) s) (rw (drop-next s i l) at h)) k i)

@@ -4,7 +4,7 @@ use Rattle.text_utf8.specs.declared.Trimmed.{Trimmed}
 use Rattle.text_utf8.specs.declared.Trimmed.the-variants.{NotUtf8, Blank, Kept}
 use Rattle.text_chars.specs.White.{white}
 use Rattle.text_utf8.specs.Text.{Ink, blank, inked, mark, holds, Utf, whole, part, bad, later, utf, utfs}
-use Rattle.text_utf8.specs.Trim.{shown, trimmed}
+use Rattle.text_utf8.specs.Trim.{trimOf, trimmed}
 use Rattle.text_utf8.proofs.Steps.{place, place-is, utf-both}
 
 -- before the place o: ink that is not empty, the start of a character, the start of a bad sequence
@@ -46,7 +46,7 @@ AnswerIn n (NotUtf8 p) = p < n
 AnswerIn n Blank = Unit {0}
 AnswerIn n (Kept f l) = (f < l) × (l ≤ n)
 
-in-shown : (n : ℕ) (u : Utf) → UtfIn n u → AnswerIn n (shown u)
+in-shown : (n : ℕ) (u : Utf) → UtfIn n u → AnswerIn n (trimOf u)
 in-shown n (whole blank) h = tt
 in-shown n (whole (inked a l)) h = h
 in-shown n (part k s m r c) h = h .1

@@ -2,7 +2,7 @@
 use Rattle.lists.proofs.Prelude.{_≡_, refl, ap, _∙_, subst, ℕ, zero, suc, _+_, _*_, _-_, _≤_, arith, add-one, Bool, true, false, false≢true, List, [], _∷_, length, take, drop, length-replicate, length-take-le, lt-leb, le-leb, ne-eqb}
 use Rattle.text_chars.specs.White.{white}
 use Rattle.text_utf8.specs.Text.{Ink, mark, Range, any, from-a0, to-9f, from-90, to-8f, Utf, whole, part, later, utf, utfs}
-use Rattle.text_chars.specs.Table.{to, table, fits, listed, base, bits, scalar}
+use Rattle.text_chars.specs.Table.{to, table37, fits, listed, base, bits, scalar}
 use Rattle.text_utf8.proofs.Ranges.{bytes, holds-is, after}
 use Rattle.text_chars.proofs.Rows.{listed-elim, fits-both, fits-long}
 use Rattle.text_chars.proofs.Tests.{within-true, in-within, above-within}
@@ -68,9 +68,9 @@ _&_ : {A B : Type 0} → A → B → A × B
 a & b = (a, b)
 
 pub listed-taken : (n : ℕ) (t : List ℕ) → listed n t ≡ true → Taken n t
-unfolding listed table
+unfolding listed table37
 listed-taken n t h =
-    listed-elim (λ m. Taken m t) table n t h
+    listed-elim (λ m. Taken m t) table37 n t h
     (taken-one t
     & taken-more 0xc2 0xdf 0 any leads-c2 t
     & taken-more 0xe0 0xe0 1 from-a0 (leads-only 0xe0 1 from-a0 (λ k o. refl)) t

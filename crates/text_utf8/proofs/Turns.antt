@@ -5,7 +5,7 @@ use Rattle.text_chars.specs.declared.Decoded.the-variants.{Character, Bad}
 use Rattle.text_utf8.specs.declared.Seen.{Seen}
 use Rattle.text_chars.specs.White.{white}
 use Rattle.text_utf8.specs.Text.{Ink, blank, inked, mark, whole, utfs}
-use Rattle.text_utf8.specs.Trim.{shown, trimmed}
+use Rattle.text_utf8.specs.Trim.{trimOf, trimmed}
 use Rattle.text_chars.specs.LocalsDecode.{decoded}
 use Rattle.text_utf8.specs.Locals.{inkOf, Plain}
 use Rattle.text_utf8.proofs.Blocks.{plain-taken}
@@ -33,7 +33,7 @@ marked-next k x s e h n l = rw (h, ink-some k n, ne-eqb e 0 (λ n. omega arith))
 
 -- from i on with what has been seen, as from the start
 abbrev pub Onward : List ℕ → Seen → ℕ → Type 0
-Onward s k i = shown (utfs (whole (inkOf k)) i (drop i s)) ≡ trimmed s
+Onward s k i = trimOf (utfs (whole (inkOf k)) i (drop i s)) ≡ trimmed s
 
 pub onward-start : (s : List ℕ) → Onward s (record { first = 0; last = 0 }) 0
 unfolding trimmed
@@ -41,7 +41,7 @@ onward-start s = refl
 
 module _ (s : List ℕ) (k : Seen) (i : ℕ) (inv : Onward s k i) where
   pub turn : (w : ℕ) (x : Bool) (k′ : Seen) → decoded (drop i s) ≡ Character w x → inkOf k′ ≡ mark x (inkOf k) i (i + w) → Onward s k′ (i + w)
-  turn w x k′ d e = ap (λ (z : Ink). shown (utfs (whole z) (i + w) (drop (i + w) s))) e ∙ ap shown (sym (decoded-taken s i w x d (inkOf k))) ∙ inv
+  turn w x k′ d e = ap (λ (z : Ink). trimOf (utfs (whole z) (i + w) (drop (i + w) s))) e ∙ ap trimOf (sym (decoded-taken s i w x d (inkOf k))) ∙ inv
 
   pub turn-ascii : (x : Bool) (k′ : Seen) → i < length s → getD s i 0 < 128 → x ≡ white (getD s i 0) → inkOf k′ ≡ mark x (inkOf k) i (i + 1) → Onward s k′ (i + 1)
   turn-ascii x k′ h a e = turn 1 x k′ (rw e (decoded-1 s i h a))
@@ -50,20 +50,20 @@ module _ (s : List ℕ) (k : Seen) (i : ℕ) (inv : Onward s k i) where
   turn-plain n h l p =
       let e : i + (n - 1) + 1 ≡ i + n = omega arith in
       let x : Onward s (record { first = k .first; last = i + (n - 1) + 1 }) (i + (n - 1) + 1) =
-      ap (λ (x : Ink). shown (utfs (whole x) (i + (n - 1) + 1) (drop (i + (n - 1) + 1) s))) (ink-some (record { first = k .first; last = i + (n - 1) + 1 }) (λ e. omega arith))
-      ∙ ap shown (sym (plain-taken s (k .first) (n - 1) (k .last) i p))
-      ∙ ap (λ (x : Ink). shown (utfs (whole x) i (drop i s))) (sym (ink-some k (λ e. omega arith)))
+      ap (λ (x : Ink). trimOf (utfs (whole x) (i + (n - 1) + 1) (drop (i + (n - 1) + 1) s))) (ink-some (record { first = k .first; last = i + (n - 1) + 1 }) (λ e. omega arith))
+      ∙ ap trimOf (sym (plain-taken s (k .first) (n - 1) (k .last) i p))
+      ∙ ap (λ (x : Ink). trimOf (utfs (whole x) i (drop i s))) (sym (ink-some k (λ e. omega arith)))
       ∙ inv in
       rw e at x
 
   pub stop-bad : i < length s → decoded (drop i s) ≡ Bad → NotUtf8 i ≡ trimmed s
   stop-bad h d = sym (decoded-bad s i h d (inkOf k)) ∙ inv
 
-  end : length s ≤ i → shown (whole (inkOf k)) ≡ trimmed s
+  end : length s ≤ i → trimOf (whole (inkOf k)) ≡ trimmed s
   end h = rw (drop-of-length-le s h) at inv
 
   pub end-blank : length s ≤ i → k .last ≡ 0 → Blank ≡ trimmed s
-  end-blank h z = sym (ap (λ (x : Ink). shown (whole x)) (ink-none k z)) ∙ end h
+  end-blank h z = sym (ap (λ (x : Ink). trimOf (whole x)) (ink-none k z)) ∙ end h
 
   pub end-kept : length s ≤ i → (k .last ≡ 0 → ⊥) → Kept (k .first) (k .last) ≡ trimmed s
-  end-kept h n = sym (ap (λ (x : Ink). shown (whole x)) (ink-some k n)) ∙ end h
+  end-kept h n = sym (ap (λ (x : Ink). trimOf (whole x)) (ink-some k n)) ∙ end h

@@ -6,7 +6,7 @@ use Rattle.text_chars.specs.declared.Decoded.{Decoded}
 use Rattle.text_chars.specs.declared.Decoded.the-variants.{Character, Bad}
 use Rattle.text_chars.specs.White.{white}
 use Rattle.text_utf8.specs.Text.{Ink, blank, inked, mark, Utf, whole, utfs}
-use Rattle.text_utf8.specs.Trim.{shown, trimmed}
+use Rattle.text_utf8.specs.Trim.{trimOf, trimmed}
 use Rattle.text_chars.specs.Table.{listed, scalar, WellFormed, empty, begins, BadFrom}
 use Rattle.text_chars.specs.LocalsDecode.{decoded}
 use Rattle.lists.proofs.Places.{drop-take}
@@ -67,18 +67,18 @@ unfolding trimmed
 bad-trimmed t p x =
     let w = well-whole (x .before) blank 0 in
     let q : place 0 (take p t) ≡ p = omega (arith, place-is 0 (take p t), length-take-le p t (omega (arith, x .inside))) in
-    ap (λ (l : List ℕ). shown (utfs (whole blank) 0 l)) (sym (take-append-drop p t))
-    ∙ ap shown (utfs-append (whole blank) 0 (take p t) (drop p t))
-    ∙ ap (λ (u : Utf). shown (utfs u (place 0 (take p t)) (drop p t))) (w .1)
-    ∙ ap (λ (o : ℕ). shown (utfs (whole (w .0)) o (drop p t))) q
-    ∙ ap (λ (l : List ℕ). shown (utfs (whole (w .0)) p l)) (drop-next t p (x .inside))
+    ap (λ (l : List ℕ). trimOf (utfs (whole blank) 0 l)) (sym (take-append-drop p t))
+    ∙ ap trimOf (utfs-append (whole blank) 0 (take p t) (drop p t))
+    ∙ ap (λ (u : Utf). trimOf (utfs u (place 0 (take p t)) (drop p t))) (w .1)
+    ∙ ap (λ (o : ℕ). trimOf (utfs (whole (w .0)) o (drop p t))) q
+    ∙ ap (λ (l : List ℕ). trimOf (utfs (whole (w .0)) p l)) (drop-next t p (x .inside))
     ∙ unlisted-bad (getD t p 0) (drop (p + 1) t) (λ n l. ap (listed n) (sym (drop-next t p (x .inside))) ∙ x .here n) (w .0) p
 
 pub well-formed-trimmed : (t : List ℕ) → WellFormed t → (p : ℕ) → trimmed t ≡ NotUtf8 p → ⊥
 unfolding trimmed
-well-formed-trimmed t w p e = let x = well-whole w blank 0 in never (x .0) (sym (ap shown (x .1)) ∙ e)
+well-formed-trimmed t w p e = let x = well-whole w blank 0 in never (x .0) (sym (ap trimOf (x .1)) ∙ e)
   where
-    never : (k : Ink) → shown (whole k) ≡ NotUtf8 p → ⊥
+    never : (k : Ink) → trimOf (whole k) ≡ NotUtf8 p → ⊥
     never blank e = let z : _≡_ {A = ℕ} 0 1 = cc in omega arith
     never (inked f l) e = let z : _≡_ {A = ℕ} 0 1 = cc in omega arith
 

@@ -5,12 +5,12 @@ use Rattle.text_utf8.specs.declared.Trimmed.the-variants.{NotUtf8, Blank
 use Rattle.text_utf8.specs.Text.{blank, inked, Utf, whole, part, bad, utfs}
 
 -- the answer at the end of the text: a character that is cut off there is bad from its start on
-abbrev pub shown : Utf → Trimmed
-shown (whole blank) = Blank
-shown (whole (inked f l)) = Kept f l
-shown (part k s n r code) = NotUtf8 s
-shown (bad p) = NotUtf8 p
+abbrev pub trimOf : Utf → Trimmed
+trimOf (whole blank) = Blank
+trimOf (whole (inked f l)) = Kept f l
+trimOf (part k s n r code) = NotUtf8 s
+trimOf (bad p) = NotUtf8 p
 
--- the text from its first character that is no white space to the end of the last one; or the start of its first bad sequence
+-- the text from its first character that is no white space to the end of the last one; or the start of its first bad sequence (SCOPE 5, 68)
 unfoldable pub trimmed : List ℕ → Trimmed
-trimmed t = shown (utfs (whole blank) 0 t)
+trimmed t = trimOf (utfs (whole blank) 0 t)

@@ -1,8 +1,8 @@
 -- What is shown, byte by byte into the output, and the answer. Assumes nothing.
 use Rattle.lists.proofs.Prelude.{ℕ, _-_, _^_, _<_, _≡_, refl, sym, ap, _∙_, subst, Bool, true, false, List, [], _∷_, _++_, append-assoc, append-nil, le-refl, arith, leb, length, drop, le-leb, lt-leb, leb-true, leb-false}
 use Rattle.values.specs.Read.{readValue}
-use Rattle.value_display.specs.Display.{formatText, oneLine, shown, displayed, displayedIn}
-use Rattle.value_display.specs.LocalsShowing.{Shows}
+use Rattle.value_display.specs.Display.{formatText, oneLine, displayText, displayed, displayedIn}
+use Rattle.value_display.specs.LocalsShowing.{DisplaysAt}
 use Rattle.store_bytes.specs.LocalsWrote.{Wrote}
 use Rattle.value_display.specs.declared.Kind.{Kind}
 use Rattle.value_display.specs.declared.Kind.the-variants.{Text, SimpleText}
@@ -13,33 +13,33 @@ use Rattle.store_bytes.proofs.Lists.{sets-out}
 use Rattle.store_bytes.proofs.Written.{wrote-none, wrote-more, wrote-is, wrote-all}
 
 module _ (s : List ℕ) (at : ℕ) (r : Step) {kind : Kind} where
-  pub shows-text : kind ≡ Text → Shows formatText s at r → Shows (shown kind) s at r
-  unfolding shown
-  shows-text e h = subst (λ k. Shows (shown k) s at r) (sym e) h
+  pub shows-text : kind ≡ Text → DisplaysAt formatText s at r → DisplaysAt (displayText kind) s at r
+  unfolding displayText
+  shows-text e h = subst (λ k. DisplaysAt (displayText k) s at r) (sym e) h
 
-  pub shows-simple : kind ≡ SimpleText → Shows (λ z. oneLine (formatText z)) s at r → Shows (shown kind) s at r
-  unfolding shown
-  shows-simple e h = subst (λ k. Shows (shown k) s at r) (sym e) h
+  pub shows-simple : kind ≡ SimpleText → DisplaysAt (λ z. oneLine (formatText z)) s at r → DisplaysAt (displayText kind) s at r
+  unfolding displayText
+  shows-simple e h = subst (λ k. DisplaysAt (displayText k) s at r) (sym e) h
 
 -- what is written of the text, and what is left to show
 pub record Displaying (kind : Kind) (raw out₀ out : List ℕ) (at to : ℕ) : Type 0 where
   pub done : List ℕ
-  pub is : shown kind (readValue raw) ≡ done ++ shown kind (readValue (drop at raw))
+  pub is : displayText kind (readValue raw) ≡ done ++ displayText kind (readValue (drop at raw))
   pub wrote : Wrote done out₀ 0 out to
 
 pub display-first : (kind : Kind) (raw out : List ℕ) → Displaying kind raw out out 0 0
 display-first kind raw out = record { done = []; is = refl; wrote = wrote-none out 0 (omega arith) }
 
 module _ (kind : Kind) (raw : List ℕ) {out₀ out : List ℕ} {at to : ℕ} (d : Displaying kind raw out₀ out at to) where
-  pub display-next : {out′ : List ℕ} {b n to′ : ℕ} → length out₀ < 2 ^ 64 → Shows (shown kind) raw at (Byte b n) → Wrote (b ∷ []) out to out′ to′ → Displaying kind raw out₀ out′ n to′
+  pub display-next : {out′ : List ℕ} {b n to′ : ℕ} → length out₀ < 2 ^ 64 → DisplaysAt (displayText kind) raw at (Byte b n) → Wrote (b ∷ []) out to out′ to′ → Displaying kind raw out₀ out′ n to′
   display-next {b = b} {n} l st w =
       record {
         done = d .done ++ (b ∷ []);
-        is = d .is ∙ ap (λ z. d .done ++ z) (st .0) ∙ sym (append-assoc (d .done) (b ∷ []) (shown kind (readValue (drop n raw))));
+        is = d .is ∙ ap (λ z. d .done ++ z) (st .0) ∙ sym (append-assoc (d .done) (b ∷ []) (displayText kind (readValue (drop n raw))));
         wrote = wrote-more l (d .wrote) w;
       }
 
-  pub display-end : Shows (shown kind) raw at End → Wrote (shown kind (readValue raw)) out₀ 0 out to
+  pub display-end : DisplaysAt (displayText kind) raw at End → Wrote (displayText kind (readValue raw)) out₀ 0 out to
   display-end st = wrote-is (sym (d .is ∙ ap (λ z. d .done ++ z) st ∙ append-nil (d .done))) (d .wrote)
 
 module _ (w out : List ℕ) (b : length out < 2 ^ 63) where

@@ -1,7 +1,7 @@
 -- Displays that compute, one table and one statement. Assumes nothing.
 use Rattle.lists.proofs.Prelude.{ℕ, _≡_, refl, List, [], _∷_, map}
 use Rattle.values.specs.Read.{readFrom, readValue}
-use Rattle.value_display.specs.Display.{plain, removed, escaped, itemOf, formatFrom, replaced, oneLine, shown}
+use Rattle.value_display.specs.Display.{plain, removed, escaped, itemOf, formatFrom, pairsSpaced, oneLine, displayText}
 use Rattle.value_display.specs.declared.Kind.{Kind}
 use Rattle.value_display.specs.declared.Kind.the-variants.{Text, SimpleText}
 
@@ -31,6 +31,6 @@ rows =
     row Text (227 ∷ 128 ∷ 128 ∷ []) (32 ∷ []) ∷
     row Text (92 ∷ 92 ∷ 227 ∷ 128 ∷ 128 ∷ []) (227 ∷ 128 ∷ 128 ∷ []) ∷ []
 
-examples : map (λ (r : Row). shown (r .kind) (readValue (r .raw))) rows ≡ map (λ (r : Row). r .text) rows
-unfolding rows readFrom plain removed escaped itemOf formatFrom replaced oneLine shown
+examples : map (λ (r : Row). displayText (r .kind) (readValue (r .raw))) rows ≡ map (λ (r : Row). r .text) rows
+unfolding rows readFrom plain removed escaped itemOf formatFrom pairsSpaced oneLine displayText
 examples = refl

@@ -2,7 +2,7 @@
 use Rattle.lists.proofs.Prelude.{ℕ, zero, suc, _≤_, _≡_, Bool, true, false, _&&_, List, [], _∷_, le-refl, arith, eqb, length, getD, length-append, length-map, le-leb}
 use Rattle.lists.proofs.Pick.{pick-elim}
 use Rattle.values.specs.Read.{readFrom, readValue}
-use Rattle.value_display.specs.Display.{Item, blank1, blank2, blank3, plain, removed, escaped, itemOf, formatFrom, formatText, replaced, spaced, oneLine, shown, displayed}
+use Rattle.value_display.specs.Display.{Item, blank1, blank2, blank3, plain, removed, escaped, itemOf, formatFrom, formatText, pairsSpaced, spaced, oneLine, displayText, displayed}
 use Rattle.value_display.specs.declared.Displayed.the-variants.{Length}
 use Rattle.value_display.specs.declared.Kind.{Kind}
 use Rattle.value_display.specs.declared.Kind.the-variants.{Text, SimpleText}
@@ -43,8 +43,8 @@ format-length (suc n) (b ∷ bs) = omega (arith, format-length n bs)
 format-length zero (b ∷ bs) =
     omega (arith, item-small b bs, format-length (itemOf b bs .more) bs, length-append (itemOf b bs .shows) (formatFrom (itemOf b bs .more) bs))
 
-replaced-length : (a b : ℕ) (bs : List ℕ) → length (replaced a b bs) ≤ length bs
-unfolding replaced
+replaced-length : (a b : ℕ) (bs : List ℕ) → length (pairsSpaced a b bs) ≤ length bs
+unfolding pairsSpaced
 replaced-length a b [] = le-refl 0
 replaced-length a b (x ∷ []) = le-refl 1
 replaced-length a b (x ∷ y ∷ zs) =
@@ -53,14 +53,14 @@ replaced-length a b (x ∷ y ∷ zs) =
 line-length : (bs : List ℕ) → length (oneLine bs) ≤ length bs
 unfolding oneLine
 line-length bs =
-    omega (arith, length-map (replaced 0xa 0xd (replaced 0xd 0xa bs)) spaced, replaced-length 0xa 0xd (replaced 0xd 0xa bs), replaced-length 0xd 0xa bs)
+    omega (arith, length-map (pairsSpaced 0xa 0xd (pairsSpaced 0xd 0xa bs)) spaced, replaced-length 0xa 0xd (pairsSpaced 0xd 0xa bs), replaced-length 0xd 0xa bs)
 
-pub shown-length : (kind : Kind) (raw : List ℕ) → length (shown kind (readValue raw)) ≤ length raw
-unfolding shown
+pub shown-length : (kind : Kind) (raw : List ℕ) → length (displayText kind (readValue raw)) ≤ length raw
+unfolding displayText
 shown-length Text raw = omega (arith, format-length 0 (readValue raw), read-length false raw)
 shown-length SimpleText raw = omega (arith, line-length (formatText (readValue raw)), format-length 0 (readValue raw), read-length false raw)
 
 -- so a display with that many bytes lent is never refused
-pub display-fits : (kind : Kind) (raw out : List ℕ) → length raw ≤ length out → displayed (shown kind (readValue raw)) out ≡ Length (length (shown kind (readValue raw)))
+pub display-fits : (kind : Kind) (raw out : List ℕ) → length raw ≤ length out → displayed (displayText kind (readValue raw)) out ≡ Length (length (displayText kind (readValue raw)))
 unfolding displayed
-display-fits kind raw out h = rw (le-leb (length (shown kind (readValue raw))) (length out) (omega (arith, shown-length kind raw)))
+display-fits kind raw out h = rw (le-leb (length (displayText kind (readValue raw))) (length out) (omega (arith, shown-length kind raw)))

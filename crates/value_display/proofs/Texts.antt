@@ -2,7 +2,7 @@
 use Rattle.lists.proofs.Prelude.{ℕ, _≤_, _≡_, sym, ap, _∙_, List, _∷_, arith, drop}
 use Rattle.values.specs.Read.{readValue}
 use Rattle.value_display.specs.Display.{formatText}
-use Rattle.value_display.specs.LocalsShowing.{Shows, Begins, otherBreak, Past}
+use Rattle.value_display.specs.LocalsShowing.{DisplaysAt, FormatsAt, otherBreak, Past}
 use Rattle.values.specs.declared.read.Step.the-variants.{Byte, End}
 use Rattle.values.proofs.Steps.{Steps}
 use Rattle.value_display.proofs.Formats.{format-empty, format-last, format-shown, format-removed}
@@ -12,11 +12,11 @@ abbrev pub Same : List ℕ → (from at : ℕ) → Type 0
 Same s from at = (formatText (readValue (drop from s)) ≡ formatText (readValue (drop at s))) × (from ≤ at)
 
 module _ (s : List ℕ) {from at : ℕ} (inv : Same s from at) where
-  pub text-end : Steps s at End → Shows formatText s from End
+  pub text-end : Steps s at End → DisplaysAt formatText s from End
   text-end st = inv .0 ∙ ap formatText st ∙ format-empty
 
   module _ {b n : ℕ} (st : Steps s at (Byte b n)) where
-    pub text-plain : {x m : ℕ} → Begins b s n x m → Shows formatText s from (Byte x m)
+    pub text-plain : {x m : ℕ} → FormatsAt b s n x m → DisplaysAt formatText s from (Byte x m)
     text-plain p = (inv .0 ∙ ap formatText (st .0) ∙ p .first, omega (arith, inv .1, st .1, p .onward), p .within (st .2))
 
     module _ (e : b ≡ 0x5c) where
@@ -24,7 +24,7 @@ module _ (s : List ℕ) {from at : ℕ} (inv : Same s from at) where
       read-slash = st .0 ∙ ap (λ (z : ℕ). z ∷ readValue (drop n s)) e
 
       -- a backslash that is the last of all
-      pub text-last : Steps s n End → Shows formatText s from (Byte b n)
+      pub text-last : Steps s n End → DisplaysAt formatText s from (Byte b n)
       text-last end = (
         inv .0
             ∙ ap formatText (read-slash ∙ ap (λ (z : List ℕ). 0x5c ∷ z) end)
@@ -36,7 +36,7 @@ module _ (s : List ℕ) {from at : ℕ} (inv : Same s from at) where
       )
 
       module _ {c m other : ℕ} (st2 : Steps s n (Byte c m)) (o : other ≡ otherBreak c) where
-        pub text-shown : other ≡ 0 → Shows formatText s from (Byte c m)
+        pub text-shown : other ≡ 0 → DisplaysAt formatText s from (Byte c m)
         text-shown z = (
           inv .0 ∙ ap formatText (read-slash ∙ ap (λ (z : List ℕ). 0x5c ∷ z) (st2 .0)) ∙ format-shown c (readValue (drop m s)) o z,
           omega (arith, inv .1, st .1, st2 .1),

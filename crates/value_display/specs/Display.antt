@@ -37,7 +37,7 @@ plain a b c = pick (blank1 a) (item (0x20 ∷ []) 0) (pick (blank2 a b) (item (0
 unfoldable pub removed : (other : ℕ) → List ℕ → Item
 removed other bs = pick (eqb (getD bs 0 0) other) (item [] 2) (item [] 1)
 
--- a backslash: the last of all is shown; else it goes, and any character behind it but a line break is shown
+-- a backslash: the last of all is shown; else it goes, and any character behind it but a line break is shown (SCOPE 124)
 unfoldable pub escaped : List ℕ → Item
 escaped [] = item (0x5c ∷ []) 0
 escaped (b ∷ bs) = pick (eqb b 0xa) (removed 0xd bs) (pick (eqb b 0xd) (removed 0xa bs) (item (b ∷ []) 1))
@@ -52,33 +52,33 @@ formatFrom n [] = []
 formatFrom (suc n) (b ∷ bs) = formatFrom n bs
 formatFrom zero (b ∷ bs) = itemOf b bs .shows ++ formatFrom (itemOf b bs .more) bs
 
--- `format_text`
+-- `format_text` (SCOPE 123)
 abbrev pub formatText : List ℕ → List ℕ
 formatText bs = formatFrom 0 bs
 
 -- each pair a, b becomes a space, from the left
-unfoldable pub replaced : (a b : ℕ) → List ℕ → List ℕ
-replaced a b [] = []
-replaced a b (x ∷ []) = x ∷ []
-replaced a b (x ∷ y ∷ zs) = pick (eqb x a && eqb y b) (0x20 ∷ replaced a b zs) (x ∷ replaced a b (y ∷ zs))
+unfoldable pub pairsSpaced : (a b : ℕ) → List ℕ → List ℕ
+pairsSpaced a b [] = []
+pairsSpaced a b (x ∷ []) = x ∷ []
+pairsSpaced a b (x ∷ y ∷ zs) = pick (eqb x a && eqb y b) (0x20 ∷ pairsSpaced a b zs) (x ∷ pairsSpaced a b (y ∷ zs))
 
 -- a single line break becomes a space
 abbrev pub spaced : ℕ → ℕ
 spaced b = pick (eqb b 0xa || eqb b 0xd) 0x20 b
 
--- the replacements of `SimpleText`: CR LF, then LF CR, then single line breaks
+-- the replacements of `SimpleText`: CR LF, then LF CR, then single line breaks (SCOPE 123, 125)
 unfoldable pub oneLine : List ℕ → List ℕ
-oneLine bs = map spaced (replaced 0xa 0xd (replaced 0xd 0xa bs))
+oneLine bs = map spaced (pairsSpaced 0xa 0xd (pairsSpaced 0xd 0xa bs))
 
--- what a read value shows
-unfoldable pub shown : Kind → List ℕ → List ℕ
-shown Text bs = formatText bs
-shown SimpleText bs = oneLine (formatText bs)
+-- what a read value shows (SCOPE 123)
+unfoldable pub displayText : Kind → List ℕ → List ℕ
+displayText Text bs = formatText bs
+displayText SimpleText bs = oneLine (formatText bs)
 
 -- the answer to a display of `text` in `out`: its length, or that it has no room
 unfoldable pub displayed : (text out : List ℕ) → Displayed
 displayed text out = pick (leb (length text) (length out)) (Length (length text)) NoRoom
 
--- the lent bytes after it: the text and then what was there, or all that was there
+-- the lent bytes after it: the text and then what was there, or all that was there (SCOPE 57)
 unfoldable pub displayedIn : (text out : List ℕ) → List ℕ
 displayedIn text out = pick (leb (length text) (length out)) (text ++ drop (length text) out) out

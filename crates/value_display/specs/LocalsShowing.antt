@@ -6,9 +6,9 @@ use Rattle.values.specs.declared.read.Step.{Step}
 use Rattle.values.specs.declared.read.Step.the-variants.{Byte, End}
 
 -- a byte is the first that f shows of the read value from `at` on, and the next place is further on
-abbrev pub Shows : (List ℕ → List ℕ) → List ℕ → ℕ → Step → Type 0
-Shows f s at (Byte b n) = (f (readValue (drop at s)) ≡ b ∷ f (readValue (drop n s))) × (at < n) × (n ≤ length s)
-Shows f s at End = f (readValue (drop at s)) ≡ []
+abbrev pub DisplaysAt : (List ℕ → List ℕ) → List ℕ → ℕ → Step → Type 0
+DisplaysAt f s at (Byte b n) = (f (readValue (drop at s)) ≡ b ∷ f (readValue (drop n s))) × (at < n) × (n ≤ length s)
+DisplaysAt f s at End = f (readValue (drop at s)) ≡ []
 
 -- the byte that f shows first, or 0 at the end, and the place after it
 pub record Peeks (f : List ℕ → List ℕ) (s : List ℕ) (at byte next : ℕ) : Type 0 where
@@ -18,7 +18,7 @@ pub record Peeks (f : List ℕ → List ℕ) (s : List ℕ) (at byte next : ℕ)
   pub within : at ≤ length s → next ≤ length s
 
 -- what is shown of the byte b and the read value behind it, where b is no backslash
-pub record Begins (b : ℕ) (s : List ℕ) (at byte next : ℕ) : Type 0 where
+pub record FormatsAt (b : ℕ) (s : List ℕ) (at byte next : ℕ) : Type 0 where
   pub first : formatText (b ∷ readValue (drop at s)) ≡ byte ∷ formatText (readValue (drop next s))
   pub onward : at ≤ next
   pub within : at ≤ length s → next ≤ length s

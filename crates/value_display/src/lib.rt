@@ -4,8 +4,8 @@ ghost use Prim.Native.Nat.{_<_};
 ghost use lib.Dec.{leb};
 ghost use lib.ListN.{length};
 ghost use Rattle.values.specs.Read.{readValue};
-ghost use Rattle.value_display.specs.Display.{blank1, blank2, blank3, formatText, oneLine, shown, displayed, displayedIn};
-ghost use Rattle.value_display.specs.LocalsShowing.{Shows, Peeks, Begins, otherBreak, Past};
+ghost use Rattle.value_display.specs.Display.{blank1, blank2, blank3, formatText, oneLine, displayText, displayed, displayedIn};
+ghost use Rattle.value_display.specs.LocalsShowing.{DisplaysAt, Peeks, FormatsAt, otherBreak, Past};
 ghost use Rattle.store_bytes.specs.LocalsWrote.{Wrote};
 use values::read::Step;
 
@@ -65,7 +65,7 @@ fn peek(s: &[u8], at: usize) -> Ahead
 // What is shown of a byte that is no backslash and of those behind it: white space is one space, line breaks apart.
 fn plain_byte(s: &[u8], b: u8, at: usize) -> Ahead
     requires { ⌜ (b ≡ 92 → ⊥) ⌝ }
-    ensures { λ r. ⌜ Begins b (now (s .entry)) at (r .byte) (r .next) ⌝ }
+    ensures { λ r. ⌜ FormatsAt b (now (s .entry)) at (r .byte) (r .next) ⌝ }
 {
     if is_blank1(b) {
         return Ahead {
@@ -119,7 +119,7 @@ fn past(s: &[u8], at: usize, other: u8) -> usize
 
 // The next byte that `format_text` shows.
 fn next_text(s: &[u8], from: usize) -> Step
-    ensures { λ r. ⌜ Shows formatText (now (s .entry)) from r ⌝ }
+    ensures { λ r. ⌜ DisplaysAt formatText (now (s .entry)) from r ⌝ }
 {
     let mut at = from;
     loop {
@@ -153,7 +153,7 @@ fn peek_text(s: &[u8], at: usize) -> Ahead
 
 // The next byte that `SimpleText` shows: of line breaks CR LF is one space first, then LF CR, then each.
 fn next_simple(s: &[u8], at: usize) -> Step
-    ensures { λ r. ⌜ Shows (λ z. oneLine (formatText z)) (now (s .entry)) at r ⌝ }
+    ensures { λ r. ⌜ DisplaysAt (λ z. oneLine (formatText z)) (now (s .entry)) at r ⌝ }
 {
     let Step::Byte(b, n) = next_text(s, at) else {
         return Step::End;
@@ -180,7 +180,7 @@ fn next_simple(s: &[u8], at: usize) -> Step
 
 // The next byte of what is shown, by the kind.
 fn next_shown(kind: Kind, s: &[u8], at: usize) -> Step
-    ensures { λ r. ⌜ Shows (shown kind) (now (s .entry)) at r ⌝ }
+    ensures { λ r. ⌜ DisplaysAt (displayText kind) (now (s .entry)) at r ⌝ }
 {
     match kind {
         Kind::Text => next_text(s, at),
@@ -190,7 +190,7 @@ fn next_shown(kind: Kind, s: &[u8], at: usize) -> Step
 
 // What a raw value shows, put into the output where it has room; its length.
 fn put_shown(kind: Kind, raw: &[u8], out: &mut [u8]) -> usize
-    ensures { λ r. ⌜ Wrote (shown kind (readValue (now (raw .entry)))) (now (out .entry)) 0 (now (out .exit)) r ⌝ }
+    ensures { λ r. ⌜ Wrote (displayText kind (readValue (now (raw .entry)))) (now (out .entry)) 0 (now (out .exit)) r ⌝ }
 {
     let mut at: usize = 0;
     let mut to: usize = 0;
@@ -205,7 +205,7 @@ fn put_shown(kind: Kind, raw: &[u8], out: &mut [u8]) -> usize
 
 // Whether the output has room for what a raw value shows, which is never longer than the value.
 fn has_room(kind: Kind, raw: &[u8], out: &mut [u8]) -> bool
-    ensures { λ r. ⌜ r ≡ leb (length (shown kind (readValue (now (raw .entry))))) (length (now (out .entry))) ⌝ }
+    ensures { λ r. ⌜ r ≡ leb (length (displayText kind (readValue (now (raw .entry))))) (length (now (out .entry))) ⌝ }
     ensures { λ _. ⌜ now (out .exit) ≡ now (out .entry) ⌝ }
 {
     if raw.len() <= out.len() {
@@ -217,8 +217,8 @@ fn has_room(kind: Kind, raw: &[u8], out: &mut [u8]) -> bool
 
 // Displays a raw value in the output, or changes nothing where it has no room for all of it.
 pub fn display(kind: Kind, raw: &[u8], out: &mut [u8]) -> Displayed
-    ensures { λ r. ⌜ r ≡ displayed (shown kind (readValue (now (raw .entry)))) (now (out .entry)) ⌝ }
-    ensures { λ _. ⌜ now (out .exit) ≡ displayedIn (shown kind (readValue (now (raw .entry)))) (now (out .entry)) ⌝ }
+    ensures { λ r. ⌜ r ≡ displayed (displayText kind (readValue (now (raw .entry)))) (now (out .entry)) ⌝ }
+    ensures { λ _. ⌜ now (out .exit) ≡ displayedIn (displayText kind (readValue (now (raw .entry)))) (now (out .entry)) ⌝ }
 {
     if !has_room(kind, raw, out) {
         return Displayed::NoRoom;

@@ -17,7 +17,7 @@ unfoldable pub digitsFrom : (any minus : Bool) (most acc : ℕ) → List ℕ →
 digitsFrom any minus most acc [] = pick (any && leb acc most) (signed minus acc) Bad
 digitsFrom any minus most acc (b ∷ bs) = pick (leb (digitOf b) 9) (digitsFrom true minus most (acc * 10 + digitOf b) bs) Bad
 
--- `+` or `-` or no sign, and at least one digit: from -(most + 1) to most
+-- `+` or `-` or no sign, and at least one digit: from -(most + 1) to most (SCOPE 85, 101)
 unfoldable pub decimalOf : ℕ → List ℕ → Number
 decimalOf most [] = Bad
 decimalOf most (b ∷ bs) =
@@ -29,6 +29,6 @@ unfoldable pub spell : (k n : ℕ) → List ℕ → List ℕ
 spell zero n rest = rest
 spell (suc k) n rest = pick (ltb n 10) ((0x30 + n % 10) ∷ rest) (spell k (n / 10) ((0x30 + n % 10) ∷ rest))
 
--- plain decimal; a u64 has at most 20 digits
+-- plain decimal; a u64 has at most 20 digits (SCOPE 112)
 unfoldable pub decimal : ℕ → List ℕ
 decimal n = spell 20 n []

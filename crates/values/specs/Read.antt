@@ -9,11 +9,11 @@ readFrom escaped [] = []
 readFrom true (b ∷ bs) = b ∷ readFrom false bs
 readFrom false (b ∷ bs) = pick (eqb b 0x5c) (readFrom true bs) (b ∷ readFrom false bs)
 
--- the read value of a raw one
+-- the read value of a raw one (SCOPE 75)
 abbrev pub readValue : List ℕ → List ℕ
 readValue s = readFrom false s
 
--- the read identifier: the uppercase letters of the raw one
+-- the read identifier: the uppercase letters of the raw one (SCOPE 93)
 unfoldable pub readIdentifier : List ℕ → List ℕ
 readIdentifier [] = []
 readIdentifier (b ∷ bs) = pick (leb 0x41 b && leb b 0x5a) (b ∷ readIdentifier bs) (readIdentifier bs)

@@ -1,7 +1,7 @@
 -- `feed::find` meets its contract. Assumes nothing.
 use Rattle.lists.proofs.Prelude.{_+_, _-_, _≤_, _<_, _≡_, refl, sym, ap, _∙_, subst, arith, needs, length}
 use Rattle.feed_numerals.specs.Numeral.{numeralLimit}
-use Rattle.feed.specs.Feed.{Listing, listing, listed}
+use Rattle.feed.specs.Feed.{Listing, listing, entriesFrom}
 use Rattle.feed.specs.LocalsNext.{Lies}
 use Rattle.feed.specs.Find.{foundIn}
 use Rattle.feed.proofs.Entries.{found-none, found-here, found-later, listed-end, listed-fault, listed-one, listing-fault, listing-count}
@@ -10,7 +10,7 @@ use Rattle.feed.proofs.find.Statement.{statement}
 use Rattle.feed.proofs.find.Tie as tie
 
 abbrev Inv-loop : tie.InvT-loop
-Inv-loop feed k count n left₀ low₀ at₀ left low at = foundIn (listing feed .entries) k ≡ foundIn (listed feed left low at .entries) k
+Inv-loop feed k count n left₀ low₀ at₀ left low at = foundIn (listing feed .entries) k ≡ foundIn (entriesFrom feed left low at .entries) k
 
 abbrev μ-loop : tie.MeasureT-loop
 μ-loop feed k count n left₀ low₀ at₀ left low at = left
@@ -35,7 +35,7 @@ returns-2 c =
     let k = c .before .before .before .before .before .before .before .before .before .before .before .before .args .k in
     let l = c .before .before .before .before .before .before .loop in
     let g = c .before .before .value .given in
-    sym (l .inv ∙ ap (λ (x : Listing). foundIn (x .entries) k) (listed-one w (l .left) (l .low) (l .at) (g .0 .0) (g .0 .1 .0) (g .0 .1 .1 .0) (c .before .before .before .before .before .loop-test .taken) (sym (c .before .before .before .before .next-at .ensures .0) ∙ g .1)) ∙ found-here (g .0 .0) (g .0 .1 .0) (g .0 .1 .1 .0) k (listed w (l .left - 1) (g .0 .0 + 1) (g .0 .1 .1 .0) .entries) (c .if1 .taken))
+    sym (l .inv ∙ ap (λ (x : Listing). foundIn (x .entries) k) (listed-one w (l .left) (l .low) (l .at) (g .0 .0) (g .0 .1 .0) (g .0 .1 .1 .0) (c .before .before .before .before .before .loop-test .taken) (sym (c .before .before .before .before .next-at .ensures .0) ∙ g .1)) ∙ found-here (g .0 .0) (g .0 .1 .0) (g .0 .1 .1 .0) k (entriesFrom w (l .left - 1) (g .0 .0 + 1) (g .0 .1 .1 .0) .entries) (c .if1 .taken))
 
 add-low : tie.Need-add-low Inv-loop μ-loop
 add-low c =
@@ -50,7 +50,7 @@ loop-again c =
     let k = c .before .before .before .before .before .before .before .before .before .before .before .before .args .k in
     let l = c .before .before .before .before .before .before .loop in
     let g = c .before .before .value .given in
-    l .inv ∙ ap (λ (x : Listing). foundIn (x .entries) k) (listed-one w (l .left) (l .low) (l .at) (g .0 .0) (g .0 .1 .0) (g .0 .1 .1 .0) (c .before .before .before .before .before .loop-test .taken) (sym (c .before .before .before .before .next-at .ensures .0) ∙ g .1)) ∙ found-later (g .0 .0) (g .0 .1 .0) (g .0 .1 .1 .0) k (listed w (l .left - 1) (g .0 .0 + 1) (g .0 .1 .1 .0) .entries) (c .if1 .left)
+    l .inv ∙ ap (λ (x : Listing). foundIn (x .entries) k) (listed-one w (l .left) (l .low) (l .at) (g .0 .0) (g .0 .1 .0) (g .0 .1 .1 .0) (c .before .before .before .before .before .loop-test .taken) (sym (c .before .before .before .before .next-at .ensures .0) ∙ g .1)) ∙ found-later (g .0 .0) (g .0 .1 .0) (g .0 .1 .1 .0) k (entriesFrom w (l .left - 1) (g .0 .0 + 1) (g .0 .1 .1 .0) .entries) (c .if1 .left)
 
 returns-3 : tie.Need-returns-3 Inv-loop μ-loop
 returns-3 c =

@@ -1,7 +1,7 @@
 -- `feed::is_feed` meets its contract. Assumes nothing.
 use Rattle.lists.proofs.Prelude.{_+_, _-_, _≤_, _<_, _≡_, refl, sym, ap, _∙_, subst, arith, needs, length}
 use Rattle.feed_numerals.specs.Numeral.{numeralLimit}
-use Rattle.feed.specs.Feed.{Listing, listing, listed}
+use Rattle.feed.specs.Feed.{Listing, listing, entriesFrom}
 use Rattle.feed.specs.LocalsNext.{Lies}
 use Rattle.feed.proofs.Entries.{listed-end, listed-fault, listed-one, listing-fault, listing-count}
 use Rattle.feed.specs.declared.Next.the-variants.{One}
@@ -9,7 +9,7 @@ use Rattle.feed.proofs.is_feed.Statement.{statement}
 use Rattle.feed.proofs.is_feed.Tie as tie
 
 abbrev Inv-loop : tie.InvT-loop
-Inv-loop feed count n left₀ low₀ at₀ left low at = listing feed .whole ≡ listed feed left low at .whole
+Inv-loop feed count n left₀ low₀ at₀ left low at = listing feed .whole ≡ entriesFrom feed left low at .whole
 
 abbrev μ-loop : tie.MeasureT-loop
 μ-loop feed count n left₀ low₀ at₀ left low at = left

@@ -1,7 +1,7 @@
 -- `feed_check::is_game_type` meets its contract. Assumes nothing.
 use Rattle.lists.proofs.Prelude.{sym, ap, ap₂, _∙_, _&&_, arith, needs, lt-ltb, le-ltb, slice}
 use Rattle.lists.specs.Same.{same}
-use Rattle.parser.specs.Kind.{GM}
+use Rattle.parser.specs.Game.{GM}
 use Rattle.tables.specs.Columns.{nameFromAt, nameToAt}
 use Rattle.fit_spans.proofs.Lists.{part-slice}
 use Rattle.feed_check.proofs.is_game_type.Statement.{statement}

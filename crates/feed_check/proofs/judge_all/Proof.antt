@@ -6,7 +6,7 @@ use Rattle.tables.specs.Each.{tabulate}
 use Rattle.fit_spans.proofs.Lists.{part-slice}
 use Rattle.fit.specs.Record.{propRow}
 use Rattle.feed_numerals.specs.Numeral.{numeralLimit}
-use Rattle.feed.specs.Feed.{Entry, Listing, listing, listed}
+use Rattle.feed.specs.Feed.{Entry, Listing, listing, entriesFrom}
 use Rattle.feed.specs.LocalsNext.{Lies}
 use Rattle.feed.specs.declared.Next.the-variants.{One}
 use Rattle.feed.proofs.Entries.{listed-end, listed-fault, listed-one, listing-fault, listing-count}
@@ -20,7 +20,7 @@ use Rattle.feed_check.proofs.judge_all.Tie as tie
 abbrev Inv-loop : tie.InvT-loop
 Inv-loop text properties n total feed count size left₀ low₀ at₀ p₀ left low at p =
     (correctionsJudged text (tabulate (propRow properties) 0 n) total feed (listing feed .entries)
-    ≡ correctionsJudged text (tabulate (propRow properties) 0 n) total feed (listed feed left low at .entries)) × Behind properties n p low
+    ≡ correctionsJudged text (tabulate (propRow properties) 0 n) total feed (entriesFrom feed left low at .entries)) × Behind properties n p low
 
 abbrev μ-loop : tie.MeasureT-loop
 μ-loop text properties n total feed count size left₀ low₀ at₀ p₀ left low at p = left
@@ -91,7 +91,7 @@ returns-2 c =
     let o = c .before .before .before .before .before .before .owner-from in
     let f = c .before .before .before .before .before .is-game-type in
     let x : Entry = record { value = g .0 .0; from = g .0 .1 .0; to = g .0 .1 .1 .0 } in
-    let next = listed (a .feed .now) (l .left - 1) (g .0 .0 + 1) (g .0 .1 .1 .0) .entries in
+    let next = entriesFrom (a .feed .now) (l .left - 1) (g .0 .0 + 1) (g .0 .1 .1 .0) .entries in
     let is = f .ensures ∙ game-type-is (a .properties .now) (a .n) (a .text .now) (g .0 .0) (o .result) (o .ensures .0) (o .ensures .1) in
     let e = listed-one (a .feed .now) (l .left) (l .low) (l .at) (g .0 .0) (g .0 .1 .0) (g .0 .1 .1 .0) (c .before .before .before .before .before .before .before .before .before .before .before .loop-test .taken) (sym (c .before .before .before .before .before .before .before .before .before .before .next-at .ensures .0) ∙ g .1) in
     let s = sym (ap (λ (z : List ℕ). testedBy (ltb (g .0 .0) (a .total)) (f .result) (bytesJudged (g .0 .1 .0) (trimmed z) (closed z))) (part-slice (g .0 .1 .0) (g .0 .1 .1 .0) (a .feed .now))) ∙ sym (c .before .before .before .judge-one .ensures) in
@@ -114,7 +114,7 @@ loop-again c =
     let o = c .before .before .before .before .before .owner-from in
     let f = c .before .before .before .before .is-game-type in
     let x : Entry = record { value = g .0 .0; from = g .0 .1 .0; to = g .0 .1 .1 .0 } in
-    let next = listed (a .feed .now) (l .left - 1) (g .0 .0 + 1) (g .0 .1 .1 .0) .entries in
+    let next = entriesFrom (a .feed .now) (l .left - 1) (g .0 .0 + 1) (g .0 .1 .1 .0) .entries in
     let is = f .ensures ∙ game-type-is (a .properties .now) (a .n) (a .text .now) (g .0 .0) (o .result) (o .ensures .0) (o .ensures .1) in
     let e = listed-one (a .feed .now) (l .left) (l .low) (l .at) (g .0 .0) (g .0 .1 .0) (g .0 .1 .1 .0) (c .before .before .before .before .before .before .before .before .before .before .loop-test .taken) (sym (c .before .before .before .before .before .before .before .before .before .next-at .ensures .0) ∙ g .1) in
     let s = sym (ap (λ (z : List ℕ). testedBy (ltb (g .0 .0) (a .total)) (f .result) (bytesJudged (g .0 .1 .0) (trimmed z) (closed z))) (part-slice (g .0 .1 .0) (g .0 .1 .1 .0) (a .feed .now))) ∙ sym (c .before .before .judge-one .ensures) in (

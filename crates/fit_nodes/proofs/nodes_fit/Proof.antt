@@ -29,14 +29,14 @@ returns-4 c = rw (passed (c .before .before .before .before .before .before .bef
 
 returns-5 : tie.Need-returns-5
 unfolding nodesFit
-returns-5 c = rw (passed (c .before .before .before .before .before .before .before .before .before .roots-right .ensures) (c .before .before .before .before .before .before .before .before .if1 .left), passed (c .before .before .before .before .before .before .before .parents-right .ensures) (c .before .before .before .before .before .before .if2 .left), passed (c .before .before .before .before .before .children-right .ensures) (c .before .before .before .before .if3 .left), passed (c .before .before .before .siblings-right .ensures) (c .before .before .if4 .left), refused (c .before .kinds-right .ensures) (c .if5 .taken))
+returns-5 c = rw (passed (c .before .before .before .before .before .before .before .before .before .roots-right .ensures) (c .before .before .before .before .before .before .before .before .if1 .left), passed (c .before .before .before .before .before .before .before .parents-right .ensures) (c .before .before .before .before .before .before .if2 .left), passed (c .before .before .before .before .before .children-right .ensures) (c .before .before .before .before .if3 .left), passed (c .before .before .before .siblings-right .ensures) (c .before .before .if4 .left), refused (c .before .games-right .ensures) (c .if5 .taken))
 
 depths-right-requires : tie.Need-depths-right-requires
 depths-right-requires c κs = (c .before .before .before .before .before .before .before .before .before .before .before .before .pre .1, record { most = c .before .before .before .before .before .before .before .before .before .before .before .before .pre .2; rule = passed (c .before .before .before .before .before .before .before .parents-right .ensures) (c .before .before .before .before .before .before .if2 .left) })
 
 returns-6 : tie.Need-returns-6
 unfolding nodesFit
-returns-6 c = rw (passed (c .before .before .before .before .before .before .before .before .before .before .roots-right .ensures) (c .before .before .before .before .before .before .before .before .before .if1 .left), passed (c .before .before .before .before .before .before .before .before .parents-right .ensures) (c .before .before .before .before .before .before .before .if2 .left), passed (c .before .before .before .before .before .before .children-right .ensures) (c .before .before .before .before .before .if3 .left), passed (c .before .before .before .before .siblings-right .ensures) (c .before .before .before .if4 .left), passed (c .before .before .kinds-right .ensures) (c .before .if5 .left)) (c .depths-right .ensures)
+returns-6 c = rw (passed (c .before .before .before .before .before .before .before .before .before .before .roots-right .ensures) (c .before .before .before .before .before .before .before .before .before .if1 .left), passed (c .before .before .before .before .before .before .before .before .parents-right .ensures) (c .before .before .before .before .before .before .before .if2 .left), passed (c .before .before .before .before .before .before .children-right .ensures) (c .before .before .before .before .before .if3 .left), passed (c .before .before .before .before .siblings-right .ensures) (c .before .before .before .if4 .left), passed (c .before .before .games-right .ensures) (c .before .if5 .left)) (c .depths-right .ensures)
 
 pub nodes-fit-spec : {M : Type 1} → statement M
 nodes-fit-spec =

@@ -2,14 +2,14 @@
 use Rattle.lists.proofs.Prelude.{_+_, _-_, _≡_, refl, sym, _∙_, arith, length, needs}
 use denote.Ref.{now}
 use Rattle.lexer_close.proofs.Bounds.{close-bounds}
-use Rattle.lexer_scan.specs.Scan.{skipAt, valuesAt}
+use Rattle.lexer_scan.specs.Scan.{skipAt, valuesEndAt}
 use Rattle.lexer_scan.proofs.Bounds.{skip-bounds, past, value-on, value-open, value-none}
 use Rattle.lexer_scan.proofs.Values.{values-more, values-unclosed, values-none}
 use Rattle.lexer_scan.proofs.values_end.Statement.{statement}
 use Rattle.lexer_scan.proofs.values_end.Tie as tie
 
 abbrev Inv-loop : tie.InvT-loop
-Inv-loop s from i₀ i = valuesAt s i ≡ valuesAt s from
+Inv-loop s from i₀ i = valuesEndAt s i ≡ valuesEndAt s from
 
 abbrev μ-loop : tie.MeasureT-loop
 μ-loop s from i₀ i = length s - i

@@ -6,7 +6,7 @@ use Rattle.parser.specs.declared.Survey.the-variants.{Refused}
 use Rattle.tables.specs.declared.Reason.the-variants.{UnexpectedGameTreeEnd}
 use Rattle.tables.specs.declared.Reason.{Reason}
 use Rattle.parser.specs.Split.{no}
-use Rattle.parser.specs.LocalsSurvey.{strictly}
+use Rattle.parser.specs.LocalsSurvey.{surveyStrict}
 use Rattle.parser.proofs.Meets.{meets, steps-end, steps-on}
 use Rattle.parser.proofs.fault_or_end.Statement.{statement}
 use Rattle.parser.proofs.fault_or_end.Tie as tie
@@ -25,12 +25,12 @@ returns c =
     let s = now (c .before .before .before .before .before .before .before .args .s) in
     let token = c .before .before .token in
     ap (λ (z : Reason). Refused z (token .given .0 .1 .0)) (c .fault-reason .ensures)
-    ∙ sym (ap (λ (z : End). strictly z (no UnexpectedGameTreeEnd)) (c .before .before .before .before .before .loop .inv ∙ ap (λ (z : Lexed). z .end) (meets s _ (c .before .before .before .before .next .ensures .token-is) (token .given .1))))
+    ∙ sym (ap (λ (z : End). surveyStrict z (no UnexpectedGameTreeEnd)) (c .before .before .before .before .before .loop .inv ∙ ap (λ (z : Lexed). z .end) (meets s _ (c .before .before .before .before .next .ensures .token-is) (token .given .1))))
 
 returns-2 : tie.Need-returns-2 Inv-loop μ-loop
 returns-2 c =
     let s = now (c .before .before .before .before .before .args .s) in
-    sym (ap (λ (z : End). strictly z (no UnexpectedGameTreeEnd)) (c .before .before .before .loop .inv ∙ ap (λ (z : Lexed). z .end) (meets s _ (c .before .before .next .ensures .token-is) (c .enum-told .given .1))))
+    sym (ap (λ (z : End). surveyStrict z (no UnexpectedGameTreeEnd)) (c .before .before .before .loop .inv ∙ ap (λ (z : Lexed). z .end) (meets s _ (c .before .before .next .ensures .token-is) (c .enum-told .given .1))))
 
 loop-less : tie.Need-loop-less Inv-loop μ-loop
 loop-less c = steps-on (now (c .before .before .before .before .before .args .s)) (c .before .before .before .loop .at) (c .before .before .next .ensures) (c .before .match .keys3)

@@ -21,7 +21,7 @@ add-at : tie.Need-add-at Inv-loop μ-loop
 add-at c = let w = (found-within (now (c .before .before .before .before .before .before .args .s)) _ _ _ (c .before .before .before .next-token .ensures) (c .before .i .given .1)) in omega arith
 
 add-depth : tie.Need-add-depth Inv-loop μ-loop
-add-depth c = let w = (found-within (now (c .before .before .before .before .before .before .args .s)) _ _ _ (c .before .before .before .next-token .ensures) (c .before .i .given .1)) in let x = (c .before .before .before .before .loop .inv) .few in omega arith
+add-depth c = let w = (found-within (now (c .before .before .before .before .before .before .args .s)) _ _ _ (c .before .before .before .next-token .ensures) (c .before .i .given .1)) in let x = (c .before .before .before .before .loop .inv) .bound in omega arith
 
 loop-less : tie.Need-loop-less Inv-loop μ-loop
 loop-less c = let w = (found-within (now (c .before .before .before .before .before .before .before .args .s)) _ _ _ (c .before .before .before .before .next-token .ensures) (c .before .before .i .given .1)) in omega arith
@@ -36,7 +36,7 @@ add-at-2 : tie.Need-add-at-2 Inv-loop μ-loop
 add-at-2 c = let w = (found-within (now (c .before .before .before .before .before .before .before .args .s)) _ _ _ (c .before .before .before .before .next-token .ensures) (c .before .before .i2 .given .1)) in omega arith
 
 add-n : tie.Need-add-n Inv-loop μ-loop
-add-n c = let w = (found-within (now (c .before .before .before .before .before .before .before .before .args .s)) _ _ _ (c .before .before .before .before .before .next-token .ensures) (c .before .before .before .i2 .given .1)) in let x = (c .before .before .before .before .before .before .loop .inv) .few in omega arith
+add-n c = let w = (found-within (now (c .before .before .before .before .before .before .before .before .args .s)) _ _ _ (c .before .before .before .before .before .next-token .ensures) (c .before .before .before .i2 .given .1)) in let x = (c .before .before .before .before .before .before .loop .inv) .bound in omega arith
 
 loop-less-2 : tie.Need-loop-less-2 Inv-loop μ-loop
 loop-less-2 c = let w = (found-within (now (c .before .before .before .before .before .before .before .before .args .s)) _ _ _ (c .before .before .before .before .before .next-token .ensures) (c .before .before .before .i2 .given .1)) in omega arith

@@ -7,7 +7,7 @@ use Rattle.parser_game.proofs.conclude.Statement.{statement}
 use Rattle.parser_game.proofs.conclude.Tie as tie
 
 returns : tie.Need-returns
-returns c = c .kind-values .ensures ∙ (ap (λ (z : Bool). typeOf (concluded z (valsAt (now (c .before .before .before .args .s)) (c .before .before .before .args .k)))) (sym (c .before .if1 .taken)))
+returns c = c .game-values .ensures ∙ (ap (λ (z : Bool). typeOf (concluded z (valsAt (now (c .before .before .before .args .s)) (c .before .before .before .args .k)))) (sym (c .before .if1 .taken)))
 
 returns-2 : tie.Need-returns-2
 returns-2 c = (ap (λ (z : Bool). typeOf (concluded z (valsAt (now (c .before .before .args .s)) (c .before .before .args .k)))) (sym (c .if1 .left)))

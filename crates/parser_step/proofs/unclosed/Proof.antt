@@ -1,7 +1,7 @@
 -- `parser_step::unclosed` meets its contract. Assumes nothing.
 use Rattle.lists.proofs.Prelude.{not-true, not-false, Bool, true, false, _≡_, sym, ap, _∙_, needs}
 use Rattle.lexer_close.specs.declared.Close.{Close}
-use Rattle.parser_step.specs.LocalsAsks.{unclosed}
+use Rattle.parser_step.specs.LocalsActs.{unclosed}
 use Rattle.parser_step.proofs.unclosed.Statement.{statement}
 use Rattle.parser_step.proofs.unclosed.Tie as tie
 

@@ -3,7 +3,7 @@ use denote.Ref.{now}
 use Rattle.lists.proofs.Prelude.{_-_, length, _≡_, sym, _∙_, arith, needs}
 use Rattle.lexer_scan.proofs.Bounds.{value-is}
 use Rattle.lexer_scan.specs.declared.ValueStep.the-variants.{Value}
-use Rattle.lexer_scan.specs.Scan.{valueAt}
+use Rattle.lexer_scan.specs.Scan.{valueStepAt}
 use Rattle.parser_tree.proofs.Takings.{Taking, taking-first, taking-more, taking-end, taking-unclosed}
 use Rattle.parser_tree.proofs.take_values.Statement.{statement}
 use Rattle.parser_tree.proofs.take_values.Tie as tie
@@ -14,7 +14,7 @@ Inv-loop s from v0 vals₀ i₀ v₀ vals i v = Taking s from v0 vals₀ vals i 
 abbrev μ-loop : tie.MeasureT-loop
 μ-loop s from v0 vals₀ i₀ v₀ vals i v = length s - i
 
-found : (c : tie.After-known-told Inv-loop μ-loop) → valueAt (now (c .before .before .before .before .before .before .before .args .s)) (c .before .before .before .before .loop .i) ≡ Value (c .before .a .given .0 .0) (c .before .a .given .0 .1 .0) (c .before .a .given .0 .1 .1 .0)
+found : (c : tie.After-known-told Inv-loop μ-loop) → valueStepAt (now (c .before .before .before .before .before .before .before .args .s)) (c .before .before .before .before .loop .i) ≡ Value (c .before .a .given .0 .0) (c .before .a .given .0 .1 .0) (c .before .a .given .0 .1 .1 .0)
 found c = sym (c .before .before .before .next-value .ensures) ∙ c .before .a .given .1
 
 loop-holds : tie.Need-loop-holds Inv-loop μ-loop

@@ -2,14 +2,14 @@
 use Rattle.lists.proofs.Prelude.{_+_, _-_, arith, needs}
 use Rattle.store_bytes.proofs.Written.{wrote-length}
 use Rattle.parts.specs.Rows.{valuesAt}
-use Rattle.serialize_values.specs.LocalsBoxes.{boxes}
+use Rattle.serialize_values.specs.LocalsForm.{rawsText}
 use Rattle.serialize_values.proofs.Boxed.{raw-all, raw-next, raw-end}
 use Rattle.serialize_values.proofs.Writing.{Writing, writing-first, writing-is, writing-next, writing-end}
 use Rattle.serialize_values.proofs.put_raw.Statement.{statement}
 use Rattle.serialize_values.proofs.put_raw.Tie as tie
 
 abbrev Inv-loop : tie.InvT-loop
-Inv-loop out₀ at text values first count to₀ i₀ out to i = Writing (boxes (valuesAt text values first count)) (boxes (valuesAt text values (first + i) (count - i))) out₀ at out to
+Inv-loop out₀ at text values first count to₀ i₀ out to i = Writing (rawsText (valuesAt text values first count)) (rawsText (valuesAt text values (first + i) (count - i))) out₀ at out to
 
 abbrev μ-loop : tie.MeasureT-loop
 μ-loop out₀ at text values first count to₀ i₀ out to i = count - i
@@ -18,7 +18,7 @@ loop-holds : tie.Need-loop-holds Inv-loop μ-loop
 loop-holds c =
     let args = c .before .before .before .args in
     let good = c .before .before .before .good in
-    writing-is (raw-all (args .text .now) (args .values .now) (args .first) (args .count)) (writing-first (boxes (valuesAt (args .text .now) (args .values .now) (args .first) (args .count))) (args .out .now) (args .at) (omega (arith, good)) (omega (arith, good)))
+    writing-is (raw-all (args .text .now) (args .values .now) (args .first) (args .count)) (writing-first (rawsText (valuesAt (args .text .now) (args .values .now) (args .first) (args .count))) (args .out .now) (args .at) (omega (arith, good)) (omega (arith, good)))
 
 loop-again : tie.Need-loop-again Inv-loop μ-loop
 loop-again c =

@@ -1,20 +1,20 @@
 -- `sgf::sgf_go_property` meets its contract. Assumes nothing.
 use Rattle.lists.proofs.Prelude.{ap, _∙_, needs}
 use Rattle.go.proofs.Choosing.{not-set}
-use Rattle.c_answers.specs.Shown.{goShown}
+use Rattle.c_answers.specs.Structs.{goInC}
 use Rattle.sgf.proofs.Shaped.{set-shaped, alone-shaped}
 use Rattle.sgf.proofs.sgf_go_property.Statement.{statement}
 use Rattle.sgf.proofs.sgf_go_property.Tie as tie
 
 returns : tie.Need-returns
 returns c =
-    c .go-shown .ensures
-    ∙ ap (goShown 0) (set-shaped (c .before .before .before .before .before .before .before .before .args .game-type) _ _ (c .before .before .before .before .shape-in .ensures) (c .before .before .enum-told .given .1) (c .before .read-points .ensures))
+    c .go-in-c .ensures
+    ∙ ap (goInC 0) (set-shaped (c .before .before .before .before .before .before .before .before .args .game-type) _ _ (c .before .before .before .before .shape-in .ensures) (c .before .before .enum-told .given .1) (c .before .read-points .ensures))
 
 returns-2 : tie.Need-returns-2
 returns-2 c =
-    c .unmarked-shown .ensures
-    ∙ ap (goShown 0) (alone-shaped (c .before .before .before .before .before .before .before .args .game-type) _ _ (c .before .before .before .shape-in .ensures) (not-set _ (c .before .before .match .keys2)) (c .before .value-by .ensures))
+    c .unmarked-in-c .ensures
+    ∙ ap (goInC 0) (alone-shaped (c .before .before .before .before .before .before .before .args .game-type) _ _ (c .before .before .before .shape-in .ensures) (not-set _ (c .before .before .match .keys2)) (c .before .value-by .ensures))
 
 pub sgf-go-property-spec : {M : Type 1} → statement M
 sgf-go-property-spec =

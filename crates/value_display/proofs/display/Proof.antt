@@ -1,6 +1,6 @@
 -- `value_display::display` meets its contract. Assumes nothing.
 use Rattle.lists.proofs.Prelude.{arith, needs, not-true, not-false}
-use Rattle.value_display.specs.Display.{shown}
+use Rattle.value_display.specs.Display.{displayText}
 use Rattle.values.specs.Read.{readValue}
 use Rattle.value_display.proofs.Displays.{display-refused, display-done}
 use Rattle.value_display.proofs.display.Statement.{statement}
@@ -11,7 +11,7 @@ returns c =
     let args = c .before .before .before .before .before .before .before .args in
     let good = c .before .before .before .before .before .before .before .good in
     let has-room = c .before .before .before .has-room in
-    display-refused (shown (args .kind) (readValue (args .raw .now))) (args .out .now) (omega (arith, good)) (has-room .ensures .0) (has-room .ensures .1) (not-true (has-room .result) (c .if1 .taken))
+    display-refused (displayText (args .kind) (readValue (args .raw .now))) (args .out .now) (omega (arith, good)) (has-room .ensures .0) (has-room .ensures .1) (not-true (has-room .result) (c .if1 .taken))
 
 returns-2 : tie.Need-returns-2
 returns-2 c =
@@ -19,7 +19,7 @@ returns-2 c =
     let good = c .before .before .before .before .before .before .before .before .before .before .before .good in
     let has-room = c .before .before .before .before .before .before .before .has-room in
     let if1 = c .before .before .before .before .if1 in
-    display-done (shown (args .kind) (readValue (args .raw .now))) (args .out .now) (omega (arith, good)) (has-room .ensures .0) (has-room .ensures .1) (not-false (has-room .result) (if1 .left)) (c .before .before .put-shown .ensures)
+    display-done (displayText (args .kind) (readValue (args .raw .now))) (args .out .now) (omega (arith, good)) (has-room .ensures .0) (has-room .ensures .1) (not-false (has-room .result) (if1 .left)) (c .before .before .put-shown .ensures)
 
 pub display-spec : {M : Type 1} → statement M
 display-spec =

@@ -1,7 +1,7 @@
 -- `value_display::put_shown` meets its contract. Assumes nothing.
 use Rattle.lists.proofs.Prelude.{_-_, subst, arith, needs, length}
-use Rattle.value_display.specs.Display.{shown}
-use Rattle.value_display.specs.LocalsShowing.{Shows}
+use Rattle.value_display.specs.Display.{displayText}
+use Rattle.value_display.specs.LocalsShowing.{DisplaysAt}
 use Rattle.value_display.proofs.Displays.{Displaying, display-first, display-next, display-end}
 use Rattle.store_bytes.proofs.Written.{wrote-length}
 use Rattle.value_display.proofs.put_shown.Statement.{statement}
@@ -27,7 +27,7 @@ returns : tie.Need-returns Inv-loop μ-loop
 returns c =
     let args = c .before .before .before .before .before .before .args in
     let loop = c .before .before .before .loop in
-    display-end (args .kind) (args .raw .now) (loop .inv) (subst (Shows (shown (args .kind)) (args .raw .now) (loop .at)) (c .enum-told .given .1) (c .before .before .next-shown .ensures))
+    display-end (args .kind) (args .raw .now) (loop .inv) (subst (DisplaysAt (displayText (args .kind)) (args .raw .now) (loop .at)) (c .enum-told .given .1) (c .before .before .next-shown .ensures))
 
 loop-less : tie.Need-loop-less Inv-loop μ-loop
 loop-less c =
@@ -35,7 +35,7 @@ loop-less c =
     let loop = c .before .before .before .before .before .before .before .before .loop in
     let next-shown = c .before .before .before .before .before .before .before .next-shown in
     let b = c .before .before .before .before .before .b in
-    omega (arith, (subst (Shows (shown (args .kind)) (args .raw .now) (loop .at)) (b .given .1) (next-shown .ensures)))
+    omega (arith, (subst (DisplaysAt (displayText (args .kind)) (args .raw .now) (loop .at)) (b .given .1) (next-shown .ensures)))
 
 loop-again : tie.Need-loop-again Inv-loop μ-loop
 loop-again c =
@@ -44,7 +44,7 @@ loop-again c =
     let loop = c .before .before .before .before .before .before .before .before .loop in
     let next-shown = c .before .before .before .before .before .before .before .next-shown in
     let b = c .before .before .before .before .before .b in
-    display-next (args .kind) (args .raw .now) (loop .inv) (omega (arith, good)) (subst (Shows (shown (args .kind)) (args .raw .now) (loop .at)) (b .given .1) (next-shown .ensures)) (c .before .before .put-byte .ensures)
+    display-next (args .kind) (args .raw .now) (loop .inv) (omega (arith, good)) (subst (DisplaysAt (displayText (args .kind)) (args .raw .now) (loop .at)) (b .given .1) (next-shown .ensures)) (c .before .before .put-byte .ensures)
 
 pub put-shown-spec : {M : Type 1} → statement M
 put-shown-spec =

@@ -6,14 +6,14 @@ use Rattle.go.proofs.value.go_value.Statement.{statement}
 use Rattle.go.proofs.value.go_value.Tie as tie
 
 returns : tie.Need-returns
-returns c = value-unknown (c .before .before .before .before .before .args .kind) _ _ (c .before .if1 .taken) (c .unmarked-value .ensures)
+returns c = value-unknown (c .before .before .before .before .before .args .game) _ _ (c .before .if1 .taken) (c .unmarked-value .ensures)
 
 returns-2 : tie.Need-returns-2
 unfolding valueBy
-returns-2 c = value-shaped (c .before .before .before .before .before .before .before .before .args .kind) _ _ (c .before .before .before .before .if1 .left) (c .before .before .before .shape-of .ensures) (c .before .enum-told .given .1) (c .read-points .ensures)
+returns-2 c = value-shaped (c .before .before .before .before .before .before .before .before .args .game) _ _ (c .before .before .before .before .if1 .left) (c .before .before .before .shape-of .ensures) (c .before .enum-told .given .1) (c .read-points .ensures)
 
 returns-3 : tie.Need-returns-3
-returns-3 c = value-shaped (c .before .before .before .before .before .before .before .before .args .kind) _ _ (c .before .before .before .before .if1 .left) (c .before .before .before .shape-of .ensures) refl (c .unmarked-value2 .ensures ∙ by-alone _ _ (not-set (c .before .before .before .shape-of .result) (c .before .before .match .keys2)) (c .before .value-by .ensures))
+returns-3 c = value-shaped (c .before .before .before .before .before .before .before .before .args .game) _ _ (c .before .before .before .before .if1 .left) (c .before .before .before .shape-of .ensures) refl (c .unmarked-value2 .ensures ∙ by-alone _ _ (not-set (c .before .before .before .shape-of .result) (c .before .before .match .keys2)) (c .before .value-by .ensures))
 
 pub go-value-spec : {M : Type 1} → statement M
 go-value-spec =

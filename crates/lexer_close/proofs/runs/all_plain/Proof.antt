@@ -3,12 +3,12 @@ use Rattle.lists.proofs.Prelude.{_≡_, sym, _∙_, true, ℕ, _+_, _-_, _≤_,
 use denote.Ref.{now}
 use borrow.Author.Count.{below-more}
 use Rattle.lists.proofs.Tests.{and-both}
-use Rattle.lexer_close.specs.LocalsRun.{plain}
+use Rattle.lexer_close.specs.LocalsRun.{closesNothing}
 use Rattle.lexer_close.proofs.runs.all_plain.Statement.{statement}
 use Rattle.lexer_close.proofs.runs.all_plain.Tie as tie
 
 abbrev Inv-loop : tie.InvT-loop
-Inv-loop s i n all₀ k₀ all k = (k ≤ n) × (all ≡ true → (m : ℕ) → m < k → plain (getD s (i + m) 0) ≡ true)
+Inv-loop s i n all₀ k₀ all k = (k ≤ n) × (all ≡ true → (m : ℕ) → m < k → closesNothing (getD s (i + m) 0) ≡ true)
 
 abbrev μ-loop : tie.MeasureT-loop
 μ-loop s i n all₀ k₀ all k = n - k
@@ -23,7 +23,7 @@ loop-again c =
       search needs,
       λ e.
           let p = and-both (l .loop .all) (c .is-plain .result) e in
-          below-more (λ (m : ℕ). plain (getD (now (a .s)) (a .i + m) 0) ≡ true) (l .loop .k) (l .loop .inv .1 (p .0)) (sym (c .is-plain .ensures) ∙ p .1),
+          below-more (λ (m : ℕ). closesNothing (getD (now (a .s)) (a .i + m) 0) ≡ true) (l .loop .k) (l .loop .inv .1 (p .0)) (sym (c .is-plain .ensures) ∙ p .1),
     )
 
 returns : tie.Need-returns Inv-loop μ-loop

@@ -11,7 +11,7 @@ returns : tie.Need-returns
 returns c = read-no-room (c .before .before .before .before .before .before .before .pre .counted) _ (c .before .has-room .ensures) (not-true _ (c .if1 .taken))
 
 read-trees-requires : tie.Need-read-trees-requires
-read-trees-requires c κs = (c .before .before .before .before .before .before .before .before .before .before .before .pre .ready, c .before .before .before .before .before .before .before .before .before .before .before .pre .kinds)
+read-trees-requires c κs = (c .before .before .before .before .before .before .before .before .before .before .before .pre .ready, c .before .before .before .before .before .before .before .before .before .before .before .pre .games)
 
 returns-2 : tie.Need-returns-2
 returns-2 c = read-accepted (c .before .before .before .before .before .before .before .before .before .before .before .before .before .before .before .before .before .before .before .before .before .before .before .before .before .before .before .before .pre .counted) _ (c .before .before .before .before .before .before .before .before .before .before .before .before .before .before .before .before .before .before .before .before .before .before .has-room .ensures) (not-false _ (c .before .before .before .before .before .before .before .before .before .before .before .before .before .before .before .before .before .before .before .before .before .if1 .left)) (lent (c .before .before .before .before .before .before .before .before .before .before .before .before .before .before .before .before .read-trees .last .1 .1 .1 .1 .1 .0) (c .before .before .before .before .before .before .before .before .before .before .before .before .before .before .before .before .read-trees .last .1 .1 .1 .1 .1 .1 .0) (c .before .before .before .before .before .before .before .before .before .before .before .before .before .before .before .before .read-trees .last .1 .1 .1 .1 .1 .1 .1 .0) (c .before .before .before .before .before .before .before .before .before .before .before .before .before .before .before .before .read-trees .last .1 .1 .1 .1 .1 .1 .1 .1 .0)) (c .before .before .before .before .before .before .before .before .before .before .before .before .before .before .before .before .read-trees .result) (c .before .before .before .before .before .before .before .before .before .before .before .before .before .before .before .before .read-trees .ensures) _ _ refl _ _ (c .before .before .before .before .before .before .link-nodes .ensures) (c .before .before .level-nodes .ensures)

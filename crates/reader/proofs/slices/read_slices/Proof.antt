@@ -7,7 +7,7 @@ use Rattle.reader.proofs.slices.read_slices.Tie as tie
 -- `proofs::read_slices` meets its contract. Assumes nothing.
 
 fill-requires : tie.Need-fill-requires
-fill-requires c κs = record { ready = c .before .before .before .before .before .before .before .before .before .before .before .before .before .pre; counted = grown-counted (total-rows _ _ (c .before .before .before .before .before .before .before .count-rows .ensures) (c .before .before .before .before .before .n .given .1)); kinds = λ e. absurd (false≢true e) }
+fill-requires c κs = record { ready = c .before .before .before .before .before .before .before .before .before .before .before .before .before .pre; counted = grown-counted (total-rows _ _ (c .before .before .before .before .before .before .before .count-rows .ensures) (c .before .before .before .before .before .n .given .1)); games = λ e. absurd (false≢true e) }
 
 returns : tie.Need-returns
 returns c = read-refused (total-refused _ _ (c .before .before .before .count-rows .ensures) (c .before .reason .given .1))

@@ -46,7 +46,7 @@ same-length-8 : tie.Need-same-length-8 Inv-loop μ-loop
 same-length-8 c = let k = (plant-keeps (c .before .before .before .before .before .before .before .before .before .before .before .before .before .before .before .before .before .before .loop .inv)) in omega arith
 
 returns-2 : tie.Need-returns-2 Inv-loop μ-loop
-returns-2 c = plant-stop (c .before .before .before .before .before .before .before .before .before .before .before .before .before .before .before .before .before .before .loop .inv) (c .before .before .before .before .before .before .before .before .before .before .before .before .before .before .before .before .before .loop-test .taken) (c .before .before .before .before .before .before .before .before .before .before .before .before .before .before .before .before .type-unless .ensures) (c .before .before .before .before .before .before .before .before .before .before .before .before .before .before .kind .given .1) (walk-refused-as _ _ _ _ _ _ _ _ _ _ _ _ (c .before .before .before .before .before .before .before .before .before .walk-tree .ensures) (c .before .reason2 .given .1))
+returns-2 c = plant-stop (c .before .before .before .before .before .before .before .before .before .before .before .before .before .before .before .before .before .before .loop .inv) (c .before .before .before .before .before .before .before .before .before .before .before .before .before .before .before .before .before .loop-test .taken) (c .before .before .before .before .before .before .before .before .before .before .before .before .before .before .before .before .type-unless .ensures) (c .before .before .before .before .before .before .before .before .before .before .before .before .before .before .game .given .1) (walk-refused-as _ _ _ _ _ _ _ _ _ _ _ _ (c .before .before .before .before .before .before .before .before .before .walk-tree .ensures) (c .before .reason2 .given .1))
 
 mul-put2 : tie.Need-mul-put2 Inv-loop μ-loop
 mul-put2 c = let r = (c .before .before .before .before .before .before .before .before .before .before .before .before .before .before .before .before .before .before .before .loop .inv) .ready in let b = (c .before .before .before .before .before .before .before .before .before .before .before .before .before .before .before .before .before .before .before .loop .inv) .below in omega arith
@@ -61,7 +61,7 @@ loop-less : tie.Need-loop-less Inv-loop μ-loop
 loop-less c = let t = c .before .before .before .before .before .before .before .before .before .before .before .before .before .before .before .before .before .before .before .before .before .loop-test .taken in omega arith
 
 loop-again : tie.Need-loop-again Inv-loop μ-loop
-loop-again c = plant-more (c .before .before .before .before .before .before .before .before .before .before .before .before .before .before .before .before .before .before .before .before .before .before .loop .inv) (c .before .before .before .before .before .before .before .before .before .before .before .before .before .before .before .before .before .before .before .before .before .loop-test .taken) (c .before .before .before .before .before .before .before .before .before .before .before .before .before .before .before .before .before .before .before .before .type-unless .ensures) (c .before .before .before .before .before .before .before .before .before .before .before .before .before .before .before .before .before .before .kind .given .1) (walk-tree-as _ _ _ _ _ _ _ _ _ _ _ _ (c .before .before .before .before .before .before .before .before .before .before .before .before .before .walk-tree .ensures) (c .before .before .before .before .before .next .given .1)) (c .before .before .put2 .ensures .is)
+loop-again c = plant-more (c .before .before .before .before .before .before .before .before .before .before .before .before .before .before .before .before .before .before .before .before .before .before .loop .inv) (c .before .before .before .before .before .before .before .before .before .before .before .before .before .before .before .before .before .before .before .before .before .loop-test .taken) (c .before .before .before .before .before .before .before .before .before .before .before .before .before .before .before .before .before .before .before .before .type-unless .ensures) (c .before .before .before .before .before .before .before .before .before .before .before .before .before .before .before .before .before .before .game .given .1) (walk-tree-as _ _ _ _ _ _ _ _ _ _ _ _ (c .before .before .before .before .before .before .before .before .before .before .before .before .before .walk-tree .ensures) (c .before .before .before .before .before .next .given .1)) (c .before .before .put2 .ensures .is)
 
 same-length-9 : tie.Need-same-length-9 Inv-loop μ-loop
 same-length-9 c = (plant-keeps (c .before .loop .inv)) .0

@@ -9,15 +9,15 @@ use Rattle.serialize.proofs.property.put_properties.Statement.{statemen
 use Rattle.serialize.proofs.property.put_properties.Tie as tie
 
 abbrev Inv-loop : tie.InvT-loop
-Inv-loop out₀ at text nodes properties values kind k first count to₀ i₀ out to i = (i ≤ count) × Wrote (texts (λ j. propText text properties values kind (first + j)) i) out₀ at out to
+Inv-loop out₀ at text nodes properties values game k first count to₀ i₀ out to i = (i ≤ count) × Wrote (texts (λ j. propText text properties values game (first + j)) i) out₀ at out to
 
 abbrev μ-loop : tie.MeasureT-loop
-μ-loop out₀ at text nodes properties values kind k first count to₀ i₀ out to i = count - i
+μ-loop out₀ at text nodes properties values game k first count to₀ i₀ out to i = count - i
 
 loop-holds : tie.Need-loop-holds Inv-loop μ-loop
 loop-holds c =
     let args = c .before .before .before .before .before .before .before .before .before .args in
-    (omega arith, texts-none (λ j. propText (args .text .now) (args .properties .now) (args .values .now) (args .kind) (c .before .before .wide .result + j)) (args .out .now) (args .at) (omega (arith, c .before .before .before .before .before .before .before .before .before .good)))
+    (omega arith, texts-none (λ j. propText (args .text .now) (args .properties .now) (args .values .now) (args .game) (c .before .before .wide .result + j)) (args .out .now) (args .at) (omega (arith, c .before .before .before .before .before .before .before .before .before .good)))
 
 add-put-property : tie.Need-add-put-property Inv-loop μ-loop
 add-put-property c = let h = node-property (c .before .before .before .before .before .before .before .before .before .before .before .before .pre) (c .before .before .before .before .before .wide .ensures) (c .before .before .before .wide2 .ensures) (c .before .before .loop .i) (c .before .loop-test .taken) .row in search needs
@@ -29,7 +29,7 @@ loop-again : tie.Need-loop-again Inv-loop μ-loop
 loop-again c =
     let args = c .before .before .before .before .before .before .before .before .before .before .before .before .before .before .before .args in
     let loop = c .before .before .before .before .before .loop in
-    (omega (arith, c .before .before .before .before .loop-test .taken), texts-more (λ j. propText (args .text .now) (args .properties .now) (args .values .now) (args .kind) (c .before .before .before .before .before .before .before .before .wide .result + j)) (loop .i) (omega (arith, c .before .before .before .before .before .before .before .before .before .before .before .before .before .before .before .good)) (loop .inv .1) (c .before .before .put-property .ensures))
+    (omega (arith, c .before .before .before .before .loop-test .taken), texts-more (λ j. propText (args .text .now) (args .properties .now) (args .values .now) (args .game) (c .before .before .before .before .before .before .before .before .wide .result + j)) (loop .i) (omega (arith, c .before .before .before .before .before .before .before .before .before .before .before .before .before .before .before .good)) (loop .inv .1) (c .before .before .put-property .ensures))
 
 same-length : tie.Need-same-length Inv-loop μ-loop
 same-length c = wrote-length (c .before .loop .inv .1)
@@ -40,7 +40,7 @@ returns c =
     let wide = c .before .before .before .before .wide in
     let wide2 = c .before .before .wide2 in
     let loop = c .before .loop in
-    wrote-is (properties-are (args .text .now) (args .nodes .now) (args .properties .now) (args .values .now) (args .kind) (args .k) (wide .ensures) (wide2 .ensures)) (texts-end (λ j. propText (args .text .now) (args .properties .now) (args .values .now) (args .kind) (wide .result + j)) (loop .i) (wide2 .result) (loop .inv .0) (c .loop-test .left) (loop .inv .1))
+    wrote-is (properties-are (args .text .now) (args .nodes .now) (args .properties .now) (args .values .now) (args .game) (args .k) (wide .ensures) (wide2 .ensures)) (texts-end (λ j. propText (args .text .now) (args .properties .now) (args .values .now) (args .game) (wide .result + j)) (loop .i) (wide2 .result) (loop .inv .0) (c .loop-test .left) (loop .inv .1))
 
 pub put-properties-spec : {M : Type 1} → statement M
 put-properties-spec =

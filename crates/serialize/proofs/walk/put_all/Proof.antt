@@ -23,10 +23,10 @@ loop-holds c =
 roots-with-requires : tie.Need-roots-with-requires Inv-loop μ-loop
 roots-with-requires c κs =
     let loop = c .before .loop in
-    (omega (arith, c .before .before .before .before .before .before .before .before .pre .rows, c .loop-test .taken), loop .inv .1, loop .inv .2)
+    (omega (arith, c .before .before .before .before .before .before .before .before .pre .lent, c .loop-test .taken), loop .inv .1, loop .inv .2)
 
-kind-of-requires : tie.Need-kind-of-requires Inv-loop μ-loop
-kind-of-requires c κs =
+game-of-requires : tie.Need-game-of-requires Inv-loop μ-loop
+game-of-requires c κs =
     let loop = c .before .before .loop in
     omega (arith, c .roots-with .ensures .0, roots-some (c .before .before .before .before .before .before .before .before .before .args .nodes .now) (loop .k) (nodes-up (c .before .before .before .before .before .before .before .before .before .pre) (loop .k) (c .before .loop-test .taken) .ruled))
 
@@ -38,7 +38,7 @@ loop-again c =
     let roots-with = c .before .before .before .before .before .roots-with in
     let args = c .before .before .before .before .before .before .before .before .before .before .before .before .before .before .args in
     let loop = c .before .before .before .before .before .before .before .loop in
-    (omega (arith, c .before .before .before .before .before .before .loop-test .taken), omega (arith, roots-with .ensures .1), roots-next (args .nodes .now) (loop .k) (roots-with .ensures .0), texts-more (nodeText (args .text .now) (args .trees .now) (args .nodes .now) (args .properties .now) (args .values .now)) (loop .k) (omega (arith, c .before .before .before .before .before .before .before .before .before .before .before .before .before .before .good)) (loop .inv .3) (wrote-is (node-typed (args .text .now) (args .trees .now) (args .nodes .now) (args .properties .now) (args .values .now) (loop .k) (roots-with .ensures .0) (c .before .before .before .before .kind-of .ensures)) (c .before .before .put-node .ensures)))
+    (omega (arith, c .before .before .before .before .before .before .loop-test .taken), omega (arith, roots-with .ensures .1), roots-next (args .nodes .now) (loop .k) (roots-with .ensures .0), texts-more (nodeText (args .text .now) (args .trees .now) (args .nodes .now) (args .properties .now) (args .values .now)) (loop .k) (omega (arith, c .before .before .before .before .before .before .before .before .before .before .before .before .before .before .good)) (loop .inv .3) (wrote-is (node-typed (args .text .now) (args .trees .now) (args .nodes .now) (args .properties .now) (args .values .now) (loop .k) (roots-with .ensures .0) (c .before .before .before .before .game-of .ensures)) (c .before .before .put-node .ensures)))
 
 put-ends-requires : tie.Need-put-ends-requires Inv-loop μ-loop
 put-ends-requires c κs = nodes-above (c .before .before .before .before .before .before .before .before .before .pre)
@@ -63,7 +63,7 @@ put-all-spec =
     μ-loop
     loop-holds
     roots-with-requires
-    kind-of-requires
+    game-of-requires
     put-node-requires
     (λ c. search needs)
     (λ c. search needs)
