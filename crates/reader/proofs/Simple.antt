@@ -46,7 +46,7 @@ module _ (len : Bool) (l : Lexed) (c : Counts) (h : censusOf l ≡ Simple (c .tr
       let e4 : length (valRows (allVals (allProps (allNodes (g .us))))) ≡ c .values = omega (arith, val-rows-length (allVals (allProps (allNodes (g .us)))), g .vals) in (
         record {
           ts = g .us;
-          trees-are = ap (λ (z : ℕ). parseGametrees len (treesSoFar 0 []) (firstSlices z (l .toks))) (sym e) ∙ g .trees-are [] ∙ ap (treesSoFar (c .nodes)) (append-nil (reverse (g .us)));
+          trees-are = ap (λ (z : ℕ). parseGametrees len (treesSoFar 0 []) (firstSlices z (l .toks))) (sym e) ∙ g .grown [] ∙ ap (treesSoFar (c .nodes)) (append-nil (reverse (g .us)));
           counts = rw (e1, e2, e3, e4);
         },
         subst (λ (z : ℕ). All (λ (s : List Tok). findGametype s ≡ is 0) (firstSlices z (l .toks))) e (g .games),

@@ -3,8 +3,8 @@ use Rattle.lists.proofs.Prelude.{length-take-le, sym}
 use Rattle.cases_edits.proofs.on_text.Statement.{statement}
 use Rattle.cases_edits.proofs.on_text.Tie as tie
 
-slice-aggregate-read : tie.Need-slice-aggregate-read
-slice-aggregate-read c = sym (length-take-le _ _ (c .before .before .before .load .ensures))
+slice-aggregate-read-strict : tie.Need-slice-aggregate-read-strict
+slice-aggregate-read-strict c = sym (length-take-le _ _ (c .before .before .before .load .ensures))
 
 pub on-text-spec : {M : Type 1} → statement M
 on-text-spec =
@@ -12,7 +12,7 @@ on-text-spec =
     (tie.spec
     (λ c κs. tt)
     (λ c. c .before .before .load .ensures)
-    slice-aggregate-read
+    slice-aggregate-read-strict
     (λ c κs. tt)
     (λ c. c .match .keys1)
     (λ c κs. tt)
