@@ -79,9 +79,9 @@ enum {
 #define SGF_NONE UINT32_C(4294967295)
 
 /* Numbers a row of each table, and their places in it. A node row has 6 numbers, up to version 0.6.0 it had 5: write
- * SGF_NODE_STRIDE, lend 6 numbers a node, compile anew. Tables that an older library filled are not to be kept, read
- * the text again: lent as they are, they are as a rule SGF_NOT_FITTING, else other rows than they were; no memory is
- * harmed. */
+ * SGF_NODE_STRIDE, lend 6 numbers a node, compile anew, and test at start that sgf_version() is SGF_VERSION. Tables
+ * that an older library filled are not to be kept, read the text again: lent as they are, they are SGF_NOT_FITTING, but
+ * for a record of one node with a 0 behind its row; no memory is harmed. */
 enum { SGF_TREE_ROOT = 0, SGF_TREE_GAME_TYPE = 1, SGF_TREE_STRIDE = 2 };
 enum {
     SGF_NODE_PARENT = 0,

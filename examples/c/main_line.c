@@ -180,6 +180,10 @@ int main(int argc, char **argv) {
         fprintf(stderr, "usage: main_line FILE\n");
         return 1;
     }
+    if (sgf_version() != SGF_VERSION) {
+        fprintf(stderr, "main_line: header and archive are of two releases\n");
+        return 1;
+    }
     Record r = {0};
     load(&r, argv[1]);
     read_record(&r);

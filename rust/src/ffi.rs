@@ -195,6 +195,15 @@ pub fn version() -> u32 {
     unsafe { sgf_version() }
 }
 
+/// Panics where the linked archive is of another release: its rows may have other columns.
+pub fn agree() {
+    let [major, minor, patch] = crate::version();
+    let archive = (major, minor, patch);
+    let part = |text: &str| text.parse().unwrap_or(u32::MAX);
+    let own = (part(env!("CARGO_PKG_VERSION_MAJOR")), part(env!("CARGO_PKG_VERSION_MINOR")), part(env!("CARGO_PKG_VERSION_PATCH")));
+    assert!(archive == own, "libsgf.a has the version {archive:?}, this crate {own:?}: make it anew with ./library");
+}
+
 pub fn trim(text: &[u8]) -> Trimmed {
     unsafe { sgf_trim(text.as_ptr(), text.len()) }
 }
