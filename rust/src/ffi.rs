@@ -195,15 +195,6 @@ pub fn version() -> u32 {
     unsafe { sgf_version() }
 }
 
-/// Panics where the linked archive is of another release: its rows may have other columns.
-pub fn agree() {
-    let [major, minor, patch] = crate::version();
-    let archive = (major, minor, patch);
-    let part = |text: &str| text.parse().unwrap_or(u32::MAX);
-    let own = (part(env!("CARGO_PKG_VERSION_MAJOR")), part(env!("CARGO_PKG_VERSION_MINOR")), part(env!("CARGO_PKG_VERSION_PATCH")));
-    assert!(archive == own, "libsgf.a has the version {archive:?}, this crate {own:?}: make it anew with ./library");
-}
-
 pub fn trim(text: &[u8]) -> Trimmed {
     unsafe { sgf_trim(text.as_ptr(), text.len()) }
 }
@@ -221,8 +212,19 @@ macro_rules! reading {
     ($f:ident, $text:expr, $settings:expr, $tables:expr) => {{
         let (text, [trees, nodes, properties, values]) = ($text, $tables);
         unsafe {
-            $f(text.as_ptr(), text.len(), $settings, trees.as_mut_ptr(), trees.len(), nodes.as_mut_ptr(), nodes.len(),
-                properties.as_mut_ptr(), properties.len(), values.as_mut_ptr(), values.len())
+            $f(
+                text.as_ptr(),
+                text.len(),
+                $settings,
+                trees.as_mut_ptr(),
+                trees.len(),
+                nodes.as_mut_ptr(),
+                nodes.len(),
+                properties.as_mut_ptr(),
+                properties.len(),
+                values.as_mut_ptr(),
+                values.len(),
+            )
         }
     }};
 }

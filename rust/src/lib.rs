@@ -87,6 +87,15 @@ pub fn version() -> [u32; 3] {
     [number >> 16, number >> 8 & 255, number & 255]
 }
 
+/// Panics where the linked archive is of another release: its rows may have other columns.
+pub(crate) fn agree() {
+    let [major, minor, patch] = version();
+    let archive = (major, minor, patch);
+    let part = |text: &str| text.parse().unwrap_or(u32::MAX);
+    let own = (part(env!("CARGO_PKG_VERSION_MAJOR")), part(env!("CARGO_PKG_VERSION_MINOR")), part(env!("CARGO_PKG_VERSION_PATCH")));
+    assert!(archive == own, "libsgf.a has the version {archive:?}, this crate {own:?}: make it anew with ./library");
+}
+
 /// The longest text, in bytes.
 pub const TEXT_LIMIT: usize = 1_048_576;
 /// The greatest number of open trees.

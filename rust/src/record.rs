@@ -88,7 +88,7 @@ pub fn serialize(record: &Record) -> Result<String, Error> {
 
 impl<'t> Record<'t> {
     fn read(text: Cow<'t, [u8]>, read: Read, options: ParseOptions) -> Result<Self, Error> {
-        ffi::agree();
+        crate::agree();
         let mut tables = if text.len() <= TEXT_LIMIT { Tables::sufficient(&text) } else { Tables::default() };
         let reading = read(&text, options.settings(), tables.lent());
         if reading.number != 0 {
@@ -127,7 +127,7 @@ impl<'t> Record<'t> {
     /// # Ok::<(), ekimorepa::Error>(())
     /// ```
     pub fn from_tables<T: AsRef<[u8]> + ?Sized>(text: &'t T, tables: Tables) -> Result<Self, Error> {
-        ffi::agree();
+        crate::agree();
         match ffi::fits(&tables.held(text.as_ref())) {
             0 => Ok(Record { text: Cow::Borrowed(text.as_ref()), tables, ignored: false }),
             number => Err(Error::new(number, 0)),

@@ -1,5 +1,7 @@
 //! Every number that this crate can give, 0 to 19 without 14: it lends enough rows and bytes itself.
-use ekimorepa::{DEPTH_LIMIT, Error, ErrorKind, ParseOptions, Record, TEXT_LIMIT, parse, parse_lenient, parse_lenient_with_options, parse_with_options};
+use ekimorepa::{
+    DEPTH_LIMIT, Error, ErrorKind, ParseOptions, Record, TEXT_LIMIT, parse, parse_lenient, parse_lenient_with_options, parse_with_options,
+};
 
 type Answer = Result<(), Error>;
 
@@ -83,7 +85,10 @@ fn the_retired_switch_is_ignored_and_said() {
             (parse_lenient_with_options(text, &keep), parse_lenient_with_options(text, &on)),
         ];
         for (with, without) in readings {
-            assert_eq!(with.as_ref().map_err(Error::number).map(Record::tables), without.as_ref().map_err(Error::number).map(Record::tables));
+            assert_eq!(
+                with.as_ref().map_err(Error::number).map(Record::tables),
+                without.as_ref().map_err(Error::number).map(Record::tables)
+            );
             assert_eq!((said(&with), said(&without)), (true, false), "{text}");
         }
     }

@@ -37,7 +37,8 @@ fn readings() {
 #[test]
 fn depths() {
     let depths = |record: Record| record.nodes().map(|node| node.depth()).collect::<Vec<usize>>();
-    for (text, expected) in [("(;(;);)", vec![0, 1, 1]), ("(;;)(;)", vec![0, 1, 0]), ("(;(;(;)))", vec![0, 1, 2]), ("(;;;)", vec![0, 1, 2])] {
+    for (text, expected) in [("(;(;);)", vec![0, 1, 1]), ("(;;)(;)", vec![0, 1, 0]), ("(;(;(;)))", vec![0, 1, 2]), ("(;;;)", vec![0, 1, 2])]
+    {
         assert_eq!(depths(parse(text).unwrap()), expected, "{text}");
     }
     let line = |nodes: usize, end: &str| ["(", &";".repeat(nodes), end].concat();
