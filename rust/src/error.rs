@@ -1,6 +1,7 @@
 //! Refusals.
 #![forbid(unsafe_code)]
 use std::fmt;
+use std::hash::{Hash, Hasher};
 
 /// Why something is refused. Those that `sgf-parse` has too bear its names.
 #[derive(Debug, Clone, Copy, PartialEq, Eq, Hash)]
@@ -55,12 +56,26 @@ const KINDS: [(ErrorKind, &str); 19] = [
     (NotFitting, "the tables do not fit the text"),
 ];
 
-/// A refusal: why, and for some kinds where.
-#[derive(Debug, Clone, Copy, PartialEq, Eq, Hash)]
+/// A refusal: why, and for some kinds where. Refusals are equal where these are, whatever settings were ignored.
+#[derive(Debug, Clone, Copy)]
 pub struct Error {
     kind: ErrorKind,
     place: usize,
     ignored: bool,
+}
+
+impl PartialEq for Error {
+    fn eq(&self, other: &Self) -> bool {
+        (self.kind, self.place) == (other.kind, other.place)
+    }
+}
+
+impl Eq for Error {}
+
+impl Hash for Error {
+    fn hash<H: Hasher>(&self, state: &mut H) {
+        (self.kind, self.place).hash(state);
+    }
 }
 
 impl Error {

@@ -28,13 +28,22 @@ type Read = fn(&[u8], u32, [&mut [u32]; 4]) -> ffi::Reading;
 
 /// A collection of game trees: its text, borrowed or owned, and the tables of its trees, nodes, properties and values.
 ///
-/// The tables always fit the text, and any part of it is handed out without a copy.
-#[derive(Debug, Clone, PartialEq, Eq)]
+/// The tables always fit the text, and any part of it is handed out without a copy. Records are equal where text and
+/// tables are, whatever settings were ignored.
+#[derive(Debug, Clone)]
 pub struct Record<'t> {
     pub(crate) text: Cow<'t, [u8]>,
     pub(crate) tables: Tables,
     pub(crate) ignored: bool,
 }
+
+impl PartialEq for Record<'_> {
+    fn eq(&self, other: &Self) -> bool {
+        self.text == other.text && self.tables == other.tables
+    }
+}
+
+impl Eq for Record<'_> {}
 
 /// Reads a text strictly.
 ///

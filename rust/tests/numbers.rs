@@ -2,6 +2,7 @@
 use ekimorepa::{
     DEPTH_LIMIT, Error, ErrorKind, ParseOptions, Record, TEXT_LIMIT, parse, parse_lenient, parse_lenient_with_options, parse_with_options,
 };
+use std::hash::{DefaultHasher, Hash, Hasher};
 
 type Answer = Result<(), Error>;
 
@@ -92,6 +93,31 @@ fn the_retired_switch_is_ignored_and_said() {
             assert_eq!((said(&with), said(&without)), (true, false), "{text}");
         }
     }
+}
+
+#[test]
+fn settings_that_are_ignored_make_no_difference() {
+    let keep = ParseOptions { convert_mixed_case_identifiers: false };
+    for text in ["(;a[])", "(;)", "(;B[aa])(;GM[2])"] {
+        let (with, without) = (parse_with_options(text, &keep).unwrap(), parse(text).unwrap());
+        assert_eq!(with, without);
+        assert_eq!(with, Record::from_tables(text, with.tables().clone()).unwrap());
+        assert_eq!(with.clone().into_owned(), with);
+        assert_eq!(parse_lenient_with_options(text, &keep).unwrap(), without);
+        assert_ne!(with, parse("(;C[])").unwrap());
+    }
+    assert_ne!(parse("(;C[a])").unwrap(), parse("(;C[b])").unwrap());
+    let hash = |error: &Error| {
+        let mut state = DefaultHasher::new();
+        error.hash(&mut state);
+        state.finish()
+    };
+    for text in ["", "(", "(;B)", "(;GM[x])"] {
+        let (with, without) = (parse_with_options(text, &keep).unwrap_err(), parse(text).unwrap_err());
+        assert_eq!((with, hash(&with)), (without, hash(&without)));
+    }
+    assert_ne!(parse("(;B)").unwrap_err(), parse("(;;B)").unwrap_err());
+    assert_ne!(parse("").unwrap_err(), parse("(").unwrap_err());
 }
 
 #[test]

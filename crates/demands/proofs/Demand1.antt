@@ -1,7 +1,7 @@
 -- Demand 1, total: any bytes, options and lent tables get an answer; each refusal is given exactly when the scope says; a refusal changes no lent byte or row. Assumes nothing.
 -- That every input has an answer, and one only, is each contract itself, which has no premise (demands/proofs/UniqueExported). Said here of the exported functions, by their numbers;
 -- what a refusal leaves is said of the functions below them as well. When the reader's definition refuses, and with which number, is said of `read`.
-use Rattle.lists.proofs.Prelude.{ℕ, _<_, true, false, List, _≡_, ap, length, Bool}
+use Rattle.lists.proofs.Prelude.{ℕ, _≤_, _<_, true, false, List, _≡_, ap, length, Bool}
 use Rattle.text_chars.specs.Table.{WellFormed, BadFrom}
 use Rattle.text_utf8.specs.Trim.{trimmed}
 use Rattle.lexer.specs.declared.Step.{Step}
@@ -15,7 +15,7 @@ use Rattle.tables.specs.declared.Reason.{Reason}
 use Rattle.tables.specs.declared.Reason.the-variants.{NotUtf8, NotFitting}
 use Rattle.fit.specs.Fit.{Fit}
 use Rattle.ask_value.specs.Access.{accessed}
-use Rattle.parser.specs.Read.{read, readStrict}
+use Rattle.parser.specs.Read.{Answer, read, readStrict}
 use Rattle.reader.specs.Lent.{Lent, ReadIs}
 use Rattle.ask.specs.Ask.{DisplayIs, goAnswer}
 use Rattle.ask.specs.declared.DisplayAnswer.the-variants.{NoDisplay}
@@ -33,11 +33,12 @@ use Rattle.c_answers.specs.declared.SgfSpan.{SgfSpan}
 use Rattle.c_answers.specs.declared.SgfWriting.{SgfWriting}
 use Rattle.sgf.specs.AskInC.{fitsInC, DisplayInC, goAnswerInC}
 use Rattle.sgf.specs.ChangeInC.{WriteInC, EditInC}
-use Rattle.sgf.specs.ReadInC.{ReadInC}
+use Rattle.sgf.specs.ReadInC.{ignoredOf, ReadInC}
 use Rattle.edit_laws.specs.Edits.{Allowed, Forbidden}
 use Rattle.demands.specs.Calls.{countsIn}
 use Rattle.demands.specs.Cells.{countsRead, noCounts}
 use Rattle.demands.specs.Lists.{OneOf, strictNumbers, writerNumbers, editNumbers, accessNumbers, displayNumbers, fitsNumbers, tokenNumbers}
+use Rattle.demands.specs.Settings.{Ignores, SameAnswer}
 use Rattle.demands.specs.When.{Exactly, ReadsInto, Unread, Writes, Unwritten, Answered, Unanswered, Displays, Undisplayed}
 use Rattle.demands.proofs.Asked as asked
 use Rattle.demands.proofs.Edited as edit
@@ -56,7 +57,7 @@ pub use Rattle.demands.proofs.Accepts.{strict-0, lenient-0, upto-12, ne
 -- sgf_read_lenient
 pub use Rattle.demands.proofs.Demand1Lenient.{lenient-exactly, lenient-stays, lenient-zeros, lenient-ignored, lenient-numbers, lenient-case}
 -- sgf_trim, sgf_token, sgf_display_value
-pub use Rattle.demands.proofs.Demand1Texts.{trim-kept, trim-keeps, token-exactly, raw-exactly, raw-stays, raw-numbers}
+pub use Rattle.demands.proofs.Demand1Texts.{trim-kept, trim-keeps, trim-numbers, token-exactly, raw-exactly, raw-stays, raw-numbers}
 
 -- no reason has the number of acceptance
 pub number-some : (r : Reason) → 0 < numberOf r
@@ -65,6 +66,14 @@ number-some = numbers.number-some
 -- no two reasons share a number
 pub number-once : (r s : Reason) → numberOf r ≡ numberOf s → r ≡ s
 number-once = numbers.number-once
+
+-- nothing that answers by `Exactly`, as each exported function below does, gives a number above 19
+pub upto-19 : {n : ℕ} {A : Type 0} {B : Reason → Type 0} → Exactly n A B → n ≤ 19
+upto-19 = numbers.upto-19
+
+-- nor 13
+pub never-13 : {n : ℕ} {A : Type 0} {B : Reason → Type 0} → Exactly n A B → n ≡ 13 → ⊥
+never-13 = numbers.never-13
 
 module _ {i : ℕ} (t : List ℕ) (before after : Lent) (r : SgfReading) (s : ReadInC i (readStrict t) before after r) where
   -- sgf_read_strict: 0 exactly where the text reads as a record whose rows are lent; each number, with its place, exactly where the definition refuses so, or, 14, rows are too few
@@ -79,13 +88,19 @@ module _ {i : ℕ} (t : List ℕ) (before after : Lent) (r : SgfReading) (s : Re
   pub reading-zeros : 0 < r .number → countsRead r ≡ noCounts
   reading-zeros = reading.reading-zeros false t before after r s
 
-  -- the settings that were ignored are said, on refusals too
-  pub reading-ignored : r .ignored ≡ i
-  reading-ignored = reading.reading-ignored false t before after r s
-
   -- 0 to 12 and 14 are its numbers
   pub reading-numbers : OneOf strictNumbers (r .number)
   reading-numbers = reading.strict-listed false t before after r s
+
+-- the settings that were ignored are said, bit by bit, on refusals too
+pub reading-ignored : (settings : ℕ) (t : List ℕ) (before after : Lent) (r : SgfReading)
+    → ReadInC (ignoredOf settings) (readStrict t) before after r → Ignores settings (r .ignored)
+reading-ignored settings t = reading.settings-ignored settings (readStrict t)
+
+-- and no setting changes anything else, of sgf_read_strict and sgf_read_lenient: the number, the place, the counts and every number of the tables are the same
+pub settings-change-nothing : (settings others : ℕ) (a : Answer) (before x y : Lent) (r q : SgfReading)
+    → ReadInC (ignoredOf settings) a before x r → ReadInC (ignoredOf others) a before y q → SameAnswer r q × (x ≡ y)
+settings-change-nothing settings others = reading.settings-same (ignoredOf settings) (ignoredOf others)
 
 module _ (m : Memory) (out out′ : List ℕ) (r : SgfWriting) (s : WriteInC m out out′ r) where
   -- sgf_write: 19, 15, 14

@@ -7,9 +7,10 @@ use Rattle.parser.specs.Read.{readLenient}
 use Rattle.reader.specs.Lent.{Lent}
 use Rattle.c_answers.specs.Structs.{readingInC}
 use Rattle.c_answers.specs.declared.SgfReading.{SgfReading}
-use Rattle.sgf.specs.ReadInC.{ReadInC}
+use Rattle.sgf.specs.ReadInC.{ignoredOf, ReadInC}
 use Rattle.demands.specs.Cells.{countsRead, noCounts}
 use Rattle.demands.specs.Lists.{OneOf, lenientNumbers}
+use Rattle.demands.specs.Settings.{Ignores}
 use Rattle.demands.specs.When.{Exactly, ReadsInto, Unread}
 use Rattle.demands.proofs.Readings as reading
 
@@ -26,13 +27,14 @@ module _ {i : ℕ} (t : List ℕ) (before after : Lent) (r : SgfReading) (s : Re
   pub lenient-zeros : 0 < r .number → countsRead r ≡ noCounts
   lenient-zeros = reading.reading-zeros true t before after r s
 
-  -- the settings that were ignored are said, on refusals too
-  pub lenient-ignored : r .ignored ≡ i
-  lenient-ignored = reading.reading-ignored true t before after r s
-
   -- 0, 1, 2, 9, 14
   pub lenient-numbers : OneOf lenientNumbers (r .number)
   lenient-numbers = reading.lenient-listed true t before after r s refl
+
+-- the settings that were ignored are said, bit by bit, on refusals too; that they change nothing else: Demand1.settings-change-nothing
+pub lenient-ignored : (settings : ℕ) (t : List ℕ) (before after : Lent) (r : SgfReading)
+    → ReadInC (ignoredOf settings) (readLenient t) before after r → Ignores settings (r .ignored)
+lenient-ignored settings t = reading.settings-ignored settings (readLenient t)
 
 -- the list is the type: each case of a lenient answer is shown with its number
 pub lenient-case : (i : ℕ) (l : Lenient) → readingInC i (asReading l) .number ≡ lenientNumber l

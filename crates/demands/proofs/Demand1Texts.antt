@@ -13,7 +13,7 @@ use Rattle.tables.specs.declared.Reason.the-variants.{NoRoom}
 use Rattle.c_answers.specs.declared.SgfDisplay.{SgfDisplay}
 use Rattle.sgf.specs.AskInC.{RawInC}
 use Rattle.reader_exactly.specs.Kept.{Blanks, Keeps}
-use Rattle.demands.specs.Lists.{OneOf, rawNumbers}
+use Rattle.demands.specs.Lists.{OneOf, trimNumbers, rawNumbers}
 use Rattle.demands.specs.When.{Exactly}
 use Rattle.demands.proofs.Texts as texts
 
@@ -25,6 +25,10 @@ module _ (t : List ℕ) (n p f l : ℕ) (s : TrimIs (trimmed t) n p f l) where
   -- and no other places do so
   pub trim-keeps : (a b : ℕ) → Keeps t a b → (f ≡ a) × (l ≡ b)
   trim-keeps = texts.trim-keeps t n p f l s
+
+  -- 0, 2
+  pub trim-numbers : OneOf trimNumbers n
+  trim-numbers = texts.trim-listed t n p f l s
 
 -- sgf_token: 0 exactly where the next token is not refused; 3, 4, 5 exactly where it is refused so, from the place given back
 pub token-exactly : (t : List ℕ) (at k n f o to : ℕ) → TokenIs at (nextAt t at) k n f o to

@@ -49,6 +49,8 @@ use Rattle.demands.proofs.RoundTrip as trip
 use Rattle.demands.proofs.Writings as writings
 -- what strict reading accepts, lenient reading accepts with the same record; the numbers of sgf_write and of the second sgf_read_strict, by room
 pub use Rattle.demands.proofs.Demand2Exported.{lenient-accepts-more, exported-more, exported-full, exported-first, exported-second}
+-- in tables that fit, as readings leave them, a root has depth 0 and any other node its parent's plus 1, so none is above its node's number; the depths of small texts
+pub use Rattle.demands.proofs.Depths.{fit-root-depth, fit-child-depth, fit-depth-below, reading-depths, exported-depths, depth-below, depths-computed}
 
 -- ---- the viewer's question: one record, one writing
 

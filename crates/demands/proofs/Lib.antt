@@ -1,12 +1,14 @@
 pub mod Accepts
 pub mod Asked
 pub mod CallsShown
+pub mod Converted
 pub mod Demand1
 pub mod Demand1Lenient
 pub mod Demand1Texts
 pub mod Demand2
 pub mod Demand2Exported
 pub mod Demand3
+pub mod Depths
 pub mod Edited
 pub mod Editing
 pub mod Exported

@@ -1,5 +1,5 @@
 -- The numbers of the reasons: none is 0, and no two reasons share one; so a function that answers by them gives each exactly where its reason holds. Assumes nothing.
-use Rattle.lists.proofs.Prelude.{ℕ, _<_, List, [], _∷_, _⊎_, ⊎-elim, _≡_, refl, sym, ap, _∙_, subst, arith, getD}
+use Rattle.lists.proofs.Prelude.{ℕ, zero, suc, _≤_, _<_, List, [], _∷_, _⊎_, inl, inr, ⊎-elim, _≡_, refl, sym, ap, _∙_, subst, arith, length, getD}
 use Rattle.tables.specs.Numbers.{numberOf}
 use Rattle.tables.specs.declared.Reason.{Reason}
 use Rattle.tables.specs.declared.Reason.the-variants.{TextTooLong, NotUtf8, MissingPropertyIdentifier, UnexpectedEndOfPropertyIdentifier, UnexpectedEndOfPropertyValue, UnexpectedGameTreeEnd, UnexpectedEndOfData, NoGameTrees, TooDeep, UnexpectedGameTreeStart, UnexpectedProperty, InvalidGameType, NoRoom, EmptyIdentifier, NoSuchNumber, GameTypeFixed, NotClosed, NotFitting}
@@ -49,6 +49,35 @@ number-some r =
     let s : r ≡ TextTooLong = sym (reason-back r) ∙ ap reasonAt e in
     absurd (omega (arith, e, ap numberOf s)))
 
+-- no reason has the number 13
+number-not-13 : (r : Reason) → numberOf r ≡ 13 → ⊥
+number-not-13 r e =
+    let s : r ≡ NoRoom = sym (reason-back r) ∙ ap reasonAt e in
+    omega (arith, e, ap numberOf s)
+
+past : (xs : List Reason) (n : ℕ) (d : Reason) → length xs ≤ n → getD xs n d ≡ d
+past [] n d h = refl
+past (x ∷ xs) zero d h = absurd (omega (arith, h))
+past (x ∷ xs) (suc n) d h = past xs n d (omega (arith, h))
+
+-- none is above 19
+number-upto : (r : Reason) → numberOf r ≤ 19
+number-upto r =
+    below-or 19 (numberOf r)
+    (λ l.
+    let h : 20 ≤ numberOf r = omega (arith, l) in
+    let s : r ≡ NotFitting = sym (reason-back r) ∙ past reasons (numberOf r) NotFitting h in
+    absurd (omega (arith, l, ap numberOf s)))
+    (λ l. l)
+
+-- so no function that answers by them gives more
+pub upto-19 : {n : ℕ} {A : Type 0} {B : Reason → Type 0} → Exactly n A B → n ≤ 19
+upto-19 x = ⊎-elim (λ z. omega (arith, z)) (λ b. omega (arith, b .1, number-upto (b .0))) (x .no-other)
+
+-- nor 13
+pub never-13 : {n : ℕ} {A : Type 0} {B : Reason → Type 0} → Exactly n A B → n ≡ 13 → ⊥
+never-13 x e = ⊎-elim (λ z. omega (arith, e, z)) (λ b. number-not-13 (b .0) (sym (b .1) ∙ e)) (x .no-other)
+
 module _ (n : ℕ) (A : Type 0) (B : Reason → Type 0) (decided : A ⊎ ((x : Reason) × B x)) (zero-if : A → n ≡ 0) (each-if : (x : Reason) → B x → n ≡ numberOf x) where
   only-zero : n ≡ 0 → A
   only-zero e = ⊎-elim (λ a. a) (λ b. absurd (omega (arith, e, each-if (b .0) (b .1), number-some (b .0)))) decided
@@ -59,4 +88,9 @@ module _ (n : ℕ) (A : Type 0) (B : Reason → Type 0) (decided : A ⊎ ((x : R
 
   -- one answer to each input, each number where its reason holds: then nowhere else
   pub exactly : Exactly n A B
-  exactly = record { zero = (only-zero, zero-if); each = λ x. (only-each x, each-if x) }
+  exactly =
+      record {
+        zero = (only-zero, zero-if);
+        each = λ x. (only-each x, each-if x);
+        no-other = ⊎-elim (λ a. inl (zero-if a)) (λ b. inr (b .0, each-if (b .0) (b .1))) decided;
+      }

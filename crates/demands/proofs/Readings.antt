@@ -1,7 +1,8 @@
 -- The exported reading: when each number is given, what a refusal leaves, and which numbers there are. Assumes nothing.
-use Rattle.lists.proofs.Prelude.{ℕ, _<_, Bool, true, List, _⊎_, inl, inr, ⊎-elim, _≡_, refl, sym, ap, _∙_, subst⁻¹, arith, pick}
+use Rattle.lists.proofs.Prelude.{ℕ, _%_, _<_, Bool, true, List, _⊎_, inl, inr, ⊎-elim, _≡_, refl, sym, ap, _∙_, subst⁻¹, arith, pick}
 use Rattle.tables.specs.Numbers.{numberOf}
 use Rattle.tables.specs.Rows.{tables, countsOf}
+use Rattle.tables.specs.declared.Reading.{Reading}
 use Rattle.tables.specs.declared.Reading.the-variants.{Accepted, Refused}
 use Rattle.tables.specs.declared.Reason.{Reason}
 use Rattle.tables.specs.declared.Reason.the-variants.{NoRoom}
@@ -11,13 +12,44 @@ use Rattle.reader.specs.Lent.{Lent, roomy, answers}
 use Rattle.reader.proofs.Reasons.{refused-with}
 use Rattle.c_answers.specs.Structs.{readingInC}
 use Rattle.c_answers.specs.declared.SgfReading.{SgfReading}
-use Rattle.sgf.specs.ReadInC.{ReadInC}
+use Rattle.sgf.specs.ReadInC.{ignoredOf, ReadInC}
 use Rattle.demands.specs.Cells.{countsRead, noCounts}
 use Rattle.demands.specs.When.{Exactly, ReadsInto, Unread, unread, few}
 use Rattle.demands.specs.Lists.{OneOf, strictNumbers, lenientNumbers}
+use Rattle.demands.specs.Settings.{Ignores, SameAnswer}
 use Rattle.demands.proofs.Listed.{one-of}
 use Rattle.demands.proofs.Numbers.{exactly}
 use Rattle.demands.proofs.Refusals.{reading-leaves}
+
+-- ---- the settings
+
+shown-ignored : (i : ℕ) (a : Reading) → readingInC i a .ignored ≡ i
+shown-ignored i (Accepted c) = refl
+shown-ignored i (Refused x p) = refl
+
+shown-same : (i j : ℕ) (a : Reading) → SameAnswer (readingInC i a) (readingInC j a)
+shown-same i j (Accepted c) = record { number = refl; place = refl; counts = refl }
+shown-same i j (Refused x p) = record { number = refl; place = refl; counts = refl }
+
+ignores : (n i : ℕ) → i ≡ n % 4 → Ignores n i
+ignores n i e = record { leniency = omega (arith, e); conversion = omega (arith, e); nothing-else = omega (arith, e) }
+
+pub settings-ignored : (n : ℕ) (a : Answer) (before after : Lent) (r : SgfReading) → ReadInC (ignoredOf n) a before after r → Ignores n (r .ignored)
+settings-ignored n a before after r s = ignores n (r .ignored) (ap (λ (z : SgfReading). z .ignored) (s .is) ∙ shown-ignored (ignoredOf n) (answers a before))
+
+module _ (i j : ℕ) (a : Answer) (before x y : Lent) (r q : SgfReading) (s : ReadInC i a before x r) (u : ReadInC j a before y q) where
+  pub settings-same : SameAnswer r q × (x ≡ y)
+  settings-same =
+      let h = shown-same i j (answers a before) in (
+        record {
+          number = ap (λ (z : SgfReading). z .number) (s .is) ∙ h .number ∙ sym (ap (λ (z : SgfReading). z .number) (u .is));
+          place = ap (λ (z : SgfReading). z .place) (s .is) ∙ h .place ∙ sym (ap (λ (z : SgfReading). z .place) (u .is));
+          counts = ap countsRead (s .is) ∙ h .counts ∙ sym (ap countsRead (u .is));
+        },
+        s .tables ∙ sym (u .tables),
+      )
+
+-- ---- the numbers
 
 module _ (len : Bool) (t : List ℕ) (before : Lent) where
   read-decided : ReadsInto len t before ⊎ ((x : Reason) × (p : ℕ) × Unread len t before x p)
@@ -57,9 +89,6 @@ module _ (len : Bool) (t : List ℕ) (before : Lent) where
 
     pub reading-zeros : 0 < r .number → countsRead r ≡ noCounts
     reading-zeros l = ⊎-elim (λ a. absurd (omega (arith, ap (λ (z : SgfReading). z .number) (shown-read a)))) (λ u. ap countsRead (shown-unread (u .2))) read-decided
-
-    pub reading-ignored : r .ignored ≡ i
-    reading-ignored = ⊎-elim (λ a. ap (λ (z : SgfReading). z .ignored) (shown-read a)) (λ u. ap (λ (z : SgfReading). z .ignored) (shown-unread (u .2))) read-decided
 
     -- a list that has 0, 14 and the numbers of the definition's reasons has every number given
     numbers-in : (xs : List ℕ) → OneOf xs 0 → OneOf xs 14 → ((x : Reason) (p : ℕ) → read len t ≡ refused x p → OneOf xs (numberOf x)) → OneOf xs (r .number)

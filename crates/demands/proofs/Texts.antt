@@ -28,7 +28,7 @@ use Rattle.sgf.specs.AskInC.{RawInC}
 use Rattle.reader_exactly.specs.Kept.{Blanks, Keeps}
 use Rattle.reader_exactly.proofs.Trims.{trimmed-blank-exactly, trimmed-kept-exactly}
 use Rattle.demands.specs.When.{Exactly}
-use Rattle.demands.specs.Lists.{OneOf, tokenNumbers, rawNumbers}
+use Rattle.demands.specs.Lists.{OneOf, trimNumbers, tokenNumbers, rawNumbers}
 use Rattle.demands.proofs.Listed.{one-of}
 use Rattle.demands.proofs.Numbers.{exactly}
 
@@ -49,6 +49,9 @@ module _ (t : List ℕ) (n p f l : ℕ) (s : TrimIs (trimmed t) n p f l) where
       exactly n (WellFormed t) (λ x. (x ≡ NotUtf8) × BadFrom t p)
       (⊎-elim (λ w. inl w) (λ x. inr (NotUtf8, (refl, subst⁻¹ (BadFrom t) (trim-bad (x .0) (x .1) .1) (x .1)))) (well-or-bad t))
       trim-well (λ x b. trim-bad p (b .1) .0 ∙ ap numberOf (sym (b .0)))
+
+  pub trim-listed : OneOf trimNumbers n
+  trim-listed = ⊎-elim (λ w. inl (trim-well w)) (λ x. inr (inl (trim-bad (x .0) (x .1) .0))) (well-or-bad t)
 
   pub trim-kept : n ≡ 0 → (Blanks t × (f ≡ 0) × (l ≡ 0)) ⊎ Keeps t f l
   trim-kept z = go (trimmed t) refl s

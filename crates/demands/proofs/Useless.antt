@@ -1,11 +1,14 @@
 -- The scope's useless builds, each held on one small input against the contract of the function below the exported one: none meets it; the exported ones: UselessShown. Assumes nothing.
-use Rattle.lists.proofs.Prelude.{ℕ, List, [], _∷_, _++_, _≡_, refl, ap, _∙_, arith, getD}
+use Rattle.lists.proofs.Prelude.{ℕ, Bool, true, false, List, [], _∷_, _++_, _≡_, refl, ap, _∙_, arith, getD, pick}
 use Rattle.lists.proofs.Tests.{never}
 use Rattle.text_chars.specs.White.{white}
 use Rattle.text_utf8.specs.Trim.{trimmed}
 use Rattle.lexer_scan.specs.Scan.{space}
+use Rattle.tables.specs.Columns.{depthAt}
 use Rattle.tables.specs.Memory.{Memory, memory}
 use Rattle.tables.specs.Numbers.{none}
+use Rattle.tables.specs.Record.{Tree}
+use Rattle.tables.specs.Rows.{countsOf, tables}
 use Rattle.tables.specs.declared.Counts.{Counts}
 use Rattle.tables.specs.declared.Reading.the-variants.{Accepted, Refused}
 use Rattle.tables.specs.declared.Reason.{Reason}
@@ -16,8 +19,8 @@ use Rattle.fit_nodes.specs.Nodes.{orphans, upward, onPath, firstUnder, nodesFit
 use Rattle.fit_spans.specs.Ranges.{rangesFit}
 use Rattle.fit_spans.specs.Spans.{spans, ascending, plainName, spansFit}
 use Rattle.parser.specs.Examples.{bytes, strict}
-use Rattle.parser.specs.Read.{read}
-use Rattle.reader.specs.Lent.{Lent, lent, answers, ReadIs}
+use Rattle.parser.specs.Read.{Answer, accepted, read}
+use Rattle.reader.specs.Lent.{Lent, lent, roomy, stored, answers, leaves, ReadIs}
 use Rattle.edit_answer.specs.Answer.{outcomeOf, editedFor}
 use Rattle.edit_answer.specs.declared.Edited.the-variants as edited
 use Rattle.edit.specs.Lent.{memoryAfter, EditIs}
@@ -41,6 +44,22 @@ refusing-reader after r p x = let e = x .answer ∙ two-nodes in never cc
 -- one that returns one empty tree, or invents its counts
 pub inventing-reader : (after : Lent) (c : Counts) → ReadIs (read strict (bytes "(;;)")) room after (Accepted c) → c ≡ rows 1 2 0 0
 inventing-reader after c x = let e = x .answer ∙ two-nodes in cc
+
+-- a text of three nodes, one below the other: whatever tables are lent, node 2 stands in its row with depth 2
+three-deep : (ts : List Tree) × (read strict (bytes "(;;;)") ≡ accepted ts) × ((l : Lent) → depthAt (stored (tables ts) l .nodes) 2 ≡ 2)
+unfolding white space
+three-deep = (_, refl, λ l. refl)
+
+-- one that leaves flat depths: accepted, whatever tables are lent, node 2 has depth 2
+pub flat-reader : (before after : Lent) (c : Counts) → ReadIs (read strict (bytes "(;;;)")) before after (Accepted c) → depthAt (after .nodes) 2 ≡ 2
+flat-reader before after c x = go three-deep
+  where
+    go : (ts : List Tree) × (read strict (bytes "(;;;)") ≡ accepted ts) × ((l : Lent) → depthAt (stored (tables ts) l .nodes) 2 ≡ 2) → depthAt (after .nodes) 2 ≡ 2
+    go (ts, e, d) = roomed (roomy (tables ts) before) (x .answer ∙ ap (λ (a : Answer). answers a before) e) (x .tables ∙ ap (λ (a : Answer). leaves a before) e)
+      where
+        roomed : (f : Bool) → Accepted c ≡ pick f (Accepted (countsOf (tables ts))) (Refused NoRoom 0) → after ≡ pick f (stored (tables ts) before) before → depthAt (after .nodes) 2 ≡ 2
+        roomed true w s = ap (λ (l : Lent). depthAt (l .nodes) 2) s ∙ d before
+        roomed false w s = never cc
 
 -- no rows at all
 abbrev pub nothing : Lent

@@ -10,6 +10,7 @@ use Rattle.go.specs.Normal as go
 use Rattle.go.specs.Normal.{normal}
 use Rattle.go.specs.Value.{valueBy, goValue}
 use Rattle.go_shape.specs.Shape.{shapeOf}
+use Rattle.tables.specs.Columns.{depthAt}
 use Rattle.tables.specs.Each.{each, sum, tabulate}
 use Rattle.tables.specs.Memory.{Memory, memory}
 use Rattle.tables.specs.Numbers.{none}
@@ -37,6 +38,8 @@ use Rattle.sgf.specs.AskInC.{DisplayInC}
 use Rattle.sgf.specs.ChangeInC.{WriteInC, EditInC}
 use Rattle.sgf.specs.ReadInC.{ReadInC}
 use Rattle.demands.specs.Cells.{countsRead}
+use Rattle.demands.proofs.Exported.{shown-accepted}
+use Rattle.demands.proofs.Useless as useless
 use Rattle.demands.proofs.Useless.{rows, room, two-nodes, nothing, ten-first, first, second, first-edit, second-edit}
 
 -- ---- sgf_read_strict
@@ -56,6 +59,11 @@ module _ {i : ℕ} (after : Lent) (r : SgfReading) (x : ReadInC i (read strict (
 -- one that looks for room before it looks at the trees
 pub hasty-reader : {i : ℕ} (after : Lent) (r : SgfReading) → ReadInC i (read strict (bytes "((;))")) nothing after r → r .number ≡ 14 → ⊥
 hasty-reader {i} after r x e = omega (arith, e, ap (λ (y : SgfReading). y .number) (x .is ∙ ap (readingInC i) ten-first))
+
+-- one that leaves flat depths
+pub flat-reader : {i : ℕ} (before after : Lent) (r : SgfReading) → ReadInC i (read strict (bytes "(;;;)")) before after r → r .number ≡ 0
+    → depthAt (after .nodes) 2 ≡ 2
+flat-reader before after r x z = useless.flat-reader before after (countsRead r) (shown-accepted (read strict (bytes "(;;;)")) before after r x z)
 
 -- ---- sgf_edit
 

@@ -2,4 +2,5 @@ pub mod Calls
 pub mod Cells
 pub mod Holding
 pub mod Lists
+pub mod Settings
 pub mod When

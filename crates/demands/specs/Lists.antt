@@ -38,6 +38,10 @@ rawNumbers = 0 ∷ 14 ∷ []
 abbrev pub fitsNumbers : List ℕ
 fitsNumbers = 0 ∷ 19 ∷ []
 
+-- trimming
+abbrev pub trimNumbers : List ℕ
+trimNumbers = 0 ∷ 2 ∷ []
+
 -- a token
 abbrev pub tokenNumbers : List ℕ
 tokenNumbers = 0 ∷ 3 ∷ 4 ∷ 5 ∷ []

@@ -1,5 +1,5 @@
 -- When each exported function accepts, and when it gives each number: in the scope's order, each where none before it applies.
-use Rattle.lists.specs.Prelude.{ℕ, _≤_, _<_, true, false, List, _↔_, _≡_, length, slice, Bool}
+use Rattle.lists.specs.Prelude.{ℕ, _≤_, _<_, true, false, List, _⊎_, _↔_, _≡_, length, slice, Bool}
 use Rattle.values.specs.Read.{readValue}
 use Rattle.value_display.specs.Display.{displayText}
 use Rattle.value_display.specs.declared.Kind.{Kind}
@@ -19,10 +19,11 @@ use Rattle.serialize.specs.Branch.{nameless}
 use Rattle.reader_exactly.specs.Slicing.{slicesFrom}
 use Rattle.reader_exactly.specs.When.{tokensOf, Splits, First, StartsEmpty, Unexpected, WrongGame, Nodeless}
 
--- number 0 exactly on acceptance, and the number of each reason exactly where that reason holds
+-- number 0 exactly on acceptance, the number of each reason exactly where that reason holds, and no other number
 pub record Exactly (number : ℕ) (Accepts : Type 0) (Because : Reason → Type 0) : Type 0 where
   pub zero : (number ≡ 0) ↔ Accepts
   pub each : (x : Reason) → (number ≡ numberOf x) ↔ Because x
+  pub no-other : (number ≡ 0) ⊎ ((x : Reason) × (number ≡ numberOf x))
 
 -- the definition reads the text as a record
 abbrev pub Recorded : Bool → List ℕ → Type 0
