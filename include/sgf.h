@@ -19,7 +19,7 @@
  * Every answer but SgfValue and the version has a number: SGF_ACCEPTED, or why the call is refused. A refusal leaves
  * every lent byte and number as it was, and its counts, lengths and spans are 0 (SgfToken's are its token's start); so
  * is its place, but for numbers 2 to 5. After acceptance, what lies behind the counts given back stays as well,
- * except for the bytes that sgf_edit sets to 0.
+ * except for the bytes that sgf_edit sets to 0. Fields called `reserved` are always 0.
  *
  * Stack: sgf_go_value 11.4 KB, sgf_write 8.8 KB, sgf_go_property 8.5 KB, sgf_read_strict and sgf_read_lenient 5 KB, the others at most 0.5 KB.
  */
@@ -141,8 +141,11 @@ SgfReading sgf_read_strict(const uint8_t *text, size_t text_len, uint32_t settin
                            uint32_t *trees, size_t trees_len, uint32_t *nodes, size_t nodes_len,
                            uint32_t *properties, size_t properties_len, uint32_t *values, size_t values_len);
 
-/* The same, leniently: as far as the text can be read; of "" it gives one tree with one empty node. What is accepted
- * strictly is accepted leniently, with the same rows. Numbers: 1, 2, 9, 14 and no other. */
+/* The same, leniently: what stands before the first fault of a token (3 to 5) or `)` without its `(`, and stands in a
+ * tree. A tree is left at a fault of its own (10, 11), and the next one read; a wrong GM (11, 12) is taken for Go; a
+ * tree without a node has one empty node, and a text without a tree, as "", is one such tree. Nothing says that
+ * something was left out: to know it, read strictly. What is accepted strictly is accepted leniently, with the same
+ * rows. Numbers: 1, 2, 9, 14 and no other. */
 SgfReading sgf_read_lenient(const uint8_t *text, size_t text_len, uint32_t settings,
                             uint32_t *trees, size_t trees_len, uint32_t *nodes, size_t nodes_len,
                             uint32_t *properties, size_t properties_len, uint32_t *values, size_t values_len);

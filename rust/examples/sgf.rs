@@ -1,14 +1,15 @@
 //! `write`, `show` and `same` as the script `sgf` has them, for records of up to 1 MiB.
-use ekimorepa::{Error, GameType, GoValue, Move, Node, Property, Record, TEXT_LIMIT, Tree, parse};
+use ekimorepa::{Error, GameType, GoValue, Move, Node, Property, Record, TEXT_LIMIT, Tree, parse, parse_lenient};
 use std::ffi::{OsStr, OsString};
 use std::fs::File;
 use std::io::{Read, Write, stdin, stdout};
 use std::path::Path;
 use std::process::ExitCode;
 
-const USAGE: &str = "usage: sgf write [FILE]      the record in its one fixed form
-       sgf show [FILE]       what is in it: counts, trees, the moves of each main line
-       sgf same FILE FILE    whether two files hold the same record
+const USAGE: &str = "usage: sgf write [FILE]             the record in its one fixed form
+       sgf show [--lenient] [FILE]  what is in it: counts, trees and their depths, the moves of each main line
+       sgf same FILE FILE           whether two files hold the same record
+With --lenient a record is shown up to its first fault, which a note on standard error tells.
 Without a FILE, and for -, standard input is read. A record has at most 1,048,576 bytes.
 Status: 0; 1 a record is refused, or two differ; 2 wrong use, or for same a record that is refused.
 ";
@@ -34,10 +35,15 @@ fn bytes(file: &OsStr) -> Result<Vec<u8>, Stop> {
     Ok(text)
 }
 
+/// A file, and where in its text an error is.
+fn spot(file: &OsStr, text: &[u8], error: Error) -> String {
+    let place = error.line_and_column(text).map_or(String::new(), |(line, column)| format!("{line}:{column}:"));
+    format!("{}:{place}", named(file))
+}
+
 /// A refusal of a file's text.
 fn refused(file: &OsStr, text: &[u8], error: Error, status: u8) -> Stop {
-    let place = error.line_and_column(text).map_or(String::new(), |(line, column)| format!("{line}:{column}:"));
-    Stop(format!("{}:{place} refused {}: {}", named(file), error.number(), error.meaning()), status)
+    Stop(format!("{} refused {}: {}", spot(file, text, error), error.number(), error.meaning()), status)
 }
 
 /// The writing of a file's record.
@@ -80,13 +86,23 @@ fn show(record: &Record) -> String {
 /// What a command prints, and its status.
 fn answer(words: &[OsString]) -> Result<(String, u8), Stop> {
     let (command, files) = words.split_first().map_or(("", words), |(first, rest)| (first.to_str().unwrap_or(""), rest));
+    let (lenient, files) = match files {
+        [option, rest @ ..] if command == "show" && option == "--lenient" => (true, rest),
+        _ => (false, files),
+    };
     let file = files.first().map_or(OsStr::new("-"), OsString::as_os_str);
     match (command, files) {
         ("--help" | "help", []) => Ok((USAGE.into(), 0)),
         ("write", [] | [_]) => Ok((writing(file, 1)? + "\n", 0)),
         ("show", [] | [_]) => {
             let text = bytes(file)?;
-            let record = parse(&text).map_err(|error| refused(file, &text, error, 1))?;
+            let read = if lenient { parse_lenient(&text) } else { parse(&text) };
+            let record = read.map_err(|error| refused(file, &text, error, 1))?;
+            // What a strict reading accepts has nothing left out.
+            if let (true, Err(error)) = (lenient, parse(&text)) {
+                let (number, meaning) = (error.number(), error.meaning());
+                eprintln!("{} note: refused {number} without --lenient: {meaning}; some of it may be left out", spot(file, &text, error));
+            }
             Ok((show(&record), 0))
         }
         ("same", [left, right]) => {

@@ -94,7 +94,8 @@ impl<'r> Node<'r> {
         std::iter::successors(self.parent(), |node| node.parent())
     }
 
-    /// The nearest ancestor with two or more children: where "back to the fork" leads.
+    /// The nearest ancestor with two or more children: where "back to the fork" leads. None where no ancestor has them;
+    /// the node itself is not looked at.
     ///
     /// ```
     /// let record = ekimorepa::parse("(;B[aa](;W[bb];B[cc])(;W[dd]))")?;

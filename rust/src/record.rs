@@ -4,6 +4,9 @@ use crate::{Error, Node, Property, TEXT_LIMIT, Tables, Tree, Value, ffi};
 use std::borrow::Cow;
 
 /// Settings as profiles store them. None of them changes a reading.
+///
+/// The number that a profile stores, and its leniency bit, have no counterpart here: leniency is chosen by the name of
+/// the function, as [`parse_lenient`].
 #[derive(Debug, Clone, Copy, PartialEq, Eq)]
 pub struct ParseOptions {
     /// Ignored, and kept for profiles that store it: an identifier is always read as its uppercase letters. Where it is
@@ -47,6 +50,10 @@ impl Eq for Record<'_> {}
 
 /// Reads a text strictly.
 ///
+/// # Panics
+///
+/// Where the linked archive and this crate are of two releases.
+///
 /// ```
 /// let record = ekimorepa::parse("(;B[aa])(;GM[2])")?;
 /// assert_eq!(record.trees().count(), 2);
@@ -57,8 +64,15 @@ pub fn parse<T: AsRef<[u8]> + ?Sized>(text: &T) -> Result<Record<'_>, Error> {
     parse_with_options(text, &ParseOptions::default())
 }
 
-/// Reads a text as far as possible; of nothing gives one tree of one empty node. Refused are only texts that are too
-/// long, too deep or not UTF-8.
+/// Reads of a text what stands before its first fault: of a token, or a `)` without its `(`. What stands in no tree is
+/// left out. A tree is left at a fault of its own, and the next one read; a wrong GM is taken for Go; a text without a
+/// tree gives one tree of one empty node. Refused are only texts that are too long, too deep or not UTF-8.
+///
+/// Nothing says that something was left out: to know it, read strictly, with [`parse`].
+///
+/// # Panics
+///
+/// As [`parse`].
 ///
 /// ```
 /// let record = ekimorepa::parse_lenient("(;B[aa];W[bb")?;
@@ -71,6 +85,10 @@ pub fn parse_lenient<T: AsRef<[u8]> + ?Sized>(text: &T) -> Result<Record<'_>, Er
 }
 
 /// Reads a text strictly, with settings that a profile stores.
+///
+/// # Panics
+///
+/// As [`parse`].
 ///
 /// ```
 /// use ekimorepa::{ParseOptions, parse_with_options};
@@ -85,7 +103,11 @@ pub fn parse_with_options<'t, T: AsRef<[u8]> + ?Sized>(text: &'t T, options: &Pa
     Record::read(Cow::Borrowed(text.as_ref()), ffi::read_strict, *options)
 }
 
-/// Reads a text leniently, with settings that a profile stores.
+/// Reads a text as [`parse_lenient`] does, with settings that a profile stores.
+///
+/// # Panics
+///
+/// As [`parse`].
 pub fn parse_lenient_with_options<'t, T: AsRef<[u8]> + ?Sized>(text: &'t T, options: &ParseOptions) -> Result<Record<'t>, Error> {
     Record::read(Cow::Borrowed(text.as_ref()), ffi::read_lenient, *options)
 }
@@ -109,6 +131,10 @@ impl<'t> Record<'t> {
 
     /// Reads a text strictly and keeps it.
     ///
+    /// # Panics
+    ///
+    /// As [`parse`].
+    ///
     /// ```
     /// use ekimorepa::Record;
     ///
@@ -120,12 +146,20 @@ impl<'t> Record<'t> {
         Record::read(Cow::Owned(text.into()), ffi::read_strict, ParseOptions::default())
     }
 
-    /// Reads a text leniently and keeps it.
+    /// Reads a text as [`parse_lenient`] does, and keeps it.
+    ///
+    /// # Panics
+    ///
+    /// As [`parse`].
     pub fn from_owned_lenient(text: impl Into<Vec<u8>>) -> Result<Record<'static>, Error> {
         Record::read(Cow::Owned(text.into()), ffi::read_lenient, ParseOptions::default())
     }
 
     /// A text with tables that were made elsewhere, if they fit.
+    ///
+    /// # Panics
+    ///
+    /// As [`parse`].
     ///
     /// ```
     /// use ekimorepa::{ErrorKind, Record, parse};
