@@ -106,7 +106,7 @@ enum { SGF_GO = 0, SGF_UNKNOWN_GAME = 1 };
 
 /* Bits of the settings that a box profile stores. Both switches are retired: they change no reading, and those that are
  * set come back in `ignored` of the answer. Whether a reading is strict or lenient is its name's, sgf_read_strict or
- * sgf_read_lenient. SGF_KEEP_IDENTIFIERS is the old name of the second. */
+ * sgf_read_lenient. SGF_KEEP_IDENTIFIERS is the old name of SGF_IGNORED_CONVERSION. */
 enum { SGF_IGNORED_LENIENCY = 1, SGF_IGNORED_CONVERSION = 2, SGF_KEEP_IDENTIFIERS = SGF_IGNORED_CONVERSION };
 
 /* Rows that suffice for the reading of any text of n bytes, strict or lenient: times the stride, numbers to lend.

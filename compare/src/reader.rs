@@ -26,7 +26,7 @@ fn compare_mode(text: &[u8], mode: Mode) -> Result<Result<Record, Refusal>, Stri
     let need = expected.as_ref().map_or([0; 4], |columns| columns.each_ref().map(Vec::len));
     same("published sizes suffice", (0..4).all(|k| need[k] <= sufficient(text.len(), mode)[k] * STRIDES[k]), true)?;
     for (k, lent) in lengths(need, text.len()).into_iter().enumerate() {
-        let settings = text.len() as u32 * 4 + k as u32;
+        let settings = text.len() as u32 * 5 + k as u32;
         compare_lent(&call(text, mode, settings, lent), lent, settings % 4, &expected).map_err(|e| format!("tables of {lent:?}, {e}"))?;
     }
     let ours = record_of(&call(text, mode, 0, need));

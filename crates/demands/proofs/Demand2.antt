@@ -71,7 +71,7 @@ module _ (len len′ : Bool) (t u : List ℕ) (before after before′ after′ :
   pub readings-answer : (room : ℕ) → form.written (holding t c after) room ≡ form.written (holding u c′ after′) room
   readings-answer = writings.readings-answer len t before after c x len′ u before′ after′ c′ y ts us e e′ a
 
--- so it is of the exported function, however it reads: number 0 everywhere gives the same length and the same bytes
+-- so it is of the two exported readings, each with either: number 0 everywhere gives the same length and the same bytes
 pub exported-written : {i i′ : ℕ} (len len′ : Bool) (t u : List ℕ) (before after before′ after′ : Lent) (a a′ : SgfReading)
     → ReadInC i (read len t) before after a → a .number ≡ 0 → ReadInC i′ (read len′ u) before′ after′ a′ → a′ .number ≡ 0
     → (ts us : List Tree) → read len t ≡ accepted ts → read len′ u ≡ accepted us → Alike ts us → (out out₁ out′ out₁′ : List ℕ) (r r′ : SgfWriting)

@@ -20,6 +20,7 @@ pub mod Readings
 pub mod Refusals
 pub mod Rereadings
 pub mod RoundTrip
+pub mod Salvaged
 pub mod Texts
 pub mod UniqueExported
 pub mod UniqueReading
@@ -28,6 +29,7 @@ pub mod UniqueStructs
 pub mod UniqueText
 pub mod UniqueValues
 pub mod Useless
+pub mod UselessLenient
 pub mod UselessShown
 pub mod Writings
 pub mod Written

@@ -1,4 +1,4 @@
--- A slice by its game type, as the option takes it. Assumes nothing.
+-- A slice by its game type, as the mode takes it. Assumes nothing.
 use Rattle.lists.proofs.Prelude.{ℕ, _≡_, refl, sym, ap, _∙_, Bool, true, false, List, [], _∷_}
 use Rattle.lists.proofs.Tests.{never}
 use Rattle.lexer.specs.Token.{Tok}

@@ -16,7 +16,7 @@ use Rattle.reader.specs.Lent.{Lent}
 use Rattle.reader.specs.declared.slices.Total.{Total}
 use Rattle.reader.specs.declared.slices.Total.the-variants.{Rows, Refused}
 
--- the game type as the option takes it: lenient reading turns a refusal into Go
+-- the game type as the mode takes it: lenient reading turns a refusal into Go
 abbrev pub leniently : Bool → Game → Game
 leniently true (is k) = is k
 leniently true (noGame r) = is 0

@@ -1,4 +1,4 @@
--- `walk::kind_of` meets its contract. Assumes nothing.
+-- `walk::game_of` meets its contract. Assumes nothing.
 use Rattle.lists.proofs.Prelude.{needs}
 use Rattle.serialize.proofs.Walked.{type-none}
 use Rattle.serialize.proofs.walk.game_of.Statement.{statement}
