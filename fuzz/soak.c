@@ -35,14 +35,16 @@ static bool is_strict, is_plain;
 static const uint8_t *given_text;
 static size_t given_text_len;
 
-static unsigned long operations, accepted, refusals[20];
+/* Numbers given back are below this. */
+enum { NUMBERS_END = 25 };
+static unsigned long operations, accepted, refusals[NUMBERS_END];
 
 /* What a fuzzer is told beside the code that was reached: which call gave which number, and sizes by their bits. */
 enum { READ, WALK, FITS, VALUE, DISPLAY, DISPLAY_VALUE, GO_VALUE, GO_PROPERTY, WRITE, EDIT, CALLS };
 #ifdef FUZZER
 __attribute__((section("__libfuzzer_extra_counters")))
 #endif
-static uint8_t told[CALLS][20 + 6 * 16];
+static uint8_t told[CALLS][NUMBERS_END + 6 * 16];
 
 static void tell(int call, int what, size_t size) {
     int bits = 0;
@@ -50,7 +52,7 @@ static void tell(int call, int what, size_t size) {
         size /= 2;
         bits++;
     }
-    told[call][20 + 16 * what + bits] = 1;
+    told[call][NUMBERS_END + 16 * what + bits] = 1;
 }
 
 #define REQUIRE(holds) \
@@ -92,7 +94,7 @@ static void stays_but(int l, size_t from, size_t to) { REQUIRE(same_but(&lent[l]
 /* Checks a number against those that the call may give, and all lent memory but what it may write. */
 #define MAY(n) (1u << (n))
 static bool answered(int call, uint32_t number, uint32_t may_give, unsigned may_write) {
-    REQUIRE(number < 20 && (number == 0 || (may_give >> number & 1)));
+    REQUIRE(number < NUMBERS_END && (number == 0 || (may_give >> number & 1)));
     for (int l = 0; l < LENT; l++) {
         if (number != 0 || !(may_write >> l & 1)) {
             stays_but(l, 0, 0);
@@ -460,7 +462,7 @@ int main(int argc, char **argv) {
     }
     long after = memory();
     printf("soak: %lu operations, %lu accepted; refused", operations, accepted);
-    for (int n = 1; n < 20; n++) {
+    for (int n = 1; n < NUMBERS_END; n++) {
         printf(" %d:%lu", n, refusals[n]);
     }
     printf("\nmemory: %ld KB after a tenth of them, %ld KB at the end\n", before, after);

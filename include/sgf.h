@@ -65,7 +65,12 @@ enum {
     SGF_NO_SUCH_NUMBER = 16,                        /* value or property number not below the count */
     SGF_GAME_TYPE_FIXED = 17,                       /* edit: the value of a GM */
     SGF_NOT_CLOSED = 18,                            /* edit: an unescaped `]` in the new value, or a `\` left open */
-    SGF_NOT_FITTING = 19                            /* the tables do not fit the text */
+    SGF_NOT_FITTING = 19,                           /* the tables do not fit the text */
+    SGF_AFTER_CLOSE = 20,                           /* blocks: a block or a close after the close */
+    SGF_NO_GO_NODE = 21,                            /* board: no such node, or not one of a Go tree */
+    SGF_INVALID_BOARD_SIZE = 22,                    /* board: SZ is repeated or invalid */
+    SGF_POINT_OFF_BOARD = 23,                       /* board: a point off it, or in two setup properties of one node */
+    SGF_MALFORMED_FEED = 24                         /* corrections: a feed not in its form, or bytes behind its end */
 };
 /* 10: a `(` in a tree that has no node of its own yet, where the node that the tree hangs from has no child yet, or
  * there is no such node: `((;))`, `(;((;)))` and `(;(;);((;)))` are 10, `(;(;)((;)))` is accepted.

@@ -1,4 +1,4 @@
-/* Every number of include/sgf.h, 0 to 19, from every function that gives it, with its place, and in the order in which a
+/* Every number of include/sgf.h, 0 to 24, from every function that gives it, with its place, and in the order in which a
  * function gives them. A refusal leaves all lent memory as it was, and all that it counts is 0. */
 #include "sgf.h"
 
@@ -222,10 +222,11 @@ int main(void) {
         settings = 0;
         seen |= 1u << r->number;
     }
-    for (int n = 0; n < 20; n++) {
-        /* 13 is given no more. */
-        if ((seen >> n & 1) == (n == SGF_INVALID_FF4_PROPERTY)) {
-            printf("%s row gives %d\n", n == SGF_INVALID_FF4_PROPERTY ? "a" : "no", n);
+    for (int n = 0; n <= SGF_MALFORMED_FEED; n++) {
+        /* 13 is given no more, and 20 to 24 not by the functions called here. */
+        bool is_given = n <= SGF_NOT_FITTING && n != SGF_INVALID_FF4_PROPERTY;
+        if ((seen >> n & 1) != is_given) {
+            printf("%s row gives %d\n", is_given ? "no" : "a", n);
             failures++;
         }
     }

@@ -28,13 +28,18 @@ pub enum ErrorKind {
     GameTypeFixed = 17,
     NotClosed = 18,
     NotFitting = 19,
+    AfterClose = 20,
+    NoGoNode = 21,
+    InvalidBoardSize = 22,
+    PointOffBoard = 23,
+    MalformedFeed = 24,
 }
 
 use ErrorKind::*;
 
 /// Each kind, and what it tells a user.
 #[allow(deprecated)]
-const KINDS: [(ErrorKind, &str); 19] = [
+const KINDS: [(ErrorKind, &str); 24] = [
     (TextTooLong, "the text is longer than 1,048,576 bytes"),
     (NotUtf8, "these bytes are not UTF-8"),
     (MissingPropertyIdentifier, "the text ends before the `[` of this property"),
@@ -54,6 +59,11 @@ const KINDS: [(ErrorKind, &str); 19] = [
     (GameTypeFixed, "the game type GM cannot be edited"),
     (NotClosed, "the new value has an unescaped `]`, or ends within an escape"),
     (NotFitting, "the tables do not fit the text"),
+    (AfterClose, "a block or a close after the close"),
+    (NoGoNode, "there is no such node, or it is not one of a Go tree"),
+    (InvalidBoardSize, "the board size SZ is repeated or invalid"),
+    (PointOffBoard, "a point is off the board, or in two setup properties of one node"),
+    (MalformedFeed, "the feed of corrections is malformed, or has bytes behind its end"),
 ];
 
 /// A refusal: why, and for some kinds where. Refusals are equal where these are, whatever settings were ignored.
@@ -79,7 +89,7 @@ impl Hash for Error {
 }
 
 impl Error {
-    /// The refusal with this number, 1 to 19 but 13; the library gives no other.
+    /// The refusal with this number, 1 to 24 but 13; the library gives no other.
     pub(crate) fn new(number: u32, place: usize) -> Self {
         let known = KINDS.iter().find(|(kind, _)| *kind as u32 == number);
         Error { kind: known.expect("a number of the library").0, place, ignored: false }
@@ -95,7 +105,7 @@ impl Error {
         self.kind
     }
 
-    /// The library's number for the kind, 1 to 19.
+    /// The library's number for the kind, 1 to 24.
     pub fn number(&self) -> u32 {
         self.kind as u32
     }
@@ -107,7 +117,7 @@ impl Error {
 
     /// What it tells a user, without its place.
     pub fn meaning(&self) -> &'static str {
-        KINDS[self.number() as usize - 1].1
+        KINDS.iter().find(|(kind, _)| *kind == self.kind).expect("a kind of the table").1
     }
 
     /// The byte at which it lies: of kinds 2 to 5, in the text, or in the new value of an edit; else 0.
@@ -169,15 +179,15 @@ mod tests {
 
     #[test]
     fn kinds_stand_in_the_order_of_their_numbers() {
-        for (at, (kind, told)) in KINDS.iter().enumerate() {
-            assert_eq!(*kind as usize, at + 1);
-            assert!(Error::new(at as u32 + 1, 0).to_string().contains(told));
+        assert!(KINDS.is_sorted_by(|(a, _), (b, _)| (*a as u32) < *b as u32));
+        for (kind, told) in KINDS {
+            assert!(Error::new(kind as u32, 0).to_string().contains(told));
         }
     }
 
     #[test]
     fn only_kinds_with_a_place_have_a_line_and_a_column() {
-        for number in 1..=19 {
+        for number in 1..=24 {
             let known = (2..=5).contains(&number);
             assert_eq!(Error::new(number, 0).line_and_column("(;)"), known.then_some((1, 1)), "{number}");
         }
