@@ -40,7 +40,7 @@ enum { NUMBERS_END = 25 };
 static unsigned long operations, accepted, refusals[NUMBERS_END];
 
 /* What a fuzzer is told beside the code that was reached: which call gave which number, and sizes by their bits. */
-enum { READ, WALK, FITS, VALUE, DISPLAY, DISPLAY_VALUE, GO_VALUE, GO_PROPERTY, WRITE, EDIT, CALLS };
+enum { READ, WALK, FITS, VALUE, DISPLAY, DISPLAY_VALUE, GO_VALUE, GO_PROPERTY, ENTRY, SIMPLE_VALUE, SIMPLE_PROPERTY, WRITE, EDIT, CALLS };
 #ifdef FUZZER
 __attribute__((section("__libfuzzer_extra_counters")))
 #endif
@@ -387,6 +387,42 @@ static void go_property(size_t first) {
     tell(GO_PROPERTY, 0, (size_t)1 << v.kind);
 }
 
+/* Any part of the text as an identifier. */
+static void entry(void) {
+    size_t length = lent[TEXTS].length, from = draw((uint32_t)length + 1), to = from + draw((uint32_t)(length - from) + 1);
+    SgfEntry e = sgf_entry(lent[TEXTS].at + from, to - from);
+    answered(ENTRY, 0, 0, 0);
+    tell(ENTRY, 0, (size_t)1 << e.section);
+    REQUIRE((e.kind == 0) == (e.section == 0) && e.kind <= SGF_KIND_FIGURE && e.type <= SGF_TYPE_INHERIT && e.section <= SGF_SECTION_GO);
+}
+
+static void is_simple(SgfSimple v) {
+    bool sized = v.kind == SGF_SIMPLE_DOUBLE || v.kind == SGF_SIMPLE_COLOR;
+    REQUIRE(v.reserved == 0 && v.kind <= SGF_SIMPLE_NUMBER && (v.number == 0 || v.kind == SGF_SIMPLE_OTHER));
+    REQUIRE(sized ? v.size == 1 || v.size == 2 : v.size == 0 || v.kind == SGF_SIMPLE_NUMBER);
+    REQUIRE(v.negative <= (v.kind == SGF_SIMPLE_NUMBER) && v.size <= (uint64_t)INT64_MAX + v.negative);
+}
+
+static void simple_value(size_t p) {
+    SgfSimple v = sgf_simple_value(RECORD, p);
+    answered(SIMPLE_VALUE, v.number, MAY(19) | MAY(16), 0);
+    tell(SIMPLE_VALUE, 0, (size_t)1 << v.kind);
+    is_simple(v);
+}
+
+/* Any rows, which need not fit. */
+static void simple_property(size_t first) {
+    static const char *names[] = {"TE", "PL", "KO", "MN", "HA", "C"};
+    size_t name = draw(4), length = lent[TEXTS].length;
+    uint32_t rule = draw(4), count = draw(4), listed = draw(8);
+    const uint8_t *identifier = listed < 6 ? (const uint8_t *)names[listed] : lent[TEXTS].at;
+    size_t identifier_len = listed < 6 ? strlen(names[listed]) : name < length ? name : length;
+    SgfSimple v = sgf_simple_property(rule, identifier, identifier_len, BYTES(TEXTS), NUMBERS(VALUES), first, count);
+    answered(SIMPLE_PROPERTY, v.number, 0, 0);
+    tell(SIMPLE_PROPERTY, 0, (size_t)1 << v.kind);
+    is_simple(v);
+}
+
 static void call(int what) {
     size_t k = draw(30) == 29 ? (size_t)-1 : draw((uint32_t)(counts.values % TEXT) + 2);
     lend(&lent[OUTS], draw(OUT), draw(4) == 3);
@@ -399,6 +435,9 @@ static void call(int what) {
     case DISPLAY_VALUE: display_value(k, draw(3)); break;
     case GO_VALUE: go_value(k); break;
     case GO_PROPERTY: go_property(k); break;
+    case ENTRY: entry(); break;
+    case SIMPLE_VALUE: simple_value(k); break;
+    case SIMPLE_PROPERTY: simple_property(k); break;
     case WRITE: write_text(); break;
     default: edit(k); break;
     }

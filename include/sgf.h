@@ -16,12 +16,12 @@
  * text + values[2 * k] up to text + values[2 * k + 1]. An identifier's span is raw too, any ASCII before the `[`: the
  * property's name is the uppercase letters of it, `WB` of `White;B`.
  *
- * Every answer but SgfValue and the version has a number: SGF_ACCEPTED, or why the call is refused. A refusal leaves
+ * Every answer but SgfValue, SgfEntry and the version has a number: SGF_ACCEPTED, or why the call is refused. A refusal leaves
  * every lent byte and number as it was, and its counts, lengths and spans are 0 (SgfToken's are its token's start); so
  * is its place, but for numbers 2 to 5. After acceptance, what lies behind the counts given back stays as well,
  * except for the bytes that sgf_edit sets to 0. Fields called `reserved` are always 0.
  *
- * Stack: sgf_go_value 11.4 KB, sgf_write 8.8 KB, sgf_go_property 8.5 KB, sgf_read_strict and sgf_read_lenient 5 KB, the others at most 0.5 KB.
+ * Stack: sgf_go_value 11.4 KB, sgf_write 8.8 KB, sgf_go_property 8.5 KB, sgf_read_strict and sgf_read_lenient 5 KB, sgf_simple_value, sgf_simple_property and sgf_entry 2 KB, the others at most 0.5 KB.
  */
 #ifndef SGF_H
 #define SGF_H
@@ -299,6 +299,90 @@ typedef struct {
 
 /* The value whose `[` stands at a place: from a property's `opens` on, then from `next` to `next`. */
 SgfValue sgf_next_value(const uint8_t *text, size_t text_len, size_t at);
+
+/* ---- FF[4]'s property index, and its simple values --------------------------------------------------------- */
+
+/* What the values of a property are. SGF_KIND_STONES and SGF_KIND_POINTS are lists, SGF_KIND_POINTS_OR_NONE an elist,
+ * SGF_KIND_POINT_PAIRS (AR, LN) and SGF_KIND_LABELS (LB) lists of composed values, SGF_KIND_TEXT_PAIR is AP's,
+ * SGF_KIND_BOARD_SIZE SZ's and SGF_KIND_FIGURE FG's. */
+enum {
+    SGF_KIND_UNKNOWN = 0,
+    SGF_KIND_NONE = 1,
+    SGF_KIND_NUMBER = 2,
+    SGF_KIND_REAL = 3,
+    SGF_KIND_DOUBLE = 4,
+    SGF_KIND_COLOR = 5,
+    SGF_KIND_SIMPLETEXT = 6,
+    SGF_KIND_TEXT = 7,
+    SGF_KIND_MOVE = 8,
+    SGF_KIND_STONES = 9,
+    SGF_KIND_POINTS = 10,
+    SGF_KIND_POINTS_OR_NONE = 11,
+    SGF_KIND_POINT_PAIRS = 12,
+    SGF_KIND_LABELS = 13,
+    SGF_KIND_TEXT_PAIR = 14,
+    SGF_KIND_BOARD_SIZE = 15,
+    SGF_KIND_FIGURE = 16
+};
+
+/* Property types. */
+enum { SGF_TYPE_NONE = 0, SGF_TYPE_MOVE = 1, SGF_TYPE_SETUP = 2, SGF_TYPE_ROOT = 3, SGF_TYPE_GAME_INFO = 4, SGF_TYPE_INHERIT = 5 };
+
+/* The parts of FF[4] that describe properties. */
+enum {
+    SGF_SECTION_UNKNOWN = 0,
+    SGF_SECTION_MOVE = 1,
+    SGF_SECTION_SETUP = 2,
+    SGF_SECTION_NODE_ANNOTATION = 3,
+    SGF_SECTION_MOVE_ANNOTATION = 4,
+    SGF_SECTION_MARKUP = 5,
+    SGF_SECTION_ROOT = 6,
+    SGF_SECTION_GAME_INFO = 7,
+    SGF_SECTION_TIMING = 8,
+    SGF_SECTION_MISCELLANEOUS = 9,
+    SGF_SECTION_GO = 10
+};
+
+/* What FF[4] lists of a property; all 0 where it does not list it. */
+typedef struct {
+    uint32_t kind, type, section, reserved;
+} SgfEntry;
+
+/* What FF[4] lists of the property with this raw identifier: its 63 general properties, and HA, KM, TB and TW of Go. By
+ * the uppercase letters, so `Comment` is C; an identifier without a letter or with more than two is not listed. */
+SgfEntry sgf_entry(const uint8_t *identifier, size_t identifier_len);
+
+/* Kinds of simple value. */
+enum {
+    SGF_SIMPLE_OTHER = 0,   /* not listed, or of a kind that is not read here; HA in another game */
+    SGF_SIMPLE_INVALID = 1, /* not one value, or not as its kind wants it */
+    SGF_SIMPLE_NONE = 2,    /* one empty value */
+    SGF_SIMPLE_DOUBLE = 3,  /* size: 1 or 2 */
+    SGF_SIMPLE_COLOR = 4,   /* size: 1 black, 2 white */
+    SGF_SIMPLE_NUMBER = 5   /* its size, and 1 in `negative` where it has a minus: SGF_INT64 makes one of both */
+};
+
+/* A number, the kind, and what the kind says of the other fields, which else are 0. */
+typedef struct {
+    uint32_t number, kind, negative, reserved;
+    uint64_t size;
+} SgfSimple;
+
+/* The int64_t of an SgfSimple that is a Number. */
+#define SGF_INT64(simple) \
+    ((simple).negative && (simple).size ? -(int64_t)((simple).size - 1) - 1 : (int64_t)(simple).size)
+
+/* The simple value of property p: of those listed as None, Double, Color and Number, over the read value. None is empty,
+ * a Double `1` or `2`, a Color `B` or `W`, a Number an optional sign and digits within 64 bits with sign, without the
+ * ranges that FF[4] sets for FF, ST and PM; `HA[1]` is a Number, though its Go value is invalid. Numbers: 19, 16. */
+SgfSimple sgf_simple_value(SGF_RECORD, size_t p);
+
+/* The same of one property without the check, for callers whose tables are known to fit: how its tree is read (0 and 2
+ * as Go, any other number as another game), its raw identifier, and its values, `count` rows of the value table from row
+ * `first` on. The number is 0. A row that is not there is an empty value, a span is cut at the end of the text. */
+SgfSimple sgf_simple_property(uint32_t rule, const uint8_t *identifier, size_t identifier_len,
+                              const uint8_t *text, size_t text_len, const uint32_t *values, size_t values_len,
+                              size_t first, size_t count);
 
 #ifdef __cplusplus
 }

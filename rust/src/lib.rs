@@ -64,6 +64,7 @@ mod error;
 #[allow(unsafe_code, dead_code)]
 mod ffi;
 mod go;
+mod index;
 mod node;
 mod property;
 mod record;
@@ -71,6 +72,7 @@ mod tables;
 
 pub use error::{Error, ErrorKind};
 pub use go::{Color, GoValue, Move, Point, PointSet};
+pub use index::{Entry, PropertyType, Section, Simple, ValueKind, entry_of};
 pub use node::{GameType, Node, Tree};
 pub use property::{Property, Value, escape};
 pub use record::{ParseOptions, Record, parse, parse_lenient, parse_lenient_with_options, parse_with_options, serialize};
