@@ -26,11 +26,15 @@ int main(void) {
     check("fits", sgf_fits(SGF_OF(record)) == SGF_ACCEPTED);
     SgfSpan span = sgf_value(SGF_OF(record), 1);
     check("value", span.number == SGF_ACCEPTED && memcmp(text + span.from, "a note", span.to - span.from) == 0);
-    const char *bad = "]", *good = "an [other\\] one";
+    const char *bad = "]", *plain = "an [other] one", *good = "an [other\\] one";
     SgfEdit edit = sgf_record_edit(&record, 1, (const uint8_t *)bad, 1);
     check("a refusal changes nothing", edit.number == SGF_NOT_CLOSED && record.used == strlen(first) && record.counts.values == 2);
     printf("refused %u: %s\n", (unsigned)edit.number, sgf_message(edit.number));
-    edit = sgf_record_edit(&record, 1, (const uint8_t *)good, strlen(good));
+    SgfDisplay escaped = sgf_escape((const uint8_t *)plain, strlen(plain), out, strlen(good) - 1);
+    check("no room for an escape", escaped.number == SGF_NO_ROOM && escaped.length == 0 && out[0] == 0);
+    escaped = sgf_escape((const uint8_t *)plain, strlen(plain), out, strlen(good));
+    check("escaped", escaped.number == SGF_ACCEPTED && escaped.length == strlen(good) && memcmp(out, good, escaped.length) == 0);
+    edit = sgf_record_edit(&record, 1, out, escaped.length);
     check("edit", edit.number == SGF_ACCEPTED && record.used == edit.used);
     SgfWriting writing = sgf_write(SGF_OF(record), out, sizeof out);
     check("write", writing.number == SGF_ACCEPTED && writing.length == strlen(last) && memcmp(out, last, writing.length) == 0);
