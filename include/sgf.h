@@ -260,6 +260,11 @@ SgfEdit sgf_edit(uint8_t *text, size_t text_len, size_t used, SgfCounts counts,
                  uint32_t *properties, size_t properties_len, uint32_t *values, size_t values_len,
                  size_t k, const uint8_t *replacement, size_t replacement_len);
 
+/* Plain text as a raw value for sgf_edit, in `out`: a `\` before each `\` and each `]`. Read back it is the text; it is
+ * closed, and UTF-8 where the text is; it has at most twice the text's bytes. The number is 0, or 14 where it exceeds
+ * out_len. */
+SgfDisplay sgf_escape(const uint8_t *text, size_t text_len, uint8_t *out, size_t out_len);
+
 /* ---- Token by token, without tables ----------------------------------------------------------------------- */
 
 /* Number 0 and the part that trimming white space keeps (0 and 0 of a blank text); or 2 and the place. */

@@ -2,6 +2,7 @@
 #![forbid(unsafe_code)]
 use crate::{Error, Node, Property, TEXT_LIMIT, Tables, Tree, Value, ffi};
 use std::borrow::Cow;
+use std::iter::FusedIterator;
 
 /// Settings as profiles store them. None of them changes a reading.
 ///
@@ -198,7 +199,7 @@ impl<'t> Record<'t> {
     }
 
     /// The trees, in the order of the text.
-    pub fn trees(&self) -> impl Iterator<Item = Tree<'_>> {
+    pub fn trees(&self) -> impl DoubleEndedIterator<Item = Tree<'_>> + ExactSizeIterator + FusedIterator {
         (0..self.tables.trees.len()).map(|number| Tree { record: self, number })
     }
 

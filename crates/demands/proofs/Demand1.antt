@@ -57,7 +57,7 @@ pub use Rattle.demands.proofs.Accepts.{strict-0, lenient-0, upto-12, ne
 -- sgf_read_lenient
 pub use Rattle.demands.proofs.Demand1Lenient.{lenient-exactly, lenient-stays, lenient-zeros, lenient-ignored, lenient-numbers, lenient-case}
 -- sgf_trim, sgf_token, sgf_display_value
-pub use Rattle.demands.proofs.Demand1Texts.{trim-kept, trim-keeps, trim-numbers, token-exactly, raw-exactly, raw-stays, raw-numbers}
+pub use Rattle.demands.proofs.Demand1Texts.{trim-kept, trim-keeps, trim-numbers, token-exactly, raw-exactly, raw-stays, raw-numbers, escape-exactly, escape-stays, escape-numbers}
 
 -- no reason has the number of acceptance
 pub number-some : (r : Reason) → 0 < numberOf r
