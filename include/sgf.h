@@ -339,6 +339,17 @@ SgfCheck sgf_feed_check(const uint8_t *text, size_t text_len, size_t used, SgfCo
  * Nothing is checked and nothing refused: the corrections before the first fault are looked through. */
 SgfPart sgf_feed_find(const uint8_t *feed, size_t feed_len, size_t k);
 
+/* Puts all corrections of a feed into the record in place, or changes nothing. Writes the text from the first corrected
+ * value on and moves the rows behind it, once; where the text became shorter, the bytes between the new and the old used
+ * length become 0. Tables that fit stay fitting; those of a strict reading are then what a fresh strict reading of the
+ * new text gives; every value's bytes are what sgf_corrected gave before. Numbers: 19, 24, then for each correction 16,
+ * 17, 2 (place: in the feed), 18, then 1 and 14 for the final length. After a refusal go on with the used length and
+ * counts from before. */
+SgfEdit sgf_correct(uint8_t *text, size_t text_len, size_t used, SgfCounts counts,
+                    const uint32_t *trees, size_t trees_len, const uint32_t *nodes, size_t nodes_len,
+                    uint32_t *properties, size_t properties_len, uint32_t *values, size_t values_len,
+                    const uint8_t *feed, size_t feed_len);
+
 /* Making a feed: its count, then each correction in the order of value numbers, each call behind the bytes of the one
  * before. Number 0 and how many bytes were put in front of the output; or a refusal, and nothing changes: 24 (a number
  * or a length of 2^28 or more), 14 (no room). */

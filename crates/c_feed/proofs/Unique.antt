@@ -11,8 +11,11 @@ use Rattle.feed_check.specs.Check.{feedChecked}
 use Rattle.feed_check.specs.declared.Checked.{Checked}
 use Rattle.feed_value.specs.Look.{lookedUp}
 use Rattle.feed_value.specs.declared.Looked.{Looked}
+use Rattle.tables.specs.declared.Counts.{Counts}
+use Rattle.feed_apply.specs.declared.Applied.{Applied}
+use Rattle.c_answers.specs.declared.SgfEdit.{SgfEdit}
 use Rattle.c_answers.specs.declared.SgfWriting.{SgfWriting}
-use Rattle.c_feed.specs.Parts.{partInC, foundInC, checkInC, madeInC, PutInC}
+use Rattle.c_feed.specs.Parts.{partInC, foundInC, checkInC, madeInC, PutInC, appliedInC, CorrectInC}
 
 pub part-in-c-once : (x : Looked) → Once (λ r. r ≡ partInC x)
 part-in-c-once x = once-is (partInC x)
@@ -25,6 +28,9 @@ check-in-c-once x = once-is (checkInC x)
 
 pub made-in-c-once : (x : Made) → Once (λ r. r ≡ madeInC x)
 made-in-c-once x = once-is (madeInC x)
+
+pub applied-in-c-once : (c : Counts) (x : Applied) → Once (λ r. r ≡ appliedInC c x)
+applied-in-c-once c x = once-is (appliedInC c x)
 
 -- of the exported functions
 
@@ -40,3 +46,6 @@ feed-find-once w k = found-in-c-once (foundIn (listing w .entries) k)
 -- of sgf_feed_begin and sgf_feed_add
 pub put-once : (held : Bool) (bytes out x y : List ℕ) (r r′ : SgfWriting) → PutInC held bytes out x r → PutInC held bytes out y r′ → (x ≡ y) × (r ≡ r′)
 put-once held bytes out x y r r′ f g = (f .memory ∙ sym (g .memory), f .is ∙ sym (g .is))
+
+pub correct-once : (m x y : Memory) (w : List ℕ) (r r′ : SgfEdit) → CorrectInC m x w r → CorrectInC m y w r′ → (x ≡ y) × (r ≡ r′)
+correct-once m x y w r r′ f g = (f .memory ∙ sym (g .memory), f .is ∙ sym (g .is))

@@ -1,11 +1,14 @@
 // Answers about feeds as the structs of the C header.
+use c_answers::SgfEdit;
 use c_answers::SgfWriting;
 use feed::Found;
 use feed::make::Made;
+use feed_apply::Applied;
 use feed_check::Checked;
 use feed_value::Looked;
+use tables::Counts;
 ghost use mathlib.Core.Path.{_≡_};
-ghost use Rattle.c_feed.specs.Parts.{partInC, foundInC, checkInC, madeInC};
+ghost use Rattle.c_feed.specs.Parts.{partInC, foundInC, checkInC, madeInC, appliedInC};
 
 // Number 0, whether the bytes stand in the record (source 0) or in the feed (1), and their span there; or the number of a refusal and its place, all else 0.
 #[repr(C)]
@@ -113,6 +116,33 @@ pub fn made_in_c(made: Made) -> SgfWriting
             number: 14,
             reserved: 0,
             length: 0,
+        },
+    }
+}
+
+// A feed applied to a record with these counts.
+pub fn applied_in_c(c: Counts, applied: Applied) -> SgfEdit
+    ensures { λ r. ⌜ r ≡ appliedInC c applied ⌝ }
+{
+    match applied {
+        Applied::Changed(n) => SgfEdit {
+            number: 0,
+            reserved: 0,
+            place: 0,
+            used: n,
+            counts: c,
+        },
+        Applied::Refused(refusal, place) => SgfEdit {
+            number: feed_check::feed_number(refusal),
+            reserved: 0,
+            place: place,
+            used: 0,
+            counts: Counts {
+                trees: 0,
+                nodes: 0,
+                properties: 0,
+                values: 0,
+            },
         },
     }
 }

@@ -1,4 +1,5 @@
-// Feeds of corrections, exported: looked into over a record, checked, made.
+// Feeds of corrections, exported: looked into over a record, checked, applied, made.
+use c_answers::SgfEdit;
 use c_answers::SgfWriting;
 use c_feed::SgfCheck;
 use c_feed::SgfPart;
@@ -14,7 +15,7 @@ ghost use Rattle.feed.specs.Find.{foundIn};
 ghost use Rattle.feed.specs.Made.{correctionBytes};
 ghost use Rattle.feed_check.specs.Check.{feedChecked};
 ghost use Rattle.feed_value.specs.Look.{lookedUp};
-ghost use Rattle.c_feed.specs.Parts.{partInC, foundInC, checkInC, PutInC};
+ghost use Rattle.c_feed.specs.Parts.{partInC, foundInC, checkInC, PutInC, CorrectInC};
 
 // The bytes of value k as corrected: a part of the feed or of the record, or the number of a refusal: 19, 24, 16, 17, 2, 18, then 16 for k itself.
 #[no_mangle]
@@ -97,4 +98,25 @@ pub extern "C" fn sgf_feed_add(value: usize, bytes: &[u8], out: &mut [u8]) -> Sg
         (correctionBytes value (now (bytes .entry))) (now (out .entry)) (now (out .exit)) r ⌝ }
 {
     c_feed::made_in_c(feed::make::put_correction(out, value, bytes))
+}
+
+// Puts the corrections of a feed into the record in place, all of them, or changes nothing: 19, 24, for each correction 16, 17, 2, 18, then 1, 14.
+#[no_mangle]
+pub extern "C" fn sgf_correct(
+    text: &mut [u8],
+    used: usize,
+    counts: Counts,
+    trees: &[u32],
+    nodes: &[u32],
+    properties: &mut [u32],
+    values: &mut [u32],
+    feed: &[u8],
+) -> SgfEdit
+    ensures { λ r. ⌜ CorrectInC
+        (memory (now (text .entry)) used counts (now (trees .entry)) (now (nodes .entry)) (now (properties .entry)) (now (values .entry)))
+        (memory (now (text .exit)) used counts (now (trees .entry)) (now (nodes .entry)) (now (properties .exit)) (now (values .exit)))
+        (now (feed .entry)) r ⌝ }
+{
+    let applied = feed_apply::apply(text, used, counts, trees, nodes, properties, values, feed);
+    c_feed::applied_in_c(counts, applied)
 }
