@@ -389,6 +389,62 @@ SgfSimple sgf_simple_property(uint32_t rule, const uint8_t *identifier, size_t i
                               const uint8_t *text, size_t text_len, const uint32_t *values, size_t values_len,
                               size_t first, size_t count);
 
+/* ---- Corrections over the air ----------------------------------------------------------------------------- */
+
+/* A feed is a count, then for each correction a value number, a length and that many bytes. Numbers are groups of seven
+ * bits, lowest first, the top bit set when another follows: at most four groups, shortest form only. Value numbers
+ * strictly rise, and nothing stands behind the last correction. */
+
+/* Where a value's bytes stand: in the record's text, or in the feed. */
+enum { SGF_FROM_RECORD = 0, SGF_FROM_FEED = 1 };
+
+/* Number 0 and the span of a value's bytes in its source; or the number of a refusal and its place, all else 0. */
+typedef struct {
+    uint32_t number, source;
+    size_t place, from, to;
+} SgfPart;
+
+/* Number 0; or the number of a refusal and its place. */
+typedef struct {
+    uint32_t number, reserved;
+    size_t place;
+} SgfCheck;
+
+/* The bytes of value k as corrected: a part of the feed where it is corrected, else of the record. Nothing is copied.
+ * Numbers: 19, 24, then for each correction 16, 17, 2 (place: in the feed), 18; then 16 for k itself. */
+SgfPart sgf_corrected(const uint8_t *text, size_t text_len, size_t used, SgfCounts counts,
+                      const uint32_t *trees, size_t trees_len, const uint32_t *nodes, size_t nodes_len,
+                      const uint32_t *properties, size_t properties_len, const uint32_t *values, size_t values_len,
+                      const uint8_t *feed, size_t feed_len, size_t k);
+
+/* Whether a feed may be applied to a record, but for the length of the text: 19, 24, then for each correction 16, 17, 2
+ * (place: in the feed), 18. Once this is 0, and while neither text, tables nor feed change, sgf_feed_find serves. */
+SgfCheck sgf_feed_check(const uint8_t *text, size_t text_len, size_t used, SgfCounts counts,
+                        const uint32_t *trees, size_t trees_len, const uint32_t *nodes, size_t nodes_len,
+                        const uint32_t *properties, size_t properties_len, const uint32_t *values, size_t values_len,
+                        const uint8_t *feed, size_t feed_len);
+
+/* Where a feed has the bytes of value k: SGF_FROM_FEED and their span; SGF_FROM_RECORD and 0..0 where it has none.
+ * Nothing is checked and nothing refused: the corrections before the first fault are looked through. */
+SgfPart sgf_feed_find(const uint8_t *feed, size_t feed_len, size_t k);
+
+/* Puts all corrections of a feed into the record in place, or changes nothing. Writes the text from the first corrected
+ * value on and moves the rows behind it, once; where the text became shorter, the bytes between the new and the old used
+ * length become 0. Tables that fit stay fitting; those of a strict reading are then what a fresh strict reading of the
+ * new text gives; every value's bytes are what sgf_corrected gave before. Numbers: 19, 24, then for each correction 16,
+ * 17, 2 (place: in the feed), 18, then 1 and 14 for the final length. After a refusal go on with the used length and
+ * counts from before. */
+SgfEdit sgf_correct(uint8_t *text, size_t text_len, size_t used, SgfCounts counts,
+                    const uint32_t *trees, size_t trees_len, const uint32_t *nodes, size_t nodes_len,
+                    uint32_t *properties, size_t properties_len, uint32_t *values, size_t values_len,
+                    const uint8_t *feed, size_t feed_len);
+
+/* Making a feed: its count, then each correction in the order of value numbers, each call behind the bytes of the one
+ * before. Number 0 and how many bytes were put in front of the output; or a refusal, and nothing changes: 24 (a number
+ * or a length of 2^28 or more), 14 (no room). */
+SgfWriting sgf_feed_begin(size_t count, uint8_t *out, size_t out_len);
+SgfWriting sgf_feed_add(size_t value, const uint8_t *bytes, size_t bytes_len, uint8_t *out, size_t out_len);
+
 #ifdef __cplusplus
 }
 #endif

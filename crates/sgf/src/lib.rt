@@ -1,6 +1,7 @@
 // The exported library: one C function an operation. Each only calls a proved operation and shows its answer as numbers; include/sgf.h says what a caller sees.
 pub mod index; // index.rt: the property index, simple values
 pub mod escape;
+pub mod feeds; // feeds.rt: corrections over the air
 
 use ask::Refusal;
 use c_answers::SgfDisplay;
