@@ -22,6 +22,11 @@
  * except for the bytes that sgf_edit sets to 0. Fields called `reserved` are always 0.
  *
  * Stack: sgf_go_value 11.4 KB, sgf_write 8.8 KB, sgf_go_property 8.5 KB, sgf_read_strict and sgf_read_lenient 5 KB, sgf_simple_value, sgf_simple_property and sgf_entry 2 KB, the others at most 0.5 KB.
+
+ * One exception: rows lent to sgf_block and sgf_close are working room until the close. After a close that is accepted
+ * the rows behind its count are 0, after one that is refused all rows; only number 20 leaves them as they were.
+ *
+ * Stack: sgf_go_value 11.4 KB, sgf_write 8.8 KB, sgf_go_property 8.5 KB, sgf_read_strict and sgf_read_lenient 5 KB, the others at most 0.5 KB.
  */
 #ifndef SGF_H
 #define SGF_H
@@ -444,6 +449,48 @@ SgfEdit sgf_correct(uint8_t *text, size_t text_len, size_t used, SgfCounts count
  * or a length of 2^28 or more), 14 (no room). */
 SgfWriting sgf_feed_begin(size_t count, uint8_t *out, size_t out_len);
 SgfWriting sgf_feed_add(size_t value, const uint8_t *bytes, size_t bytes_len, uint8_t *out, size_t out_len);
+
+/* ---- Tokens from blocks ------------------------------------------------------------------------------------ */
+
+/* A text that arrives in blocks, of any length and cut anywhere: through a character, an escape, white space. A box
+ * needs 48 bytes for what is known between two blocks and 12 bytes for each token, whatever the length of the text; a
+ * block may be thrown away as soon as its call is back. After the close, number, place and rows are those of one
+ * strict making of tokens from the joined text: nothing else is read, and 6 to 13 are not given. */
+
+/* A token row: its kind (SGF_START to SGF_PROPERTY; 0 is none), its start and its end, counted from the start of the
+ * joined text. A text of n bytes has at most n tokens. */
+enum { SGF_TOKEN_KIND = 0, SGF_TOKEN_FROM = 1, SGF_TOKEN_TO = 2, SGF_TOKEN_STRIDE = 3 };
+#define SGF_TOKENS_FOR(n) ((size_t)(n))
+
+/* What is known between two blocks. All zero is the start: `SgfBlocks state = {0};`. Pass on what the last call gave;
+ * other numbers have an answer too. The fields are the library's own: `total` bytes so far (at most 1,048,577); where
+ * UTF-8 stands (`utf` 0 between characters, 1 to 7 within one, else bad), since which place, with which bits; the end of
+ * the last character that is no white space; where the token rules stand and how many rows there are, `now` and after
+ * that character; and whether it is `closed`. */
+typedef struct {
+    uint32_t total, utf, utf_from, code, last, now, now_from, count, kept, kept_from, held, closed;
+} SgfBlocks;
+
+/* Number 0, or 20 after the close; and what is known now. */
+typedef struct {
+    uint32_t number;
+    SgfBlocks state;
+} SgfBlock;
+
+/* A block of the text, also of no bytes. Lend the same rows to every call, untouched between them; rows that do not fit
+ * are counted and not written. Number: 20 (nothing changes). What is wrong with the text is said by sgf_close. */
+SgfBlock sgf_block(SgfBlocks state, const uint8_t *block, size_t block_len, uint32_t *rows, size_t rows_len);
+
+/* Number 0 and how many tokens there are; or why not, and the place. */
+typedef struct {
+    uint32_t number;
+    size_t place, tokens;
+    SgfBlocks state;
+} SgfClose;
+
+/* The end of the text. Numbers, in this order: 20 (after a close, also one that was refused; nothing changes), 1, 2,
+ * 3 to 5, 14 (rows_len is less than SGF_TOKEN_STRIDE for each token). */
+SgfClose sgf_close(SgfBlocks state, uint32_t *rows, size_t rows_len);
 
 #ifdef __cplusplus
 }
