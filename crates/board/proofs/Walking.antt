@@ -138,7 +138,7 @@ module _ (w h : ℕ) (nd : List ℕ) (P : ℕ → List Property) (k : ℕ) where
       record {
         off = λ z. absurd (true≢false (sym right ∙ z));
         played = λ z. record {
-              shows = record { number = refl; columns = refl; rows = refl; reserved = refl };
-              acts = subst (λ (q : ℕ). Steps w h emptyPos (wayActs w h (map P (wayTo nd q))) (posOf b s)) e (y .steps);
-            };
+          shows = record { number = refl; columns = refl; rows = refl; reserved = refl };
+          acts = subst (λ (q : ℕ). Steps w h emptyPos (wayActs w h (map P (wayTo nd q))) (posOf b s)) e (y .steps);
+        };
       }
