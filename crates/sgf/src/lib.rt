@@ -3,6 +3,7 @@ pub mod index; // index.rt: the property index, simple values
 pub mod escape;
 pub mod feeds; // feeds.rt: corrections over the air
 pub mod by_blocks;
+pub mod boards;
 
 use ask::Refusal;
 use c_answers::SgfDisplay;

@@ -1,0 +1,9 @@
+pub mod Answers
+pub mod Below
+pub mod More
+pub mod Next
+pub mod Sizes
+pub mod Trees
+pub mod Unique
+pub mod Walking
+pub mod Ways
