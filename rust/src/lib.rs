@@ -68,6 +68,7 @@ mod index;
 mod node;
 mod property;
 mod record;
+mod session;
 mod tables;
 mod walk;
 
@@ -77,6 +78,7 @@ pub use go::{Color, GoValue, Move, NoPoint, Point, PointSet};
 pub use node::{GameType, Node, Tree};
 pub use property::{Property, Value, escape};
 pub use record::{ParseOptions, Record, parse, parse_lenient, parse_lenient_with_options, parse_with_options, serialize};
+pub use session::Session;
 pub use tables::Tables;
 pub use walk::{Step, Walk};
 

@@ -247,6 +247,23 @@ impl<'t> Record<'t> {
         Ok(())
     }
 
+    /// Replaces the raw bytes of a value as [`set_value`](Record::set_value) does, and gives back those that it had: put back
+    /// in reverse order they undo a run of edits. [`Session`](crate::Session) keeps them.
+    ///
+    /// ```
+    /// let mut record = ekimorepa::parse("(;C[ab];B[cd])")?;
+    /// let old = record.replace_value(0, "x")?;
+    /// assert_eq!(old, b"ab");
+    /// record.set_value(0, old)?;
+    /// assert_eq!(record, ekimorepa::parse("(;C[ab];B[cd])")?);
+    /// # Ok::<(), ekimorepa::Error>(())
+    /// ```
+    pub fn replace_value(&mut self, number: usize, new: impl AsRef<[u8]>) -> Result<Vec<u8>, Error> {
+        let old = self.value(number).map_or_else(Vec::new, |value| value.as_bytes().to_vec());
+        self.set_value(number, new)?;
+        Ok(old)
+    }
+
     /// The record as text, in one form: identifiers as their uppercase letters, moves, handicaps and sets of points of Go games
     /// in their shortest form, sets sorted, everything else by its raw bytes.
     ///
