@@ -300,6 +300,12 @@ typedef struct {
 /* The value whose `[` stands at a place: from a property's `opens` on, then from `next` to `next`. */
 SgfValue sgf_next_value(const uint8_t *text, size_t text_len, size_t at);
 
+/* ---- A season in numbers ----------------------------------------------------------------------------------- */
+
+/* The tag of bytes: FNV-1a, 64 bits. That of a record is the tag of what sgf_write gives, so that records which are
+ * written alike have one tag. It is shown as 16 hex digits, highest first (`%016llx`). */
+uint64_t sgf_tag(const uint8_t *bytes, size_t bytes_len);
+
 #ifdef __cplusplus
 }
 #endif
