@@ -492,6 +492,12 @@ typedef struct {
  * 3 to 5, 14 (rows_len is less than SGF_TOKEN_STRIDE for each token). */
 SgfClose sgf_close(SgfBlocks state, uint32_t *rows, size_t rows_len);
 
+/* ---- A season in numbers ----------------------------------------------------------------------------------- */
+
+/* The tag of bytes: FNV-1a, 64 bits. That of a record is the tag of what sgf_write gives, so that records which are
+ * written alike have one tag. It is shown as 16 hex digits, highest first (`%016llx`). */
+uint64_t sgf_tag(const uint8_t *bytes, size_t bytes_len);
+
 #ifdef __cplusplus
 }
 #endif

@@ -4,6 +4,7 @@ pub mod escape;
 pub mod feeds; // feeds.rt: corrections over the air
 pub mod by_blocks;
 pub mod boards;
+pub mod season;
 
 use ask::Refusal;
 use c_answers::SgfDisplay;
