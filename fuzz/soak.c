@@ -41,8 +41,7 @@ enum { NUMBERS_END = 25 };
 static unsigned long operations, accepted, refusals[NUMBERS_END];
 
 /* What a fuzzer is told beside the code that was reached: which call gave which number, and sizes by their bits. */
-enum { READ, WALK, FITS, VALUE, DISPLAY, DISPLAY_VALUE, GO_VALUE, GO_PROPERTY, ENTRY, SIMPLE_VALUE, SIMPLE_PROPERTY, WRITE, EDIT, CALLS };
-enum { READ, WALK, FITS, VALUE, DISPLAY, DISPLAY_VALUE, GO_VALUE, GO_PROPERTY, WRITE, EDIT, SESSION, CALLS };
+enum { READ, WALK, FITS, VALUE, DISPLAY, DISPLAY_VALUE, GO_VALUE, GO_PROPERTY, ENTRY, SIMPLE_VALUE, SIMPLE_PROPERTY, WRITE, EDIT, SESSION, CALLS };
 #ifdef FUZZER
 __attribute__((section("__libfuzzer_extra_counters")))
 #endif
