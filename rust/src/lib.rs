@@ -67,6 +67,7 @@ mod go;
 mod node;
 mod property;
 mod record;
+mod size;
 mod tables;
 
 pub use error::{Error, ErrorKind};
@@ -74,6 +75,7 @@ pub use go::{Color, GoValue, Move, Point, PointSet};
 pub use node::{GameType, Node, Tree};
 pub use property::{Property, Value, escape};
 pub use record::{ParseOptions, Record, parse, parse_lenient, parse_lenient_with_options, parse_with_options, serialize};
+pub use size::BoardSize;
 pub use tables::Tables;
 
 /// The version of the linked library: major, minor, patch; that of this crate, where both are of one release.

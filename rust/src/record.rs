@@ -1,5 +1,6 @@
 //! A record: a text and its tables.
 #![forbid(unsafe_code)]
+use crate::size::ruled;
 use crate::{Error, Node, Property, TEXT_LIMIT, Tables, Tree, Value, ffi};
 use std::borrow::Cow;
 
@@ -199,7 +200,7 @@ impl<'t> Record<'t> {
 
     /// The trees, in the order of the text.
     pub fn trees(&self) -> impl Iterator<Item = Tree<'_>> {
-        (0..self.tables.trees.len()).map(|number| Tree { record: self, number })
+        (0..self.tables.trees.len()).map(|number| Tree { record: self, number, ruled: ruled(self, number) })
     }
 
     /// The nodes of all trees, in the order of the text.

@@ -1,4 +1,6 @@
 // The exported library: one C function an operation. Each only calls a proved operation and shows its answer as numbers; include/sgf.h says what a caller sees.
+pub mod size; // size.rt: the board size of a tree
+
 use ask::Refusal;
 use c_answers::SgfDisplay;
 use c_answers::SgfEdit;
