@@ -42,6 +42,7 @@ static unsigned long operations, accepted, refusals[NUMBERS_END];
 
 /* What a fuzzer is told beside the code that was reached: which call gave which number, and sizes by their bits. */
 enum { READ, WALK, FITS, VALUE, DISPLAY, DISPLAY_VALUE, GO_VALUE, GO_PROPERTY, ENTRY, SIMPLE_VALUE, SIMPLE_PROPERTY, WRITE, EDIT, SESSION, CALLS };
+enum { READ, WALK, FITS, VALUE, DISPLAY, DISPLAY_VALUE, GO_VALUE, GO_BY_RULE, SIZE, WRITE, EDIT, CALLS };
 #ifdef FUZZER
 __attribute__((section("__libfuzzer_extra_counters")))
 #endif
@@ -451,12 +452,24 @@ static void go_value(size_t p) {
 }
 
 /* Any rows, which need not fit. */
-static void go_property(size_t first) {
+static void go_by_rule(size_t first) {
     size_t name = draw(4), length = lent[TEXTS].length;
-    uint32_t game = draw(2), count = draw(4);
-    SgfGoValue v = sgf_go_property(game, lent[TEXTS].at, name < length ? name : length, BYTES(TEXTS), NUMBERS(VALUES), first, count);
-    answered(GO_PROPERTY, v.number, 0, 0);
-    tell(GO_PROPERTY, 0, (size_t)1 << v.kind);
+    uint32_t rule = draw(4), count = draw(4);
+    SgfGoValue v = sgf_go_by_rule(rule, lent[TEXTS].at, name < length ? name : length, BYTES(TEXTS), NUMBERS(VALUES), first, count);
+    answered(GO_BY_RULE, v.number, 0, 0);
+    tell(GO_BY_RULE, 0, (size_t)1 << v.kind);
+}
+
+/* By its number, and by its rows, which need not fit. */
+static void size(size_t tree) {
+    SgfSize s = sgf_size(RECORD, tree);
+    SgfSize rows = sgf_tree_size(lent[TEXTS].at, used < lent[TEXTS].length ? used : lent[TEXTS].length, NUMBERS(TREES), NUMBERS(NODES),
+                                 NUMBERS(PROPERTIES), NUMBERS(VALUES), tree);
+    bool given = answered(SIZE, s.number, MAY(19) | MAY(16), 0);
+    REQUIRE(rows.number == 0 && rows.kind < 3 && rows.rule < 3 && rows.columns <= 52 && rows.rows <= 52);
+    REQUIRE((rows.columns == 0) == (rows.kind == SGF_SIZE_WRONG) && (rows.rows == 0) == (rows.kind == SGF_SIZE_WRONG));
+    REQUIRE(given ? memcmp(&s, &rows, sizeof s) == 0 : (s.kind | s.columns | s.rows | s.rule) == 0);
+    tell(SIZE, 0, (size_t)1 << (3 * rows.kind + rows.rule));
 }
 
 /* Any part of the text as an identifier. */
@@ -510,6 +523,8 @@ static void call(int what) {
     case ENTRY: entry(); break;
     case SIMPLE_VALUE: simple_value(k); break;
     case SIMPLE_PROPERTY: simple_property(k); break;
+    case GO_BY_RULE: go_by_rule(k); break;
+    case SIZE: size(draw(8) == 7 ? k : k % 4); break;
     case WRITE: write_text(); break;
     case SESSION: session(); break;
     default: edit(k); break;

@@ -27,6 +27,8 @@
  * the rows behind its count are 0, after one that is refused all rows; only number 20 leaves them as they were.
  *
  * Stack: sgf_go_value 11.4 KB, sgf_write 8.8 KB, sgf_go_property 8.5 KB, sgf_read_strict and sgf_read_lenient 5 KB, the others at most 0.5 KB.
+
+ * Stack: sgf_go_value 11.4 KB, sgf_write 8.8 KB, sgf_go_by_rule 8.5 KB, sgf_read_strict and sgf_read_lenient 5 KB, the others at most 0.5 KB.
  */
 #ifndef SGF_H
 #define SGF_H
@@ -208,7 +210,7 @@ SgfDisplay sgf_display_value(uint32_t kind, const uint8_t *raw, size_t raw_len, 
 enum {
     SGF_OTHER = 0,    /* not one of B, W, HA, AB, AW, AE, TB, TW, or not in a Go tree */
     SGF_INVALID = 1,  /* one of them, with values that it cannot have */
-    SGF_PASS = 2,     /* B, W: an empty value */
+    SGF_PASS = 2,     /* B, W: an empty value, or `tt` where that is a pass */
     SGF_MOVE = 3,     /* B, W: a point: x, the column from the left, and y, the row from the top, each 0 to 51 */
     SGF_HANDICAP = 4, /* HA: at least 2, in handicap */
     SGF_POINTS = 5    /* AB, AW, AE, TB, TW: a set of points, in marks */
@@ -218,7 +220,8 @@ enum {
 #define SGF_POINT_PLACES 2704
 #define SGF_POINT_PLACE(x, y) (52 * (x) + (y))
 
-/* A number and a Go value; what its kind does not name is 0 or false. `tt` is the move (19, 19). */
+/* A number and a Go value; what its kind does not name is 0 or false. The move `tt` is a pass where the tree's root has
+ * no SZ, or one valid SZ with both sides at most 19; else it is the point (19, 19). In a list it is always that point. */
 typedef struct {
     uint32_t number, kind, x, y;
     uint64_t handicap;
@@ -228,14 +231,14 @@ typedef struct {
 /* The Go value of property p. Numbers: 19, 16; the kind is then SGF_OTHER. */
 SgfGoValue sgf_go_value(SGF_RECORD, size_t p);
 
-/* The same of one property without the check, for callers whose tables are known to fit: the game type of its tree,
- * its raw identifier, and its values, `count` rows of the value table from row `first` on. The number is 0. Rows that
+/* The same of one property without the check, for callers whose tables are known to fit: the rule of its tree, which
+ * sgf_tree_size says (any number but SGF_RULE_GO and SGF_RULE_GO_LARGE is another game), its raw identifier, and its values, `count` rows of the value table from row `first` on. The number is 0. Rows that
  * do not fit do no harm: a row that is not there is an empty value, a span is cut at the end of the text. With count
  * 0, which no text and no tables that fit can have, AB, AW, AE, TB and TW are valid sets without a point, B, W and HA
  * invalid. */
-SgfGoValue sgf_go_property(uint32_t game_type, const uint8_t *identifier, size_t identifier_len,
-                           const uint8_t *text, size_t text_len, const uint32_t *values, size_t values_len,
-                           size_t first, size_t count);
+SgfGoValue sgf_go_by_rule(uint32_t rule, const uint8_t *identifier, size_t identifier_len,
+                          const uint8_t *text, size_t text_len, const uint32_t *values, size_t values_len,
+                          size_t first, size_t count);
 
 /* A number, and how many bytes were written. */
 typedef struct {
@@ -269,6 +272,36 @@ SgfEdit sgf_edit(uint8_t *text, size_t text_len, size_t used, SgfCounts counts,
  * closed, and UTF-8 where the text is; it has at most twice the text's bytes. The number is 0, or 14 where it exceeds
  * out_len. */
 SgfDisplay sgf_escape(const uint8_t *text, size_t text_len, uint8_t *out, size_t out_len);
+
+/* ---- Board sizes ------------------------------------------------------------------------------------------- */
+
+/* Whether a root has a board size: SZ is one number, or columns and rows with one colon, each from 1 to 52. */
+enum {
+    SGF_SIZE_ABSENT = 0, /* no SZ */
+    SGF_SIZE_SIZED = 1,  /* one SZ with one valid value */
+    SGF_SIZE_WRONG = 2   /* SZ is repeated or invalid */
+};
+
+/* How a tree's values are read. */
+enum {
+    SGF_RULE_GO = 0,      /* Go where the move `tt` is a pass */
+    SGF_RULE_UNKNOWN = 1, /* another game */
+    SGF_RULE_GO_LARGE = 2 /* Go where it is the point (19, 19): a side above 19, or SZ wrong */
+};
+
+/* A number; the kind of size; columns and rows, 19 where absent, 0 where wrong; the rule of the tree. */
+typedef struct {
+    uint32_t number, kind, columns, rows, rule;
+} SgfSize;
+
+/* The board size of a tree, of any game. Numbers: 19, 16 (no tree has this number); all else is then 0. */
+SgfSize sgf_size(SGF_RECORD, size_t tree);
+
+/* The same without the check, for callers whose tables are known to fit: once a tree, then sgf_go_by_rule. The number is
+ * 0. Rows that do not fit do no harm: a row that is not there is no property. */
+SgfSize sgf_tree_size(const uint8_t *text, size_t text_len, const uint32_t *trees, size_t trees_len,
+                      const uint32_t *nodes, size_t nodes_len, const uint32_t *properties, size_t properties_len,
+                      const uint32_t *values, size_t values_len, size_t tree);
 
 /* ---- Token by token, without tables ----------------------------------------------------------------------- */
 

@@ -25,11 +25,13 @@ mod plain_fit;
 mod plain_go;
 mod plain_index;
 mod plain_reader;
+mod plain_size;
 mod plain_write;
 mod reader;
 mod records;
 mod report;
 mod rng;
+mod size_texts;
 #[cfg(stand_in)]
 mod stand_in;
 #[cfg(stand_in)]

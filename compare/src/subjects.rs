@@ -2,6 +2,7 @@
 use crate::report::Report;
 use crate::rng::Rng;
 use crate::{by_hand, display, edits, examples, fitting, go_values, index, library, limits, reader, texts, tokens, value_texts, writing};
+use crate::{by_hand, display, edits, examples, fitting, go_values, library, limits, reader, size_texts, texts, tokens, value_texts, writing};
 
 /// How many texts of each family to compare.
 pub struct Scale {
@@ -24,6 +25,7 @@ pub struct Scale {
     limits_step: usize,
     placed_runs_step: usize,
     damaged_runs_step: usize,
+    size_symbols: usize,
 }
 
 pub const SHORT: Scale = Scale {
@@ -46,6 +48,7 @@ pub const SHORT: Scale = Scale {
     limits_step: 13,
     placed_runs_step: 41,
     damaged_runs_step: 1_501,
+    size_symbols: 4,
 };
 
 pub const LONG: Scale = Scale {
@@ -68,6 +71,7 @@ pub const LONG: Scale = Scale {
     limits_step: 1,
     placed_runs_step: 1,
     damaged_runs_step: 31,
+    size_symbols: 5,
 };
 
 /// Compares the families of texts that tokens and readings share; of the edges of UTF-8 one in so many.
@@ -147,6 +151,8 @@ fn compare_go_values(scale: &Scale) -> bool {
     value_texts::decimals(&mut |text| report.text(text));
     value_texts::lists(4, scale.lists, &mut |text| report.text(text));
     report.group("rectangles, decimals, lists");
+    size_texts::sizes(scale.size_symbols, &mut |text| report.text(text));
+    report.group("board sizes");
     texts::corpus().iter().for_each(|text| report.text(text));
     report.close()
 }
@@ -185,6 +191,8 @@ fn compare_writing(scale: &Scale) -> bool {
     report.group("words and vertical tabs");
     value_texts::alike(9, scale.written_records, &mut |text| report.text(text));
     report.group("records that the crate writes alike");
+    size_texts::sizes(scale.size_symbols, &mut |text| report.text(text));
+    report.group("board sizes");
     value_texts::lists(6, scale.lists / 2, &mut |text| report.text(text));
     texts::made(7, scale.written_records, 1, &mut |text| report.text(text));
     report.group("made records");

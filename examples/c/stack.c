@@ -28,6 +28,7 @@ static SgfDisplay display;
 static SgfGoValue go;
 static SgfEntry entry;
 static SgfSimple simple;
+static SgfSize size;
 static SgfWriting writing;
 static SgfEdit edit;
 static SgfTrim trim;
@@ -60,6 +61,9 @@ NOTE(SgfGoValue, note_go_property, uint32_t type, const uint8_t *i, size_t n, co
 NOTE(SgfEntry, note_entry, const uint8_t *i, size_t n)
 NOTE(SgfSimple, note_simple_value, SGF_RECORD, size_t p)
 NOTE(SgfSimple, note_simple_property, uint32_t rule, const uint8_t *i, size_t n, const uint8_t *t, size_t m, const uint32_t *v, size_t l, size_t first, size_t count)
+NOTE(SgfGoValue, note_go_by_rule, uint32_t rule, const uint8_t *i, size_t n, const uint8_t *t, size_t m, const uint32_t *v, size_t l, size_t first, size_t count)
+NOTE(SgfSize, note_size, SGF_RECORD, size_t tree)
+NOTE(SgfSize, note_tree_size, const uint8_t *t, size_t n, const uint32_t *a, size_t b, const uint32_t *c, size_t d, const uint32_t *e, size_t f, const uint32_t *g, size_t h, size_t tree)
 NOTE(SgfWriting, note_write, SGF_RECORD, uint8_t *to, size_t to_len)
 NOTE(SgfEdit, note_edit, uint8_t *t, size_t n, size_t m, SgfCounts k, const uint32_t *a, size_t b, const uint32_t *c, size_t d, uint32_t *e, size_t f, uint32_t *g, size_t h, size_t i, const uint8_t *r, size_t l)
 NOTE(SgfTrim, note_trim, const uint8_t *t, size_t n)
@@ -76,9 +80,9 @@ static void call_display(void) { display = EITHER(display)(RECORD, asked, option
 static void call_display_value(void) { display = EITHER(display_value)(options, text, used, out, room); }
 static void call_version(void) { number = EITHER(version)(); }
 static void call_go_value(void) { go = EITHER(go_value)(RECORD, asked); }
-static void call_go_property(void) {
+static void call_go_by_rule(void) {
     const uint32_t *row = properties + asked * SGF_PROPERTY_STRIDE;
-    go = EITHER(go_property)(SGF_GO, text + row[0], row[1] - row[0], text, used, values, sizeof values / 4, row[2], row[3]);
+    go = EITHER(go_by_rule)(SGF_RULE_GO, text + row[0], row[1] - row[0], text, used, values, sizeof values / 4, row[2], row[3]);
 }
 static void call_entry(void) {
     const uint32_t *row = properties + asked * SGF_PROPERTY_STRIDE;
@@ -89,6 +93,8 @@ static void call_simple_property(void) {
     const uint32_t *row = properties + asked * SGF_PROPERTY_STRIDE;
     simple = EITHER(simple_property)(0, text + row[0], row[1] - row[0], text, used, values, sizeof values / 4, row[2], row[3]);
 }
+static void call_size(void) { size = EITHER(size)(RECORD, asked); }
+static void call_tree_size(void) { size = EITHER(tree_size)(text, used, TABLES, asked); }
 static void call_write(void) { writing = EITHER(write)(RECORD, out, room); }
 static void call_edit(void) { edit = EITHER(edit)(RECORD, asked, (const uint8_t *)replacement, strlen(replacement)); }
 static void call_trim(void) { trim = EITHER(trim)(text, used); }
@@ -112,6 +118,9 @@ static struct function {
     {"sgf_entry", call_entry, 0, 2048},
     {"sgf_simple_value", call_simple_value, 0, 2048},
     {"sgf_simple_property", call_simple_property, 0, 2048},
+    {"sgf_go_by_rule", call_go_by_rule, 0, 9216},
+    {"sgf_size", call_size, 0, 1024},
+    {"sgf_tree_size", call_tree_size, 0, 1024},
     {"sgf_write", call_write, 0, 10240},
     {"sgf_edit", call_edit, 0, 1024},
     {"sgf_trim", call_trim, 0, 512},

@@ -53,6 +53,17 @@ pub struct GoValue {
     pub marks: [u8; 2704],
 }
 
+/// A number; whether there is a board size, 0 none, 1 one, 2 a wrong one; columns and rows; the rule of the tree.
+#[repr(C)]
+#[derive(Debug, Clone, Copy, PartialEq, Eq)]
+pub struct Size {
+    pub number: u32,
+    pub kind: u32,
+    pub columns: u32,
+    pub rows: u32,
+    pub rule: u32,
+}
+
 /// The answer of an edit: number and place, used bytes, used rows.
 #[repr(C)]
 #[derive(Debug, Clone, Copy, PartialEq, Eq)]
@@ -131,6 +142,7 @@ declare! {
     const sgf_value(k: usize) -> Span;
     const sgf_display(k: usize, kind: u32, out: *mut u8, out_len: usize) -> Length;
     const sgf_go_value(p: usize) -> GoValue;
+    const sgf_size(tree: usize) -> Size;
     const sgf_write(out: *mut u8, out_len: usize) -> Length;
     mut sgf_edit(k: usize, new: *const u8, new_len: usize) -> Edit;
 }
@@ -167,8 +179,21 @@ unsafe extern "C" {
         values: *mut u32,
         values_len: usize,
     ) -> Reading;
-    fn sgf_go_property(
-        game_type: u32,
+    fn sgf_tree_size(
+        text: *const u8,
+        text_len: usize,
+        trees: *const u32,
+        trees_len: usize,
+        nodes: *const u32,
+        nodes_len: usize,
+        properties: *const u32,
+        properties_len: usize,
+        values: *const u32,
+        values_len: usize,
+        tree: usize,
+    ) -> Size;
+    fn sgf_go_by_rule(
+        rule: u32,
         identifier: *const u8,
         identifier_len: usize,
         text: *const u8,
@@ -261,10 +286,33 @@ pub fn write(h: &Held, out: &mut [u8]) -> Length {
     over!(sgf_write, h, out.as_mut_ptr(), out.len())
 }
 
-pub fn go_property(game_type: u32, identifier: &[u8], text: &[u8], values: &[u32], first: usize, count: usize) -> GoValue {
+pub fn size(h: &Held, tree: usize) -> Size {
+    over!(sgf_size, h, tree)
+}
+
+pub fn tree_size(text: &[u8], tables: [&[u32]; 4], tree: usize) -> Size {
+    let [trees, nodes, properties, values] = tables;
     unsafe {
-        sgf_go_property(
-            game_type,
+        sgf_tree_size(
+            text.as_ptr(),
+            text.len(),
+            trees.as_ptr(),
+            trees.len(),
+            nodes.as_ptr(),
+            nodes.len(),
+            properties.as_ptr(),
+            properties.len(),
+            values.as_ptr(),
+            values.len(),
+            tree,
+        )
+    }
+}
+
+pub fn go_by_rule(rule: u32, identifier: &[u8], text: &[u8], values: &[u32], first: usize, count: usize) -> GoValue {
+    unsafe {
+        sgf_go_by_rule(
+            rule,
             identifier.as_ptr(),
             identifier.len(),
             text.as_ptr(),

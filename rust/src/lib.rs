@@ -69,6 +69,7 @@ mod node;
 mod property;
 mod record;
 mod session;
+mod size;
 mod tables;
 mod walk;
 
@@ -79,6 +80,7 @@ pub use node::{GameType, Node, Tree};
 pub use property::{Property, Value, escape};
 pub use record::{ParseOptions, Record, parse, parse_lenient, parse_lenient_with_options, parse_with_options, serialize};
 pub use session::Session;
+pub use size::BoardSize;
 pub use tables::Tables;
 pub use walk::{Step, Walk};
 

@@ -1,6 +1,7 @@
 //! Trees and nodes.
 #![forbid(unsafe_code)]
 use crate::tables::NONE;
+use crate::size::Ruled;
 use crate::{Color, GoValue, Move, Property, Record};
 use std::iter::FusedIterator;
 
@@ -18,6 +19,7 @@ pub enum GameType {
 pub struct Tree<'r> {
     pub(crate) record: &'r Record<'r>,
     pub(crate) number: usize,
+    pub(crate) ruled: Ruled,
 }
 
 impl<'r> Tree<'r> {

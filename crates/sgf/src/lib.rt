@@ -5,6 +5,7 @@ pub mod feeds; // feeds.rt: corrections over the air
 pub mod by_blocks;
 pub mod boards;
 pub mod season;
+pub mod size; // size.rt: the board size of a tree
 
 use ask::Refusal;
 use c_answers::SgfDisplay;
