@@ -2,9 +2,9 @@
 use Rattle.lists.proofs.Prelude.{ℕ, _<_, _≡_, refl, sym, Bool, true, false, _&&_, not, List, [], _∷_, eqb, ltb, length, getD, eqb-true, T}
 use Rattle.lists.proofs.Tests.{and-both}
 use Rattle.ff4_index.specs.declared.Entry.{Entry}
-use Rattle.ff4_index.specs.Listed.{entryOf, listed}
+use Rattle.ff4_index.specs.Listed.{entryOf, isListed}
 use Rattle.ff4_index.specs.Places.{lettersAt}
-use Rattle.ff4_index.specs.Locals.{decoded}
+use Rattle.ff4_index.specs.Locals.{cellEntry}
 use Rattle.ff4_index.proofs.Table.{at}
 
 -- the table, 26 places a line
@@ -49,7 +49,7 @@ sameTest false b = not b
 
 -- the test: a cell has what the list has of its identifier, and is filled where the list has it
 right : ℕ → ℕ → Bool
-right i x = sameEntry (decoded x) (entryOf (lettersAt i)) && sameTest (ltb 0 x) (listed (lettersAt i))
+right i x = sameEntry (cellEntry x) (entryOf (lettersAt i)) && sameTest (ltb 0 x) (isListed (lettersAt i))
 
 is-true : (b : Bool) → T b → b ≡ true
 is-true true t = refl
@@ -76,15 +76,15 @@ same-test false true h = h
 
 -- at each place: computed once over the table
 passes : (i : ℕ) → i < 702 → right i (getD cells i 0) ≡ true
-unfolding cells right entryOf listed
+unfolding cells right entryOf isListed
 passes i h = is-true (right i (getD cells i 0)) (at right cells tt i h)
 
 -- a cell decodes to what FF[4] lists of the identifier of its place
-pub entries : (i : ℕ) → i < 702 → decoded (getD cells i 0) ≡ entryOf (lettersAt i)
+pub entries : (i : ℕ) → i < 702 → cellEntry (getD cells i 0) ≡ entryOf (lettersAt i)
 unfolding right
-entries i h = same-entry (decoded (getD cells i 0)) (entryOf (lettersAt i)) (and-both (sameEntry (decoded (getD cells i 0)) (entryOf (lettersAt i))) (sameTest (ltb 0 (getD cells i 0)) (listed (lettersAt i))) (passes i h) .0)
+entries i h = same-entry (cellEntry (getD cells i 0)) (entryOf (lettersAt i)) (and-both (sameEntry (cellEntry (getD cells i 0)) (entryOf (lettersAt i))) (sameTest (ltb 0 (getD cells i 0)) (isListed (lettersAt i))) (passes i h) .0)
 
 -- a cell is filled exactly where FF[4] lists that identifier
-pub filled : (i : ℕ) → i < 702 → ltb 0 (getD cells i 0) ≡ listed (lettersAt i)
+pub filled : (i : ℕ) → i < 702 → ltb 0 (getD cells i 0) ≡ isListed (lettersAt i)
 unfolding right
-filled i h = same-test (ltb 0 (getD cells i 0)) (listed (lettersAt i)) (and-both (sameEntry (decoded (getD cells i 0)) (entryOf (lettersAt i))) (sameTest (ltb 0 (getD cells i 0)) (listed (lettersAt i))) (passes i h) .1)
+filled i h = same-test (ltb 0 (getD cells i 0)) (isListed (lettersAt i)) (and-both (sameEntry (cellEntry (getD cells i 0)) (entryOf (lettersAt i))) (sameTest (ltb 0 (getD cells i 0)) (isListed (lettersAt i))) (passes i h) .1)

@@ -3,8 +3,8 @@ use Rattle.lists.proofs.Prelude.{ℕ, _≤_, _<_, _≡_, refl, sym, ap, _∙_, 
 use Rattle.lists.specs.All.{All}
 use Rattle.lists.proofs.Tests.{and-both}
 use Rattle.lists.specs.Same.{same}
-use Rattle.ff4_index.specs.Listed.{Row, ff4, unlisted, entryIn, entryOf, listedIn, listed}
-use Rattle.ff4_index.specs.Places.{placeOf}
+use Rattle.ff4_index.specs.Listed.{IndexRow, ff4, unlisted, entryIn, entryOf, rowListed, isListed}
+use Rattle.ff4_index.specs.Places.{indexPlace}
 use Rattle.ff4_index.proofs.Placed.{Upper}
 
 -- at most two letters
@@ -14,7 +14,7 @@ short (a ∷ []) = true
 short (a ∷ b ∷ []) = true
 short (a ∷ b ∷ c ∷ r) = false
 
-abbrev allShort : List Row → Bool
+abbrev allShort : List IndexRow → Bool
 allShort [] = true
 allShort (r ∷ rs) = short (r .letters) && allShort rs
 
@@ -24,8 +24,8 @@ short-other (x ∷ []) h a b c r = and-false (eqb x a)
 short-other (x ∷ y ∷ []) h a b c r = rw (and-false (eqb y b)) (and-false (eqb x a))
 short-other (x ∷ y ∷ z ∷ l) h a b c r = absurd (false≢true h)
 
-long-unlisted : (rs : List Row) → allShort rs ≡ true → (a b c : ℕ) (r : List ℕ)
-    → (entryIn rs (a ∷ b ∷ c ∷ r) ≡ unlisted) × (listedIn rs (a ∷ b ∷ c ∷ r) ≡ false)
+long-unlisted : (rs : List IndexRow) → allShort rs ≡ true → (a b c : ℕ) (r : List ℕ)
+    → (entryIn rs (a ∷ b ∷ c ∷ r) ≡ unlisted) × (rowListed rs (a ∷ b ∷ c ∷ r) ≡ false)
 long-unlisted [] h a b c r = (refl, refl)
 long-unlisted (x ∷ rs) h a b c r =
     let v = and-both (short (x .letters)) (allShort rs) h in
@@ -34,7 +34,7 @@ long-unlisted (x ∷ rs) h a b c r =
     (rw e (u .0), rw e (u .1))
 
 -- an identifier without a place is not listed
-pub no-place : (l : List ℕ) → All Upper l → 702 ≤ placeOf l → unlisted ≡ entryOf l
+pub no-place : (l : List ℕ) → All Upper l → 702 ≤ indexPlace l → unlisted ≡ entryOf l
 unfolding entryOf
 no-place [] h q = refl
 no-place (a ∷ []) h q = absurd (omega (arith, h .0 .1, q))

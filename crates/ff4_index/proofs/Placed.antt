@@ -4,7 +4,7 @@ use Rattle.lists.specs.All.{All}
 use Rattle.lists.proofs.Tests.{and-both}
 use Rattle.values.specs.Read.{readIdentifier}
 use Rattle.go_shape.proofs.Identifiers.{letter-past, letter-here, letter-on}
-use Rattle.ff4_index.specs.Places.{placeOf, lettersAt}
+use Rattle.ff4_index.specs.Places.{indexPlace, lettersAt}
 use Rattle.ff4_index.specs.Locals.{placeFrom}
 
 -- an uppercase letter
@@ -23,7 +23,7 @@ letters-upper (b ∷ bs) = go (leb 0x41 b && leb b 0x5a) refl (letters-upper bs)
     go true e h = let u = and-both (leb 0x41 b) (leb b 0x5a) e in ((leb-true 0x41 b (u .0), leb-true b 0x5a (u .1)), h)
     go false e h = h
 
-pub place-is : (l : List ℕ) → All Upper l → placeFrom 0 l ≡ placeOf l
+pub place-is : (l : List ℕ) → All Upper l → placeFrom 0 l ≡ indexPlace l
 unfolding placeFrom
 place-is [] h = refl
 place-is (a ∷ []) h =
@@ -39,7 +39,7 @@ place-is (a ∷ b ∷ c ∷ r) h =
     rw (l, m)
 
 -- a place is below 702 for one letter and for two
-pub place-below : (l : List ℕ) → All Upper l → (placeOf l < 702 → lettersAt (placeOf l) ≡ l)
+pub place-below : (l : List ℕ) → All Upper l → (indexPlace l < 702 → lettersAt (indexPlace l) ≡ l)
 place-below [] h q = absurd (omega (arith, q))
 place-below (a ∷ []) h q =
     let l : ltb (a - 0x41) 26 ≡ true = lt-ltb (a - 0x41) 26 (omega (arith, h .0 .1)) in
@@ -53,10 +53,10 @@ place-below (a ∷ b ∷ []) h q =
 place-below (a ∷ b ∷ c ∷ r) h q = absurd (omega (arith, q))
 
 -- the place of the identifier of a place
-pub place-letters : (i : ℕ) → i < 702 → placeOf (lettersAt i) ≡ i
+pub place-letters : (i : ℕ) → i < 702 → indexPlace (lettersAt i) ≡ i
 place-letters i h = go (ltb i 26) refl
   where
-    go : (t : Bool) → ltb i 26 ≡ t → placeOf (pick t ((0x41 + i) ∷ []) ((0x41 + (i - 26) / 26) ∷ (0x41 + (i - 26) % 26) ∷ [])) ≡ i
+    go : (t : Bool) → ltb i 26 ≡ t → indexPlace (pick t ((0x41 + i) ∷ []) ((0x41 + (i - 26) / 26) ∷ (0x41 + (i - 26) % 26) ∷ [])) ≡ i
     go true e = omega arith
     go false e = omega (arith, ltb-false i 26 e, h)
 

@@ -3,8 +3,8 @@ use Rattle.lists.specs.Prelude.{ℕ, _+_, _-_, _*_, _/_, _%_, List, [], _∷_, 
 use Rattle.ff4_index.specs.declared.Entry.{Entry}
 
 -- the parts of a cell
-abbrev pub decoded : ℕ → Entry
-decoded c = record { kind = c % 32; «property_type» = c / 32 % 8; section = c / 256 }
+abbrev pub cellEntry : ℕ → Entry
+cellEntry c = record { kind = c % 32; «property_type» = c / 32 % 8; section = c / 256 }
 
 -- the place where the letters so far count n
 unfoldable pub placeFrom : ℕ → List ℕ → ℕ

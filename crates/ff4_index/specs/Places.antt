@@ -2,11 +2,11 @@
 use Rattle.lists.specs.Prelude.{ℕ, _+_, _-_, _*_, _/_, _%_, List, [], _∷_, ltb, pick}
 
 -- the place of an identifier; 702 where it has none
-abbrev pub placeOf : List ℕ → ℕ
-placeOf [] = 702
-placeOf (a ∷ []) = a - 0x41
-placeOf (a ∷ b ∷ []) = 26 + (a - 0x41) * 26 + (b - 0x41)
-placeOf (a ∷ b ∷ c ∷ r) = 702
+abbrev pub indexPlace : List ℕ → ℕ
+indexPlace [] = 702
+indexPlace (a ∷ []) = a - 0x41
+indexPlace (a ∷ b ∷ []) = 26 + (a - 0x41) * 26 + (b - 0x41)
+indexPlace (a ∷ b ∷ c ∷ r) = 702
 
 -- the identifier of a place
 abbrev pub lettersAt : ℕ → List ℕ

@@ -3,8 +3,8 @@ ghost use mathlib.Core.Path.{_≡_};
 ghost use Prim.Native.Nat.{_<_};
 ghost use Rattle.values.specs.Read.{readIdentifier};
 ghost use Rattle.ff4_index.specs.Listed.{entryOf};
-ghost use Rattle.ff4_index.specs.Places.{placeOf, lettersAt};
-ghost use Rattle.ff4_index.specs.Locals.{decoded};
+ghost use Rattle.ff4_index.specs.Places.{indexPlace, lettersAt};
+ghost use Rattle.ff4_index.specs.Locals.{cellEntry};
 
 // What FF[4] lists of a property, by number; 0, 0, 0 where it does not list it.
 pub struct Entry {
@@ -722,6 +722,7 @@ const INDEX: [u16; 702] = [
     0,
 ];
 
+// A byte as an index.
 fn wide(x: u8) -> usize
     ensures { λ r. ⌜ r ≡ x ⌝ }
 {
@@ -730,7 +731,7 @@ fn wide(x: u8) -> usize
 
 // The place of an identifier in the table; 702 where it has none. Letters count as those of a sheet's columns do, from 1 for `A`.
 fn place_of(identifier: &[u8]) -> usize
-    ensures { λ r. ⌜ r ≡ placeOf (readIdentifier (now (identifier .entry))) ⌝ }
+    ensures { λ r. ⌜ r ≡ indexPlace (readIdentifier (now (identifier .entry))) ⌝ }
 {
     let mut number: usize = 0;
     let mut at = 0;
@@ -761,7 +762,7 @@ fn entry_at(place: usize) -> Entry
 
 // The parts of a cell.
 fn decode(cell: u16) -> Entry
-    ensures { λ r. ⌜ r ≡ decoded cell ⌝ }
+    ensures { λ r. ⌜ r ≡ cellEntry cell ⌝ }
 {
     Entry {
         kind: (cell % 32) as u32,

@@ -32,6 +32,7 @@ const COLOR: u32 = 5;
 // The section of Go's own properties.
 const GO: u32 = 10;
 
+// A byte as a number.
 fn wide(x: u8) -> u32
     ensures { λ r. ⌜ r ≡ x ⌝ }
 {
