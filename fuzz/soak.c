@@ -6,7 +6,8 @@
  *
  * Every lent array stands between fences (lent.h). After each call what it may not write is as it was, a refusal has
  * written nothing and its number is one that the call may give; tables of a reading fit; after an accepted edit of a
- * strict reading the tables are those of a fresh one; a writing reads back, and is written again as the same bytes.
+ * strict reading the tables are those of a fresh one; a session of edits is undone and redone, step by step, to the same
+ * used bytes and the same tables; a writing reads back, and is written again as the same bytes.
  * The process holds no more memory at the end than after a tenth of them. */
 #define _GNU_SOURCE
 #include "lent.h"
@@ -40,7 +41,7 @@ enum { NUMBERS_END = 25 };
 static unsigned long operations, accepted, refusals[NUMBERS_END];
 
 /* What a fuzzer is told beside the code that was reached: which call gave which number, and sizes by their bits. */
-enum { READ, WALK, FITS, VALUE, DISPLAY, DISPLAY_VALUE, GO_VALUE, GO_PROPERTY, WRITE, EDIT, CALLS };
+enum { READ, WALK, FITS, VALUE, DISPLAY, DISPLAY_VALUE, GO_VALUE, GO_PROPERTY, ENTRY, SIMPLE_VALUE, SIMPLE_PROPERTY, WRITE, EDIT, SESSION, CALLS };
 #ifdef FUZZER
 __attribute__((section("__libfuzzer_extra_counters")))
 #endif
@@ -326,6 +327,77 @@ static void edit(size_t k) {
     }
 }
 
+/* The states of a session: used texts, and the bytes of a value to come to the one before, or to the one behind. */
+enum { STEPS = 64 };
+static struct {
+    uint8_t text[TEXT + ROOM], bytes[TEXT + ROOM];
+    size_t used, value, length;
+} states[STEPS + 1];
+static uint8_t first[TABLES][4 * SGF_NODE_STRIDE * TEXT], last[TABLES][4 * SGF_NODE_STRIDE * TEXT];
+static unsigned long sessions, undone;
+
+static void keep_state(size_t at) {
+    states[at].used = used;
+    memcpy(states[at].text, lent[TEXTS].at, used);
+}
+
+/* Keeps the bytes of value k in a state. */
+static void keep_bytes(size_t at, size_t k) {
+    SgfSpan span = sgf_value(RECORD, k);
+    states[at].value = k;
+    states[at].length = span.to - span.from;
+    memcpy(states[at].bytes, lent[TEXTS].at + span.from, states[at].length);
+}
+
+/* Puts the bytes kept in a state, keeps there what they replace, and comes to the used text of state `to`. */
+static void put(size_t at, size_t to) {
+    static uint8_t bytes[TEXT + ROOM];
+    size_t k = states[at].value, length = states[at].length;
+    memcpy(bytes, states[at].bytes, length);
+    keep_bytes(at, k);
+    remember_all();
+    SgfEdit e = sgf_edit(RECORD, k, bytes, length);
+    REQUIRE(e.number == 0 && same_counts(e.counts, counts));
+    answered(SESSION, 0, 0, MAY(TEXTS) | MAY(PROPERTIES) | MAY(VALUES));
+    used = e.used;
+    REQUIRE(used == states[to].used && memcmp(lent[TEXTS].at, states[to].text, used) == 0);
+}
+
+/* A session of edits, undone, done again, and now and then undone once more; tables at either end are compared whole. */
+static void session(void) {
+    size_t steps = 0;
+    if (sgf_fits(RECORD) != 0 || counts.values == 0) {
+        return;
+    }
+    for (int t = 0; t < TABLES; t++) {
+        memcpy(first[t], lent[t].at, lent[t].length);
+    }
+    keep_state(0);
+    for (uint32_t left = draw(STEPS + 1); left > 0; left--) {
+        size_t k = draw((uint32_t)counts.values);
+        unsigned long before = accepted;
+        keep_bytes(steps, k);
+        edit(k);
+        if (accepted > before) {
+            keep_state(++steps);
+        }
+    }
+    tell(SESSION, 0, steps);
+    sessions += steps > 0;
+    undone += steps;
+    for (int t = 0; t < TABLES; t++) {
+        memcpy(last[t], lent[t].at, lent[t].length);
+    }
+    for (int way = 0, ways = 2 + (int)draw(2); way < ways; way++) {
+        for (size_t at = 0; at < steps; at++) {
+            way % 2 == 0 ? put(steps - 1 - at, steps - 1 - at) : put(at, at + 1);
+        }
+        for (int t = 0; t < TABLES; t++) {
+            REQUIRE(memcmp(way % 2 == 0 ? first[t] : last[t], lent[t].at, lent[t].length) == 0);
+        }
+    }
+}
+
 static void write_text(void) {
     SgfWriting w = sgf_write(RECORD, BYTES(OUTS));
     if (answered(WRITE, w.number, MAY(19) | MAY(15) | MAY(14), MAY(OUTS))) {
@@ -387,6 +459,42 @@ static void go_property(size_t first) {
     tell(GO_PROPERTY, 0, (size_t)1 << v.kind);
 }
 
+/* Any part of the text as an identifier. */
+static void entry(void) {
+    size_t length = lent[TEXTS].length, from = draw((uint32_t)length + 1), to = from + draw((uint32_t)(length - from) + 1);
+    SgfEntry e = sgf_entry(lent[TEXTS].at + from, to - from);
+    answered(ENTRY, 0, 0, 0);
+    tell(ENTRY, 0, (size_t)1 << e.section);
+    REQUIRE((e.kind == 0) == (e.section == 0) && e.kind <= SGF_KIND_FIGURE && e.type <= SGF_TYPE_INHERIT && e.section <= SGF_SECTION_GO);
+}
+
+static void is_simple(SgfSimple v) {
+    bool sized = v.kind == SGF_SIMPLE_DOUBLE || v.kind == SGF_SIMPLE_COLOR;
+    REQUIRE(v.reserved == 0 && v.kind <= SGF_SIMPLE_NUMBER && (v.number == 0 || v.kind == SGF_SIMPLE_OTHER));
+    REQUIRE(sized ? v.size == 1 || v.size == 2 : v.size == 0 || v.kind == SGF_SIMPLE_NUMBER);
+    REQUIRE(v.negative <= (v.kind == SGF_SIMPLE_NUMBER) && v.size <= (uint64_t)INT64_MAX + v.negative);
+}
+
+static void simple_value(size_t p) {
+    SgfSimple v = sgf_simple_value(RECORD, p);
+    answered(SIMPLE_VALUE, v.number, MAY(19) | MAY(16), 0);
+    tell(SIMPLE_VALUE, 0, (size_t)1 << v.kind);
+    is_simple(v);
+}
+
+/* Any rows, which need not fit. */
+static void simple_property(size_t first) {
+    static const char *names[] = {"TE", "PL", "KO", "MN", "HA", "C"};
+    size_t name = draw(4), length = lent[TEXTS].length;
+    uint32_t rule = draw(4), count = draw(4), listed = draw(8);
+    const uint8_t *identifier = listed < 6 ? (const uint8_t *)names[listed] : lent[TEXTS].at;
+    size_t identifier_len = listed < 6 ? strlen(names[listed]) : name < length ? name : length;
+    SgfSimple v = sgf_simple_property(rule, identifier, identifier_len, BYTES(TEXTS), NUMBERS(VALUES), first, count);
+    answered(SIMPLE_PROPERTY, v.number, 0, 0);
+    tell(SIMPLE_PROPERTY, 0, (size_t)1 << v.kind);
+    is_simple(v);
+}
+
 static void call(int what) {
     size_t k = draw(30) == 29 ? (size_t)-1 : draw((uint32_t)(counts.values % TEXT) + 2);
     lend(&lent[OUTS], draw(OUT), draw(4) == 3);
@@ -399,16 +507,27 @@ static void call(int what) {
     case DISPLAY_VALUE: display_value(k, draw(3)); break;
     case GO_VALUE: go_value(k); break;
     case GO_PROPERTY: go_property(k); break;
+    case ENTRY: entry(); break;
+    case SIMPLE_VALUE: simple_value(k); break;
+    case SIMPLE_PROPERTY: simple_property(k); break;
     case WRITE: write_text(); break;
+    case SESSION: session(); break;
     default: edit(k); break;
     }
 }
 
 static void step(void) {
+    int what = READ;
     operations++;
     switch (draw(12)) {
     case 0: draw(8) == 7 ? damage() : read_text(); break;
-    default: call(WALK + (int)draw(CALLS - WALK)); break;
+    default: what = WALK + (int)draw(CALLS - WALK); break;
+    }
+    if (what == SESSION && draw(16) != 0) {
+        what = EDIT;
+    }
+    if (what != READ) {
+        call(what);
     }
 }
 
@@ -420,6 +539,9 @@ static void begin(void) {
         make_room(&lent[TEXTS], TEXT + ROOM);
         make_room(&lent[OUTS], OUT);
         make_room(&lent[NEWS], NEW);
+        memset(states, 1, sizeof states);
+        memset(first, 1, sizeof first);
+        memset(last, 1, sizeof last);
     }
     read_text();
 }
@@ -465,6 +587,7 @@ int main(int argc, char **argv) {
     for (int n = 1; n < NUMBERS_END; n++) {
         printf(" %d:%lu", n, refusals[n]);
     }
+    printf("\nsessions: %lu, of %lu edits, undone and redone", sessions, undone);
     printf("\nmemory: %ld KB after a tenth of them, %ld KB at the end\n", before, after);
     return after > before;
 }

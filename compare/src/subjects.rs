@@ -1,7 +1,7 @@
 //! The subjects that are compared, each on its families of texts, and how many of them.
 use crate::report::Report;
 use crate::rng::Rng;
-use crate::{by_hand, display, edits, examples, fitting, go_values, library, limits, reader, texts, tokens, value_texts, writing};
+use crate::{by_hand, display, edits, examples, fitting, go_values, index, library, limits, reader, texts, tokens, value_texts, writing};
 
 /// How many texts of each family to compare.
 pub struct Scale {
@@ -206,12 +206,25 @@ fn compare_edits(scale: &Scale) -> bool {
     report.close()
 }
 
+fn compare_index(scale: &Scale) -> bool {
+    let mut entries = Report::new("property index", index::compare_entry);
+    index::identifiers(scale.lists, &mut |text| entries.text(text));
+    let good = entries.close();
+    let mut values = Report::new("simple values", index::compare_value);
+    index::values(scale.shown_bytes - 2, &mut |text| values.text(text));
+    let good = good & values.close();
+    let mut records = Report::new("simple values of records", index::compare_record);
+    texts::made(11, scale.written_records, 1, &mut |text| records.text(text));
+    texts::corpus().iter().for_each(|text| records.text(text));
+    good & records.close()
+}
+
 type Subject = fn(&Scale) -> bool;
 
 /// Compares one subject, or all; true if nothing differed.
 pub fn compare(scale: &Scale, subject: Option<&str>) -> bool {
     println!("library: {}", library::NAME);
-    let subjects: [(&str, Subject); 10] = [
+    let subjects: [(&str, Subject); 11] = [
         ("tokens", compare_tokens),
         ("places", compare_places),
         ("examples", |_| examples::hold()),
@@ -222,6 +235,7 @@ pub fn compare(scale: &Scale, subject: Option<&str>) -> bool {
         ("fitting", compare_fitting),
         ("writing", compare_writing),
         ("edits", compare_edits),
+        ("index", compare_index),
     ];
     let wanted: Vec<_> = subjects.iter().filter(|(name, _)| subject.is_none_or(|chosen| *name == chosen)).collect();
     wanted.iter().fold(!wanted.is_empty(), |good, (_, run)| run(scale) & good)

@@ -26,6 +26,8 @@ static SgfReading reading;
 static SgfSpan span;
 static SgfDisplay display;
 static SgfGoValue go;
+static SgfEntry entry;
+static SgfSimple simple;
 static SgfWriting writing;
 static SgfEdit edit;
 static SgfTrim trim;
@@ -55,6 +57,9 @@ NOTE(SgfDisplay, note_display_value, uint32_t kind, const uint8_t *raw, size_t r
 NOTE(uint32_t, note_version, void)
 NOTE(SgfGoValue, note_go_value, SGF_RECORD, size_t p)
 NOTE(SgfGoValue, note_go_property, uint32_t type, const uint8_t *i, size_t n, const uint8_t *t, size_t m, const uint32_t *v, size_t l, size_t first, size_t count)
+NOTE(SgfEntry, note_entry, const uint8_t *i, size_t n)
+NOTE(SgfSimple, note_simple_value, SGF_RECORD, size_t p)
+NOTE(SgfSimple, note_simple_property, uint32_t rule, const uint8_t *i, size_t n, const uint8_t *t, size_t m, const uint32_t *v, size_t l, size_t first, size_t count)
 NOTE(SgfWriting, note_write, SGF_RECORD, uint8_t *to, size_t to_len)
 NOTE(SgfEdit, note_edit, uint8_t *t, size_t n, size_t m, SgfCounts k, const uint32_t *a, size_t b, const uint32_t *c, size_t d, uint32_t *e, size_t f, uint32_t *g, size_t h, size_t i, const uint8_t *r, size_t l)
 NOTE(SgfTrim, note_trim, const uint8_t *t, size_t n)
@@ -74,6 +79,15 @@ static void call_go_value(void) { go = EITHER(go_value)(RECORD, asked); }
 static void call_go_property(void) {
     const uint32_t *row = properties + asked * SGF_PROPERTY_STRIDE;
     go = EITHER(go_property)(SGF_GO, text + row[0], row[1] - row[0], text, used, values, sizeof values / 4, row[2], row[3]);
+}
+static void call_entry(void) {
+    const uint32_t *row = properties + asked * SGF_PROPERTY_STRIDE;
+    entry = EITHER(entry)(text + row[0], row[1] - row[0]);
+}
+static void call_simple_value(void) { simple = EITHER(simple_value)(RECORD, asked); }
+static void call_simple_property(void) {
+    const uint32_t *row = properties + asked * SGF_PROPERTY_STRIDE;
+    simple = EITHER(simple_property)(0, text + row[0], row[1] - row[0], text, used, values, sizeof values / 4, row[2], row[3]);
 }
 static void call_write(void) { writing = EITHER(write)(RECORD, out, room); }
 static void call_edit(void) { edit = EITHER(edit)(RECORD, asked, (const uint8_t *)replacement, strlen(replacement)); }
@@ -95,6 +109,9 @@ static struct function {
     {"sgf_version", call_version, 0, 512},
     {"sgf_go_value", call_go_value, 0, 12288},
     {"sgf_go_property", call_go_property, 0, 9216},
+    {"sgf_entry", call_entry, 0, 2048},
+    {"sgf_simple_value", call_simple_value, 0, 2048},
+    {"sgf_simple_property", call_simple_property, 0, 2048},
     {"sgf_write", call_write, 0, 10240},
     {"sgf_edit", call_edit, 0, 1024},
     {"sgf_trim", call_trim, 0, 512},
@@ -175,6 +192,6 @@ int main(void) {
             failed = 1;
         }
     }
-    (void)span, (void)display, (void)go, (void)writing, (void)edit, (void)trim, (void)token, (void)value, (void)number;
+    (void)span, (void)entry, (void)simple, (void)display, (void)go, (void)writing, (void)edit, (void)trim, (void)token, (void)value, (void)number;
     return failed;
 }

@@ -298,3 +298,67 @@ pub fn edit(e: &mut Edited, k: usize, new: &[u8]) -> Edit {
         )
     }
 }
+
+/// What FF[4] lists of a property; all 0 where it does not list it.
+#[repr(C)]
+#[derive(Debug, Clone, Copy, PartialEq, Eq)]
+pub struct Entry {
+    pub kind: u32,
+    pub property_type: u32,
+    pub section: u32,
+    pub reserved: u32,
+}
+
+/// A number and a simple value.
+#[repr(C)]
+#[derive(Debug, Clone, Copy, PartialEq, Eq)]
+pub struct Simple {
+    pub number: u32,
+    pub kind: u32,
+    pub negative: u32,
+    pub reserved: u32,
+    pub size: u64,
+}
+
+declare! {
+    const sgf_simple_value(p: usize) -> Simple;
+}
+
+unsafe extern "C" {
+    fn sgf_entry(identifier: *const u8, identifier_len: usize) -> Entry;
+    fn sgf_simple_property(
+        rule: u32,
+        identifier: *const u8,
+        identifier_len: usize,
+        text: *const u8,
+        text_len: usize,
+        values: *const u32,
+        values_len: usize,
+        first: usize,
+        count: usize,
+    ) -> Simple;
+}
+
+pub fn entry(identifier: &[u8]) -> Entry {
+    unsafe { sgf_entry(identifier.as_ptr(), identifier.len()) }
+}
+
+pub fn simple_value(h: &Held, p: usize) -> Simple {
+    over!(sgf_simple_value, h, p)
+}
+
+pub fn simple_property(rule: u32, identifier: &[u8], text: &[u8], values: &[u32], first: usize, count: usize) -> Simple {
+    unsafe {
+        sgf_simple_property(
+            rule,
+            identifier.as_ptr(),
+            identifier.len(),
+            text.as_ptr(),
+            text.len(),
+            values.as_ptr(),
+            values.len(),
+            first,
+            count,
+        )
+    }
+}

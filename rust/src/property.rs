@@ -2,6 +2,7 @@
 #![forbid(unsafe_code)]
 use crate::{GameType, GoValue, Node, Record, ffi};
 use std::borrow::Cow;
+use std::iter::FusedIterator;
 
 /// A property of a node.
 #[derive(Debug, Clone, Copy)]
@@ -44,9 +45,9 @@ impl<'r> Property<'r> {
     }
 
     /// Its values, in the order of the text: at least one.
-    pub fn values(self) -> impl Iterator<Item = Value<'r>> {
-        let [_, _, first, count] = self.row();
-        (first..first + count).map(move |number| Value { record: self.record(), number: number as usize })
+    pub fn values(self) -> impl DoubleEndedIterator<Item = Value<'r>> + ExactSizeIterator + FusedIterator {
+        let [first, count] = [self.row()[2] as usize, self.row()[3] as usize];
+        (first..first + count).map(move |number| Value { record: self.record(), number })
     }
 
     /// Its first value.

@@ -9,7 +9,7 @@ use Rattle.go_shape.specs.Shape.{shapeOf}
 use Rattle.go_shape.specs.declared.Shape.{Shape}
 use Rattle.go_shape.specs.declared.Shape.the-variants.{OneMove, OneNumber, ManyPoints, Unread}
 use Rattle.go.specs.Marks.{inSome, allGood}
-use Rattle.go.specs.Value.{areasOf, pointsOf, valueBy, goValue}
+use Rattle.go.specs.Value.{isGo, areasOf, pointsOf, valueBy, goValue}
 use Rattle.go.specs.declared.value.GoValue.{GoValue}
 use Rattle.go.proofs.Marked.{marks-all}
 use Rattle.parts_props.specs.Props.{Property}
@@ -52,18 +52,18 @@ sets-few c i (m ∷ ms) = go m (sets-few c (suc i) ms)
     go true l = omega arith
     go false l = omega arith
 
-by-marks : (s : Shape) (vs : List (List ℕ)) → length (valueBy s vs .marks) ≡ 2704
+by-marks : (rule : ℕ) (s : Shape) (vs : List (List ℕ)) → length (valueBy rule s vs .marks) ≡ 2704
 unfolding valueBy pointsOf
-by-marks OneMove vs = length-replicate {A = Bool} 2704 false
-by-marks OneNumber vs = length-replicate {A = Bool} 2704 false
-by-marks ManyPoints vs =
+by-marks rule OneMove vs = length-replicate {A = Bool} 2704 false
+by-marks rule OneNumber vs = length-replicate {A = Bool} 2704 false
+by-marks rule ManyPoints vs =
     pick-elim (λ (g : GoValue). length (g .marks) ≡ 2704) (allGood (areasOf vs)) (λ e. marks-all (inSome (areasOf vs))) (λ e. length-replicate {A = Bool} 2704 false)
-by-marks Unread vs = length-replicate {A = Bool} 2704 false
+by-marks rule Unread vs = length-replicate {A = Bool} 2704 false
 
-go-marks : (game : ℕ) (id : List ℕ) (vs : List (List ℕ)) → length (goValue game id vs .marks) ≡ 2704
+go-marks : (rule : ℕ) (id : List ℕ) (vs : List (List ℕ)) → length (goValue rule id vs .marks) ≡ 2704
 unfolding goValue
-go-marks game id vs =
-    pick-elim (λ (g : GoValue). length (g .marks) ≡ 2704) (eqb game 0) (λ e. by-marks (shapeOf id) vs) (λ e. length-replicate {A = Bool} 2704 false)
+go-marks rule id vs =
+    pick-elim (λ (g : GoValue). length (g .marks) ≡ 2704) (isGo rule) (λ e. by-marks rule (shapeOf id) vs) (λ e. length-replicate {A = Bool} 2704 false)
 
 setups-few : (p : Property) → length (setupsOf p) ≤ 2704
 unfolding setupsOf
@@ -84,7 +84,7 @@ moves-few : (w h : ℕ) (p : Property) → length (movesOf w h p) ≤ 1
 unfolding movesOf
 moves-few w h p =
     pick-elim (λ (z : List Act). length z ≤ 1) (ltb 0 (moveColour (p .name)))
-    (λ e. move-few w h (moveColour (p .name)) (goValue 0 (p .name) (p .raws) .value)) (λ e. omega arith)
+    (λ e. move-few w h (moveColour (p .name)) (goValue 2 (p .name) (p .raws) .value)) (λ e. omega arith)
 
 all-setups-few : (ps : List Property) → length (allSetups ps) ≤ length ps * 2704
 all-setups-few [] = omega arith

@@ -57,7 +57,7 @@ pub use Rattle.demands.proofs.Accepts.{strict-0, lenient-0, upto-12, ne
 -- sgf_read_lenient
 pub use Rattle.demands.proofs.Demand1Lenient.{lenient-exactly, lenient-stays, lenient-zeros, lenient-ignored, lenient-numbers, lenient-case}
 -- sgf_trim, sgf_token, sgf_display_value
-pub use Rattle.demands.proofs.Demand1Texts.{trim-kept, trim-keeps, trim-numbers, token-exactly, raw-exactly, raw-stays, raw-numbers}
+pub use Rattle.demands.proofs.Demand1Texts.{trim-kept, trim-keeps, trim-numbers, token-exactly, raw-exactly, raw-stays, raw-numbers, escape-exactly, escape-stays, escape-numbers}
 
 -- no reason has the number of acceptance
 pub number-some : (r : Reason) → 0 < numberOf r
@@ -174,7 +174,7 @@ trim-exactly = texts.trim-exactly
 pub token-numbers : (at k n f o to : ℕ) (x : Step) → TokenIs at x k n f o to → OneOf tokenNumbers n
 token-numbers = texts.token-listed
 
--- sgf_go_property: 0
+-- sgf_go_by_rule: 0
 pub property-numbers : (g : GoValue) (r : SgfGoValue) → r ≡ goInC 0 g → r .number ≡ 0
 property-numbers g r e = ap (λ (z : SgfGoValue). z .number) e
 

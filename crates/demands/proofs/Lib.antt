@@ -8,6 +8,7 @@ pub mod Demand1Texts
 pub mod Demand2
 pub mod Demand2Exported
 pub mod Demand3
+pub mod Demand3Undo
 pub mod Depths
 pub mod Edited
 pub mod Editing
@@ -21,6 +22,7 @@ pub mod Refusals
 pub mod Rereadings
 pub mod RoundTrip
 pub mod Salvaged
+pub mod Sessions
 pub mod Texts
 pub mod UniqueExported
 pub mod UniqueReading

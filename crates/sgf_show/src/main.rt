@@ -1,6 +1,7 @@
-// What is in a record: reads standard input and says its counts, its trees with their greatest depths and the moves of each main line, or why it is refused and where. Strictly; by the one word --lenient as far as it can be read.
+// What is in a record: reads standard input and says its counts, its trees with their greatest depths, the moves of each main line and the sections of their properties, or why it is refused and where. Strictly; by the one word --lenient as far as it can be read.
 mod moves; // moves.rt: the moves of a tree
 mod rows; // rows.rt: cells of the tables
+mod sections; // sections.rt: properties counted by their sections
 mod words; // words.rt: refusals in words
 
 ghost use Prim.Native.Nat.{_<_};
@@ -80,6 +81,30 @@ fn say_tree(
     }
 }
 
+// How many properties of a tree are of each section.
+fn say_tree_sections(
+    text: &[u8],
+    counts: Counts,
+    trees: &[u32],
+    nodes: &[u32],
+    properties: &[u32],
+    tree: usize,
+)
+    requires { ⌜ tree < counts .trees ⌝ }
+{
+    let root = rows::tree_cell(trees, tree, 0);
+    let end = tree_end(counts, trees, tree);
+    sections::say_sections(
+        text,
+        nodes,
+        properties,
+        root,
+        end,
+        counts.nodes,
+        counts.properties,
+    );
+}
+
 fn say_counts(counts: Counts) {
     say_count(b"trees ", counts.trees);
     say_count(b", nodes ", counts.nodes);
@@ -99,6 +124,7 @@ fn say_record(
     say_counts(counts);
     for tree in 0..counts.trees {
         say_tree(text, counts, trees, nodes, properties, values, tree);
+        say_tree_sections(text, counts, trees, nodes, properties, tree);
     }
 }
 
