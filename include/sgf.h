@@ -268,6 +268,36 @@ SgfEdit sgf_edit(uint8_t *text, size_t text_len, size_t used, SgfCounts counts,
                  uint32_t *properties, size_t properties_len, uint32_t *values, size_t values_len,
                  size_t k, const uint8_t *replacement, size_t replacement_len);
 
+/* ---- The board on screen ---------------------------------------------------------------------------------- */
+
+/* What stands at a point. */
+enum { SGF_EMPTY = 0, SGF_BLACK = 1, SGF_WHITE = 2 };
+
+/* A number; the sides of the board; stones put on and taken off so far; what stands at each point, 0 off the board.
+ * All else 0 where refused. What the sums mean: a stone is put on where setup or a move sets a point to black or white
+ * that was not that colour before; it is taken off where a move captures it, where a move is suicide, where AE clears
+ * it, and where another colour is set over it. A point set again to its own colour counts nowhere. So for each colour
+ * put on is what stands and what was taken off: captures are taken off without the stones that were cleared or
+ * overwritten. Sums stop at 2 ^ 64 - 1, which no record that fits reaches. */
+typedef struct {
+    uint32_t number, columns, rows, reserved;
+    uint64_t black_on, black_off, white_on, white_off;
+    uint8_t stones[SGF_POINT_PLACES]; /* at SGF_POINT_PLACE(x, y): the columns bound x, the rows y */
+} SgfBoard;
+
+/* The board at a node of a Go tree, played from its root: of each node all setup, then all moves, in property order.
+ * Only a move captures: groups of the other colour without liberty go, on the whole board, then the mover's own. The size
+ * is SZ of the root, 19 by 19 without. Numbers, in this order: 19; 21 where there is no such node or its tree is not Go's;
+ * 22 where SZ is invalid or repeated; 23 where a node on the way sets or plays a point off the board, or has a point in
+ * two setup properties. An invalid property changes nothing. */
+SgfBoard sgf_board(SGF_RECORD, size_t node);
+
+/* One node more: its properties, `count` rows from row `first` on, played upon a board, without the check, for callers
+ * whose tables are known to fit. Upon the board of its parent it gives the board of the node. Numbers: 23, or that of the
+ * board given, which then comes back as it is. `reserved` comes back 0, whatever was given. A byte of `stones` above 2 is
+ * neither stone nor liberty. Rows that are not there are no properties. */
+SgfBoard sgf_board_next(SgfBoard board, const uint8_t *text, size_t text_len, const uint32_t *properties,
+                        size_t properties_len, const uint32_t *values, size_t values_len, size_t first, size_t count);
 /* Plain text as a raw value for sgf_edit, in `out`: a `\` before each `\` and each `]`. Read back it is the text; it is
  * closed, and UTF-8 where the text is; it has at most twice the text's bytes. The number is 0, or 14 where it exceeds
  * out_len. */

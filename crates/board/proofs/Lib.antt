@@ -1,5 +1,6 @@
 pub mod Answers
 pub mod Below
+pub mod Counted
 pub mod More
 pub mod Next
 pub mod Sizes
