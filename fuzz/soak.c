@@ -41,8 +41,7 @@ enum { NUMBERS_END = 25 };
 static unsigned long operations, accepted, refusals[NUMBERS_END];
 
 /* What a fuzzer is told beside the code that was reached: which call gave which number, and sizes by their bits. */
-enum { READ, WALK, FITS, VALUE, DISPLAY, DISPLAY_VALUE, GO_VALUE, GO_PROPERTY, ENTRY, SIMPLE_VALUE, SIMPLE_PROPERTY, WRITE, EDIT, SESSION, CALLS };
-enum { READ, WALK, FITS, VALUE, DISPLAY, DISPLAY_VALUE, GO_VALUE, GO_BY_RULE, SIZE, WRITE, EDIT, CALLS };
+enum { READ, WALK, FITS, VALUE, DISPLAY, DISPLAY_VALUE, GO_VALUE, GO_BY_RULE, SIZE, ENTRY, SIMPLE_VALUE, SIMPLE_PROPERTY, WRITE, EDIT, SESSION, CALLS };
 #ifdef FUZZER
 __attribute__((section("__libfuzzer_extra_counters")))
 #endif
@@ -519,7 +518,6 @@ static void call(int what) {
     case DISPLAY: display(k, draw(3)); break;
     case DISPLAY_VALUE: display_value(k, draw(3)); break;
     case GO_VALUE: go_value(k); break;
-    case GO_PROPERTY: go_property(k); break;
     case ENTRY: entry(); break;
     case SIMPLE_VALUE: simple_value(k); break;
     case SIMPLE_PROPERTY: simple_property(k); break;

@@ -57,7 +57,6 @@ NOTE(SgfDisplay, note_display, SGF_RECORD, size_t k, uint32_t kind, uint8_t *to,
 NOTE(SgfDisplay, note_display_value, uint32_t kind, const uint8_t *raw, size_t raw_len, uint8_t *to, size_t to_len)
 NOTE(uint32_t, note_version, void)
 NOTE(SgfGoValue, note_go_value, SGF_RECORD, size_t p)
-NOTE(SgfGoValue, note_go_property, uint32_t type, const uint8_t *i, size_t n, const uint8_t *t, size_t m, const uint32_t *v, size_t l, size_t first, size_t count)
 NOTE(SgfEntry, note_entry, const uint8_t *i, size_t n)
 NOTE(SgfSimple, note_simple_value, SGF_RECORD, size_t p)
 NOTE(SgfSimple, note_simple_property, uint32_t rule, const uint8_t *i, size_t n, const uint8_t *t, size_t m, const uint32_t *v, size_t l, size_t first, size_t count)
@@ -114,7 +113,6 @@ static struct function {
     {"sgf_display_value", call_display_value, 0, 1024},
     {"sgf_version", call_version, 0, 512},
     {"sgf_go_value", call_go_value, 0, 12288},
-    {"sgf_go_property", call_go_property, 0, 9216},
     {"sgf_entry", call_entry, 0, 2048},
     {"sgf_simple_value", call_simple_value, 0, 2048},
     {"sgf_simple_property", call_simple_property, 0, 2048},

@@ -201,8 +201,6 @@ impl<'t> Record<'t> {
 
     /// The trees, in the order of the text.
     pub fn trees(&self) -> impl DoubleEndedIterator<Item = Tree<'_>> + ExactSizeIterator + FusedIterator {
-        (0..self.tables.trees.len()).map(|number| Tree { record: self, number })
-    pub fn trees(&self) -> impl Iterator<Item = Tree<'_>> {
         (0..self.tables.trees.len()).map(|number| Tree { record: self, number, ruled: ruled(self, number) })
     }
 

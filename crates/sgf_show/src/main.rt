@@ -1,6 +1,4 @@
-// What is in a record: reads standard input and says its counts, its trees with their greatest depths, the moves of each main line and the sections of their properties, or why it is refused and where. Strictly; by the one word --lenient as far as it can be read.
-// What is in a record: reads standard input and says its counts, its trees with their boards, their greatest depths and the moves of each main line, or why it is refused and where. Strictly; by the one word --lenient as far as it can be read.
-// What is in a record: reads standard input and says its counts, its trees with their greatest depths and the moves of each main line, or why it is refused and where. Strictly; by the one word --lenient as far as it can be read.
+// What is in a record: reads standard input and says its counts, its trees with their boards, their greatest depths, the moves of each main line and the sections of their properties, or why it is refused and where. Strictly; by the one word --lenient as far as it can be read.
 mod moves; // moves.rt: the moves of a tree
 mod rows; // rows.rt: cells of the tables
 mod sections; // sections.rt: properties counted by their sections
