@@ -42,7 +42,7 @@ mod stand_in {
 }
 
 /// Values of which each property takes one.
-const PROBES: &[&str] = &["", "1", "B", "aa", "aa:bb", "aa:x", "x:y", "x"];
+const PROBES: &[&str] = &["", "2", "B", "aa", "aa:bb", "aa:x", "x:y", "x"];
 
 /// The kind of a property that the crate has read, by the type of its variant's field. Stones are told from points by
 /// the identifier, and a list that may be empty by its taking no value.
