@@ -10,7 +10,8 @@ use Rattle.ff4_index.specs.Kinds.{kindNumber, unknown, none, number, double, co
 use Rattle.ff4_index.specs.Listed.{entryOf}
 use Rattle.ff4_index.specs.declared.Entry.{Entry}
 use Rattle.ff4_values.specs.Locals.{onlyByte}
-use Rattle.ff4_values.specs.Simple.{noneOf, doubleOf, colorOf, numberOfValue, isSimple, simpleOf, simpleBy, isGo, kindIn}
+use Rattle.ff4_values.specs.Simple.{noneOf, doubleOf, colorOf, numberOfValue, isSimple, simpleOf, simpleBy, kindIn}
+use Rattle.go.specs.Value.{isGo}
 use Rattle.ff4_values.specs.declared.Simple.{Simple}
 use Rattle.ff4_values.specs.declared.Simple.the-variants.{Other, Invalid, Nothing}
 

@@ -1,5 +1,5 @@
 -- Simple values of FF[4]'s properties, over read values.
-use Rattle.lists.specs.Prelude.{ℕ, _-_, _^_, Bool, _&&_, _||_, not, List, [], _∷_, eqb, pick}
+use Rattle.lists.specs.Prelude.{ℕ, _-_, _^_, Bool, _&&_, not, List, [], _∷_, eqb, pick}
 use Rattle.lists.specs.Same.{same}
 use Rattle.values.specs.Read.{readValue}
 use Rattle.values.specs.Decimal.{decimalOf}
@@ -9,6 +9,7 @@ use Rattle.ff4_index.specs.Kinds.{kindNumber, unknown, none, number, double, co
 use Rattle.ff4_index.specs.Listed.{entryOf}
 use Rattle.ff4_values.specs.declared.Simple.{Simple}
 use Rattle.ff4_values.specs.declared.Simple.the-variants.{Other, Invalid, Nothing, Normal, Emphasized, Black, White, Plus, Minus}
+use Rattle.go.specs.Value.{isGo}
 
 -- None: nothing
 abbrev pub noneOf : List ℕ → Simple
@@ -54,10 +55,6 @@ oneSimple k (v ∷ w ∷ vs) = Invalid
 -- the raw values of a property by their kind
 unfoldable pub simpleBy : ℕ → List (List ℕ) → Simple
 simpleBy k vs = pick (isSimple k) (oneSimple k vs) Other
-
--- a tree is read as Go's
-abbrev pub isGo : ℕ → Bool
-isGo rule = eqb rule 0 || eqb rule 2
 
 -- the kind of a property's values; Go's own properties are unknown in another game (SCOPE 234)
 unfoldable pub kindIn : (rule : ℕ) (identifier : List ℕ) → ℕ

@@ -2,7 +2,8 @@
 ghost use mathlib.Core.Path.{_≡_};
 ghost use Rattle.values.specs.Read.{readValue, readIdentifier};
 ghost use Rattle.parts.specs.Rows.{valuesAt};
-ghost use Rattle.ff4_values.specs.Simple.{noneOf, doubleOf, colorOf, numberOfValue, isSimple, simpleOf, simpleBy, isGo, kindIn, simpleValue};
+ghost use Rattle.ff4_values.specs.Simple.{noneOf, doubleOf, colorOf, numberOfValue, isSimple, simpleOf, simpleBy, kindIn, simpleValue};
+ghost use Rattle.go.specs.Value.{isGo};
 ghost use Rattle.ff4_values.specs.Locals.{onlyByte};
 use values::decimal::Number;
 use values::read::Step;
