@@ -2,6 +2,7 @@
 use crate::report::Report;
 use crate::rng::Rng;
 use crate::{by_hand, display, edits, examples, fitting, go_values, index, library, limits, reader, size_texts, texts, tokens, value_texts, writing};
+use crate::{board, by_hand, display, edits, examples, fitting, go_values, index, library, limits, reader, texts, tokens, value_texts, writing};
 
 /// How many texts of each family to compare.
 pub struct Scale {
@@ -156,6 +157,22 @@ fn compare_go_values(scale: &Scale) -> bool {
     report.close()
 }
 
+fn compare_board(scale: &Scale) -> bool {
+    let mut report = Report::new("board", board::compare);
+    let longest = scale.words - 1;
+    for (columns, rows, moves) in [(1, 1, longest + 2), (2, 1, longest + 1), (1, 2, longest), (2, 2, longest)] {
+        board::sequences(columns, rows, moves, &mut |text| report.text(text));
+    }
+    report.group("every sequence of moves on small boards");
+    let mut rng = Rng::new(8);
+    for _ in 0..scale.tree_records {
+        report.text(&board::made(&mut rng));
+    }
+    report.group("made records");
+    texts::corpus().iter().for_each(|text| report.text(text));
+    report.close()
+}
+
 fn compare_display(scale: &Scale) -> bool {
     let mut report = Report::new("display", display::compare);
     value_texts::shown(scale.shown_bytes, &mut |text| report.text(text));
@@ -231,7 +248,7 @@ type Subject = fn(&Scale) -> bool;
 /// Compares one subject, or all; true if nothing differed.
 pub fn compare(scale: &Scale, subject: Option<&str>) -> bool {
     println!("library: {}", library::NAME);
-    let subjects: [(&str, Subject); 11] = [
+    let subjects: [(&str, Subject); 12] = [
         ("tokens", compare_tokens),
         ("places", compare_places),
         ("examples", |_| examples::hold()),
@@ -243,6 +260,7 @@ pub fn compare(scale: &Scale, subject: Option<&str>) -> bool {
         ("writing", compare_writing),
         ("edits", compare_edits),
         ("index", compare_index),
+        ("board", compare_board),
     ];
     let wanted: Vec<_> = subjects.iter().filter(|(name, _)| subject.is_none_or(|chosen| *name == chosen)).collect();
     wanted.iter().fold(!wanted.is_empty(), |good, (_, run)| run(scale) & good)

@@ -62,6 +62,19 @@ pub struct Size {
     pub columns: u32,
     pub rows: u32,
     pub rule: u32,
+/// A board: a number, the sides, stones put on and taken off, and what stands at 52 * x + y.
+#[repr(C)]
+#[derive(Debug, Clone, Copy, PartialEq, Eq)]
+pub struct Board {
+    pub number: u32,
+    pub columns: u32,
+    pub rows: u32,
+    pub reserved: u32,
+    pub black_on: u64,
+    pub black_off: u64,
+    pub white_on: u64,
+    pub white_off: u64,
+    pub stones: [u8; 2704],
 }
 
 /// The answer of an edit: number and place, used bytes, used rows.
@@ -143,12 +156,24 @@ declare! {
     const sgf_display(k: usize, kind: u32, out: *mut u8, out_len: usize) -> Length;
     const sgf_go_value(p: usize) -> GoValue;
     const sgf_size(tree: usize) -> Size;
+    const sgf_board(node: usize) -> Board;
     const sgf_write(out: *mut u8, out_len: usize) -> Length;
     mut sgf_edit(k: usize, new: *const u8, new_len: usize) -> Edit;
 }
 
 unsafe extern "C" {
     fn sgf_version() -> u32;
+    fn sgf_board_next(
+        board: Board,
+        text: *const u8,
+        text_len: usize,
+        properties: *const u32,
+        properties_len: usize,
+        values: *const u32,
+        values_len: usize,
+        first: usize,
+        count: usize,
+    ) -> Board;
     fn sgf_display_value(kind: u32, raw: *const u8, raw_len: usize, out: *mut u8, out_len: usize) -> Length;
     fn sgf_trim(text: *const u8, text_len: usize) -> Trimmed;
     fn sgf_token(text: *const u8, text_len: usize, at: usize) -> Token;
@@ -280,6 +305,26 @@ pub fn display_value(kind: u32, raw: &[u8], out: &mut [u8]) -> Length {
 
 pub fn go_value(h: &Held, p: usize) -> GoValue {
     over!(sgf_go_value, h, p)
+}
+
+pub fn board(h: &Held, node: usize) -> Board {
+    over!(sgf_board, h, node)
+}
+
+pub fn board_next(board: Board, text: &[u8], properties: &[u32], values: &[u32], first: usize, count: usize) -> Board {
+    unsafe {
+        sgf_board_next(
+            board,
+            text.as_ptr(),
+            text.len(),
+            properties.as_ptr(),
+            properties.len(),
+            values.as_ptr(),
+            values.len(),
+            first,
+            count,
+        )
+    }
 }
 
 pub fn write(h: &Held, out: &mut [u8]) -> Length {

@@ -60,6 +60,7 @@
 //! ```
 #![deny(unsafe_code)]
 
+mod board;
 mod error;
 #[allow(unsafe_code, dead_code)]
 mod ffi;
@@ -73,6 +74,7 @@ mod size;
 mod tables;
 mod walk;
 
+pub use board::Board;
 pub use error::{Error, ErrorKind};
 pub use index::{Entry, PropertyType, Section, Simple, ValueKind, entry_of};
 pub use go::{Color, GoValue, Move, NoPoint, Point, PointSet};

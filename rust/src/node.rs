@@ -206,7 +206,7 @@ impl<'r> Node<'r> {
         self.tree.record
     }
 
-    fn row(self) -> [u32; 6] {
+    pub(crate) fn row(self) -> [u32; 6] {
         self.record().tables.nodes[self.number]
     }
 
