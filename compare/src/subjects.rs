@@ -1,8 +1,7 @@
 //! The subjects that are compared, each on its families of texts, and how many of them.
 use crate::report::Report;
 use crate::rng::Rng;
-use crate::{by_hand, display, edits, examples, fitting, go_values, index, library, limits, reader, size_texts, texts, tokens, value_texts, writing};
-use crate::{board, by_hand, display, edits, examples, fitting, go_values, index, library, limits, reader, texts, tokens, value_texts, writing};
+use crate::{board, by_hand, display, edits, examples, fitting, go_values, index, library, limits, reader, size_texts, texts, tokens, value_texts, writing};
 
 /// How many texts of each family to compare.
 pub struct Scale {

@@ -91,7 +91,7 @@ fn property_tree(trees: &[u32], m: usize, nodes: &[u32], p: usize) -> usize
     let mut r: usize = 0;
     while r + 1 < m {
         let root = lists::wide(trees[(r + 1) * tables::TREE_STRIDE]);
-        if p < lists::wide(nodes[root * tables::NODE_STRIDE + 3]) {
+        if p < lists::wide(nodes[root * tables::NODE_STRIDE + tables::NODE_FIRST]) {
             return r;
         }
         r += 1;
@@ -106,9 +106,9 @@ fn value_of(rule: u32, text: &[u8], properties: &[u32], values: &[u32], p: usize
         (valuesAt (now (text .entry)) (now (values .entry)) (firstValAt (now (properties .entry)) p) (valCountAt (now (properties .entry)) p)) ⌝ }
 {
     let start = lists::wide(properties[p * tables::PROPERTY_STRIDE]);
-    let end = lists::wide(properties[p * tables::PROPERTY_STRIDE + 1]);
-    let first = lists::wide(properties[p * tables::PROPERTY_STRIDE + 2]);
-    let count = lists::wide(properties[p * tables::PROPERTY_STRIDE + 3]);
+    let end = lists::wide(properties[p * tables::PROPERTY_STRIDE + tables::PROPERTY_END]);
+    let first = lists::wide(properties[p * tables::PROPERTY_STRIDE + tables::PROPERTY_FIRST]);
+    let count = lists::wide(properties[p * tables::PROPERTY_STRIDE + tables::PROPERTY_COUNT]);
     go::value::go_value(rule, &text[start..end], text, values, first, count)
 }
 

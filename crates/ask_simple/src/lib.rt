@@ -28,12 +28,12 @@ fn game_of(trees: &[u32], m: usize, nodes: &[u32], p: usize) -> u32
     let mut r: usize = 0;
     while r + 1 < m {
         let root = lists::wide(trees[(r + 1) * tables::TREE_STRIDE]);
-        if p < lists::wide(nodes[root * tables::NODE_STRIDE + 3]) {
-            return trees[r * tables::TREE_STRIDE + 1];
+        if p < lists::wide(nodes[root * tables::NODE_STRIDE + tables::NODE_FIRST]) {
+            return trees[r * tables::TREE_STRIDE + tables::TREE_GAME];
         }
         r += 1;
     }
-    trees[r * tables::TREE_STRIDE + 1]
+    trees[r * tables::TREE_STRIDE + tables::TREE_GAME]
 }
 
 // The simple value of property p in a tree with this game type.
@@ -43,9 +43,9 @@ fn value_of(game: u32, text: &[u8], properties: &[u32], values: &[u32], p: usize
         (valuesAt (now (text .entry)) (now (values .entry)) (firstValAt (now (properties .entry)) p) (valCountAt (now (properties .entry)) p)) ⌝ }
 {
     let start = lists::wide(properties[p * tables::PROPERTY_STRIDE]);
-    let end = lists::wide(properties[p * tables::PROPERTY_STRIDE + 1]);
-    let first = lists::wide(properties[p * tables::PROPERTY_STRIDE + 2]);
-    let count = lists::wide(properties[p * tables::PROPERTY_STRIDE + 3]);
+    let end = lists::wide(properties[p * tables::PROPERTY_STRIDE + tables::PROPERTY_END]);
+    let first = lists::wide(properties[p * tables::PROPERTY_STRIDE + tables::PROPERTY_FIRST]);
+    let count = lists::wide(properties[p * tables::PROPERTY_STRIDE + tables::PROPERTY_COUNT]);
     ff4_values::simple_value(game, &text[start..end], text, values, first, count)
 }
 

@@ -122,8 +122,8 @@ fn play_at(
     ensures { λ r. ⌜ NodeIs columns rows (nodeProperties (now (text .entry)) (now (nodes .entry)) (now (properties .entry)) (now (values .entry)) at)
         (positionOf (now (stones .entry)) state) (answerOf (r .refused) (now (stones .exit)) (r .state)) ⌝ }
 {
-    let first = lists::wide(nodes[at * tables::NODE_STRIDE + 3]);
-    let count = lists::wide(nodes[at * tables::NODE_STRIDE + 4]);
+    let first = lists::wide(nodes[at * tables::NODE_STRIDE + tables::NODE_FIRST]);
+    let count = lists::wide(nodes[at * tables::NODE_STRIDE + tables::NODE_COUNT]);
     board_node::play_upon(
         stones,
         state,
@@ -252,12 +252,12 @@ pub fn board(
         return refuse(21);
     }
     let tree = tree_over(trees, k, counts.trees);
-    if trees[tree * tables::TREE_STRIDE + 1] != 0 {
+    if trees[tree * tables::TREE_STRIDE + tables::TREE_GAME] != 0 {
         return refuse(21);
     }
     let root = lists::wide(trees[tree * tables::TREE_STRIDE]);
-    let first = lists::wide(nodes[root * tables::NODE_STRIDE + 3]);
-    let count = lists::wide(nodes[root * tables::NODE_STRIDE + 4]);
+    let first = lists::wide(nodes[root * tables::NODE_STRIDE + tables::NODE_FIRST]);
+    let count = lists::wide(nodes[root * tables::NODE_STRIDE + tables::NODE_COUNT]);
     let part = &text[..used];
     match go_size::size_in(part, properties, values, first, count) {
         RootSize::Absent => play_way(

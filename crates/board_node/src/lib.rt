@@ -171,8 +171,8 @@ fn set_row(
             state: state,
         };
     }
-    let start = lists::wide(properties[p * tables::PROPERTY_STRIDE + 2]);
-    let many = lists::wide(properties[p * tables::PROPERTY_STRIDE + 3]);
+    let start = lists::wide(properties[p * tables::PROPERTY_STRIDE + tables::PROPERTY_FIRST]);
+    let many = lists::wide(properties[p * tables::PROPERTY_STRIDE + tables::PROPERTY_COUNT]);
     let go = go::value::go_value(0, identifier, text, values, start, many);
     let marks = go.marks;
     set_places(stones, seen, &marks, state, columns, rows, colour)
@@ -279,8 +279,8 @@ fn play_row(
             state: state,
         };
     }
-    let start = lists::wide(properties[p * tables::PROPERTY_STRIDE + 2]);
-    let many = lists::wide(properties[p * tables::PROPERTY_STRIDE + 3]);
+    let start = lists::wide(properties[p * tables::PROPERTY_STRIDE + tables::PROPERTY_FIRST]);
+    let many = lists::wide(properties[p * tables::PROPERTY_STRIDE + tables::PROPERTY_COUNT]);
     let go = go::value::go_value(2, identifier, text, values, start, many);
     let value = go.value;
     let Value::Move(x, y) = value else {

@@ -16,7 +16,7 @@ use Rattle.feed_laws.specs.Applied.{feedApplied, memoryApplied}
 use Rattle.feed_apply.specs.Lent.{appliedFor}
 use Rattle.feed_apply.specs.declared.Applied.{Applied}
 use Rattle.feed_apply.specs.declared.Applied.the-variants.{Changed, Refused as NotApplied}
-use Rattle.c_answers.specs.Structs.{noRows}
+use Rattle.c_answers.specs.Structs.{noCounts}
 use Rattle.c_answers.specs.declared.SgfEdit.{SgfEdit}
 use Rattle.c_answers.specs.declared.SgfWriting.{SgfWriting}
 use Rattle.c_feed.specs.declared.SgfPart.{SgfPart}
@@ -56,7 +56,7 @@ pub record PutInC (held : Bool) (bytes out out′ : List ℕ) (r : SgfWriting) :
 -- a feed applied: the new used length and the counts; a refusal's number and place, and all else 0
 abbrev pub appliedInC : Counts → Applied → SgfEdit
 appliedInC c (Changed n) = record { number = 0; reserved = 0; place = 0; used = n; counts = c }
-appliedInC c (NotApplied f p) = record { number = feedNumber f; reserved = 0; place = p; used = 0; counts = noRows }
+appliedInC c (NotApplied f p) = record { number = feedNumber f; reserved = 0; place = p; used = 0; counts = noCounts }
 
 -- that answer, and all of the lent memory
 pub record CorrectInC (m m′ : Memory) (feed : List ℕ) (r : SgfEdit) : Type 0 where

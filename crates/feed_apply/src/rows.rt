@@ -17,7 +17,7 @@ pub fn size_of(values: &[u32], k: usize) -> usize
     ensures { λ r. ⌜ r ≡ oldSize (now (values .entry)) k ⌝ }
 {
     let at = k * tables::VALUE_STRIDE;
-    lists::wide(values[at + 1]) - lists::wide(values[at])
+    lists::wide(values[at + tables::VALUE_END]) - lists::wide(values[at])
 }
 
 // Where value k starts.
@@ -69,11 +69,11 @@ pub fn move_properties(properties: &mut [u32], p: usize, values: &[u32], n: usiz
     let mut k: usize = 0;
     while k < p {
         let at = k * tables::PROPERTY_STRIDE;
-        let first = properties[at + 2];
-        let count = properties[at + 3];
+        let first = properties[at + tables::PROPERTY_FIRST];
+        let count = properties[at + tables::PROPERTY_COUNT];
         s = reach(values, n, feed, s, lists::wide(first));
         let from = moved(properties[at], s.grown, s.shrunk);
-        let to = moved(properties[at + 1], s.grown, s.shrunk);
+        let to = moved(properties[at + tables::PROPERTY_END], s.grown, s.shrunk);
         store_numbers::put4(properties, at, from, to, first, count);
         k += 1;
     }
@@ -90,7 +90,7 @@ pub fn move_values(values: &mut [u32], n: usize, feed: &[u8])
         let at = k * tables::VALUE_STRIDE;
         let from = moved(values[at], s.grown, s.shrunk);
         s = along::step(feed, n, s, k, size_of(values, k));
-        let to = moved(values[at + 1], s.grown, s.shrunk);
+        let to = moved(values[at + tables::VALUE_END], s.grown, s.shrunk);
         store_numbers::put2(values, at, from, to);
         k += 1;
     }

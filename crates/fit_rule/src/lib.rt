@@ -35,7 +35,7 @@ fn game_at(trees: &[u32], r: usize) -> u32
     if trees.len() / tables::TREE_STRIDE <= r {
         return 0;
     }
-    trees[r * tables::TREE_STRIDE + 1]
+    trees[r * tables::TREE_STRIDE + tables::TREE_GAME]
 }
 
 // The size that the root of tree r says; absent where a row is not there.
@@ -56,8 +56,8 @@ pub fn size_at(
     if nodes.len() / tables::NODE_STRIDE <= root {
         return RootSize::Absent;
     }
-    let first = lists::wide(nodes[root * tables::NODE_STRIDE + 3]);
-    let count = lists::wide(nodes[root * tables::NODE_STRIDE + 4]);
+    let first = lists::wide(nodes[root * tables::NODE_STRIDE + tables::NODE_FIRST]);
+    let count = lists::wide(nodes[root * tables::NODE_STRIDE + tables::NODE_COUNT]);
     go_size::size_in(text, properties, values, first, count)
 }
 

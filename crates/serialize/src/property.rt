@@ -18,9 +18,9 @@ fn put_property(
     ensures { λ r. ⌜ Wrote (propText (now (text .entry)) (now (properties .entry)) (now (values .entry)) rule p) (now (out .entry)) at (now (out .exit)) r ⌝ }
 {
     let start = lists::wide(properties[p * tables::PROPERTY_STRIDE]);
-    let end = lists::wide(properties[p * tables::PROPERTY_STRIDE + 1]);
-    let first = lists::wide(properties[p * tables::PROPERTY_STRIDE + 2]);
-    let count = lists::wide(properties[p * tables::PROPERTY_STRIDE + 3]);
+    let end = lists::wide(properties[p * tables::PROPERTY_STRIDE + tables::PROPERTY_END]);
+    let first = lists::wide(properties[p * tables::PROPERTY_STRIDE + tables::PROPERTY_FIRST]);
+    let count = lists::wide(properties[p * tables::PROPERTY_STRIDE + tables::PROPERTY_COUNT]);
     let name = &text[start..end];
     let to = crate::names::put_letters(out, at, name);
     serialize_values::put_values(out, to, rule, name, text, values, first, count)
@@ -41,8 +41,8 @@ pub fn put_properties(
     ensures { λ r. ⌜ Wrote (propsText (now (text .entry)) (now (nodes .entry)) (now (properties .entry)) (now (values .entry)) rule k)
         (now (out .entry)) at (now (out .exit)) r ⌝ }
 {
-    let first = lists::wide(nodes[k * tables::NODE_STRIDE + 3]);
-    let count = lists::wide(nodes[k * tables::NODE_STRIDE + 4]);
+    let first = lists::wide(nodes[k * tables::NODE_STRIDE + tables::NODE_FIRST]);
+    let count = lists::wide(nodes[k * tables::NODE_STRIDE + tables::NODE_COUNT]);
     let mut to = at;
     let mut i: usize = 0;
     while i < count {

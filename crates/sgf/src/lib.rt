@@ -2,8 +2,8 @@
 pub mod index; // index.rt: the property index, simple values
 pub mod escape;
 pub mod feeds; // feeds.rt: corrections over the air
-pub mod by_blocks;
 pub mod boards;
+pub mod by_blocks;
 pub mod season;
 pub mod size; // size.rt: the board size of a tree
 
