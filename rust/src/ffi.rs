@@ -62,6 +62,8 @@ pub struct Size {
     pub columns: u32,
     pub rows: u32,
     pub rule: u32,
+}
+
 /// A board: a number, the sides, stones put on and taken off, and what stands at 52 * x + y.
 #[repr(C)]
 #[derive(Debug, Clone, Copy, PartialEq, Eq)]
