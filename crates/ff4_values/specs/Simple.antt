@@ -1,5 +1,5 @@
 -- Simple values of FF[4]'s properties, over read values.
-use Rattle.lists.specs.Prelude.{ℕ, _-_, _^_, Bool, _&&_, not, List, [], _∷_, eqb, pick}
+use Rattle.lists.specs.Prelude.{ℕ, _-_, _^_, Bool, _&&_, _||_, not, List, [], _∷_, eqb, pick}
 use Rattle.lists.specs.Same.{same}
 use Rattle.values.specs.Read.{readValue}
 use Rattle.values.specs.Decimal.{decimalOf}
