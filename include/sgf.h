@@ -262,7 +262,9 @@ typedef struct {
  * stay fitting, and those of a strict reading, after any run of edits, are what a fresh strict reading of the new text
  * gives. Writes the text from the value on and moves the rows behind it; where the text became shorter, the bytes
  * between the new and the old used length become 0. Numbers: 19, 16, 17, 2 (place: in the new value), 18, 1, 14 (the
- * new used length exceeds text_len). After a refusal go on with the used length and counts from before. */
+ * new used length exceeds text_len). After a refusal go on with the used length and counts from before.
+ * Undo: the old raw bytes, kept before each accepted edit and put back in reverse order, are accepted at every step and
+ * end with the first used text and tables, in the same buffer (bytes behind the used text may then be 0). */
 SgfEdit sgf_edit(uint8_t *text, size_t text_len, size_t used, SgfCounts counts,
                  const uint32_t *trees, size_t trees_len, const uint32_t *nodes, size_t nodes_len,
                  uint32_t *properties, size_t properties_len, uint32_t *values, size_t values_len,

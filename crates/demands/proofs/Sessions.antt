@@ -1,13 +1,11 @@
 -- Sessions of calls of the exported edit are sessions of calls of the edit. Assumes nothing.
 use Rattle.lists.proofs.Prelude.{ℕ, true, _≡_, refl, sym, ap, ap₂, _∙_, subst, arith, List, [], _∷_, _++_, length}
 use Rattle.tables.specs.Memory.{Memory}
-use Rattle.tables.specs.Numbers.{numberOf}
 use Rattle.fit.specs.Fit.{Fit}
 use Rattle.edit_answer.specs.Answer.{outcomeOf, editedFor}
 use Rattle.edit_answer.specs.Edit.{Outcome, refuses, gives}
 use Rattle.edit_answer.specs.declared.Edited.{Edited}
 use Rattle.edit_answer.specs.declared.Edited.the-variants.{Changed}
-use Rattle.edit.specs.Lent.{EditIs}
 use Rattle.c_answers.specs.Structs.{editInC}
 use Rattle.c_answers.specs.declared.SgfEdit.{SgfEdit}
 use Rattle.sgf.specs.ChangeInC.{EditInC}

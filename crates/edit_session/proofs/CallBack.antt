@@ -1,17 +1,15 @@
 -- One call in lent memory, and the call that puts the old bytes back: it is answered as changed, and leaves the record in memory as it was. Of each call only the
 -- contract is known. Assumes nothing.
-use Rattle.lists.proofs.Prelude.{ℕ, _-_, _*_, _≤_, _<_, Bool, true, false, _≡_, refl, sym, ap, ap₂, _∙_, subst, subst⁻¹, arith, List, [], _∷_, _++_, append-assoc, append-nil, map, length, take, drop, slice, length-append, length-drop, length-take-le, length-map, take-append-drop, drop-at, leb, pick}
+use Rattle.lists.proofs.Prelude.{ℕ, _*_, _≤_, _<_, true, _≡_, refl, sym, ap, ap₂, _∙_, subst⁻¹, arith, List, _++_, length, take, drop, length-take-le, take-append-drop, drop-at}
 use Rattle.tables.specs.Flat.{flatProps, flatVals, over}
 use Rattle.tables.specs.Memory.{Memory, memory}
 use Rattle.tables.specs.Rows.{Tables}
 use Rattle.tables.specs.declared.Counts.{Counts}
-use Rattle.fit.specs.Fit.{Fit, lentFor, fitText}
-use Rattle.fit.specs.Locals.{RowsLent}
+use Rattle.fit.specs.Fit.{Fit}
 use Rattle.fit.specs.Record.{rowsIn, textIn}
 use Rattle.fit.proofs.Whole.{fit-lent}
-use Rattle.edit_splice.specs.Splice.{cleared}
 use Rattle.edit_answer.specs.Answer.{outcomeOf, editedFor}
-use Rattle.edit_answer.specs.Edit.{Outcome, refuses, gives, edit}
+use Rattle.edit_answer.specs.Edit.{Outcome, gives}
 use Rattle.edit_answer.specs.declared.Edited.{Edited}
 use Rattle.edit_answer.specs.declared.Edited.the-variants.{Changed}
 use Rattle.edit_answer.proofs.Judged.{newText, newRows}
@@ -35,28 +33,31 @@ pub same-self : (m : Memory) → SameRecord m m
 same-self m = record { used = refl; text = refl; room = refl; counts = refl; trees = refl; nodes = refl; properties = refl; values = refl }
 
 module _ (m m′ : Memory) (s : SameRecord m m′) where
+  same-text : textIn m′ ≡ textIn m
+  same-text = cc
+
   pub same-fit : Fit m ≡ true → Fit m′ ≡ true
   unfolding Fit
-  same-fit fit = rw (s .text, s .used, s .room, s .counts, s .trees, s .nodes, s .properties, s .values) fit
+  same-fit fit = rw (same-text, s .used, s .room, s .counts, s .trees, s .nodes, s .properties, s .values) fit
 
   pub same-rows : textRows m′ ≡ textRows m
-  same-rows = rw (s .text, s .counts, s .trees, s .nodes, s .properties, s .values)
+  same-rows = rw (same-text, s .counts, s .trees, s .nodes, s .properties, s .values)
 
 -- ---- numbers in front of others
 
-over-own : (xs t : List ℕ) (n : ℕ) → xs ≡ take n t → n ≤ length t → over xs t ≡ t
+pub over-own : (xs t : List ℕ) (n : ℕ) → xs ≡ take n t → n ≤ length t → over xs t ≡ t
 over-own xs t n e h = ap (λ (z : List ℕ). over z t) e ∙ ap (λ (k : ℕ). take n t ++ drop k t) (length-take-le n t h) ∙ take-append-drop n t
 
-over-over : (xs ys t : List ℕ) → length xs ≡ length ys → over xs (over ys t) ≡ over xs t
+pub over-over : (xs ys t : List ℕ) → length xs ≡ length ys → over xs (over ys t) ≡ over xs t
 over-over xs ys t e = ap (λ (z : List ℕ). xs ++ z) (drop-at ys (drop (length ys) t) (length xs) (sym e) ∙ ap (λ (k : ℕ). drop k t) (sym e))
 
 -- put over, and the own ones put back
-over-back : (xs ys t : List ℕ) (n : ℕ) → xs ≡ take n t → n ≤ length t → length ys ≡ n → over xs (over ys t) ≡ t
+pub over-back : (xs ys t : List ℕ) (n : ℕ) → xs ≡ take n t → n ≤ length t → length ys ≡ n → over xs (over ys t) ≡ t
 over-back xs ys t n e h l = over-over xs ys t (ap length e ∙ length-take-le n t h ∙ sym l) ∙ over-own xs t n e h
 
 -- ---- one call, and the call that puts back
 
-outcome-asked : (m : Memory) (x : Order) → Fit m ≡ true → outcomeFor m x ≡ asked (length (m .text)) (textRows m) x
+pub outcome-asked : (m : Memory) (x : Order) → Fit m ≡ true → outcomeFor m x ≡ asked (length (m .text)) (textRows m) x
 unfolding outcomeOf
 outcome-asked m x fit = rw fit
 

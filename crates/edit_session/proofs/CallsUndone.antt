@@ -1,7 +1,6 @@
 -- A session in lent memory: calls that put back what was kept are all answered as changed, and leave the record in memory as it was; what they would keep is the
 -- session. Of each call only the contract is known. Assumes nothing.
 use Rattle.lists.proofs.Prelude.{ℕ, true, _≡_, refl, sym, ap, ap₂, _∙_, subst, subst⁻¹, List, [], _∷_, _++_, append-assoc, append-nil, length}
-use Rattle.lists.proofs.Tests.{never}
 use Rattle.tables.specs.Memory.{Memory}
 use Rattle.fit.specs.Fit.{Fit}
 use Rattle.fit.specs.Record.{textIn}

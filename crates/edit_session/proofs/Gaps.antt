@@ -12,8 +12,8 @@ use Rattle.edit_answer.specs.Edit.{ownerRow, ownerName}
 use Rattle.feed_laid.specs.Laid.{shift, laidProp}
 use Rattle.feed_laid.specs.OfMemory.{laidText, laidTables}
 use Rattle.feed_laid.proofs.Edited.{Named}
-use Rattle.feed_laid.proofs.Lengths.{Chain, fromOf, toOf}
-use Rattle.feed_laid.proofs.OverMemory.{order, inside, apart, all-named, chain, count, from-at, to-at, ahead}
+use Rattle.feed_laid.proofs.Lengths.{fromOf, toOf}
+use Rattle.feed_laid.proofs.OverMemory.{order, inside, apart, all-named, count, from-at, to-at, ahead}
 use Rattle.feed_laid.proofs.Places.{sum-none, old-in}
 use Rattle.feed_laid.proofs.Texts.{before, behind, laid-split}
 

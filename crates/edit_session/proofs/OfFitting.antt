@@ -1,12 +1,12 @@
 -- Sessions over tables that fit, and so of a record that any reading gives: undone, and redone. Assumes nothing.
-use Rattle.lists.proofs.Prelude.{ℕ, _+_, _-_, _≤_, _<_, Bool, true, false, _≡_, refl, sym, ap, ap₂, _∙_, subst, subst⁻¹, arith, List, [], _∷_, _++_, length, take, slice, replicate, length-append, length-replicate, length-take-le, take-at}
+use Rattle.lists.proofs.Prelude.{ℕ, _-_, _≤_, Bool, true, _≡_, refl, ap, ap₂, _∙_, subst, arith, List, [], _++_, length, take, slice, replicate, length-append, length-replicate, length-take-le, take-at}
 use Rattle.tables.specs.Flat.{flatTrees, flatNodes, flatProps, flatVals}
 use Rattle.tables.specs.Memory.{Memory, memory}
 use Rattle.tables.specs.Record.{Tree}
 use Rattle.tables.specs.Rows.{Tables, tables, countsOf}
 use Rattle.parser.specs.Read.{accepted, read}
 use Rattle.fit.specs.Fit.{Fit}
-use Rattle.fit.specs.Record.{rowsIn, textIn}
+use Rattle.fit.specs.Record.{textIn}
 use Rattle.fit.proofs.Rows.{rows-of-flat}
 use Rattle.fit.proofs.Whole.{fit-lent}
 use Rattle.reader_laws.proofs.Fitting.{buffer-fits}
@@ -16,9 +16,9 @@ use Rattle.edit.specs.Lent.{memoryAfter}
 use Rattle.edit_laws.specs.Calls.{textRows, outcomeFor, memoryNext}
 use Rattle.edit_laws.specs.Run.{TextRows, Order, after, runEdits}
 use Rattle.edit_laws.proofs.CallsRun.{call-kept, call-edits}
-use Rattle.edit_session.specs.Session.{Granted, asked, AllGranted, puttingBack, undoing}
+use Rattle.edit_session.specs.Session.{Granted, asked, AllGranted, undoing}
 use Rattle.edit_session.proofs.Step.{step-back, step-again}
-use Rattle.edit_session.proofs.Undone.{Back, invariant-undone, invariant-redone}
+use Rattle.edit_session.proofs.Undone.{Back, invariant-undone, invariant-redone, invariant-holds}
 
 -- held in memory whose tables fit, of so many bytes
 pub record Held (room : ℕ) (s : TextRows) : Type 0 where
@@ -60,6 +60,10 @@ module _ (room : ℕ) where
   -- what undoes the undoing is the session
   pub held-redone : (s : TextRows) (xs : List Order) → Held room s → AllGranted room s xs → undoing room (runEdits room s xs) (undoing room s xs) ≡ xs
   held-redone = invariant-redone room (Held room) held-back held-on
+
+  -- and so is what it ends with
+  pub held-end : (s : TextRows) (xs : List Order) → Held room s → AllGranted room s xs → Held room (runEdits room s xs)
+  held-end = invariant-holds room (Held room) held-back held-on
 
 -- ---- of tables that fit
 

@@ -1,5 +1,5 @@
 -- The bytes that a value of fitting tables has may be put back: they are closed, and valid UTF-8 by themselves. Assumes nothing.
-use Rattle.lists.proofs.Prelude.{ℕ, suc, _-_, _≤_, _<_, true, false≢true, _≡_, refl, sym, ap, _∙_, subst, subst⁻¹, arith, List, _∷_, _++_, length, take, drop, slice, take-take, lt-ltb}
+use Rattle.lists.proofs.Prelude.{ℕ, suc, _-_, _<_, true, false≢true, _≡_, refl, sym, ap, _∙_, subst, List, _∷_, _++_, take, drop, slice, take-take, lt-ltb}
 use Rattle.lists.proofs.Tests.{never}
 use Rattle.text_utf8.specs.Text.{Ink, blank, inked, any, from-a0, to-9f, from-90, to-8f, Utf, whole, part, bad, utf, utfs}
 use Rattle.text_utf8.specs.Trim.{trimOf, trimmed}
@@ -9,7 +9,7 @@ use Rattle.text_utf8.proofs.Solid.{ink-at, solid-open, solid-close}
 use Rattle.lexer.specs.Closed.{closed}
 use Rattle.tables.specs.Columns.{valFromAt, valToAt}
 use Rattle.tables.specs.Memory.{Memory}
-use Rattle.fit.specs.Fit.{Fit, sound, validUtf8}
+use Rattle.fit.specs.Fit.{Fit, sound}
 use Rattle.fit.specs.Record.{textIn}
 use Rattle.fit.proofs.Clauses.{Clauses, fit-clauses, fit-vals}
 use Rattle.ask_value.specs.Access.{accessed, rawValue}

@@ -1,20 +1,8 @@
 -- The old bytes put back in reverse order: accepted at every step, and the first text and rows again; what undoes that is the session. Assumes nothing.
-use Rattle.lists.proofs.Prelude.{ℕ, _≤_, Bool, true, false, _≡_, refl, sym, ap, ap₂, _∙_, subst, subst⁻¹, List, [], _∷_, _++_, append-assoc, append-nil}
-use Rattle.lists.specs.Same.{same}
-use Rattle.text_utf8.specs.Text.{blank, whole, utfs}
-use Rattle.lexer.specs.Closed.{closed}
-use Rattle.lexer.specs.Token.{Val}
-use Rattle.tables.specs.Numbers.{textLimit}
-use Rattle.tables.specs.Memory.{Memory}
-use Rattle.tables.specs.Record.{allNodes, allProps, allVals}
-use Rattle.tables.specs.Rows.{Tables, ValRow, valRows, tables}
-use Rattle.parser.specs.Game.{GM}
-use Rattle.fit.specs.Fit.{Fit}
-use Rattle.fit.proofs.Whole.{fit-lent}
-use Rattle.edit_splice.specs.Splice.{pasted}
-use Rattle.edit_answer.specs.Edit.{Outcome, refuses, gives, edit, spanAt, ownerName, shifted}
-use Rattle.edit_laws.specs.Calls.{textRows}
-use Rattle.edit_laws.specs.Run.{TextRows, Order, after, runEdits, Reads}
+use Rattle.lists.proofs.Prelude.{ℕ, _≡_, refl, sym, ap, ap₂, _∙_, subst⁻¹, List, [], _∷_, _++_, append-assoc, append-nil}
+use Rattle.tables.specs.Rows.{Tables}
+use Rattle.edit_answer.specs.Edit.{Outcome, refuses, gives}
+use Rattle.edit_laws.specs.Run.{TextRows, Order, after, runEdits}
 use Rattle.edit_session.specs.Session.{Granted, asked, AllGranted, puttingBack, undoing}
 
 -- ---- runs one behind the other
@@ -26,12 +14,6 @@ run-append room s (x ∷ xs) ys = run-append room (after s (asked room s x)) xs 
 pub granted-append : (room : ℕ) (s : TextRows) (xs ys : List Order) → AllGranted room s xs → AllGranted room (runEdits room s xs) ys → AllGranted room s (xs ++ ys)
 granted-append room s [] ys a b = b
 granted-append room s (x ∷ xs) ys a b = (a .0, granted-append room (after s (asked room s x)) xs ys (a .1) b)
-
-undoing-append : (room : ℕ) (s : TextRows) (xs ys : List Order) → undoing room s (xs ++ ys) ≡ undoing room (runEdits room s xs) ys ++ undoing room s xs
-undoing-append room s [] ys = sym (append-nil (undoing room s ys))
-undoing-append room s (x ∷ xs) ys =
-    ap (λ (z : List Order). z ++ (puttingBack s x ∷ [])) (undoing-append room (after s (asked room s x)) xs ys)
-    ∙ append-assoc (undoing room (runEdits room (after s (asked room s x)) xs) ys) (undoing room (after s (asked room s x)) xs) (puttingBack s x ∷ [])
 
 -- ---- by one step: I holds all along, and gives the way back
 
@@ -65,6 +47,21 @@ module _ (room : ℕ) (I : TextRows → Type 0) (back : (s : TextRows) (x : Orde
             ∙ ap (after s1) b,
       )
 
+  -- I holds at the end too
+  pub invariant-holds : (s : TextRows) (xs : List Order) → I s → AllGranted room s xs → I (runEdits room s xs)
+  invariant-holds s [] i a = i
+  invariant-holds s (x ∷ xs) i a = invariant-holds (after s (asked room s x)) xs (on s x i (a .0)) (a .1)
+
+-- ---- what undoes the undoing
+
+undoing-append : (room : ℕ) (s : TextRows) (xs ys : List Order) → undoing room s (xs ++ ys) ≡ undoing room (runEdits room s xs) ys ++ undoing room s xs
+undoing-append room s [] ys = sym (append-nil (undoing room s ys))
+undoing-append room s (x ∷ xs) ys =
+    ap (λ (z : List Order). z ++ (puttingBack s x ∷ [])) (undoing-append room (after s (asked room s x)) xs ys)
+    ∙ append-assoc (undoing room (runEdits room (after s (asked room s x)) xs) ys) (undoing room (after s (asked room s x)) xs) (puttingBack s x ∷ [])
+
+module _ (room : ℕ) (I : TextRows → Type 0) (back : (s : TextRows) (x : Order) → I s → Back room s x)
+    (on : (s : TextRows) (x : Order) → I s → Granted (asked room s x) → I (after s (asked room s x))) where
   pub invariant-redone : (s : TextRows) (xs : List Order) → I s → AllGranted room s xs → undoing room (runEdits room s xs) (undoing room s xs) ≡ xs
   invariant-redone s [] i a = refl
   invariant-redone s (x ∷ xs) i a =
@@ -72,10 +69,5 @@ module _ (room : ℕ) (I : TextRows → Type 0) (back : (s : TextRows) (x : Orde
       let j = on s x i (a .0) in
       let end = runEdits room s1 xs in
       undoing-append room end (undoing room s1 xs) (puttingBack s x ∷ [])
-      ∙ ap (λ (z : TextRows). puttingBack z (puttingBack s x) ∷ undoing room end (undoing room s1 xs)) (invariant-undone s1 xs j (a .1) .1)
-      ∙ ap₂ (λ (y : Order) (ys : List Order). y ∷ ys) (step-again s x i (asked room s x) refl (a .0)) (invariant-redone s1 xs j (a .1))
-
-  -- I holds at the end too
-  pub invariant-holds : (s : TextRows) (xs : List Order) → I s → AllGranted room s xs → I (runEdits room s xs)
-  invariant-holds s [] i a = i
-  invariant-holds s (x ∷ xs) i a = invariant-holds (after s (asked room s x)) xs (on s x i (a .0)) (a .1)
+      ∙ ap (λ (z : TextRows). puttingBack z (puttingBack s x) ∷ undoing room end (undoing room s1 xs)) (invariant-undone room I back on s1 xs j (a .1) .1)
+      ∙ ap₂ (λ (y : Order) (ys : List Order). y ∷ ys) (step-again room I back on s x i (asked room s x) refl (a .0)) (invariant-redone s1 xs j (a .1))

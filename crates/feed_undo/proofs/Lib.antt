@@ -1,0 +1,9 @@
+pub mod AsEdits
+pub mod Choosing
+pub mod Fits
+pub mod FitsAll
+pub mod Inverse
+pub mod Judged
+pub mod Puts
+pub mod Relaid
+pub mod Swept
