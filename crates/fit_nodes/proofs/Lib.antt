@@ -1,5 +1,6 @@
 pub mod Children
 pub mod Climbs
+pub mod Conjoined
 pub mod Depths
 pub mod Lent
 pub mod Parents

@@ -8,9 +8,10 @@ use Rattle.tables.proofs.Cases.{either-bool, true-false}
 use Rattle.tables.proofs.Each.{each-at}
 use Rattle.fit_nodes.proofs.Path.{has-before, has-parent, path-self, path-up, path-out, path-down, path-le, path-trans}
 
-module _ {nd : List ℕ} {n : ℕ} (ruled : Ruled nd n) where
-  pub rule-at : (k : ℕ) → k < n → (parentAt nd k ≡ none → ⊥) → (0 < k) × (onPath nd (k - 1) (parentAt nd k) ≡ true)
-  rule-at k l h = go (eqb (parentAt nd k) none) (ltb 0 k) (onPath nd (k - 1) (parentAt nd k)) refl refl refl (each-at (parentRight nd) n k (ruled .rule) l)
+-- of one node whose parent is right
+module _ (nd : List ℕ) (k : ℕ) (e : parentRight nd k ≡ true) (h : parentAt nd k ≡ none → ⊥) where
+  right-at : (0 < k) × (onPath nd (k - 1) (parentAt nd k) ≡ true)
+  right-at = go (eqb (parentAt nd k) none) (ltb 0 k) (onPath nd (k - 1) (parentAt nd k)) refl refl refl e
     where
       go : (a b o : Bool) → eqb (parentAt nd k) none ≡ a → ltb 0 k ≡ b → onPath nd (k - 1) (parentAt nd k) ≡ o → (a || (b && o)) ≡ true
           → (0 < k) × (onPath nd (k - 1) (parentAt nd k) ≡ true)
@@ -18,6 +19,13 @@ module _ {nd : List ℕ} {n : ℕ} (ruled : Ruled nd n) where
       go false true true ea eb eo z = (ltb-true 0 k eb, eo)
       go false true false ea eb eo z = true-false false z refl
       go false false o ea eb eo z = true-false false z refl
+
+  pub right-before : parentAt nd k < k
+  right-before = let r = right-at in let q = path-le nd (k - 1) (parentAt nd k) (r .1) in let z = r .0 in omega arith
+
+module _ {nd : List ℕ} {n : ℕ} (ruled : Ruled nd n) where
+  pub rule-at : (k : ℕ) → k < n → (parentAt nd k ≡ none → ⊥) → (0 < k) × (onPath nd (k - 1) (parentAt nd k) ≡ true)
+  rule-at k l h = right-at nd k (each-at (parentRight nd) n k (ruled .rule) l) h
 
   pub rule-before : (k : ℕ) → k < n → (parentAt nd k ≡ none → ⊥) → parentAt nd k < k
   rule-before k l h = let r = rule-at k l h in let q = path-le nd (k - 1) (parentAt nd k) (r .1) in let z = r .0 in omega arith

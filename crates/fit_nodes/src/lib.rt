@@ -1,5 +1,6 @@
 // Whether the links of nodes fit: roots, parents, first children, next siblings; the game types; and the depths. Linear in the tables: what climbs leaves a node only once.
 ghost use mathlib.Core.Path.{_≡_};
+ghost use mathlib.Core.Bool.{true, _&&_};
 ghost use Prim.Native.Nat.{_/_, _<_, _≤_};
 ghost use lib.ListN.{length};
 ghost use Rattle.tables.specs.Numbers.{none};
@@ -7,29 +8,6 @@ ghost use Rattle.tables.specs.Each.{each};
 ghost use Rattle.tables.specs.Columns.{treeStride, nodeStride};
 ghost use Rattle.fit_nodes.specs.Locals.{Ruled, NextParent, Climbed};
 ghost use Rattle.fit_nodes.specs.Nodes.{rootsRight, onPath, parentRight, childRight, siblingRight, gameRight, depthRight, nodesFit, lentNodes, linksFit};
-
-// Whether the roots of `m` trees are those of `n` nodes that have no parent, ascending.
-fn roots_right(trees: &[u32], m: usize, nodes: &[u32], n: usize) -> bool
-    requires { ⌜ (m ≤ length (now trees) / treeStride) × (n ≤ length (now nodes) / nodeStride) ⌝ }
-    ensures { λ r. ⌜ r ≡ rootsRight m n (now (trees .entry)) (now (nodes .entry)) ⌝ }
-{
-    let mut r = 0;
-    let mut k = 0;
-    while k < n {
-        let at = k;
-        k += 1;
-        if nodes[at * tables::NODE_STRIDE] == tables::NONE {
-            if r == m {
-                return false;
-            }
-            if lists::wide(trees[r * tables::TREE_STRIDE]) != at {
-                return false;
-            }
-            r += 1;
-        }
-    }
-    r == m
-}
 
 // Whether `p` is node `from` or an ancestor of it.
 fn on_path(nodes: &[u32], from: usize, p: usize) -> bool
@@ -66,19 +44,48 @@ fn parent_right(nodes: &[u32], k: usize) -> bool
     on_path(nodes, k - 1, lists::wide(parent))
 }
 
-// Whether the parents of `n` nodes are right.
-fn parents_right(nodes: &[u32], n: usize) -> bool
-    requires { ⌜ n ≤ length (now nodes) / nodeStride ⌝ }
-    ensures { λ r. ⌜ r ≡ each n (parentRight (now (nodes .entry))) ⌝ }
+// Whether node k's depth is right, where its parent is: 0 at a root, else the parent's plus 1.
+fn depth_right(nodes: &[u32], k: usize) -> bool
+    requires { ⌜ (k < length (now nodes) / nodeStride) × (parentRight (now nodes) k ≡ true) ⌝ }
+    ensures { λ r. ⌜ r ≡ depthRight (now (nodes .entry)) k ⌝ }
 {
+    let parent = nodes[k * tables::NODE_STRIDE];
+    let depth = nodes[k * tables::NODE_STRIDE + 5];
+    if parent == tables::NONE {
+        return depth == 0;
+    }
+    let up = lists::wide(parent);
+    lists::wide(depth) == lists::wide(nodes[up * tables::NODE_STRIDE + 5]) + 1
+}
+
+// Whether the roots of `m` trees are those of `n` nodes that have no parent, ascending, and the parents and depths of the nodes are right.
+fn rows_right(trees: &[u32], m: usize, nodes: &[u32], n: usize) -> bool
+    requires { ⌜ (m ≤ length (now trees) / treeStride) × (n ≤ length (now nodes) / nodeStride) ⌝ }
+    ensures { λ r. ⌜ r ≡ (rootsRight m n (now (trees .entry)) (now (nodes .entry))
+        && each n (parentRight (now (nodes .entry))) && each n (depthRight (now (nodes .entry)))) ⌝ }
+{
+    let mut r = 0;
     let mut k = 0;
     while k < n {
-        if !parent_right(nodes, k) {
+        let at = k;
+        k += 1;
+        if !parent_right(nodes, at) {
             return false;
         }
-        k += 1;
+        if !depth_right(nodes, at) {
+            return false;
+        }
+        if nodes[at * tables::NODE_STRIDE] == tables::NONE {
+            if r == m {
+                return false;
+            }
+            if lists::wide(trees[r * tables::TREE_STRIDE]) != at {
+                return false;
+            }
+            r += 1;
+        }
     }
-    true
+    r == m
 }
 
 // Whether node k's first child is right: it can only be the next node, and is, where k is that one's parent.
@@ -95,21 +102,6 @@ fn child_right(nodes: &[u32], n: usize, k: usize) -> bool
         return child == tables::NONE;
     }
     lists::wide(child) == next
-}
-
-// Whether the first children of `n` nodes are right.
-fn children_right(nodes: &[u32], n: usize) -> bool
-    requires { ⌜ (n ≤ length (now nodes) / nodeStride) × Ruled (now nodes) n ⌝ }
-    ensures { λ r. ⌜ r ≡ each n (childRight (now (nodes .entry)) n) ⌝ }
-{
-    let mut k = 0;
-    while k < n {
-        if !child_right(nodes, n, k) {
-            return false;
-        }
-        k += 1;
-    }
-    true
 }
 
 // The climb from node k - 1 to the parent `p` of node k: the child of `p` on the way is followed by k, the others by none.
@@ -137,20 +129,26 @@ fn climb(nodes: &[u32], n: usize, k: usize, p: u32) -> bool
     }
 }
 
-// Whether the next siblings of `n` nodes are right: climbs from each node to the next one's parent, and from the last to the top.
-fn siblings_right(nodes: &[u32], n: usize) -> bool
+// Whether first children and next siblings of `n` nodes are right: climbs from each node to the next one's parent, and from the last to the top.
+fn kin_right(nodes: &[u32], n: usize) -> bool
     requires { ⌜ (n ≤ length (now nodes) / nodeStride) × Ruled (now nodes) n ⌝ }
-    ensures { λ r. ⌜ r ≡ each n (siblingRight (now (nodes .entry)) n) ⌝ }
+    ensures { λ r. ⌜ r ≡ (each n (childRight (now (nodes .entry)) n) && each n (siblingRight (now (nodes .entry)) n)) ⌝ }
 {
     if n == 0 {
         return true;
     }
     let mut k: usize = 1;
     while k < n {
+        if !child_right(nodes, n, k - 1) {
+            return false;
+        }
         if !climb(nodes, n, k, nodes[k * tables::NODE_STRIDE]) {
             return false;
         }
         k += 1;
+    }
+    if !child_right(nodes, n, k - 1) {
+        return false;
     }
     climb(nodes, n, k, tables::NONE)
 }
@@ -204,22 +202,13 @@ fn nodes_fit(trees: &[u32], nodes: &[u32], counts: tables::Counts) -> bool
     requires { ⌜ (counts .trees ≤ length (now trees) / treeStride) × (counts .nodes ≤ length (now nodes) / nodeStride) × (counts .nodes ≤ none) ⌝ }
     ensures { λ r. ⌜ r ≡ nodesFit counts (now (trees .entry)) (now (nodes .entry)) ⌝ }
 {
-    if !roots_right(trees, counts.trees, nodes, counts.nodes) {
+    if !rows_right(trees, counts.trees, nodes, counts.nodes) {
         return false;
     }
-    if !parents_right(nodes, counts.nodes) {
+    if !kin_right(nodes, counts.nodes) {
         return false;
     }
-    if !children_right(nodes, counts.nodes) {
-        return false;
-    }
-    if !siblings_right(nodes, counts.nodes) {
-        return false;
-    }
-    if !games_right(trees, counts.trees) {
-        return false;
-    }
-    depths_right(nodes, counts.nodes)
+    games_right(trees, counts.trees)
 }
 
 // Whether so many trees and nodes are lent.

@@ -1,4 +1,5 @@
 pub mod Ascents
+pub mod Fused
 pub mod Lent
 pub mod Lists
 pub mod Lying

@@ -13,7 +13,7 @@ module _ (used : ℕ) where
   abbrev pub Lies : Span → Type 0
   Lies s = (s .from ≤ s .to) × (s .to ≤ used)
 
-  first-lies : (o : ℕ) (s : Span) (ss : List Span) → ascending used o (s ∷ ss) ≡ true → Lies s × (ascending used (suc (s .to)) ss ≡ true)
+  pub first-lies : (o : ℕ) (s : Span) (ss : List Span) → ascending used o (s ∷ ss) ≡ true → Lies s × (ascending used (suc (s .to)) ss ≡ true)
   unfolding ascending
   first-lies o s ss h =
       let h1 = and-right (leb o (s .from)) (leb (s .from) (s .to) && (leb (s .to) used && ascending used (suc (s .to)) ss)) h in

@@ -1,9 +1,10 @@
 // Whether the ranges of properties and values fit, and the parts of the text that their rows name. Linear in text and tables.
 ghost use mathlib.Core.Path.{_≡_};
-ghost use mathlib.Core.Bool.{true};
+ghost use mathlib.Core.Bool.{true, _&&_};
 ghost use mathlib.Core.List.{[], _∷_};
 ghost use Prim.Native.Nat.{ℕ, _+_, _*_, _/_, _<_, _≤_};
 ghost use lib.ListN.{length, getD};
+ghost use Rattle.lexer_close.specs.Close.{closeAt};
 ghost use Rattle.tables.specs.Numbers.{textLimit};
 ghost use Rattle.tables.specs.Columns.{nodeStride, propertyStride, valueStride, nameFromAt, nameToAt, firstValAt, valCountAt, valFromAt, valToAt};
 ghost use Rattle.tables.specs.Each.{each, tabulate};
@@ -141,25 +142,6 @@ fn property_spans(properties: &[u32], k: usize, values: &[u32], used: usize, fro
     value_spans(values, used, name.next, first, count)
 }
 
-// Whether the spans of `n` properties and their values lie one after another in a text of `used` bytes.
-fn spans_right(properties: &[u32], n: usize, values: &[u32], used: usize) -> bool
-    requires { ⌜ (n ≤ length (now properties) / propertyStride)
-        × ((p : ℕ) → p < n → firstValAt (now properties) p + valCountAt (now properties) p ≤ length (now values) / valueStride) × (used ≤ textLimit) ⌝ }
-    ensures { λ r. ⌜ r ≡ ascending used 0 (spans (now (properties .entry)) (now (values .entry)) 0 n) ⌝ }
-{
-    let mut next: usize = 0;
-    let mut k: usize = 0;
-    while k < n {
-        let ascent = property_spans(properties, k, values, used, next);
-        if !ascent.ok {
-            return false;
-        }
-        next = ascent.next;
-        k += 1;
-    }
-    true
-}
-
 // Whether an identifier is ASCII without `[`.
 fn is_plain(name: &[u8]) -> bool
     ensures { λ r. ⌜ r ≡ plainName (now (name .entry)) ⌝ }
@@ -171,22 +153,53 @@ fn is_plain(name: &[u8]) -> bool
     }
 }
 
-// Whether the identifiers of `n` properties, which lie in the text, are plain.
-fn names_right(text: &[u8], properties: &[u32], n: usize) -> bool
-    requires { ⌜ (n ≤ length (now properties) / propertyStride)
-        × ((p : ℕ) → p < n → (nameFromAt (now properties) p ≤ nameToAt (now properties) p) × (nameToAt (now properties) p ≤ length (now text))) ⌝ }
-    ensures { λ r. ⌜ r ≡ each n (nameRight (now (text .entry)) (now (properties .entry))) ⌝ }
+// Whether the identifier of property k, which lies in the text, is plain.
+fn name_right(text: &[u8], properties: &[u32], k: usize) -> bool
+    requires { ⌜ (k < length (now properties) / propertyStride)
+        × (nameFromAt (now properties) k ≤ nameToAt (now properties) k) × (nameToAt (now properties) k ≤ length (now text)) ⌝ }
+    ensures { λ r. ⌜ r ≡ nameRight (now (text .entry)) (now (properties .entry)) k ⌝ }
 {
-    let mut k = 0;
+    let start = lists::wide(properties[k * tables::PROPERTY_STRIDE]);
+    let end = lists::wide(properties[k * tables::PROPERTY_STRIDE + 1]);
+    is_plain(&text[start..end])
+}
+
+// Whether the spans of `n` properties and their values lie one after another in the text, and the identifiers are plain.
+fn spans_right(text: &[u8], properties: &[u32], n: usize, values: &[u32]) -> bool
+    requires { ⌜ (n ≤ length (now properties) / propertyStride)
+        × ((p : ℕ) → p < n → firstValAt (now properties) p + valCountAt (now properties) p ≤ length (now values) / valueStride)
+        × (length (now text) ≤ textLimit) ⌝ }
+    ensures { λ r. ⌜ r ≡ (ascending (length (now (text .entry))) 0 (spans (now (properties .entry)) (now (values .entry)) 0 n)
+        && each n (nameRight (now (text .entry)) (now (properties .entry)))) ⌝ }
+{
+    let mut next: usize = 0;
+    let mut k: usize = 0;
     while k < n {
         let start = lists::wide(properties[k * tables::PROPERTY_STRIDE]);
         let end = lists::wide(properties[k * tables::PROPERTY_STRIDE + tables::PROPERTY_END]);
         if !is_plain(&text[start..end]) {
+        let ascent = property_spans(properties, k, values, text.len(), next);
+        if !ascent.ok {
             return false;
         }
+        if !name_right(text, properties, k) {
+            return false;
+        }
+        next = ascent.next;
         k += 1;
     }
     true
+}
+
+// Where a value from `start` on, which its row says to end at `end`, closes. Most values are two bytes.
+fn close_at(text: &[u8], start: usize, end: usize) -> lexer_close::Close
+    requires { ⌜ start ≤ end ⌝ }
+    ensures { λ r. ⌜ r ≡ closeAt (now (text .entry)) start ⌝ }
+{
+    if end - start == 2 {
+        return lexer_close::quick_end(text, start);
+    }
+    lexer_close::value_end(text, start)
 }
 
 // Whether a value, which lies in the text, stands after `[` and before `]` and is closed: the scan from its start ends at its end.
@@ -200,7 +213,7 @@ fn is_boxed(text: &[u8], start: usize, end: usize) -> bool
     if text[start - 1] != b'[' {
         return false;
     }
-    match lexer_close::value_end(text, start) {
+    match close_at(text, start, end) {
         lexer_close::Close::At(place) => place == end,
         lexer_close::Close::Open => false,
     }
@@ -231,10 +244,7 @@ fn spans_fit(text: &[u8], properties: &[u32], values: &[u32], counts: tables::Co
         × (gapless (firstValAt (now properties)) (valCountAt (now properties)) (counts .properties) (counts .values) ≡ true) ⌝ }
     ensures { λ r. ⌜ r ≡ spansFit (now (text .entry)) counts (now (properties .entry)) (now (values .entry)) ⌝ }
 {
-    if !spans_right(properties, counts.properties, values, text.len()) {
-        return false;
-    }
-    if !names_right(text, properties, counts.properties) {
+    if !spans_right(text, properties, counts.properties, values) {
         return false;
     }
     values_right(text, values, counts.values)

@@ -1,7 +1,8 @@
 -- `fit_nodes::depth_right` meets its contract. Assumes nothing.
 use Rattle.lists.proofs.Prelude.{_+_, _*_, eq-eqb, arith, needs}
+use denote.Ref.{now}
 use Rattle.fit_nodes.proofs.Depths.{depth-right}
-use Rattle.fit_nodes.proofs.Rule.{rule-before}
+use Rattle.fit_nodes.proofs.Rule.{right-before}
 use Rattle.tables.specs.Columns.{nodeStride}
 use Rattle.fit_nodes.proofs.depth_right.Statement.{statement}
 use Rattle.fit_nodes.proofs.depth_right.Tie as tie
@@ -26,10 +27,10 @@ depth-right-spec =
     returns
     (λ c κs. search needs)
     (λ c κs. search needs)
-    (λ c. omega (arith, rule-before (c .before .before .before .before .before .before .pre .1) _ (c .before .before .before .before .before .before .pre .2) (c .before .before .if1 .left), c .before .wide .ensures))
-    (λ c. omega (arith, rule-before (c .before .before .before .before .before .before .pre .1) _ (c .before .before .before .before .before .before .pre .2) (c .before .before .if1 .left), c .before .wide .ensures))
-    (λ c. omega (arith, rule-before (c .before .before .before .before .before .before .pre .1) _ (c .before .before .before .before .before .before .pre .2) (c .before .before .if1 .left), c .before .wide .ensures))
-    (λ c. omega (arith, rule-before (c .before .before .before .before .before .before .before .pre .1) _ (c .before .before .before .before .before .before .before .pre .2) (c .before .before .before .if1 .left), c .before .before .wide .ensures))
+    (λ c. omega (arith, right-before (now (c .before .before .before .before .before .before .args .nodes)) (c .before .before .before .before .before .before .args .k) (c .before .before .before .before .before .before .pre .1) (c .before .before .if1 .left), c .before .wide .ensures))
+    (λ c. omega (arith, right-before (now (c .before .before .before .before .before .before .args .nodes)) (c .before .before .before .before .before .before .args .k) (c .before .before .before .before .before .before .pre .1) (c .before .before .if1 .left), c .before .wide .ensures))
+    (λ c. omega (arith, right-before (now (c .before .before .before .before .before .before .args .nodes)) (c .before .before .before .before .before .before .args .k) (c .before .before .before .before .before .before .pre .1) (c .before .before .if1 .left), c .before .wide .ensures))
+    (λ c. omega (arith, right-before (now (c .before .before .before .before .before .before .before .args .nodes)) (c .before .before .before .before .before .before .before .args .k) (c .before .before .before .before .before .before .before .pre .1) (c .before .before .before .if1 .left), c .before .before .wide .ensures))
     (λ c κs. search needs)
     (λ c. omega (arith, c .wide3 .ensures, c .before .shared-slice-known4 .given (c .before .before .before .wide .result * nodeStride + 5)))
     returns-2)

@@ -12,10 +12,10 @@ returns-2 : tie.Need-returns-2
 returns-2 c = let a = c .before .before .before .before .args in boxed-other (now (a .text)) _ _ (c .before .before .before .before .pre .0) (c .before .before .before .before .pre .1) (c .before .before .if1 .left) (c .if2 .taken)
 
 returns-3 : tie.Need-returns-3
-returns-3 c = let a = c .before .before .before .before .before .before .before .before .args in boxed-is (now (a .text)) _ _ (c .before .before .before .before .before .before .before .before .pre .0) (c .before .before .before .before .before .before .before .before .pre .1) (c .before .before .before .before .before .before .if1 .left) (c .before .before .before .before .if2 .left) _ (sym (c .before .place .given .1) ∙ c .before .before .before .value-end .ensures)
+returns-3 c = let a = c .before .before .before .before .before .before .before .before .args in boxed-is (now (a .text)) _ _ (c .before .before .before .before .before .before .before .before .pre .0) (c .before .before .before .before .before .before .before .before .pre .1) (c .before .before .before .before .before .before .if1 .left) (c .before .before .before .before .if2 .left) _ (sym (c .before .place .given .1) ∙ c .before .before .before .close-at .ensures)
 
 returns-4 : tie.Need-returns-4
-returns-4 c = let a = c .before .before .before .before .before .before .before .args in boxed-is (now (a .text)) _ _ (c .before .before .before .before .before .before .before .pre .0) (c .before .before .before .before .before .before .before .pre .1) (c .before .before .before .before .before .if1 .left) (c .before .before .before .if2 .left) _ (sym (c .enum-told .given .1) ∙ c .before .before .value-end .ensures)
+returns-4 c = let a = c .before .before .before .before .before .before .before .args in boxed-is (now (a .text)) _ _ (c .before .before .before .before .before .before .before .pre .0) (c .before .before .before .before .before .before .before .pre .1) (c .before .before .before .before .before .if1 .left) (c .before .before .before .if2 .left) _ (sym (c .enum-told .given .1) ∙ c .before .before .close-at .ensures)
 
 pub is-boxed-spec : {M : Type 1} → statement M
 is-boxed-spec =
