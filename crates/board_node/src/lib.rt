@@ -281,7 +281,7 @@ fn play_row(
     }
     let start = lists::wide(properties[p * tables::PROPERTY_STRIDE + 2]);
     let many = lists::wide(properties[p * tables::PROPERTY_STRIDE + 3]);
-    let go = go::value::go_value(0, identifier, text, values, start, many);
+    let go = go::value::go_value(2, identifier, text, values, start, many);
     let value = go.value;
     let Value::Move(x, y) = value else {
         return Turn {

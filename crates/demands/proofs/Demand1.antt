@@ -174,7 +174,7 @@ trim-exactly = texts.trim-exactly
 pub token-numbers : (at k n f o to : ℕ) (x : Step) → TokenIs at x k n f o to → OneOf tokenNumbers n
 token-numbers = texts.token-listed
 
--- sgf_go_property: 0
+-- sgf_go_by_rule: 0
 pub property-numbers : (g : GoValue) (r : SgfGoValue) → r ≡ goInC 0 g → r .number ≡ 0
 property-numbers g r e = ap (λ (z : SgfGoValue). z .number) e
 
