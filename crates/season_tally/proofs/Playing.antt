@@ -1,5 +1,5 @@
 -- What a property counts as by its row, and one more of them. Assumes nothing.
-use Rattle.lists.proofs.Prelude.{ℕ, zero, suc, _+_, _-_, _/_, _≤_, _<_, _≡_, refl, sym, ap, _∙_, Bool, true, false, List, [], _∷_, arith, add-one, length, le-ltb, pick}
+use Rattle.lists.proofs.Prelude.{ℕ, zero, suc, _+_, _-_, _/_, _≤_, _<_, _≡_, refl, sym, ap, ap₂, _∙_, subst, Bool, true, false, List, [], _∷_, arith, add-one, length, le-ltb, lt-ltb, pick}
 use Rattle.lists.specs.Same.{same}
 use Rattle.values.specs.Read.{readIdentifier}
 use Rattle.parts.specs.Rows.{valuesAt}
@@ -10,7 +10,7 @@ use Rattle.go_shape.specs.Shape.{shapeOf}
 use Rattle.go_shape.specs.declared.Shape.the-variants.{OneMove}
 use Rattle.go.specs.Value.{isGo, valueBy, goValue}
 use Rattle.fit.proofs.RootRows.{same-equal}
-use Rattle.tables.specs.Columns.{propertyStride, firstValAt, valCountAt}
+use Rattle.tables.specs.Columns.{propertyStride, rootAt, firstPropAt, firstValAt, valCountAt}
 use Rattle.tables.specs.Each.{sum}
 use Rattle.season_tally.specs.declared.Played.{Played}
 use Rattle.season_tally.specs.declared.Played.the-variants.{Black, White, Passed, Nothing}
@@ -86,3 +86,36 @@ goes-next g from m p m1 w l e x =
       below = one-below m1 w p (x .below);
       counted = λ f h c. one-counted f p m1 w (h p l (omega arith) ∙ sym e) (x .counted f (λ q a b. h q a (omega arith)) c);
     }
+
+-- what the code found at property p
+module _ (rule : ℕ) (text pr vl : List ℕ) (p : ℕ) (e : isGo rule ≡ true) (id : List ℕ) (i : id ≡ identifierAt text pr p) where
+  module _ (first count : ℕ) (x : first ≡ firstValAt pr p) (y : count ≡ valCountAt pr p) (v : Value) (u : v ≡ valueBy rule OneMove (valuesAt text vl first count) .value) (r : Played) where
+    pub found-black : same (readIdentifier id) (0x42 ∷ []) ≡ true → r ≡ movedBy Black v → r ≡ playedAt rule text pr vl p
+    found-black h w =
+        w ∙ ap (movedBy Black) (u ∙ ap₂ (λ (a b : ℕ). valueBy rule OneMove (valuesAt text vl a b) .value) x y)
+        ∙ played-black rule text pr vl p e (ap (λ (z : List ℕ). same (readIdentifier z) (0x42 ∷ [])) (sym i) ∙ h)
+
+    pub found-white : same (readIdentifier id) (0x57 ∷ []) ≡ true → r ≡ movedBy White v → r ≡ playedAt rule text pr vl p
+    found-white h w =
+        w ∙ ap (movedBy White) (u ∙ ap₂ (λ (a b : ℕ). valueBy rule OneMove (valuesAt text vl a b) .value) x y)
+        ∙ played-white rule text pr vl p e (ap (λ (z : List ℕ). same (readIdentifier z) (0x57 ∷ [])) (sym i) ∙ h)
+
+  pub found-neither : same (readIdentifier id) (0x42 ∷ []) ≡ false → same (readIdentifier id) (0x57 ∷ []) ≡ false → Nothing ≡ playedAt rule text pr vl p
+  found-neither h k =
+      played-neither rule text pr vl p (ap (λ (z : List ℕ). same (readIdentifier z) (0x42 ∷ [])) (sym i) ∙ h) (ap (λ (z : List ℕ). same (readIdentifier z) (0x57 ∷ [])) (sym i) ∙ k)
+
+-- the first property of the next root
+module _ (tr nd : List ℕ) (m r n : ℕ) where
+  pub next-last : m ≤ r + 1 → n ≡ nextFirst tr nd m r n
+  unfolding nextFirst
+  next-last h = rw (le-ltb (r + 1) m h)
+
+  pub next-root : r + 1 < m → (root f : ℕ) → root ≡ rootAt tr (r + 1) → f ≡ firstPropAt nd root → f ≡ nextFirst tr nd m r n
+  unfolding nextFirst
+  next-root h root f x y = rw (lt-ltb (r + 1) m h) (y ∙ ap (firstPropAt nd) x)
+
+pub goes-step : (g : ℕ → Played) (from : ℕ) (m : Moves) (p : ℕ) (m1 m2 : Moves) (w : Played) → from ≤ p → w ≡ g p → m2 ≡ one m1 w → Goes g from m p m1 → Goes g from m (p + 1) m2
+goes-step g from m p m1 m2 w l e z x = subst (λ (y : Moves). Goes g from m (p + 1) y) (sym z) (goes-next g from m p m1 w l e x)
+
+pub goes-end : (g : ℕ → Played) (from : ℕ) (m : Moves) (p to : ℕ) (m1 : Moves) → p ≤ to → to ≤ p → Goes g from m p m1 → Goes g from m to m1
+goes-end g from m p to m1 h l x = let e : p ≡ to = omega arith in subst (λ (k : ℕ). Goes g from m k m1) e x

@@ -216,7 +216,5 @@ pub fn tally(
     if !fit::fits(text, used, counts, trees, nodes, properties, values) {
         return TallyAnswer::NotFitting;
     }
-    TallyAnswer::Tallied(count(
-        text, used, counts, trees, nodes, properties, values,
-    ))
+    TallyAnswer::Tallied(count(text, used, counts, trees, nodes, properties, values))
 }

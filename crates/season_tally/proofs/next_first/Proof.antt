@@ -1,4 +1,7 @@
+use borrow.Author.Needs.{needs}
 -- `season_tally::next_first` meets its contract. Assumes nothing.
+use Rattle.lists.proofs.Prelude.{_+_, arith, needs}
+use Rattle.season_tally.proofs.Playing.{next-last, next-root}
 use Rattle.season_tally.proofs.next_first.Statement.{statement}
 use Rattle.season_tally.proofs.next_first.Tie as tie
 use Rattle.season_tally.proofs.next_first.Reads as reads
@@ -11,7 +14,7 @@ add-if1 c = search needs
 
 -- src/lib.rt:125:9
 returns : tie.Need-returns
-returns c = ?
+returns c = let a = c .before .before .before .args in next-last (a .trees .now) (a .nodes .now) (a .m) (a .r) (a .n) (c .if1 .taken)
 
 -- src/lib.rt:127:35
 add-wide : tie.Need-add-wide
@@ -27,7 +30,7 @@ mul-wide-2 c = search needs
 
 -- src/lib.rt:127:28
 shared-slice-read-wide : tie.Need-shared-slice-read-wide
-shared-slice-read-wide c = search needs
+shared-slice-read-wide c = let g = c .before .before .before .before .pre .1 .lent in omega arith
 
 -- src/lib.rt:127:9
 wide-requires : tie.Need-wide-requires
@@ -35,19 +38,19 @@ wide-requires c κs = search needs
 
 -- src/lib.rt:128:23
 mul-wide-3 : tie.Need-mul-wide-3
-mul-wide-3 c = ?
+mul-wide-3 c = let g = c .before .before .before .before .before .pre .1 .roots (c .before .before .before .before .before .args .r + 1) (c .before .before .if1 .left) in let e = c .wide .ensures in search needs
 
 -- src/lib.rt:128:23
 add-wide-2 : tie.Need-add-wide-2
-add-wide-2 c = ?
+add-wide-2 c = let g = c .before .before .before .before .before .pre .1 .roots (c .before .before .before .before .before .args .r + 1) (c .before .before .if1 .left) in let e = c .wide .ensures in search needs
 
 -- src/lib.rt:128:17
 mul-wide-4 : tie.Need-mul-wide-4
-mul-wide-4 c = ?
+mul-wide-4 c = let g = c .before .before .before .before .before .pre .1 .roots (c .before .before .before .before .before .args .r + 1) (c .before .before .if1 .left) in let e = c .wide .ensures in search needs
 
 -- src/lib.rt:128:17
 shared-slice-read-wide-2 : tie.Need-shared-slice-read-wide-2
-shared-slice-read-wide-2 c = ?
+shared-slice-read-wide-2 c = let g = c .before .before .before .before .before .before .pre .1 .roots (c .before .before .before .before .before .before .args .r + 1) (c .before .before .before .if1 .left) in let e = c .before .wide .ensures in omega arith
 
 -- src/lib.rt:128:5
 wide-requires-2 : tie.Need-wide-requires-2
@@ -55,7 +58,7 @@ wide-requires-2 c κs = search needs
 
 -- src/lib.rt:120:1
 returns-2 : tie.Need-returns-2
-returns-2 c = ?
+returns-2 c = let a = c .before .before .before .before .before .before .before .args in next-root (a .trees .now) (a .nodes .now) (a .m) (a .r) (a .n) (c .before .before .before .before .if1 .left) _ _ (c .before .before .wide .ensures) (c .wide2 .ensures)
 
 pub next-first-spec : {M : Type 1} → statement M
 next-first-spec =

@@ -2,7 +2,7 @@ use borrow.Author.Needs.{needs}
 -- `season_tally::played_at` meets its contract. Assumes nothing.
 use Rattle.lists.proofs.Prelude.{_≡_, ap, ap₂, sym, _∙_, needs, arith}
 use Rattle.tables.proofs.Cases.{refused, passed}
-use Rattle.season_tally.proofs.Playing.{played-other, played-missing, played-black, played-white, played-neither}
+use Rattle.season_tally.proofs.Playing.{played-other, played-missing, found-black, found-white, found-neither}
 use Rattle.season_tally.proofs.played_at.Statement.{statement}
 use Rattle.season_tally.proofs.played_at.Tie as tie
 use Rattle.season_tally.proofs.played_at.Reads as reads
@@ -20,11 +20,11 @@ is-go-requires c κs = search needs
 
 -- src/lib.rt:63:9
 returns : tie.Need-returns
-returns c = let a = ? in played-other (a .rule) (a .text .now) (a .properties .now) (a .values .now) (a .p) (refused (? .ensures) (? .taken))
+returns c = let a = c .before .before .before .before .before .args in played-other (a .rule) (a .text .now) (a .properties .now) (a .values .now) (a .p) (refused (c .before .is-go .ensures) (c .if1 .taken))
 
 -- src/lib.rt:66:9
 returns-2 : tie.Need-returns-2
-returns-2 c = let a = ? in played-missing (a .rule) (a .text .now) (a .properties .now) (a .values .now) (a .p) (? .taken)
+returns-2 c = let a = c .before .before .before .before .before .before .args in played-missing (a .rule) (a .text .now) (a .properties .now) (a .values .now) (a .p) (c .if2 .taken)
 
 -- src/lib.rt:68:9
 identifier-at-requires : tie.Need-identifier-at-requires
@@ -88,7 +88,7 @@ moved-requires c κs = search needs
 
 -- src/lib.rt:73:9
 returns-3 : tie.Need-returns-3
-returns-3 c = search needs
+returns-3 c = let a = c .before .before .before .before .before .before .before .before .before .before .before .before .before .before .before .before .args in found-black (a .rule) (a .text .now) (a .properties .now) (a .values .now) (a .p) (passed (c .before .before .before .before .before .before .before .before .before .before .before .before .is-go .ensures) (c .before .before .before .before .before .before .before .before .before .before .before .if1 .left)) _ (c .before .before .before .before .before .before .before .before .before .identifier-at .ensures) _ _ (c .before .before .before .before .before .before .before .wide .ensures) (c .before .before .before .before .before .wide2 .ensures) _ (c .before .value-by .ensures) _ (sym (c .before .before .before .reads-as .ensures) ∙ c .before .before .if3 .taken) (c .moved .ensures)
 
 -- src/lib.rt:75:42
 slice-aggregate-reads-as-2 : tie.Need-slice-aggregate-reads-as-2
@@ -108,11 +108,11 @@ moved-requires-2 c κs = search needs
 
 -- src/lib.rt:77:9
 returns-4 : tie.Need-returns-4
-returns-4 c = search needs
+returns-4 c = let a = c .before .before .before .before .before .before .before .before .before .before .before .before .before .before .before .before .before .before .before .args in found-white (a .rule) (a .text .now) (a .properties .now) (a .values .now) (a .p) (passed (c .before .before .before .before .before .before .before .before .before .before .before .before .before .before .before .is-go .ensures) (c .before .before .before .before .before .before .before .before .before .before .before .before .before .before .if1 .left)) _ (c .before .before .before .before .before .before .before .before .before .before .before .before .identifier-at .ensures) _ _ (c .before .before .before .before .before .before .before .before .before .before .wide .ensures) (c .before .before .before .before .before .before .before .before .wide2 .ensures) _ (c .before .value-by2 .ensures) _ (sym (c .before .before .before .reads-as2 .ensures) ∙ c .before .before .if4 .taken) (c .moved2 .ensures)
 
 -- src/lib.rt:59:1
 returns-5 : tie.Need-returns-5
-returns-5 c = let a = ? in ?
+returns-5 c = let a = c .before .before .before .before .before .before .before .before .before .before .before .before .before .before .before .before .before .args in found-neither (a .rule) (a .text .now) (a .properties .now) (a .values .now) (a .p) (passed (c .before .before .before .before .before .before .before .before .before .before .before .before .before .is-go .ensures) (c .before .before .before .before .before .before .before .before .before .before .before .before .if1 .left)) _ (c .before .before .before .before .before .before .before .before .before .before .identifier-at .ensures) (sym (c .before .before .before .before .reads-as .ensures) ∙ c .before .before .before .if3 .left) (sym (c .before .reads-as2 .ensures) ∙ c .if4 .left)
 
 pub played-at-spec : {M : Type 1} → statement M
 played-at-spec =
