@@ -7,3 +7,4 @@ pub mod Judged
 pub mod Puts
 pub mod Relaid
 pub mod Swept
+pub mod Taken
