@@ -41,7 +41,7 @@ enum { NUMBERS_END = 25 };
 static unsigned long operations, accepted, refusals[NUMBERS_END];
 
 /* What a fuzzer is told beside the code that was reached: which call gave which number, and sizes by their bits. */
-enum { READ, WALK, FITS, VALUE, DISPLAY, DISPLAY_VALUE, GO_VALUE, GO_PROPERTY, WRITE, EDIT, SESSION, CALLS };
+enum { READ, WALK, FITS, VALUE, DISPLAY, DISPLAY_VALUE, GO_VALUE, GO_BY_RULE, SIZE, ENTRY, SIMPLE_VALUE, SIMPLE_PROPERTY, WRITE, EDIT, SESSION, CALLS };
 #ifdef FUZZER
 __attribute__((section("__libfuzzer_extra_counters")))
 #endif
@@ -451,12 +451,60 @@ static void go_value(size_t p) {
 }
 
 /* Any rows, which need not fit. */
-static void go_property(size_t first) {
+static void go_by_rule(size_t first) {
     size_t name = draw(4), length = lent[TEXTS].length;
-    uint32_t game = draw(2), count = draw(4);
-    SgfGoValue v = sgf_go_property(game, lent[TEXTS].at, name < length ? name : length, BYTES(TEXTS), NUMBERS(VALUES), first, count);
-    answered(GO_PROPERTY, v.number, 0, 0);
-    tell(GO_PROPERTY, 0, (size_t)1 << v.kind);
+    uint32_t rule = draw(4), count = draw(4);
+    SgfGoValue v = sgf_go_by_rule(rule, lent[TEXTS].at, name < length ? name : length, BYTES(TEXTS), NUMBERS(VALUES), first, count);
+    answered(GO_BY_RULE, v.number, 0, 0);
+    tell(GO_BY_RULE, 0, (size_t)1 << v.kind);
+}
+
+/* By its number, and by its rows, which need not fit. */
+static void size(size_t tree) {
+    SgfSize s = sgf_size(RECORD, tree);
+    SgfSize rows = sgf_tree_size(lent[TEXTS].at, used < lent[TEXTS].length ? used : lent[TEXTS].length, NUMBERS(TREES), NUMBERS(NODES),
+                                 NUMBERS(PROPERTIES), NUMBERS(VALUES), tree);
+    bool given = answered(SIZE, s.number, MAY(19) | MAY(16), 0);
+    REQUIRE(rows.number == 0 && rows.kind < 3 && rows.rule < 3 && rows.columns <= 52 && rows.rows <= 52);
+    REQUIRE((rows.columns == 0) == (rows.kind == SGF_SIZE_WRONG) && (rows.rows == 0) == (rows.kind == SGF_SIZE_WRONG));
+    REQUIRE(given ? memcmp(&s, &rows, sizeof s) == 0 : (s.kind | s.columns | s.rows | s.rule) == 0);
+    tell(SIZE, 0, (size_t)1 << (3 * rows.kind + rows.rule));
+}
+
+/* Any part of the text as an identifier. */
+static void entry(void) {
+    size_t length = lent[TEXTS].length, from = draw((uint32_t)length + 1), to = from + draw((uint32_t)(length - from) + 1);
+    SgfEntry e = sgf_entry(lent[TEXTS].at + from, to - from);
+    answered(ENTRY, 0, 0, 0);
+    tell(ENTRY, 0, (size_t)1 << e.section);
+    REQUIRE((e.kind == 0) == (e.section == 0) && e.kind <= SGF_KIND_FIGURE && e.type <= SGF_TYPE_INHERIT && e.section <= SGF_SECTION_GO);
+}
+
+static void is_simple(SgfSimple v) {
+    bool sized = v.kind == SGF_SIMPLE_DOUBLE || v.kind == SGF_SIMPLE_COLOR;
+    REQUIRE(v.reserved == 0 && v.kind <= SGF_SIMPLE_NUMBER && (v.number == 0 || v.kind == SGF_SIMPLE_OTHER));
+    REQUIRE(sized ? v.size == 1 || v.size == 2 : v.size == 0 || v.kind == SGF_SIMPLE_NUMBER);
+    REQUIRE(v.negative <= (v.kind == SGF_SIMPLE_NUMBER) && v.size <= (uint64_t)INT64_MAX + v.negative);
+}
+
+static void simple_value(size_t p) {
+    SgfSimple v = sgf_simple_value(RECORD, p);
+    answered(SIMPLE_VALUE, v.number, MAY(19) | MAY(16), 0);
+    tell(SIMPLE_VALUE, 0, (size_t)1 << v.kind);
+    is_simple(v);
+}
+
+/* Any rows, which need not fit. */
+static void simple_property(size_t first) {
+    static const char *names[] = {"TE", "PL", "KO", "MN", "HA", "C"};
+    size_t name = draw(4), length = lent[TEXTS].length;
+    uint32_t rule = draw(4), count = draw(4), listed = draw(8);
+    const uint8_t *identifier = listed < 6 ? (const uint8_t *)names[listed] : lent[TEXTS].at;
+    size_t identifier_len = listed < 6 ? strlen(names[listed]) : name < length ? name : length;
+    SgfSimple v = sgf_simple_property(rule, identifier, identifier_len, BYTES(TEXTS), NUMBERS(VALUES), first, count);
+    answered(SIMPLE_PROPERTY, v.number, 0, 0);
+    tell(SIMPLE_PROPERTY, 0, (size_t)1 << v.kind);
+    is_simple(v);
 }
 
 static void call(int what) {
@@ -470,7 +518,11 @@ static void call(int what) {
     case DISPLAY: display(k, draw(3)); break;
     case DISPLAY_VALUE: display_value(k, draw(3)); break;
     case GO_VALUE: go_value(k); break;
-    case GO_PROPERTY: go_property(k); break;
+    case ENTRY: entry(); break;
+    case SIMPLE_VALUE: simple_value(k); break;
+    case SIMPLE_PROPERTY: simple_property(k); break;
+    case GO_BY_RULE: go_by_rule(k); break;
+    case SIZE: size(draw(8) == 7 ? k : k % 4); break;
     case WRITE: write_text(); break;
     case SESSION: session(); break;
     default: edit(k); break;

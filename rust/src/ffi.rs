@@ -53,6 +53,32 @@ pub struct GoValue {
     pub marks: [u8; 2704],
 }
 
+/// A number; whether there is a board size, 0 none, 1 one, 2 a wrong one; columns and rows; the rule of the tree.
+#[repr(C)]
+#[derive(Debug, Clone, Copy, PartialEq, Eq)]
+pub struct Size {
+    pub number: u32,
+    pub kind: u32,
+    pub columns: u32,
+    pub rows: u32,
+    pub rule: u32,
+}
+
+/// A board: a number, the sides, stones put on and taken off, and what stands at 52 * x + y.
+#[repr(C)]
+#[derive(Debug, Clone, Copy, PartialEq, Eq)]
+pub struct Board {
+    pub number: u32,
+    pub columns: u32,
+    pub rows: u32,
+    pub reserved: u32,
+    pub black_on: u64,
+    pub black_off: u64,
+    pub white_on: u64,
+    pub white_off: u64,
+    pub stones: [u8; 2704],
+}
+
 /// The answer of an edit: number and place, used bytes, used rows.
 #[repr(C)]
 #[derive(Debug, Clone, Copy, PartialEq, Eq)]
@@ -131,12 +157,25 @@ declare! {
     const sgf_value(k: usize) -> Span;
     const sgf_display(k: usize, kind: u32, out: *mut u8, out_len: usize) -> Length;
     const sgf_go_value(p: usize) -> GoValue;
+    const sgf_size(tree: usize) -> Size;
+    const sgf_board(node: usize) -> Board;
     const sgf_write(out: *mut u8, out_len: usize) -> Length;
     mut sgf_edit(k: usize, new: *const u8, new_len: usize) -> Edit;
 }
 
 unsafe extern "C" {
     fn sgf_version() -> u32;
+    fn sgf_board_next(
+        board: Board,
+        text: *const u8,
+        text_len: usize,
+        properties: *const u32,
+        properties_len: usize,
+        values: *const u32,
+        values_len: usize,
+        first: usize,
+        count: usize,
+    ) -> Board;
     fn sgf_display_value(kind: u32, raw: *const u8, raw_len: usize, out: *mut u8, out_len: usize) -> Length;
     fn sgf_trim(text: *const u8, text_len: usize) -> Trimmed;
     fn sgf_token(text: *const u8, text_len: usize, at: usize) -> Token;
@@ -167,8 +206,21 @@ unsafe extern "C" {
         values: *mut u32,
         values_len: usize,
     ) -> Reading;
-    fn sgf_go_property(
-        game_type: u32,
+    fn sgf_tree_size(
+        text: *const u8,
+        text_len: usize,
+        trees: *const u32,
+        trees_len: usize,
+        nodes: *const u32,
+        nodes_len: usize,
+        properties: *const u32,
+        properties_len: usize,
+        values: *const u32,
+        values_len: usize,
+        tree: usize,
+    ) -> Size;
+    fn sgf_go_by_rule(
+        rule: u32,
         identifier: *const u8,
         identifier_len: usize,
         text: *const u8,
@@ -257,14 +309,57 @@ pub fn go_value(h: &Held, p: usize) -> GoValue {
     over!(sgf_go_value, h, p)
 }
 
+pub fn board(h: &Held, node: usize) -> Board {
+    over!(sgf_board, h, node)
+}
+
+pub fn board_next(board: Board, text: &[u8], properties: &[u32], values: &[u32], first: usize, count: usize) -> Board {
+    unsafe {
+        sgf_board_next(
+            board,
+            text.as_ptr(),
+            text.len(),
+            properties.as_ptr(),
+            properties.len(),
+            values.as_ptr(),
+            values.len(),
+            first,
+            count,
+        )
+    }
+}
+
 pub fn write(h: &Held, out: &mut [u8]) -> Length {
     over!(sgf_write, h, out.as_mut_ptr(), out.len())
 }
 
-pub fn go_property(game_type: u32, identifier: &[u8], text: &[u8], values: &[u32], first: usize, count: usize) -> GoValue {
+pub fn size(h: &Held, tree: usize) -> Size {
+    over!(sgf_size, h, tree)
+}
+
+pub fn tree_size(text: &[u8], tables: [&[u32]; 4], tree: usize) -> Size {
+    let [trees, nodes, properties, values] = tables;
     unsafe {
-        sgf_go_property(
-            game_type,
+        sgf_tree_size(
+            text.as_ptr(),
+            text.len(),
+            trees.as_ptr(),
+            trees.len(),
+            nodes.as_ptr(),
+            nodes.len(),
+            properties.as_ptr(),
+            properties.len(),
+            values.as_ptr(),
+            values.len(),
+            tree,
+        )
+    }
+}
+
+pub fn go_by_rule(rule: u32, identifier: &[u8], text: &[u8], values: &[u32], first: usize, count: usize) -> GoValue {
+    unsafe {
+        sgf_go_by_rule(
+            rule,
             identifier.as_ptr(),
             identifier.len(),
             text.as_ptr(),
@@ -295,6 +390,70 @@ pub fn edit(e: &mut Edited, k: usize, new: &[u8]) -> Edit {
             k,
             new.as_ptr(),
             new.len(),
+        )
+    }
+}
+
+/// What FF[4] lists of a property; all 0 where it does not list it.
+#[repr(C)]
+#[derive(Debug, Clone, Copy, PartialEq, Eq)]
+pub struct Entry {
+    pub kind: u32,
+    pub property_type: u32,
+    pub section: u32,
+    pub reserved: u32,
+}
+
+/// A number and a simple value.
+#[repr(C)]
+#[derive(Debug, Clone, Copy, PartialEq, Eq)]
+pub struct Simple {
+    pub number: u32,
+    pub kind: u32,
+    pub negative: u32,
+    pub reserved: u32,
+    pub size: u64,
+}
+
+declare! {
+    const sgf_simple_value(p: usize) -> Simple;
+}
+
+unsafe extern "C" {
+    fn sgf_entry(identifier: *const u8, identifier_len: usize) -> Entry;
+    fn sgf_simple_property(
+        rule: u32,
+        identifier: *const u8,
+        identifier_len: usize,
+        text: *const u8,
+        text_len: usize,
+        values: *const u32,
+        values_len: usize,
+        first: usize,
+        count: usize,
+    ) -> Simple;
+}
+
+pub fn entry(identifier: &[u8]) -> Entry {
+    unsafe { sgf_entry(identifier.as_ptr(), identifier.len()) }
+}
+
+pub fn simple_value(h: &Held, p: usize) -> Simple {
+    over!(sgf_simple_value, h, p)
+}
+
+pub fn simple_property(rule: u32, identifier: &[u8], text: &[u8], values: &[u32], first: usize, count: usize) -> Simple {
+    unsafe {
+        sgf_simple_property(
+            rule,
+            identifier.as_ptr(),
+            identifier.len(),
+            text.as_ptr(),
+            text.len(),
+            values.as_ptr(),
+            values.len(),
+            first,
+            count,
         )
     }
 }

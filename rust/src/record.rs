@@ -1,7 +1,9 @@
 //! A record: a text and its tables.
 #![forbid(unsafe_code)]
+use crate::size::ruled;
 use crate::{Error, Node, Property, TEXT_LIMIT, Tables, Tree, Value, ffi};
 use std::borrow::Cow;
+use std::iter::FusedIterator;
 
 /// Settings as profiles store them. None of them changes a reading.
 ///
@@ -198,8 +200,8 @@ impl<'t> Record<'t> {
     }
 
     /// The trees, in the order of the text.
-    pub fn trees(&self) -> impl Iterator<Item = Tree<'_>> {
-        (0..self.tables.trees.len()).map(|number| Tree { record: self, number })
+    pub fn trees(&self) -> impl DoubleEndedIterator<Item = Tree<'_>> + ExactSizeIterator + FusedIterator {
+        (0..self.tables.trees.len()).map(|number| Tree { record: self, number, ruled: ruled(self, number) })
     }
 
     /// The nodes of all trees, in the order of the text.

@@ -17,6 +17,9 @@ use Rattle.parser_census.specs.declared.Census.{Census}
 use Rattle.parser_step.specs.LocalsActs.{nextAct}
 use Rattle.parser_step.specs.declared.State.{State}
 use Rattle.parser_step.specs.declared.Act.{Act}
+use Rattle.parser_tree.specs.LocalsTree.{Held, treeLeft}
+use Rattle.parser_tree.specs.LocalsWalks.{LeftIs}
+use Rattle.parser_tree.specs.declared.Walked.{Walked}
 use Rattle.tables.specs.Lenient.{asReading}
 use Rattle.tables.specs.Numbers.{numberOf}
 use Rattle.tables.specs.declared.Lenient.{Lenient}
@@ -57,6 +60,14 @@ take-census-once s from = once-is (censusOf (lexAt s from))
 
 pub look-once : (len : Bool) (u : List ℕ) (base : ℕ) (st : State) (a : List ℕ) → Once (λ (r : Act). r ≡ nextAct len u base st a)
 look-once len u base st a = once-is (nextAct len u base st a)
+
+-- parser_tree
+
+pub walk-tree-once : (len : Bool) (u : List ℕ) (from base p0 v0 : ℕ) (before x y : Held) (r s : Walked)
+    → LeftIs (treeLeft len u from (record { nodes = base; props = p0; vals = v0 }) before) len u from base p0 v0 (x .nodes) (x .props) (x .vals) r
+    → LeftIs (treeLeft len u from (record { nodes = base; props = p0; vals = v0 }) before) len u from base p0 v0 (y .nodes) (y .props) (y .vals) s
+    → (r ≡ s) × (x ≡ y)
+walk-tree-once len u from base p0 v0 before x y r s p q = (p .answer ∙ sym (q .answer), p .held ∙ sym (q .held))
 
 -- reader
 

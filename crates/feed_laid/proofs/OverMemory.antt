@@ -59,7 +59,7 @@ module _ (m : Memory) (fit : Fit m ≡ true) where
   pub apart : (j : ℕ) → suc j < n → e j < a (suc j)
   apart j l = rise .values j (omega (arith, sum-none (valCountAt pr))) (omega (arith, up-all, l))
 
-  named : (p : ℕ) → p < P → Named a e n (propRow pr p)
+  pub named : (p : ℕ) → p < P → Named a e n (propRow pr p)
   named p l =
       let c = leb-true 1 (valCountAt pr p) (each-at (hasValue pr) P p (F .have-values) l) in
       record {
@@ -112,7 +112,7 @@ module _ (m : Memory) (fit : Fit m ≡ true) where
     abbrev E : ℕ
     E = shift a e f (suc k) (e k)
 
-    span : spanAt (laidTables m f .vals) k ≡ laidVal a e f k
+    pub span : spanAt (laidTables m f .vals) k ≡ laidVal a e f k
     span = let z : 0 + k ≡ k = omega arith in tabulate-at (laidVal a e f) 0 n k (record { from = 0; to = 0 }) below ∙ ap (laidVal a e f) z
 
     place-is : shift (fromOf (rowsIn m .vals)) (toOf (rowsIn m .vals)) f k (fromOf (rowsIn m .vals) k) ≡ q

@@ -1,3 +1,4 @@
+pub mod Applied
 pub mod AsEdits
 pub mod Choosing
 pub mod Fits

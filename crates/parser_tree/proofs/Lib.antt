@@ -3,13 +3,16 @@ pub mod Adding
 pub mod Arms
 pub mod Behind
 pub mod Between
+pub mod Bounded
 pub mod Faults
 pub mod Flats
 pub mod Giving
-pub mod Inner
+pub mod Laid
 pub mod Lines
 pub mod Meets
+pub mod Rowed
 pub mod Stacks
 pub mod Stored
 pub mod Takings
+pub mod Told
 pub mod Walking

@@ -1,3 +1,4 @@
 pub mod LocalsFlat
+pub mod LocalsTree
 pub mod LocalsTurns
 pub mod LocalsWalks

@@ -11,6 +11,7 @@ use Rattle.parser.specs.Walk.{Walk, walk, walked}
 use Rattle.parser.specs.Read.{treesSoFar, noTrees, treeOfWalk}
 use Rattle.parser.specs.LocalsSlice.{sliceFrom, restFrom, Shallow}
 use Rattle.parser_tree.specs.LocalsFlat.{bareRows}
+use Rattle.parser_tree.specs.LocalsTree.{Left}
 use Rattle.parser_tree.specs.declared.Walked.{Walked}
 use Rattle.parser_tree.specs.declared.Walked.the-variants.{Tree as tree, Refused as refused}
 
@@ -59,3 +60,32 @@ abbrev pub WalkIs : Bool → (u : List ℕ) (from base p0 v0 : ℕ) (t₀ q₀ w
 WalkIs len u from base p0 v0 t₀ q₀ w₀ t q w (tree at n p v) = TreeIs len u from base p0 v0 t₀ q₀ w₀ t q w at n p v
 WalkIs len u from base p0 v0 t₀ q₀ w₀ t q w (refused r) =
     (len ≡ false) × ((k : ℕ) (ts : List Tree) → treeOfWalk len base k (walkOf len base (lexAt u from .toks)) ts ≡ noTrees r)
+
+-- what the walk asks for: numbers within the limits
+pub record Reach (u : List ℕ) (from base p v : ℕ) : Type 0 where
+  pub short : length u ≤ textLimit
+  pub inside : from ≤ length u
+  pub nodes : base ≤ textLimit + textLimit
+  pub props : p ≤ textLimit
+  pub vals : v ≤ textLimit
+
+-- where a next slice starts: the tokens from there on are those behind this one, and each row took a byte, but that an empty root took none
+pub record SliceAt (len : Bool) (u : List ℕ) (from base p0 v0 at n p v : ℕ) : Type 0 where
+  pub rest : restFrom 0 (lexAt u from .toks) ≡ lexAt u at .toks
+  pub ends : (len ≡ false → lexAt u from .end ≡ done) → lexAt u at .end ≡ lexAt u from .end
+  pub on : from ≤ at
+  pub inside : at ≤ length u
+  pub node-bound : n + from ≤ base + at + 1
+  pub prop-bound : p + from ≤ p0 + at
+  pub val-bound : v + from ≤ v0 + at
+
+-- of a tree
+abbrev pub SliceAfter : Bool → (u : List ℕ) (from base p0 v0 : ℕ) → Walked → Type 0
+SliceAfter len u from base p0 v0 (tree at n p v) = SliceAt len u from base p0 v0 at n p v
+SliceAfter len u from base p0 v0 (refused r) = Unit {0}
+
+-- what is answered and held, by its definition; and where a next slice starts, which follows from it
+pub record LeftIs (x : Left) (len : Bool) (u : List ℕ) (from base p0 v0 : ℕ) (t q w : List ℕ) (r : Walked) : Type 0 where
+  pub answer : r ≡ x .answer
+  pub held : record { nodes = t; props = q; vals = w } ≡ x .held
+  pub next : SliceAfter len u from base p0 v0 r

@@ -7,16 +7,19 @@ use tables::NODE_STRIDE;
 use tables::NONE;
 use tables::PROPERTY_STRIDE;
 use tables::Reason;
+use tables::TEXT_LIMIT;
 use tables::VALUE_STRIDE;
 ghost use mathlib.Core.Path.{_≡_};
+ghost use mathlib.Core.Bool.{true};
 ghost use mathlib.Core.List.{[], _∷_};
 ghost use Prim.Native.Nat.{_+_, _*_, _≤_, _<_};
 ghost use lib.ListN.{length, set};
-ghost use Rattle.lists.specs.Put.{PutIs};
+ghost use Rattle.lists.specs.Put.{PutWhole};
 ghost use Rattle.tables.specs.Numbers.{textLimit, depthLimit, none};
 ghost use Rattle.tables.specs.Columns.{nodeStride};
-ghost use Rattle.parser_tree.specs.LocalsWalks.{Ready, WalkIs};
-ghost use Rattle.parser_tree.specs.LocalsTurns.{rowLimit, Small, firstState, shutAt, stateAfterEnd, noded, Closes, TakenIs, AddIs, BehindIs, RootIs, StopIs};
+ghost use Rattle.parser_tree.specs.LocalsTree.{sliceLeft, inReach, treeLeft};
+ghost use Rattle.parser_tree.specs.LocalsWalks.{Reach, LeftIs};
+ghost use Rattle.parser_tree.specs.LocalsTurns.{rowLimit, Small, firstState, shutAt, stateAfterEnd, noded, TakenIs, AddIs, BehindIs, RootIs, StopIs};
 
 // What a walk gives: the place behind the slice and the next row of each table (nodes, properties, values); or why there is no tree.
 pub enum Walked {
@@ -63,7 +66,8 @@ fn end(mut w: State, i: usize, stack: &[u32; 1024]) -> State
 // A node: its row, without links, properties and depth. Its own list becomes current.
 fn node(mut w: State, i: usize, nodes: &mut [u32]) -> State
     requires { ⌜ Small w × (i < textLimit) ⌝ }
-    ensures { λ r. ⌜ (r ≡ noded w i) × PutIs (now (nodes .entry)) (w .nodes * nodeStride) (w .cur ∷ none ∷ none ∷ w .props ∷ 0 ∷ 0 ∷ []) (now (nodes .exit)) ⌝ }
+    ensures { λ r. ⌜ (r ≡ noded w i)
+        × PutWhole (now (nodes .entry)) (w .nodes * nodeStride) (w .cur ∷ none ∷ none ∷ w .props ∷ 0 ∷ 0 ∷ []) (now (nodes .exit)) ⌝ }
 {
     store_numbers::put6(
         nodes,
@@ -83,9 +87,9 @@ fn node(mut w: State, i: usize, nodes: &mut [u32]) -> State
     w
 }
 
-// The values that stand from a place on, as rows from `v0` on. All of them close.
+// The values that stand from a place on, as rows from `v0` on. One that does not close goes to the end of the text.
 fn take_values(s: &[u8], from: usize, v0: usize, vals: &mut [u32]) -> Taken
-    requires { ⌜ (length (now s) ≤ textLimit) × (from ≤ length (now s)) × (v0 ≤ rowLimit) × Closes (now s) from ⌝ }
+    requires { ⌜ (length (now s) ≤ textLimit) × (from ≤ length (now s)) × (v0 ≤ rowLimit) ⌝ }
     ensures { λ r. ⌜ TakenIs (now (s .entry)) from v0 (now (vals .entry)) (now (vals .exit)) r ⌝ }
 {
     let mut i = from;
@@ -98,7 +102,10 @@ fn take_values(s: &[u8], from: usize, v0: usize, vals: &mut [u32]) -> Taken
                 i = next;
             }
             ValueStep::NoMore => return Taken { next: v, end: i },
-            ValueStep::Unclosed => return Taken { next: v, end: i },
+            ValueStep::Unclosed => return Taken {
+                next: v,
+                end: s.len(),
+            },
         }
     }
 }
@@ -113,7 +120,7 @@ fn add(
     props: &mut [u32],
     vals: &mut [u32],
 ) -> State
-    requires { ⌜ Small w × (length (now s) ≤ textLimit) × (i ≤ k) × (k ≤ length (now s)) × (0 < w .nodes) × (w .first ≤ w .props) × Closes (now s) k ⌝ }
+    requires { ⌜ Small w × (length (now s) ≤ textLimit) × (i ≤ k) × (k ≤ length (now s)) × (0 < w .nodes) × (w .first ≤ w .props) ⌝ }
     ensures { λ r. ⌜ AddIs (now (s .entry)) w i k (now (nodes .entry)) (now (props .entry)) (now (vals .entry))
         r (now (nodes .exit)) (now (props .exit)) (now (vals .exit)) ⌝ }
 {
@@ -129,7 +136,7 @@ fn add(
     );
     w.props += 1;
     let cell = w.nodes * NODE_STRIDE - 2;
-    store_numbers::put1(nodes, cell, (w.props - w.first) as u32);
+    store_numbers::put2(nodes, cell, (w.props - w.first) as u32, 0);
     w.at = taken.end;
     w.vals = taken.next;
     w
@@ -138,7 +145,7 @@ fn add(
 // The place behind the slice in which so many trees are open.
 fn skip_slice(s: &[u8], from: usize, opened: usize) -> usize
     requires { ⌜ (length (now s) ≤ textLimit) × (from ≤ length (now s)) × (opened ≤ depthLimit) ⌝ }
-    ensures { λ r. ⌜ BehindIs (now (s .entry)) from opened r ⌝ }
+    ensures { λ r. ⌜ BehindIs true (now (s .entry)) from opened r ⌝ }
 {
     let mut at = from;
     let mut depth = opened;
@@ -219,6 +226,53 @@ fn begin(at: usize, nodes: usize, props: usize, vals: usize) -> State
     }
 }
 
+// Are the numbers within the limits: a text, a place in it, and no more rows than texts have.
+fn in_reach(size: usize, from: usize, base: usize, p0: usize, v0: usize) -> bool
+    ensures { λ r. ⌜ r ≡ inReach size from (record { nodes = base; props = p0; vals = v0 }) ⌝ }
+{
+    (size <= TEXT_LIMIT)
+        & (from <= size)
+        & (base <= TEXT_LIMIT + TEXT_LIMIT)
+        & (p0 <= TEXT_LIMIT)
+        & (v0 <= TEXT_LIMIT)
+}
+
+// The same as `walk_tree`, within the limits.
+fn walk_slice(
+    s: &[u8],
+    from: usize,
+    lenient: bool,
+    base: usize,
+    p0: usize,
+    v0: usize,
+    nodes: &mut [u32],
+    props: &mut [u32],
+    vals: &mut [u32],
+) -> Walked
+    requires { ⌜ Reach (now s) from base p0 v0 ⌝ }
+    ensures { λ r. ⌜ LeftIs (sliceLeft lenient (now (s .entry)) from (record { nodes = base; props = p0; vals = v0 })
+        (record { nodes = now (nodes .entry); props = now (props .entry); vals = now (vals .entry) }))
+        lenient (now (s .entry)) from base p0 v0 (now (nodes .exit)) (now (props .exit)) (now (vals .exit)) r ⌝ }
+{
+    let mut stack = [0u32; 1024];
+    let mut w = begin(from, base, p0, v0);
+    loop {
+        match parser_step::look(s, lenient, base, w, &stack) {
+            Act::Start(i) => {
+                if w.depth == 1024 {
+                    return Walked::Refused(Reason::TooDeep);
+                }
+                w = start(w, i, &mut stack);
+            }
+            Act::End(i) => w = end(w, i, &stack),
+            Act::Node(i) => w = node(w, i, nodes),
+            Act::Add(i, k) => w = add(s, w, i, k, nodes, props, vals),
+            Act::Stop(reason) => return stop(s, lenient, base, w, reason, nodes),
+            Act::Over(at) => return finish(lenient, base, w, at, nodes),
+        }
+    }
+}
+
 // The tree of the slice that starts at a place, as rows from `base`, `p0` and `v0` on. Links are left none, depths 0.
 pub fn walk_tree(
     s: &[u8],
@@ -231,20 +285,12 @@ pub fn walk_tree(
     props: &mut [u32],
     vals: &mut [u32],
 ) -> Walked
-    requires { ⌜ Ready lenient (now s) from base p0 v0 ⌝ }
-    ensures { λ r. ⌜ WalkIs lenient (now (s .entry)) from base p0 v0
-        (now (nodes .entry)) (now (props .entry)) (now (vals .entry)) (now (nodes .exit)) (now (props .exit)) (now (vals .exit)) r ⌝ }
+    ensures { λ r. ⌜ LeftIs (treeLeft lenient (now (s .entry)) from (record { nodes = base; props = p0; vals = v0 })
+        (record { nodes = now (nodes .entry); props = now (props .entry); vals = now (vals .entry) }))
+        lenient (now (s .entry)) from base p0 v0 (now (nodes .exit)) (now (props .exit)) (now (vals .exit)) r ⌝ }
 {
-    let mut stack = [0u32; 1024];
-    let mut w = begin(from, base, p0, v0);
-    loop {
-        match parser_step::look(s, lenient, base, w, &stack) {
-            Act::Start(i) => w = start(w, i, &mut stack),
-            Act::End(i) => w = end(w, i, &stack),
-            Act::Node(i) => w = node(w, i, nodes),
-            Act::Add(i, k) => w = add(s, w, i, k, nodes, props, vals),
-            Act::Stop(reason) => return stop(s, lenient, base, w, reason, nodes),
-            Act::Over(at) => return finish(lenient, base, w, at, nodes),
-        }
+    if !in_reach(s.len(), from, base, p0, v0) {
+        return Walked::Refused(Reason::NoRoom);
     }
+    walk_slice(s, from, lenient, base, p0, v0, nodes, props, vals)
 }

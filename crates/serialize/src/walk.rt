@@ -1,9 +1,13 @@
 // The writing, node by node along the links: a tree is a node in brackets without parent.
 ghost use mathlib.Core.Path.{_≡_};
-ghost use Prim.Native.Nat.{suc, _-_, _/_, _<_, _≤_};
+ghost use Prim.Native.Nat.{suc, _/_, _<_, _≤_};
+ghost use lib.Dec.{eqb};
 ghost use lib.ListN.{length};
 ghost use Rattle.store_bytes.specs.LocalsWrote.{Wrote};
-ghost use Rattle.tables.specs.Columns.{nodeStride, gameAt};
+ghost use Rattle.lists.specs.Pick.{pick};
+ghost use Rattle.tables.specs.Numbers.{none};
+ghost use Rattle.tables.specs.Columns.{nodeStride, parentAt};
+ghost use Rattle.fit_rule.specs.Rule.{ruleAt};
 ghost use Rattle.serialize.specs.Locals.{NodeHeld, NodesHeld};
 ghost use Rattle.serialize.specs.LocalsWalk.{rootsBelow, nodeBy, linksText};
 
@@ -18,18 +22,28 @@ fn roots_with(nodes: &[u32], k: usize, roots: usize) -> usize
     roots
 }
 
-// The game type of the last of `roots` trees; 0 where it has no row.
-fn game_of(trees: &[u32], roots: usize) -> u32
-    requires { ⌜ 0 < roots ⌝ }
-    ensures { λ r. ⌜ r ≡ gameAt (now (trees .entry)) (roots - 1) ⌝ }
+// The rule at node k: asked at a root, which is that of the tree behind `roots` others; else that of the node before.
+fn rule_with(
+    text: &[u8],
+    trees: &[u32],
+    nodes: &[u32],
+    properties: &[u32],
+    values: &[u32],
+    k: usize,
+    roots: usize,
+    rule: u32,
+) -> u32
+    requires { ⌜ k < length (now nodes) / nodeStride ⌝ }
+    ensures { λ r. ⌜ r ≡ pick (eqb (parentAt (now (nodes .entry)) k) none)
+        (ruleAt (now (text .entry)) (now (trees .entry)) (now (nodes .entry)) (now (properties .entry)) (now (values .entry)) roots) rule ⌝ }
 {
-    if trees.len() / tables::TREE_STRIDE < roots {
-        return 0;
+    if nodes[k * tables::NODE_STRIDE] == tables::NONE {
+        return fit_rule::rule_at(text, trees, nodes, properties, values, roots);
     }
-    trees[(roots - 1) * tables::TREE_STRIDE + 1]
+    rule
 }
 
-// Node k of a tree with this game type: the ends before it, its start, `;` and its properties.
+// Node k of a tree with this rule: the ends before it, its start, `;` and its properties.
 fn put_node(
     out: &mut [u8],
     at: usize,
@@ -37,17 +51,17 @@ fn put_node(
     nodes: &[u32],
     properties: &[u32],
     values: &[u32],
-    game: u32,
+    rule: u32,
     k: usize,
 ) -> usize
     requires { ⌜ NodeHeld (now text) (now nodes) (now properties) k ⌝ }
-    ensures { λ r. ⌜ Wrote (nodeBy (now (text .entry)) (now (nodes .entry)) (now (properties .entry)) (now (values .entry)) game k)
+    ensures { λ r. ⌜ Wrote (nodeBy (now (text .entry)) (now (nodes .entry)) (now (properties .entry)) (now (values .entry)) rule k)
         (now (out .entry)) at (now (out .exit)) r ⌝ }
 {
     let ended = crate::brackets::put_ends(out, at, nodes, k, nodes[k * tables::NODE_STRIDE]);
     let started = crate::brackets::put_start(out, ended, nodes, k);
     let to = store_bytes::put_byte(out, started, b';');
-    crate::property::put_properties(out, to, text, nodes, properties, values, game, k)
+    crate::property::put_properties(out, to, text, nodes, properties, values, rule, k)
 }
 
 // All n nodes.
@@ -66,11 +80,12 @@ pub fn put_all(
 {
     let mut to: usize = 0;
     let mut roots: usize = 0;
+    let mut rule: u32 = 0;
     let mut k: usize = 0;
     while k < n {
+        rule = rule_with(text, trees, nodes, properties, values, k, roots, rule);
         roots = roots_with(nodes, k, roots);
-        let game = game_of(trees, roots);
-        to = put_node(out, to, text, nodes, properties, values, game, k);
+        to = put_node(out, to, text, nodes, properties, values, rule, k);
         k += 1;
     }
     crate::brackets::put_ends(out, to, nodes, n, tables::NONE)

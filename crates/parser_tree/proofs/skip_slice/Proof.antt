@@ -1,20 +1,20 @@
 -- `parser_tree::skip_slice` meets its contract. Assumes nothing.
 use denote.Ref.{now}
-use Rattle.lists.proofs.Prelude.{_-_, length, sym, ap, _∙_, arith, needs}
-use Rattle.lexer.specs.Token.{Lexed}
+use Rattle.lists.proofs.Prelude.{_-_, length, sym, ap, _∙_, true, arith, needs}
+use Rattle.parser_tree.specs.LocalsTree.{metIn}
 use Rattle.parser_tree.proofs.Meets.{step-meets, step-lies}
 use Rattle.parser_tree.proofs.Behind.{Skipping, skipping-first, skipping-start, skipping-end, skipping-last, skipping-node, skipping-prop, skipping-over}
 use Rattle.parser_tree.proofs.skip_slice.Statement.{statement}
 use Rattle.parser_tree.proofs.skip_slice.Tie as tie
 
 abbrev Inv-loop : tie.InvT-loop
-Inv-loop s from opened at₀ depth₀ at depth = Skipping s from opened at depth
+Inv-loop s from opened at₀ depth₀ at depth = Skipping true s from opened at depth
 
 abbrev μ-loop : tie.MeasureT-loop
 μ-loop s from opened at₀ depth₀ at depth = length s - at
 
 loop-holds : tie.Need-loop-holds Inv-loop μ-loop
-loop-holds c = skipping-first _ _ _ (c .before .pre .1)
+loop-holds c = skipping-first true _ _ _ (c .before .pre .1)
 
 add-depth : tie.Need-add-depth Inv-loop μ-loop
 add-depth c = let x = c .before .before .before .before .loop .inv in let p = c .before .before .before .before .before .before .pre in omega (arith, x .deep, x .inside)
@@ -59,10 +59,10 @@ loop-again-4 : tie.Need-loop-again-4 Inv-loop μ-loop
 loop-again-4 c = skipping-prop (c .before .before .before .before .loop .inv) (omega (arith, (step-lies (now (c .before .before .before .before .before .before .args .s)) (c .before .before .before .before .loop .at) (sym (c .before .before .before .next-token .ensures) ∙ c .before .e .given .1)))) ((step-lies (now (c .before .before .before .before .before .before .args .s)) (c .before .before .before .before .loop .at) (sym (c .before .before .before .next-token .ensures) ∙ c .before .e .given .1)) .4) (step-meets (now (c .before .before .before .before .before .before .args .s)) (c .before .before .before .before .loop .at) (sym (c .before .before .before .next-token .ensures) ∙ c .before .e .given .1))
 
 returns-2 : tie.Need-returns-2 Inv-loop μ-loop
-returns-2 c = skipping-over (c .before .before .before .loop .inv) (ap (λ (z : Lexed). z .toks) (step-meets (now (c .before .before .before .before .before .args .s)) (c .before .before .before .loop .at) (sym (c .before .before .next-token .ensures) ∙ c .enum-told .given .1)))
+returns-2 c = skipping-over (c .before .before .before .loop .inv) (ap (metIn true (now (c .before .before .before .before .before .args .s))) (step-meets (now (c .before .before .before .before .before .args .s)) (c .before .before .before .loop .at) (sym (c .before .before .next-token .ensures) ∙ c .enum-told .given .1)))
 
 returns-3 : tie.Need-returns-3 Inv-loop μ-loop
-returns-3 c = skipping-over (c .before .before .before .loop .inv) (ap (λ (z : Lexed). z .toks) (step-meets (now (c .before .before .before .before .before .args .s)) (c .before .before .before .loop .at) (sym (c .before .before .next-token .ensures) ∙ c .enum-told2 .given .1)))
+returns-3 c = skipping-over (c .before .before .before .loop .inv) (ap (metIn true (now (c .before .before .before .before .before .args .s))) (step-meets (now (c .before .before .before .before .before .args .s)) (c .before .before .before .loop .at) (sym (c .before .before .next-token .ensures) ∙ c .enum-told2 .given .1)))
 
 pub skip-slice-spec : {M : Type 1} → statement M
 skip-slice-spec =

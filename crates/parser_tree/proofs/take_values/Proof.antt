@@ -4,7 +4,7 @@ use Rattle.lists.proofs.Prelude.{_-_, length, _≡_, sym, _∙_, arith, needs}
 use Rattle.lexer_scan.proofs.Bounds.{value-is}
 use Rattle.lexer_scan.specs.declared.ValueStep.the-variants.{Value}
 use Rattle.lexer_scan.specs.Scan.{valueStepAt}
-use Rattle.parser_tree.proofs.Takings.{Taking, taking-first, taking-more, taking-end, taking-unclosed}
+use Rattle.parser_tree.proofs.Takings.{Taking, taking-first, taking-more, taking-long, taking-end, taking-unclosed}
 use Rattle.parser_tree.proofs.take_values.Statement.{statement}
 use Rattle.parser_tree.proofs.take_values.Tie as tie
 
@@ -36,19 +36,19 @@ loop-less : tie.Need-loop-less Inv-loop μ-loop
 loop-less c = let b = value-is _ _ _ _ _ (found (c .before .before .before .before)) in omega (arith, b .on, b .from, b .forward, b .still)
 
 loop-again : tie.Need-loop-again Inv-loop μ-loop
-loop-again c = taking-more (c .before .before .before .before .before .before .before .before .loop .inv) _ _ _ (found (c .before .before .before .before)) (c .before .before .put2 .ensures .is)
+loop-again c = taking-more (c .before .before .before .before .before .before .before .before .loop .inv) _ _ _ (found (c .before .before .before .before)) (c .before .before .put2 .ensures)
 
 same-length : tie.Need-same-length Inv-loop μ-loop
-same-length c = c .before .before .before .loop .inv .rows .len
+same-length c = taking-long (c .before .before .before .loop .inv)
 
 returns : tie.Need-returns Inv-loop μ-loop
 returns c = taking-end (c .before .before .before .loop .inv) (sym (c .before .before .next-value .ensures) ∙ c .enum-told .given .1)
 
 same-length-2 : tie.Need-same-length-2 Inv-loop μ-loop
-same-length-2 c = c .before .before .before .loop .inv .rows .len
+same-length-2 c = taking-long (c .before .before .before .loop .inv)
 
 returns-2 : tie.Need-returns-2 Inv-loop μ-loop
-returns-2 c = absurd (taking-unclosed (c .before .before .before .loop .inv) (c .before .before .before .before .before .before .pre .3) (sym (c .before .before .next-value .ensures) ∙ c .enum-told2 .given .1))
+returns-2 c = taking-unclosed (c .before .before .before .loop .inv) (sym (c .before .before .next-value .ensures) ∙ c .enum-told2 .given .1)
 
 pub take-values-spec : {M : Type 1} → statement M
 take-values-spec =

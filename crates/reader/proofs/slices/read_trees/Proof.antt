@@ -1,6 +1,7 @@
 -- `slices::read_trees` meets its contract. Assumes nothing.
 use Rattle.reader.proofs.Plants.{Planting, plant-first, plant-keeps, plant-end, plant-ready, plant-go, plant-no, plant-stop, plant-more, walk-tree-as, walk-refused-as}
 use Rattle.lists.proofs.Prelude.{_-_, arith, needs}
+use Rattle.parser_tree.proofs.Told.{told}
 use Rattle.lexer.specs.Token.{lexAt}
 use Rattle.reader.specs.Lent.{lent}
 use Rattle.reader.proofs.slices.read_trees.Statement.{statement}
@@ -30,9 +31,6 @@ same-length-4 c = (plant-keeps (c .before .before .before .before .before .loop 
 returns : tie.Need-returns Inv-loop μ-loop
 returns c = plant-no (c .before .before .before .before .before .loop .inv) (c .before .before .before .before .loop-test .taken) (c .before .before .before .type-unless .ensures) (c .before .reason .given .1)
 
-walk-tree-requires : tie.Need-walk-tree-requires Inv-loop μ-loop
-walk-tree-requires c κs = plant-ready (c .before .before .before .before .before .before .before .before .loop .inv) (c .before .before .before .before .before .before .before .loop-test .taken)
-
 same-length-5 : tie.Need-same-length-5 Inv-loop μ-loop
 same-length-5 c = (plant-keeps (c .before .before .before .before .before .before .before .before .before .before .before .before .before .before .before .before .before .before .loop .inv)) .0
 
@@ -46,7 +44,7 @@ same-length-8 : tie.Need-same-length-8 Inv-loop μ-loop
 same-length-8 c = let k = (plant-keeps (c .before .before .before .before .before .before .before .before .before .before .before .before .before .before .before .before .before .before .loop .inv)) in omega arith
 
 returns-2 : tie.Need-returns-2 Inv-loop μ-loop
-returns-2 c = plant-stop (c .before .before .before .before .before .before .before .before .before .before .before .before .before .before .before .before .before .before .loop .inv) (c .before .before .before .before .before .before .before .before .before .before .before .before .before .before .before .before .before .loop-test .taken) (c .before .before .before .before .before .before .before .before .before .before .before .before .before .before .before .before .type-unless .ensures) (c .before .before .before .before .before .before .before .before .before .before .before .before .before .before .game .given .1) (walk-refused-as _ _ _ _ _ _ _ _ _ _ _ _ (c .before .before .before .before .before .before .before .before .before .walk-tree .ensures) (c .before .reason2 .given .1))
+returns-2 c = plant-stop (c .before .before .before .before .before .before .before .before .before .before .before .before .before .before .before .before .before .before .loop .inv) (c .before .before .before .before .before .before .before .before .before .before .before .before .before .before .before .before .before .loop-test .taken) (c .before .before .before .before .before .before .before .before .before .before .before .before .before .before .before .before .type-unless .ensures) (c .before .before .before .before .before .before .before .before .before .before .before .before .before .before .game .given .1) (walk-refused-as _ _ _ _ _ _ _ _ _ _ _ _ (told (plant-ready (c .before .before .before .before .before .before .before .before .before .before .before .before .before .before .before .before .before .before .loop .inv) (c .before .before .before .before .before .before .before .before .before .before .before .before .before .before .before .before .before .loop-test .taken)) _ _ _ _ _ _ (c .before .before .before .before .before .before .before .before .before .walk-tree .ensures)) (c .before .reason2 .given .1))
 
 mul-put2 : tie.Need-mul-put2 Inv-loop μ-loop
 mul-put2 c = let r = (c .before .before .before .before .before .before .before .before .before .before .before .before .before .before .before .before .before .before .before .loop .inv) .ready in let b = (c .before .before .before .before .before .before .before .before .before .before .before .before .before .before .before .before .before .before .before .loop .inv) .below in omega arith
@@ -61,7 +59,7 @@ loop-less : tie.Need-loop-less Inv-loop μ-loop
 loop-less c = let t = c .before .before .before .before .before .before .before .before .before .before .before .before .before .before .before .before .before .before .before .before .before .loop-test .taken in omega arith
 
 loop-again : tie.Need-loop-again Inv-loop μ-loop
-loop-again c = plant-more (c .before .before .before .before .before .before .before .before .before .before .before .before .before .before .before .before .before .before .before .before .before .before .loop .inv) (c .before .before .before .before .before .before .before .before .before .before .before .before .before .before .before .before .before .before .before .before .before .loop-test .taken) (c .before .before .before .before .before .before .before .before .before .before .before .before .before .before .before .before .before .before .before .before .type-unless .ensures) (c .before .before .before .before .before .before .before .before .before .before .before .before .before .before .before .before .before .before .game .given .1) (walk-tree-as _ _ _ _ _ _ _ _ _ _ _ _ (c .before .before .before .before .before .before .before .before .before .before .before .before .before .walk-tree .ensures) (c .before .before .before .before .before .next .given .1)) (c .before .before .put2 .ensures .is)
+loop-again c = plant-more (c .before .before .before .before .before .before .before .before .before .before .before .before .before .before .before .before .before .before .before .before .before .before .loop .inv) (c .before .before .before .before .before .before .before .before .before .before .before .before .before .before .before .before .before .before .before .before .before .loop-test .taken) (c .before .before .before .before .before .before .before .before .before .before .before .before .before .before .before .before .before .before .before .before .type-unless .ensures) (c .before .before .before .before .before .before .before .before .before .before .before .before .before .before .before .before .before .before .game .given .1) (walk-tree-as _ _ _ _ _ _ _ _ _ _ _ _ (told (plant-ready (c .before .before .before .before .before .before .before .before .before .before .before .before .before .before .before .before .before .before .before .before .before .before .loop .inv) (c .before .before .before .before .before .before .before .before .before .before .before .before .before .before .before .before .before .before .before .before .before .loop-test .taken)) _ _ _ _ _ _ (c .before .before .before .before .before .before .before .before .before .before .before .before .before .walk-tree .ensures)) (c .before .before .before .before .before .next .given .1)) (c .before .before .put2 .ensures .is)
 
 same-length-9 : tie.Need-same-length-9 Inv-loop μ-loop
 same-length-9 c = (plant-keeps (c .before .loop .inv)) .0
@@ -93,7 +91,7 @@ read-trees-spec =
     same-length-4
     returns
     (λ c. search needs)
-    walk-tree-requires
+    (λ c κs. search needs)
     (λ c. search needs)
     same-length-5
     same-length-6

@@ -1,0 +1,4 @@
+pub mod State
+pub mod Room
+pub mod Block
+pub mod Close

@@ -1,0 +1,11 @@
+pub mod Closes
+pub mod Ends
+pub mod Follows
+pub mod Joined
+pub mod Leans
+pub mod Numbers
+pub mod Owed
+pub mod Stored
+pub mod Tracked
+pub mod Tracks
+pub mod Utf8
