@@ -1,3 +1,4 @@
+pub mod Applied
 pub mod AsEdits
 pub mod Choosing
 pub mod Fits
@@ -7,3 +8,4 @@ pub mod Judged
 pub mod Puts
 pub mod Relaid
 pub mod Swept
+pub mod Taken
