@@ -2,6 +2,8 @@
 extern crate sgf_parse;
 
 mod bench;
+#[cfg(not(stand_in))]
+mod bench_board;
 mod bench_records;
 mod bench_values;
 mod board;
@@ -65,13 +67,18 @@ fn run() -> bool {
             bench_values::run();
             true
         }
+        #[cfg(not(stand_in))]
+        Some("bench-board") => {
+            bench_board::run();
+            true
+        }
         Some("bench") => {
             bench::run();
             bench_records::run();
             true
         }
         _ => {
-            eprintln!("usage: compare short [SUBJECT] | long [SUBJECT] | store-tokens [DIR] | bench | bench-values");
+            eprintln!("usage: compare short [SUBJECT] | long [SUBJECT] | store-tokens [DIR] | bench | bench-values | bench-board");
             false
         }
     }
