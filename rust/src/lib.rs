@@ -61,6 +61,7 @@
 #![deny(unsafe_code)]
 
 mod error;
+mod feed;
 #[allow(unsafe_code, dead_code)]
 mod ffi;
 mod go;
@@ -70,6 +71,7 @@ mod record;
 mod tables;
 
 pub use error::{Error, ErrorKind};
+pub use feed::{Feed, Overlaid};
 pub use go::{Color, GoValue, Move, Point, PointSet};
 pub use node::{GameType, Node, Tree};
 pub use property::{Property, Value, escape};

@@ -69,7 +69,7 @@ module _ (m : Memory) (fit : Fit m ≡ true) where
         behind = λ i h. rise .behind p i (omega arith) (omega arith) h (omega (arith, sum-none (valCountAt pr)));
       }
 
-  all-named : (k i : ℕ) → k + i ≤ P → All (Named a e n) (tabulate (propRow pr) k i)
+  pub all-named : (k i : ℕ) → k + i ≤ P → All (Named a e n) (tabulate (propRow pr) k i)
   unfolding tabulate
   all-named k zero h = tt
   all-named k (suc i) h = (named k (omega arith), all-named (suc k) i (omega arith))
@@ -92,10 +92,10 @@ module _ (m : Memory) (fit : Fit m ≡ true) where
   row-at : (j : ℕ) → j < n → getD (rowsIn m .vals) j (record { from = 0; to = 0 }) ≡ valRow (m .values) j
   row-at j l = let z : 0 + j ≡ j = omega arith in tabulate-at (valRow (m .values)) 0 n j (record { from = 0; to = 0 }) l ∙ ap (valRow (m .values)) z
 
-  from-at : (j : ℕ) → j < n → fromOf (rowsIn m .vals) j ≡ a j
+  pub from-at : (j : ℕ) → j < n → fromOf (rowsIn m .vals) j ≡ a j
   from-at j l = ap (λ (z : ValRow). z .from) (row-at j l)
 
-  to-at : (j : ℕ) → j < n → toOf (rowsIn m .vals) j ≡ e j
+  pub to-at : (j : ℕ) → j < n → toOf (rowsIn m .vals) j ≡ e j
   to-at j l = ap (λ (z : ValRow). z .to) (row-at j l)
 
   pub sums-at : (k : ℕ) → k ≤ n → sum (λ j. toOf (rowsIn m .vals) j - fromOf (rowsIn m .vals) j) k ≡ sum (λ j. e j - a j) k
