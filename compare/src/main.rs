@@ -11,6 +11,8 @@ mod by_hand;
 mod display;
 mod edits;
 mod examples;
+#[cfg(not(stand_in))]
+mod feeds;
 #[allow(dead_code)]
 #[path = "../../rust/src/ffi.rs"]
 mod ffi;
@@ -25,6 +27,8 @@ mod oracle;
 mod plain;
 mod plain_board;
 mod plain_edit;
+#[cfg(not(stand_in))]
+mod plain_feed;
 mod plain_fit;
 mod plain_go;
 mod plain_index;

@@ -240,6 +240,23 @@ fn compare_index(scale: &Scale) -> bool {
     texts::made(11, scale.written_records, 1, &mut |text| records.text(text));
     texts::corpus().iter().for_each(|text| records.text(text));
     good & records.close()
+#[cfg(not(stand_in))]
+fn compare_feeds(scale: &Scale) -> bool {
+    let mut report = Report::new("feeds", crate::feeds::compare);
+    texts::sequences(texts::TAB_WORDS, scale.words + 1, &mut |text| report.text(text));
+    report.group("words and vertical tabs");
+    texts::made(9, scale.edited_records, 1, &mut |text| report.text(text));
+    report.group("made records");
+    texts::corpus().iter().for_each(|text| report.text(text));
+    report.group("real records");
+    limits::texts(scale.limits).iter().step_by(scale.limits_step).for_each(|text| report.text(text));
+    report.close()
+}
+
+/// The stand-in has no feeds.
+#[cfg(stand_in)]
+fn compare_feeds(_: &Scale) -> bool {
+    true
 }
 
 type Subject = fn(&Scale) -> bool;
@@ -248,6 +265,7 @@ type Subject = fn(&Scale) -> bool;
 pub fn compare(scale: &Scale, subject: Option<&str>) -> bool {
     println!("library: {}", library::NAME);
     let subjects: [(&str, Subject); 12] = [
+    let subjects: [(&str, Subject); 11] = [
         ("tokens", compare_tokens),
         ("places", compare_places),
         ("examples", |_| examples::hold()),
@@ -260,6 +278,7 @@ pub fn compare(scale: &Scale, subject: Option<&str>) -> bool {
         ("edits", compare_edits),
         ("index", compare_index),
         ("board", compare_board),
+        ("feeds", compare_feeds),
     ];
     let wanted: Vec<_> = subjects.iter().filter(|(name, _)| subject.is_none_or(|chosen| *name == chosen)).collect();
     wanted.iter().fold(!wanted.is_empty(), |good, (_, run)| run(scale) & good)

@@ -121,6 +121,26 @@ pub struct Value {
     pub next: usize,
 }
 
+/// Where a value's bytes stand, in the record (source 0) or in the feed (1); or the number of a refusal and its place.
+#[repr(C)]
+#[derive(Debug, Clone, Copy, PartialEq, Eq)]
+pub struct Part {
+    pub number: u32,
+    pub source: u32,
+    pub place: usize,
+    pub from: usize,
+    pub to: usize,
+}
+
+/// Number 0; or the number of a refusal and its place.
+#[repr(C)]
+#[derive(Debug, Clone, Copy, PartialEq, Eq)]
+pub struct Check {
+    pub number: u32,
+    pub reserved: u32,
+    pub place: usize,
+}
+
 /// A text of which `used` bytes are the record's, the counts, and the tables of trees, nodes, properties and values.
 #[derive(Debug, Clone, Copy)]
 pub struct Held<'a> {
@@ -161,6 +181,9 @@ declare! {
     const sgf_board(node: usize) -> Board;
     const sgf_write(out: *mut u8, out_len: usize) -> Length;
     mut sgf_edit(k: usize, new: *const u8, new_len: usize) -> Edit;
+    const sgf_corrected(feed: *const u8, feed_len: usize, k: usize) -> Part;
+    const sgf_feed_check(feed: *const u8, feed_len: usize) -> Check;
+    mut sgf_correct(feed: *const u8, feed_len: usize) -> Edit;
 }
 
 unsafe extern "C" {
@@ -176,6 +199,9 @@ unsafe extern "C" {
         first: usize,
         count: usize,
     ) -> Board;
+    fn sgf_feed_find(feed: *const u8, feed_len: usize, k: usize) -> Part;
+    fn sgf_feed_begin(count: usize, out: *mut u8, out_len: usize) -> Length;
+    fn sgf_feed_add(value: usize, bytes: *const u8, bytes_len: usize, out: *mut u8, out_len: usize) -> Length;
     fn sgf_display_value(kind: u32, raw: *const u8, raw_len: usize, out: *mut u8, out_len: usize) -> Length;
     fn sgf_trim(text: *const u8, text_len: usize) -> Trimmed;
     fn sgf_token(text: *const u8, text_len: usize, at: usize) -> Token;
@@ -454,6 +480,43 @@ pub fn simple_property(rule: u32, identifier: &[u8], text: &[u8], values: &[u32]
             values.len(),
             first,
             count,
+pub fn corrected(h: &Held, feed: &[u8], k: usize) -> Part {
+    over!(sgf_corrected, h, feed.as_ptr(), feed.len(), k)
+}
+
+pub fn feed_check(h: &Held, feed: &[u8]) -> Check {
+    over!(sgf_feed_check, h, feed.as_ptr(), feed.len())
+}
+
+pub fn feed_find(feed: &[u8], k: usize) -> Part {
+    unsafe { sgf_feed_find(feed.as_ptr(), feed.len(), k) }
+}
+
+pub fn feed_begin(count: usize, out: &mut [u8]) -> Length {
+    unsafe { sgf_feed_begin(count, out.as_mut_ptr(), out.len()) }
+}
+
+pub fn feed_add(value: usize, bytes: &[u8], out: &mut [u8]) -> Length {
+    unsafe { sgf_feed_add(value, bytes.as_ptr(), bytes.len(), out.as_mut_ptr(), out.len()) }
+}
+
+pub fn correct(e: &mut Edited, feed: &[u8]) -> Edit {
+    unsafe {
+        sgf_correct(
+            e.text.as_mut_ptr(),
+            e.text.len(),
+            e.used,
+            e.counts,
+            e.trees.as_ptr(),
+            e.trees.len(),
+            e.nodes.as_ptr(),
+            e.nodes.len(),
+            e.properties.as_mut_ptr(),
+            e.properties.len(),
+            e.values.as_mut_ptr(),
+            e.values.len(),
+            feed.as_ptr(),
+            feed.len(),
         )
     }
 }

@@ -1,5 +1,6 @@
 pub mod Answered
 pub mod Applying
+pub mod Holding
 pub mod Measuring
 pub mod Putting
 pub mod Sizes

@@ -5,6 +5,7 @@ use Rattle.lists.proofs.Put.{put-none, put-more, put-all}
 use Rattle.tables.specs.Flat.{flatProps, flatVals, over}
 use Rattle.tables.specs.Rows.{PropRow, ValRow}
 use Rattle.tables.specs.Each.{tabulate}
+use Rattle.feed_laws.proofs.Flat.{length-props, length-vals}
 use Rattle.fit.proofs.Parts.{tabulate-length, tabulate-last}
 
 -- what stands behind the rows that are put is as it was
@@ -19,17 +20,9 @@ ahead {d} {rs} {t} p h i l =
 
 -- ---- the numbers of rows
 
-pub length-props : (rs : List PropRow) → length (flatProps rs) ≡ length rs * 4
-length-props [] = refl
-length-props (r ∷ rs) = let h = length-props rs in omega arith
-
 append-props : (xs ys : List PropRow) → flatProps (xs ++ ys) ≡ flatProps xs ++ flatProps ys
 append-props [] ys = refl
 append-props (x ∷ xs) ys = rw (append-props xs ys)
-
-pub length-vals : (rs : List ValRow) → length (flatVals rs) ≡ length rs * 2
-length-vals [] = refl
-length-vals (r ∷ rs) = let h = length-vals rs in omega arith
 
 append-vals : (xs ys : List ValRow) → flatVals (xs ++ ys) ≡ flatVals xs ++ flatVals ys
 append-vals [] ys = refl

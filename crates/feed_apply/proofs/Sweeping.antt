@@ -1,37 +1,28 @@
 -- The sweeps over the text, correction by correction. Assumes nothing.
-use Rattle.lists.proofs.Prelude.{ℕ, suc, _+_, _-_, _≤_, _<_, Bool, true, false, _≡_, sym, ap, ap₂, _∙_, arith, List, _++_, append-nil, length, take, drop, slice, replicate, leb, ltb, leb-true, leb-false, ltb-true, ltb-false, length-take, length-take-le, take-append-drop, pick}
+use Rattle.lists.proofs.Prelude.{ℕ, suc, _+_, _-_, _≤_, _<_, Bool, true, false, _≡_, sym, ap, ap₂, _∙_, arith, List, length, slice, leb, ltb, leb-true, leb-false, ltb-true, ltb-false, length-take, length-take-le, pick}
 use Rattle.tables.proofs.Cases.{either-bool}
 use Rattle.tables.specs.Columns.{valFromAt, valToAt}
-use Rattle.tables.specs.Flat.{over}
 use Rattle.tables.specs.Memory.{Memory}
 use Rattle.fit.specs.Fit.{Fit}
 use Rattle.fit.specs.Record.{textIn}
 use Rattle.fit.proofs.Whole.{fit-lent}
-use Rattle.edit_splice.specs.Splice.{cleared, replaced}
+use Rattle.edit_splice.specs.Splice.{replaced}
 use Rattle.feed.specs.Feed.{listing}
 use Rattle.feed.specs.Find.{foundIn}
 use Rattle.feed.specs.declared.Found.{Found}
-use Rattle.feed.specs.declared.Found.the-variants.{At, Nowhere}
+use Rattle.feed.specs.declared.Found.the-variants.{At}
 use Rattle.feed_laid.specs.Laid.{with, shift}
 use Rattle.feed_laid.specs.OfMemory.{laidText, ownBytes}
-use Rattle.feed_laid.proofs.OverMemory.{order, apart, own-text}
+use Rattle.feed_laid.proofs.OverMemory.{order, apart}
 use Rattle.feed_laid.proofs.Places.{value-size}
 use Rattle.feed_laws.specs.Corrected.{bytesFor, newBytes}
 use Rattle.feed_laws.specs.LocalsSweep.{until, lesser}
 use Rattle.feed_laws.proofs.Held.{heldText, value-inside, edited-length, held-replaced}
-use Rattle.feed_laws.proofs.Partly.{until-below, until-from, until-with, until-skip, laid-same, lesser-new, lesser-own, lesser-same, way-shorter, way-longer}
-use Rattle.feed_apply.specs.LocalsAlong.{Uncorrected}
+use Rattle.feed_laws.proofs.Partly.{until-from, until-with, until-skip, laid-same, lesser-new, lesser-own, way-shorter, way-longer}
 use Rattle.feed_apply.specs.LocalsSizes.{oldSize, grownTo, shrunkTo}
 use Rattle.feed_apply.specs.LocalsText.{shorterPut, longerPut}
 use Rattle.feed_apply.proofs.Measuring.{own-size, less-start, new-start}
-
--- a buffer with its own text put over it
-own-over : (t : List ℕ) (used : ℕ) → used ≤ length t → over (cleared (take used t) used) t ≡ t
-own-over t used h =
-    let l = length-take-le used t h in
-    let z : used - length (take used t) ≡ 0 = omega (arith, l) in
-    let c : cleared (take used t) used ≡ take used t = ap (λ (i : ℕ). take used t ++ replicate i 0) z ∙ append-nil (take used t) in
-    ap (λ (x : List ℕ). over x t) c ∙ ap (λ (i : ℕ). take used t ++ drop i t) l ∙ take-append-drop used t
+use Rattle.feed_apply.proofs.Holding.{Holds, holds-same}
 
 module _ (m : Memory) (fit : Fit m ≡ true) (w : List ℕ) where
   abbrev vl : List ℕ
@@ -55,52 +46,13 @@ module _ (m : Memory) (fit : Fit m ≡ true) (w : List ℕ) where
   abbrev less : ℕ → List ℕ
   less = lesser m w
 
-  -- ---- the buffer, and how long its text is
-
-  pub record Holds (f : ℕ → List ℕ) (t : List ℕ) (used : ℕ) : Type 0 where
-    pub bytes : t ≡ heldText m fit f
-    pub long : used ≡ length (laidText m f)
-
-  pub holds-same : (f g : ℕ → List ℕ) → ((j : ℕ) → j < n → f j ≡ g j) → {t : List ℕ} {used : ℕ} → Holds f t used → Holds g t used
-  holds-same f g h x =
-      let s = laid-same m fit f g h in
-      record { bytes = x .bytes ∙ ap (λ (z : List ℕ). over (cleared z (m .used)) (m .text)) s; long = x .long ∙ ap length s }
-
-  uncorrected-own : (j : ℕ) → foundIn (listing w .entries) j ≡ Nowhere → new j ≡ own j
-  uncorrected-own j f = ap (λ (x : Found). bytesFor w x (own j)) f
-
-  pub holds-own : Holds (until 0 less own) (m .text) (m .used)
-  holds-own =
-      let s = own-text m fit in
-      let l = fit-lent m fit .0 in
-      holds-same own (until 0 less own) (λ j _. sym (until-from less own 0 j (omega arith)))
-      (record {
-        bytes = sym (ap (λ (z : List ℕ). over (cleared z (m .used)) (m .text)) s ∙ own-over (m .text) (m .used) l);
-        long = sym (ap length s ∙ length-take-le (m .used) (m .text) l);
-      })
-
-  pub less-skip : (k i : ℕ) → k ≤ i → Uncorrected w k i → {t : List ℕ} {used : ℕ} → Holds (until k less own) t used → Holds (until i less own) t used
-  less-skip k i h u = holds-same (until k less own) (until i less own) (λ j _. until-skip less own k i h (λ r x y. lesser-same m fit w r (uncorrected-own r (u r x y))) j)
-
-  pub new-skip : (k i : ℕ) → k ≤ i → Uncorrected w k i → {t : List ℕ} {used : ℕ} → Holds (until k new less) t used → Holds (until i new less) t used
-  new-skip k i h u =
-      holds-same (until k new less) (until i new less)
-      (λ j _. until-skip new less k i h (λ r x y. let o = uncorrected-own r (u r x y) in o ∙ sym (lesser-same m fit w r o)) j)
-
-  -- from the one sweep to the other, and to the end
-  pub less-new : (k : ℕ) → n ≤ k → {t : List ℕ} {used : ℕ} → Holds (until k less own) t used → Holds (until 0 new less) t used
-  less-new k h = holds-same (until k less own) (until 0 new less) (λ j l. until-below less own k j (omega arith) ∙ sym (until-from new less 0 j (omega arith)))
-
-  pub new-done : (k : ℕ) → n ≤ k → {t : List ℕ} {used : ℕ} → Holds (until k new less) t used → Holds new t used
-  new-done k h = holds-same (until k new less) new (λ j l. until-below new less k j (omega arith))
-
   -- ---- one value's bytes replaced
 
-  replaced-as : (f : ℕ → List ℕ) (k : ℕ) (below : k < n) (bytes : List ℕ) {t : List ℕ} {used start end : ℕ} → Holds f t used
+  replaced-as : (f : ℕ → List ℕ) (k : ℕ) (below : k < n) (bytes : List ℕ) {t : List ℕ} {used start end : ℕ} → Holds m fit w f t used
       → start ≡ shift a e f k (a k) → end ≡ shift a e f (suc k) (e k)
       → length (laidText m f) ≤ length (m .text) → length (laidText m (with f k bytes)) ≤ length (m .text)
       → length (laidText m f) ≤ length (laidText m (with f k bytes)) + (m .used - length (laidText m (with f k bytes)))
-      → Holds (with f k bytes) (replaced t used start end bytes) (start + length bytes + (used - end))
+      → Holds m fit w (with f k bytes) (replaced t used start end bytes) (start + length bytes + (used - end))
   replaced-as f k below bytes {t} {used} {start} {end} x es ee h i l =
       record {
         bytes =
@@ -130,18 +82,18 @@ module _ (m : Memory) (fit : Fit m ≡ true) (w : List ℕ) where
         value-size a e n (order m fit) (apart m fit) (until k less own) k below
         ∙ ap₂ (λ (x y : ℕ). x + y) (less-start m fit w k below) (ap length (until-from less own k k (omega arith)) ∙ own-size m fit w k below)
 
-    pub less-fits : {t : List ℕ} {used : ℕ} → Holds (until k less own) t used → a k - shrunkTo vl w k + oldSize vl k ≤ used
+    pub less-fits : {t : List ℕ} {used : ℕ} → Holds m fit w (until k less own) t used → a k - shrunkTo vl w k + oldSize vl k ≤ used
     less-fits x = omega (arith, x .long, less-span, value-inside m fit (until k less own) k below)
 
-    module _ {t : List ℕ} {used start old : ℕ} (x : Holds (until k less own) t used) (es : start ≡ a k - shrunkTo vl w k) (eo : old ≡ oldSize vl k) where
+    module _ {t : List ℕ} {used start old : ℕ} (x : Holds m fit w (until k less own) t used) (es : start ≡ a k - shrunkTo vl w k) (eo : old ≡ oldSize vl k) where
       abbrev Short : Type 0
-      Short = Holds (until (suc k) less own) (shorterPut t used start old bytes) (used - (old - length bytes))
+      Short = Holds m fit w (until (suc k) less own) (shorterPut t used start old bytes) (used - (old - length bytes))
 
       short-stays : leb (length bytes) old ≡ false → Short
       short-stays c =
           let l = leb-false (length bytes) old c in
           let s = lesser-own m fit w k (omega (arith, own-size m fit w k below, ap length new-is, eo, l)) in
-          let r = holds-same (until k less own) (until (suc k) less own)
+          let r = holds-same m fit w (until k less own) (until (suc k) less own)
           (λ j _. until-skip less own k (suc k) (omega arith) (λ i y v. let q : i ≡ k = omega arith in ap less q ∙ s ∙ ap own (sym q)) j) x in
           record { bytes = ap (λ (y : Bool). pick y (replaced t used start (start + old) bytes) t) c ∙ r .bytes; long = omega (arith, r .long, l) }
 
@@ -153,7 +105,7 @@ module _ (m : Memory) (fit : Fit m ≡ true) (w : List ℕ) where
           let s : less k ≡ bytes = lesser-new m fit w k (omega (arith, own-size m fit w k below, ap length new-is, eo, l)) ∙ new-is in
           let g : (j : ℕ) → j < n → with f k bytes j ≡ until (suc k) less own j = λ j _. ap (λ (y : List ℕ). with f k y j) (sym s) ∙ until-with less own k j in
           let u = laid-same m fit (with f k bytes) (until (suc k) less own) g in
-          let r = holds-same (with f k bytes) (until (suc k) less own) g
+          let r = holds-same m fit w (with f k bytes) (until (suc k) less own) g
           (replaced-as f k below bytes x (es ∙ sym (less-start m fit w k below)) end-is
           (omega (arith, way-shorter m fit w k, lent))
           (omega (arith, ap length u, way-shorter m fit w (suc k), lent))
@@ -168,7 +120,7 @@ module _ (m : Memory) (fit : Fit m ≡ true) (w : List ℕ) where
 
     -- ---- where it lengthens
 
-    module _ {t : List ℕ} {used start old : ℕ} (x : Holds (until k new less) t used) (es : start ≡ a k + grownTo vl w k - shrunkTo vl w k) (eo : old ≡ oldSize vl k) where
+    module _ {t : List ℕ} {used start old : ℕ} (x : Holds m fit w (until k new less) t used) (es : start ≡ a k + grownTo vl w k - shrunkTo vl w k) (eo : old ≡ oldSize vl k) where
       new-span : old < length bytes → start + old ≡ shift a e (until k new less) (suc k) (e k)
       new-span l =
           let s = lesser-own m fit w k (omega (arith, own-size m fit w k below, ap length new-is, eo, l)) in
@@ -182,13 +134,13 @@ module _ (m : Memory) (fit : Fit m ≡ true) (w : List ℕ) where
       new-fits l = omega (arith, x .long, new-span l, value-inside m fit (until k new less) k below)
 
       abbrev Long : Type 0
-      Long = Holds (until (suc k) new less) (longerPut t used start old bytes) (used + (length bytes - old))
+      Long = Holds m fit w (until (suc k) new less) (longerPut t used start old bytes) (used + (length bytes - old))
 
       long-stays : ltb old (length bytes) ≡ false → Long
       long-stays c =
           let l = ltb-false old (length bytes) c in
           let s = lesser-new m fit w k (omega (arith, own-size m fit w k below, ap length new-is, eo, l)) in
-          let r = holds-same (until k new less) (until (suc k) new less)
+          let r = holds-same m fit w (until k new less) (until (suc k) new less)
           (λ j _. until-skip new less k (suc k) (omega arith) (λ i y v. let q : i ≡ k = omega arith in ap new q ∙ sym s ∙ ap less (sym q)) j) x in
           record { bytes = ap (λ (y : Bool). pick y (replaced t used start (start + old) bytes) t) c ∙ r .bytes; long = omega (arith, r .long, l) }
 
@@ -199,7 +151,7 @@ module _ (m : Memory) (fit : Fit m ≡ true) (w : List ℕ) where
           let g : (j : ℕ) → j < n → with f k bytes j ≡ until (suc k) new less j = λ j _. ap (λ (y : List ℕ). with f k y j) (sym new-is) ∙ until-with new less k j in
           let u = laid-same m fit (with f k bytes) (until (suc k) new less) g in
           let d = edited-length m fit f k below bytes in
-          let r = holds-same (with f k bytes) (until (suc k) new less) g
+          let r = holds-same m fit w (with f k bytes) (until (suc k) new less) g
           (replaced-as f k below bytes x (es ∙ sym (new-start m fit w k below)) (new-span l)
           (omega (arith, way-longer m fit w k, room))
           (omega (arith, ap length u, way-longer m fit w (suc k), room))

@@ -15,7 +15,8 @@ use Rattle.feed_laws.specs.LocalsSweep.{until, lesser}
 use Rattle.feed_apply.specs.LocalsAlong.{Uncorrected}
 use Rattle.feed_apply.specs.LocalsSizes.{oldSize, grownTo, shrunkTo}
 use Rattle.feed_apply.specs.LocalsText.{shorterPut, longerPut}
-use Rattle.feed_apply.proofs.Sweeping.{Holds, less-skip, new-skip, less-more, new-more}
+use Rattle.feed_apply.proofs.Holding.{Holds, less-skip, new-skip}
+use Rattle.feed_apply.proofs.Sweeping.{less-more, new-more}
 
 -- a text with the rows of its values and no others
 abbrev pub bare : List ℕ → (used n : ℕ) → List ℕ → Memory

@@ -1,5 +1,5 @@
 -- A buffer whose first bytes are a text, with zeros up to a length that was used: one text after another put into it. Assumes nothing.
-use Rattle.lists.proofs.Prelude.{ℕ, zero, suc, _+_, _-_, _≤_, _<_, _≡_, refl, sym, ap, ap₂, _∙_, arith, List, [], _∷_, _++_, append-assoc, append-nil, length, take, drop, replicate, length-append, length-replicate, drop-append-add, drop-append-le, drop-drop, leb, leb-true, leb-false}
+use Rattle.lists.proofs.Prelude.{ℕ, zero, suc, _+_, _-_, _≤_, _<_, _≡_, refl, sym, ap, ap₂, _∙_, arith, List, [], _∷_, _++_, append-assoc, append-nil, length, take, drop, replicate, length-append, length-replicate, length-take-le, take-append-drop, drop-at, drop-append-add, drop-append-le, drop-drop, leb, leb-true, leb-false}
 use Rattle.tables.proofs.Cases.{either-bool}
 use Rattle.tables.specs.Flat.{over}
 use Rattle.edit_splice.specs.Splice.{cleared}
@@ -59,6 +59,18 @@ module _ (x b : List ℕ) (used : ℕ) where
           ∙ ap (λ (z : ℕ). drop z (x ++ (zeros (used - L) ++ drop (L + (used - L)) b))) e
           ∙ drop-append-add x (zeros (used - L) ++ drop (L + (used - L)) b) i
           ∙ either-bool (leb i (used - L)) (λ z. low i e (leb-true i (used - L) z)) (λ z. high i e (leb-false i (used - L) z))
+
+-- a buffer with its own text put over it
+pub own-over : (t : List ℕ) (used : ℕ) → used ≤ length t → over (cleared (take used t) used) t ≡ t
+own-over t used h =
+    let l = length-take-le used t h in
+    let z : used - length (take used t) ≡ 0 = omega (arith, l) in
+    let c : cleared (take used t) used ≡ take used t = ap (λ (i : ℕ). take used t ++ zeros i) z ∙ append-nil (take used t) in
+    ap (λ (x : List ℕ). over x t) c ∙ ap (λ (i : ℕ). take used t ++ drop i t) l ∙ take-append-drop used t
+
+-- numbers put over as many
+pub over-again : (xs ys t : List ℕ) → length xs ≡ length ys → over xs (over ys t) ≡ over xs t
+over-again xs ys t e = ap (λ (z : List ℕ). xs ++ z) (drop-at ys (drop (length ys) t) (length xs) (sym e) ∙ ap (λ (i : ℕ). drop i t) (sym e))
 
 -- another text put over the one that stands there, whose freed bytes become zeros up to the length of that one
 pub cleared-again : (x y b : List ℕ) (used : ℕ) → length x ≤ length y + (used - length y) → over (cleared y (length x)) (over (cleared x used) b) ≡ over (cleared y used) b

@@ -15,7 +15,8 @@ use Rattle.feed_laws.proofs.Partly.{way-longer}
 use Rattle.feed_apply.specs.LocalsSizes.{Tallied, grownTo, shrunkTo}
 use Rattle.feed_apply.proofs.Measuring.{spread}
 use Rattle.feed_apply.proofs.Sizes.{tallied-begin, tallied-pass, shrunk-start}
-use Rattle.feed_apply.proofs.Sweeping.{Holds, holds-own, less-skip, less-fits, less-new, new-done, new-starts, new-fits, new-within, used-is}
+use Rattle.feed_apply.proofs.Holding.{Holds, holds-own, less-skip, less-new, new-done}
+use Rattle.feed_apply.proofs.Sweeping.{less-fits, new-starts, new-fits, new-within, used-is}
 use Rattle.feed_apply.proofs.Swept.{bare, Swept, Carried, carried-begin, carried-more, swept-more}
 use Rattle.feed_apply.proofs.sweep.rewrite.Statement.{statement}
 use Rattle.feed_apply.proofs.sweep.rewrite.Tie as tie
@@ -35,40 +36,23 @@ abbrev μ-loop2 : tie.MeasureT-loop2
 
 loop-holds : tie.Need-loop-holds Inv-loop μ-loop Inv-loop2 μ-loop2
 loop-holds c =
-    let a = c .before .before .before .before .before .before .before .args in
-    let p = c .before .before .before .before .before .before .before .pre in
-    let m = memory (a .text .now) (a .used) (a .counts) (a .trees .now) (a .nodes .now) (a .properties .now) (a .values .now) in
+    let a = c .before .before .before .before .before .before .before .args in let p = c .before .before .before .before .before .before .before .pre in let m = memory (a .text .now) (a .used) (a .counts) (a .trees .now) (a .nodes .now) (a .properties .now) (a .values .now) in
     let r = less-skip m (p .0) (a .feed .now) 0 (c .begin .result .due) (omega arith) (c .begin .ensures .1) (holds-own m (p .0) (a .feed .now)) in
     (tallied-begin (a .values .now) (a .feed .now) (c .begin .ensures), record { bytes = r .bytes; long = r .long })
 
 size-of-requires : tie.Need-size-of-requires Inv-loop μ-loop Inv-loop2 μ-loop2
 size-of-requires c κs =
-    let a = c .before .before .before .before .before .before .before .before .before .before .args in
-    let p = c .before .before .before .before .before .before .before .before .before .before .pre in
-    let l = c .before .before .loop in
-    let m = memory (a .text .now) (a .used) (a .counts) (a .trees .now) (a .nodes .now) (a .properties .now) (a .values .now) in
-    let h = c .if1 .taken in
-    let x = spread m (p .0) (a .feed .now) in
+    let a = c .before .before .before .before .before .before .before .before .before .before .args in let p = c .before .before .before .before .before .before .before .before .before .before .pre in let l = c .before .before .loop in let m = memory (a .text .now) (a .used) (a .counts) (a .trees .now) (a .nodes .now) (a .properties .now) (a .values .now) in let h = c .if1 .taken in let x = spread m (p .0) (a .feed .now) in
     (omega (arith, h, fit-lent m (p .0) .1 .values), x .order (l .s .due) h)
 
 start-of-requires : tie.Need-start-of-requires Inv-loop μ-loop Inv-loop2 μ-loop2
 start-of-requires c κs =
-    let a = c .before .before .before .before .before .before .before .before .before .before .before .args in
-    let p = c .before .before .before .before .before .before .before .before .before .before .before .pre in
-    let l = c .before .before .before .loop in
-    let m = memory (a .text .now) (a .used) (a .counts) (a .trees .now) (a .nodes .now) (a .properties .now) (a .values .now) in
-    let h = c .before .if1 .taken in
-    let x = spread m (p .0) (a .feed .now) in
+    let a = c .before .before .before .before .before .before .before .before .before .before .before .args in let p = c .before .before .before .before .before .before .before .before .before .before .before .pre in let l = c .before .before .before .loop in let m = memory (a .text .now) (a .used) (a .counts) (a .trees .now) (a .nodes .now) (a .properties .now) (a .values .now) in let h = c .before .if1 .taken in let x = spread m (p .0) (a .feed .now) in
     omega (arith, h, fit-lent m (p .0) .1 .values)
 
 sub-start : tie.Need-sub-start Inv-loop μ-loop Inv-loop2 μ-loop2
 sub-start c =
-    let a = c .before .before .before .before .before .before .before .before .before .before .before .before .before .args in
-    let p = c .before .before .before .before .before .before .before .before .before .before .before .before .before .pre in
-    let l = c .before .before .before .before .before .loop in
-    let m = memory (a .text .now) (a .used) (a .counts) (a .trees .now) (a .nodes .now) (a .properties .now) (a .values .now) in
-    let h = c .before .before .before .if1 .taken in
-    let x = spread m (p .0) (a .feed .now) in
+    let a = c .before .before .before .before .before .before .before .before .before .before .before .before .before .args in let p = c .before .before .before .before .before .before .before .before .before .before .before .before .before .pre in let l = c .before .before .before .before .before .loop in let m = memory (a .text .now) (a .used) (a .counts) (a .trees .now) (a .nodes .now) (a .properties .now) (a .values .now) in let h = c .before .before .before .if1 .taken in let x = spread m (p .0) (a .feed .now) in
     omega (arith, c .before .start-of .ensures, l .inv .0 .shrunk, shrunk-start (a .values .now) (a .feed .now) (a .counts .values) (length (textIn m)) x (l .s .due) h)
 
 sub-put-shorter : tie.Need-sub-put-shorter Inv-loop μ-loop Inv-loop2 μ-loop2
@@ -82,12 +66,7 @@ part-put-shorter-end c = let i = c .before .before .before .before .before .befo
 
 put-shorter-requires : tie.Need-put-shorter-requires Inv-loop μ-loop Inv-loop2 μ-loop2
 put-shorter-requires c κs =
-    let a = c .before .before .before .before .before .before .before .before .before .before .before .before .before .before .before .args in
-    let p = c .before .before .before .before .before .before .before .before .before .before .before .before .before .before .before .pre in
-    let l = c .before .before .before .before .before .before .before .loop in
-    let m = memory (a .text .now) (a .used) (a .counts) (a .trees .now) (a .nodes .now) (a .properties .now) (a .values .now) in
-    let h = c .before .before .before .before .before .if1 .taken in
-    let x = spread m (p .0) (a .feed .now) in
+    let a = c .before .before .before .before .before .before .before .before .before .before .before .before .before .before .before .args in let p = c .before .before .before .before .before .before .before .before .before .before .before .before .before .before .before .pre in let l = c .before .before .before .before .before .before .before .loop in let m = memory (a .text .now) (a .used) (a .counts) (a .trees .now) (a .nodes .now) (a .properties .now) (a .values .now) in let h = c .before .before .before .before .before .if1 .taken in let x = spread m (p .0) (a .feed .now) in
     let i = l .inv .0 in
     omega (
       arith,
@@ -99,12 +78,7 @@ put-shorter-requires c κs =
 
 pass-requires : tie.Need-pass-requires Inv-loop μ-loop Inv-loop2 μ-loop2
 pass-requires c κs =
-    let a = c .before .before .before .before .before .before .before .before .before .before .before .before .before .before .before .before .before .before .args in
-    let p = c .before .before .before .before .before .before .before .before .before .before .before .before .before .before .before .before .before .before .pre in
-    let l = c .before .before .before .before .before .before .before .before .before .before .loop in
-    let m = memory (a .text .now) (a .used) (a .counts) (a .trees .now) (a .nodes .now) (a .properties .now) (a .values .now) in
-    let h = c .before .before .before .before .before .before .before .before .if1 .taken in
-    let x = spread m (p .0) (a .feed .now) in
+    let a = c .before .before .before .before .before .before .before .before .before .before .before .before .before .before .before .before .before .before .args in let p = c .before .before .before .before .before .before .before .before .before .before .before .before .before .before .before .before .before .before .pre in let l = c .before .before .before .before .before .before .before .before .before .before .loop in let m = memory (a .text .now) (a .used) (a .counts) (a .trees .now) (a .nodes .now) (a .properties .now) (a .values .now) in let h = c .before .before .before .before .before .before .before .before .if1 .taken in let x = spread m (p .0) (a .feed .now) in
     let i = l .inv .0 in
     let b = shrunk-start (a .values .now) (a .feed .now) (a .counts .values) (length (textIn m)) x (l .s .due) h in
     (h, i .stands, omega (arith, c .before .before .before .before .before .before .before .size-of .ensures, i .shrunk, b, x .order (l .s .due) h, x .inside (l .s .due) h, used-is m (p .0) (a .feed .now), fit-short m (p .0)))
@@ -114,12 +88,7 @@ loop-less c = omega (arith, c .before .before .before .before .before .before .b
 
 loop-again : tie.Need-loop-again Inv-loop μ-loop Inv-loop2 μ-loop2
 loop-again c =
-    let a = c .before .before .before .before .before .before .before .before .before .before .before .before .before .before .before .before .before .before .before .args in
-    let p = c .before .before .before .before .before .before .before .before .before .before .before .before .before .before .before .before .before .before .before .pre in
-    let l = c .before .before .before .before .before .before .before .before .before .before .before .loop in
-    let m = memory (a .text .now) (a .used) (a .counts) (a .trees .now) (a .nodes .now) (a .properties .now) (a .values .now) in
-    let h = c .before .before .before .before .before .before .before .before .before .if1 .taken in
-    let x = spread m (p .0) (a .feed .now) in
+    let a = c .before .before .before .before .before .before .before .before .before .before .before .before .before .before .before .before .before .before .before .args in let p = c .before .before .before .before .before .before .before .before .before .before .before .before .before .before .before .before .before .before .before .pre in let l = c .before .before .before .before .before .before .before .before .before .before .before .loop in let m = memory (a .text .now) (a .used) (a .counts) (a .trees .now) (a .nodes .now) (a .properties .now) (a .values .now) in let h = c .before .before .before .before .before .before .before .before .before .if1 .taken in let x = spread m (p .0) (a .feed .now) in
     let i = l .inv .0 in
     let e = c .pass .ensures in
     let r = swept-more m (p .0) (a .feed .now) (record { bytes = l .inv .1 .bytes; long = l .inv .1 .long }) h (i .stands .here h)
@@ -133,44 +102,22 @@ loop2-holds c =
 
 size-of-requires-2 : tie.Need-size-of-requires-2 Inv-loop μ-loop Inv-loop2 μ-loop2
 size-of-requires-2 c κs =
-    let a = c .before .before .before .before .before .before .before .before .before .before .before .before .before .before .args in
-    let p = c .before .before .before .before .before .before .before .before .before .before .before .before .before .before .pre in
-    let l = c .before .before .loop2 in
-    let m = memory (a .text .now) (a .used) (a .counts) (a .trees .now) (a .nodes .now) (a .properties .now) (a .values .now) in
-    let h = c .if2 .taken in
-    let x = spread m (p .0) (a .feed .now) in
+    let a = c .before .before .before .before .before .before .before .before .before .before .before .before .before .before .args in let p = c .before .before .before .before .before .before .before .before .before .before .before .before .before .before .pre in let l = c .before .before .loop2 in let m = memory (a .text .now) (a .used) (a .counts) (a .trees .now) (a .nodes .now) (a .properties .now) (a .values .now) in let h = c .if2 .taken in let x = spread m (p .0) (a .feed .now) in
     (omega (arith, h, fit-lent m (p .0) .1 .values), x .order (l .t .due) h)
 
 start-of-requires-2 : tie.Need-start-of-requires-2 Inv-loop μ-loop Inv-loop2 μ-loop2
 start-of-requires-2 c κs =
-    let a = c .before .before .before .before .before .before .before .before .before .before .before .before .before .before .before .args in
-    let p = c .before .before .before .before .before .before .before .before .before .before .before .before .before .before .before .pre in
-    let l = c .before .before .before .loop2 in
-    let m = memory (a .text .now) (a .used) (a .counts) (a .trees .now) (a .nodes .now) (a .properties .now) (a .values .now) in
-    let h = c .before .if2 .taken in
-    let x = spread m (p .0) (a .feed .now) in
+    let a = c .before .before .before .before .before .before .before .before .before .before .before .before .before .before .before .args in let p = c .before .before .before .before .before .before .before .before .before .before .before .before .before .before .before .pre in let l = c .before .before .before .loop2 in let m = memory (a .text .now) (a .used) (a .counts) (a .trees .now) (a .nodes .now) (a .properties .now) (a .values .now) in let h = c .before .if2 .taken in let x = spread m (p .0) (a .feed .now) in
     omega (arith, h, fit-lent m (p .0) .1 .values)
 
 sub-start-2 : tie.Need-sub-start-2 Inv-loop μ-loop Inv-loop2 μ-loop2
 sub-start-2 c =
-    let a = c .before .before .before .before .before .before .before .before .before .before .before .before .before .before .before .before .before .args in
-    let p = c .before .before .before .before .before .before .before .before .before .before .before .before .before .before .before .before .before .pre in
-    let l = c .before .before .before .before .before .loop2 in
-    let m = memory (a .text .now) (a .used) (a .counts) (a .trees .now) (a .nodes .now) (a .properties .now) (a .values .now) in
-    let h = c .before .before .before .if2 .taken in
-    let x = spread m (p .0) (a .feed .now) in
+    let a = c .before .before .before .before .before .before .before .before .before .before .before .before .before .before .before .before .before .args in let p = c .before .before .before .before .before .before .before .before .before .before .before .before .before .before .before .before .before .pre in let l = c .before .before .before .before .before .loop2 in let m = memory (a .text .now) (a .used) (a .counts) (a .trees .now) (a .nodes .now) (a .properties .now) (a .values .now) in let h = c .before .before .before .if2 .taken in let x = spread m (p .0) (a .feed .now) in
     omega (arith, c .before .start-of2 .ensures, l .inv .0 .shrunk, shrunk-start (a .values .now) (a .feed .now) (a .counts .values) (length (textIn m)) x (l .t .due) h)
 
 add-start : tie.Need-add-start Inv-loop μ-loop Inv-loop2 μ-loop2
 add-start c =
-    let a = c .before .before .before .before .before .before .before .before .before .before .before .before .before .before .before .before .before .before .args in
-    let p = c .before .before .before .before .before .before .before .before .before .before .before .before .before .before .before .before .before .before .pre in
-    let l = c .before .before .before .before .before .before .loop2 in
-    let m = memory (a .text .now) (a .used) (a .counts) (a .trees .now) (a .nodes .now) (a .properties .now) (a .values .now) in
-    let h = c .before .before .before .before .if2 .taken in
-    let x = spread m (p .0) (a .feed .now) in
-    let f = c .before .before .before .before .before .before .before .before .before .before .loop in
-    let y = l .inv .1 m (p .0) refl refl (p .1) (less-new m (p .0) (a .feed .now) (f .s .due) (omega (arith, c .before .before .before .before .before .before .before .before .if1 .left)) (record { bytes = f .inv .1 .bytes; long = f .inv .1 .long })) in
+    let a = c .before .before .before .before .before .before .before .before .before .before .before .before .before .before .before .before .before .before .args in let p = c .before .before .before .before .before .before .before .before .before .before .before .before .before .before .before .before .before .before .pre in let l = c .before .before .before .before .before .before .loop2 in let m = memory (a .text .now) (a .used) (a .counts) (a .trees .now) (a .nodes .now) (a .properties .now) (a .values .now) in let h = c .before .before .before .before .if2 .taken in let x = spread m (p .0) (a .feed .now) in let f = c .before .before .before .before .before .before .before .before .before .before .loop in let y = l .inv .1 m (p .0) refl refl (p .1) (less-new m (p .0) (a .feed .now) (f .s .due) (omega (arith, c .before .before .before .before .before .before .before .before .if1 .left)) (record { bytes = f .inv .1 .bytes; long = f .inv .1 .long })) in
     let i = l .inv .0 in
     let o = c .before .before .before .size-of2 .ensures in
     let s = c .before .before .start-of2 .ensures in
@@ -189,14 +136,7 @@ part-put-longer-end c = let i = c .before .before .before .before .before .befor
 
 put-longer-requires : tie.Need-put-longer-requires Inv-loop μ-loop Inv-loop2 μ-loop2
 put-longer-requires c κs =
-    let a = c .before .before .before .before .before .before .before .before .before .before .before .before .before .before .before .before .before .before .before .before .args in
-    let p = c .before .before .before .before .before .before .before .before .before .before .before .before .before .before .before .before .before .before .before .before .pre in
-    let l = c .before .before .before .before .before .before .before .before .loop2 in
-    let m = memory (a .text .now) (a .used) (a .counts) (a .trees .now) (a .nodes .now) (a .properties .now) (a .values .now) in
-    let h = c .before .before .before .before .before .before .if2 .taken in
-    let x = spread m (p .0) (a .feed .now) in
-    let f = c .before .before .before .before .before .before .before .before .before .before .before .before .loop in
-    let y = l .inv .1 m (p .0) refl refl (p .1) (less-new m (p .0) (a .feed .now) (f .s .due) (omega (arith, c .before .before .before .before .before .before .before .before .before .before .if1 .left)) (record { bytes = f .inv .1 .bytes; long = f .inv .1 .long })) in
+    let a = c .before .before .before .before .before .before .before .before .before .before .before .before .before .before .before .before .before .before .before .before .args in let p = c .before .before .before .before .before .before .before .before .before .before .before .before .before .before .before .before .before .before .before .before .pre in let l = c .before .before .before .before .before .before .before .before .loop2 in let m = memory (a .text .now) (a .used) (a .counts) (a .trees .now) (a .nodes .now) (a .properties .now) (a .values .now) in let h = c .before .before .before .before .before .before .if2 .taken in let x = spread m (p .0) (a .feed .now) in let f = c .before .before .before .before .before .before .before .before .before .before .before .before .loop in let y = l .inv .1 m (p .0) refl refl (p .1) (less-new m (p .0) (a .feed .now) (f .s .due) (omega (arith, c .before .before .before .before .before .before .before .before .before .before .if1 .left)) (record { bytes = f .inv .1 .bytes; long = f .inv .1 .long })) in
     let i = l .inv .0 in
     let w = i .stands .here h in
     let o = c .before .before .before .before .before .size-of2 .ensures in
@@ -210,12 +150,7 @@ put-longer-requires c κs =
 
 pass-requires-2 : tie.Need-pass-requires-2 Inv-loop μ-loop Inv-loop2 μ-loop2
 pass-requires-2 c κs =
-    let a = c .before .before .before .before .before .before .before .before .before .before .before .before .before .before .before .before .before .before .before .before .before .before .before .args in
-    let p = c .before .before .before .before .before .before .before .before .before .before .before .before .before .before .before .before .before .before .before .before .before .before .before .pre in
-    let l = c .before .before .before .before .before .before .before .before .before .before .before .loop2 in
-    let m = memory (a .text .now) (a .used) (a .counts) (a .trees .now) (a .nodes .now) (a .properties .now) (a .values .now) in
-    let h = c .before .before .before .before .before .before .before .before .before .if2 .taken in
-    let x = spread m (p .0) (a .feed .now) in
+    let a = c .before .before .before .before .before .before .before .before .before .before .before .before .before .before .before .before .before .before .before .before .before .before .before .args in let p = c .before .before .before .before .before .before .before .before .before .before .before .before .before .before .before .before .before .before .before .before .before .before .before .pre in let l = c .before .before .before .before .before .before .before .before .before .before .before .loop2 in let m = memory (a .text .now) (a .used) (a .counts) (a .trees .now) (a .nodes .now) (a .properties .now) (a .values .now) in let h = c .before .before .before .before .before .before .before .before .before .if2 .taken in let x = spread m (p .0) (a .feed .now) in
     let i = l .inv .0 in
     let b = shrunk-start (a .values .now) (a .feed .now) (a .counts .values) (length (textIn m)) x (l .t .due) h in
     (h, i .stands, omega (arith, c .before .before .before .before .before .before .before .before .size-of2 .ensures, i .shrunk, b, x .order (l .t .due) h, x .inside (l .t .due) h, used-is m (p .0) (a .feed .now), fit-short m (p .0)))
@@ -225,12 +160,7 @@ loop2-less c = omega (arith, c .before .before .before .before .before .before .
 
 loop2-again : tie.Need-loop2-again Inv-loop μ-loop Inv-loop2 μ-loop2
 loop2-again c =
-    let a = c .before .before .before .before .before .before .before .before .before .before .before .before .before .before .before .before .before .before .before .before .before .before .before .before .args in
-    let p = c .before .before .before .before .before .before .before .before .before .before .before .before .before .before .before .before .before .before .before .before .before .before .before .before .pre in
-    let l = c .before .before .before .before .before .before .before .before .before .before .before .before .loop2 in
-    let m = memory (a .text .now) (a .used) (a .counts) (a .trees .now) (a .nodes .now) (a .properties .now) (a .values .now) in
-    let h = c .before .before .before .before .before .before .before .before .before .before .if2 .taken in
-    let x = spread m (p .0) (a .feed .now) in
+    let a = c .before .before .before .before .before .before .before .before .before .before .before .before .before .before .before .before .before .before .before .before .before .before .before .before .args in let p = c .before .before .before .before .before .before .before .before .before .before .before .before .before .before .before .before .before .before .before .before .before .before .before .before .pre in let l = c .before .before .before .before .before .before .before .before .before .before .before .before .loop2 in let m = memory (a .text .now) (a .used) (a .counts) (a .trees .now) (a .nodes .now) (a .properties .now) (a .values .now) in let h = c .before .before .before .before .before .before .before .before .before .before .if2 .taken in let x = spread m (p .0) (a .feed .now) in
     let i = l .inv .0 in
     let e = c .pass2 .ensures in (
       tallied-pass (a .values .now) (a .feed .now) i h (c .before .before .before .before .before .before .before .before .before .size-of2 .ensures) e,
@@ -240,56 +170,14 @@ loop2-again c =
 
 same-length : tie.Need-same-length Inv-loop μ-loop Inv-loop2 μ-loop2
 same-length c =
-    let a = c .before .before .before .before .before .before .before .before .before .before .before .before .before .before .args in
-    let p = c .before .before .before .before .before .before .before .before .before .before .before .before .before .before .pre in
-    let l = c .before .before .loop2 in
-    let m = memory (a .text .now) (a .used) (a .counts) (a .trees .now) (a .nodes .now) (a .properties .now) (a .values .now) in
-    let f = c .before .before .before .before .before .before .loop in
-    let y = l .inv .1 m (p .0) refl refl (p .1) (less-new m (p .0) (a .feed .now) (f .s .due) (omega (arith, c .before .before .before .before .if1 .left)) (record { bytes = f .inv .1 .bytes; long = f .inv .1 .long })) in
+    let a = c .before .before .before .before .before .before .before .before .before .before .before .before .before .before .args in let p = c .before .before .before .before .before .before .before .before .before .before .before .before .before .before .pre in let l = c .before .before .loop2 in let m = memory (a .text .now) (a .used) (a .counts) (a .trees .now) (a .nodes .now) (a .properties .now) (a .values .now) in let f = c .before .before .before .before .before .before .loop in let y = l .inv .1 m (p .0) refl refl (p .1) (less-new m (p .0) (a .feed .now) (f .s .due) (omega (arith, c .before .before .before .before .if1 .left)) (record { bytes = f .inv .1 .bytes; long = f .inv .1 .long })) in
     ap length (y .bytes) ∙ held-length m (p .0) (until (l .t .due) (newBytes m (a .feed .now)) (lesser m (a .feed .now))) (omega (arith, way-longer m (p .0) (a .feed .now) (l .t .due), p .1))
 
 returns : tie.Need-returns Inv-loop μ-loop Inv-loop2 μ-loop2
 returns c =
-    let a = c .before .before .before .before .before .before .before .before .before .before .before .before .before .before .args in
-    let p = c .before .before .before .before .before .before .before .before .before .before .before .before .before .before .pre in
-    let l = c .before .before .loop2 in
-    let m = memory (a .text .now) (a .used) (a .counts) (a .trees .now) (a .nodes .now) (a .properties .now) (a .values .now) in
-    let f = c .before .before .before .before .before .before .loop in
-    let y = l .inv .1 m (p .0) refl refl (p .1) (less-new m (p .0) (a .feed .now) (f .s .due) (omega (arith, c .before .before .before .before .if1 .left)) (record { bytes = f .inv .1 .bytes; long = f .inv .1 .long })) in
+    let a = c .before .before .before .before .before .before .before .before .before .before .before .before .before .before .args in let p = c .before .before .before .before .before .before .before .before .before .before .before .before .before .before .pre in let l = c .before .before .loop2 in let m = memory (a .text .now) (a .used) (a .counts) (a .trees .now) (a .nodes .now) (a .properties .now) (a .values .now) in let f = c .before .before .before .before .before .before .loop in let y = l .inv .1 m (p .0) refl refl (p .1) (less-new m (p .0) (a .feed .now) (f .s .due) (omega (arith, c .before .before .before .before .if1 .left)) (record { bytes = f .inv .1 .bytes; long = f .inv .1 .long })) in
     new-done m (p .0) (a .feed .now) (l .t .due) (omega (arith, c .if2 .left)) y .bytes
 
 pub rewrite-spec : {M : Type 1} → statement M
 rewrite-spec =
-    tie.close
-    (tie.spec
-    Inv-loop
-    μ-loop
-    Inv-loop2
-    μ-loop2
-    (λ c κs. search needs)
-    loop-holds
-    size-of-requires
-    start-of-requires
-    sub-start
-    sub-put-shorter
-    part-put-shorter-start
-    part-put-shorter-end
-    put-shorter-requires
-    pass-requires
-    loop-less
-    loop-again
-    (λ c κs. search needs)
-    loop2-holds
-    size-of-requires-2
-    start-of-requires-2
-    sub-start-2
-    add-start
-    sub-put-longer
-    part-put-longer-start
-    part-put-longer-end
-    put-longer-requires
-    pass-requires-2
-    loop2-less
-    loop2-again
-    same-length
-    returns)
+    tie.close (tie.spec Inv-loop μ-loop Inv-loop2 μ-loop2 (λ c κs. search needs) loop-holds size-of-requires start-of-requires sub-start sub-put-shorter part-put-shorter-start part-put-shorter-end put-shorter-requires pass-requires loop-less loop-again (λ c κs. search needs) loop2-holds size-of-requires-2 start-of-requires-2 sub-start-2 add-start sub-put-longer part-put-longer-start part-put-longer-end put-longer-requires pass-requires-2 loop2-less loop2-again same-length returns)
