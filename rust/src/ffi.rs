@@ -480,6 +480,10 @@ pub fn simple_property(rule: u32, identifier: &[u8], text: &[u8], values: &[u32]
             values.len(),
             first,
             count,
+        )
+    }
+}
+
 pub fn corrected(h: &Held, feed: &[u8], k: usize) -> Part {
     over!(sgf_corrected, h, feed.as_ptr(), feed.len(), k)
 }

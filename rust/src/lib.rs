@@ -80,7 +80,6 @@ pub use error::{Error, ErrorKind};
 pub use index::{Entry, PropertyType, Section, Simple, ValueKind, entry_of};
 pub use go::{Color, GoValue, Move, NoPoint, Point, PointSet};
 pub use feed::{Feed, Overlaid};
-pub use go::{Color, GoValue, Move, Point, PointSet};
 pub use node::{GameType, Node, Tree};
 pub use property::{Property, Value, escape};
 pub use record::{ParseOptions, Record, parse, parse_lenient, parse_lenient_with_options, parse_with_options, serialize};

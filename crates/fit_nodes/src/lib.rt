@@ -50,12 +50,12 @@ fn depth_right(nodes: &[u32], k: usize) -> bool
     ensures { λ r. ⌜ r ≡ depthRight (now (nodes .entry)) k ⌝ }
 {
     let parent = nodes[k * tables::NODE_STRIDE];
-    let depth = nodes[k * tables::NODE_STRIDE + 5];
+    let depth = nodes[k * tables::NODE_STRIDE + tables::NODE_DEPTH];
     if parent == tables::NONE {
         return depth == 0;
     }
     let up = lists::wide(parent);
-    lists::wide(depth) == lists::wide(nodes[up * tables::NODE_STRIDE + 5]) + 1
+    lists::wide(depth) == lists::wide(nodes[up * tables::NODE_STRIDE + tables::NODE_DEPTH]) + 1
 }
 
 // Whether the roots of `m` trees are those of `n` nodes that have no parent, ascending, and the parents and depths of the nodes are right.
@@ -161,35 +161,6 @@ fn games_right(trees: &[u32], n: usize) -> bool
     let mut k = 0;
     while k < n {
         if 1 < trees[k * tables::TREE_STRIDE + tables::TREE_GAME] {
-            return false;
-        }
-        k += 1;
-    }
-    true
-}
-
-// Whether node k's depth is right: 0 at a root, else the parent's plus 1.
-fn depth_right(nodes: &[u32], n: usize, k: usize) -> bool
-    requires { ⌜ (n ≤ length (now nodes) / nodeStride) × Ruled (now nodes) n × (k < n) ⌝ }
-    ensures { λ r. ⌜ r ≡ depthRight (now (nodes .entry)) k ⌝ }
-{
-    let parent = nodes[k * tables::NODE_STRIDE];
-    let depth = nodes[k * tables::NODE_STRIDE + tables::NODE_DEPTH];
-    if parent == tables::NONE {
-        return depth == 0;
-    }
-    let up = lists::wide(parent);
-    lists::wide(depth) == lists::wide(nodes[up * tables::NODE_STRIDE + tables::NODE_DEPTH]) + 1
-}
-
-// Whether the depths of `n` nodes are right.
-fn depths_right(nodes: &[u32], n: usize) -> bool
-    requires { ⌜ (n ≤ length (now nodes) / nodeStride) × Ruled (now nodes) n ⌝ }
-    ensures { λ r. ⌜ r ≡ each n (depthRight (now (nodes .entry))) ⌝ }
-{
-    let mut k = 0;
-    while k < n {
-        if !depth_right(nodes, n, k) {
             return false;
         }
         k += 1;

@@ -160,7 +160,7 @@ fn name_right(text: &[u8], properties: &[u32], k: usize) -> bool
     ensures { λ r. ⌜ r ≡ nameRight (now (text .entry)) (now (properties .entry)) k ⌝ }
 {
     let start = lists::wide(properties[k * tables::PROPERTY_STRIDE]);
-    let end = lists::wide(properties[k * tables::PROPERTY_STRIDE + 1]);
+    let end = lists::wide(properties[k * tables::PROPERTY_STRIDE + tables::PROPERTY_END]);
     is_plain(&text[start..end])
 }
 
@@ -175,9 +175,6 @@ fn spans_right(text: &[u8], properties: &[u32], n: usize, values: &[u32]) -> boo
     let mut next: usize = 0;
     let mut k: usize = 0;
     while k < n {
-        let start = lists::wide(properties[k * tables::PROPERTY_STRIDE]);
-        let end = lists::wide(properties[k * tables::PROPERTY_STRIDE + tables::PROPERTY_END]);
-        if !is_plain(&text[start..end]) {
         let ascent = property_spans(properties, k, values, text.len(), next);
         if !ascent.ok {
             return false;

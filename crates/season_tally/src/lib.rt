@@ -66,8 +66,8 @@ fn played_at(rule: u32, text: &[u8], properties: &[u32], values: &[u32], p: usiz
         return Played::Nothing;
     }
     let identifier = parts_props::identifier_at(text, properties, p);
-    let first = lists::wide(properties[p * tables::PROPERTY_STRIDE + 2]);
-    let count = lists::wide(properties[p * tables::PROPERTY_STRIDE + 3]);
+    let first = lists::wide(properties[p * tables::PROPERTY_STRIDE + tables::PROPERTY_FIRST]);
+    let count = lists::wide(properties[p * tables::PROPERTY_STRIDE + tables::PROPERTY_COUNT]);
     if parts_props::reads_as(identifier, b"B") {
         let v = go::value::value_by(rule, Shape::OneMove, text, values, first, count);
         return moved(Played::Black, v);
@@ -136,7 +136,7 @@ fn next_first(trees: &[u32], m: usize, nodes: &[u32], r: usize, n: usize) -> usi
         return n;
     }
     let root = lists::wide(trees[(r + 1) * tables::TREE_STRIDE]);
-    lists::wide(nodes[root * tables::NODE_STRIDE + 3])
+    lists::wide(nodes[root * tables::NODE_STRIDE + tables::NODE_FIRST])
 }
 
 // All properties, tree by tree.
