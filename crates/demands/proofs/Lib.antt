@@ -1,5 +1,6 @@
 pub mod Accepts
 pub mod Asked
+pub mod Boards
 pub mod CallsShown
 pub mod Converted
 pub mod Demand1
