@@ -4,6 +4,7 @@ extern crate sgf_parse;
 mod bench;
 #[cfg(not(stand_in))]
 mod bench_board;
+mod bench_feeds;
 mod bench_records;
 mod bench_values;
 mod board;
@@ -66,6 +67,11 @@ fn run() -> bool {
         Some("long") => subjects::compare(&subjects::LONG, subject),
         Some("store-tokens") => {
             stored::write(&folder.unwrap_or_else(|| Path::new(env!("CARGO_MANIFEST_DIR")).join("../crates/cases_tokens")))
+        }
+        #[cfg(not(stand_in))]
+        Some("bench-feeds") => {
+            bench_feeds::run();
+            true
         }
         Some("bench-values") => {
             bench_values::run();

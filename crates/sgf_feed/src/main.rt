@@ -1,4 +1,5 @@
 // Standard input, a line `K BYTES` for each correction, as a feed; a line that is none, and a number too large for a feed, are said in one line.
+ghost use Prim.Native.Nat.{_≤_};
 use feed::make::Made;
 
 // The first line feed from a place on; the end where there is none.
@@ -37,7 +38,9 @@ fn digits_end(text: &[u8], at: usize) -> usize {
     text.len()
 }
 
-fn digit(b: u8) -> usize {
+fn digit(b: u8) -> usize
+    ensures { λ r. ⌜ r ≤ 255 ⌝ }
+{
     if b < b'0' {
         return 0;
     }
@@ -150,17 +153,27 @@ fn write_made(out: &[u8], made: Made) {
     }
 }
 
-fn make(text: &[u8], count: usize) {
+fn write_count(count: usize) {
     let mut out = tool::out_room();
-    let begun = feed::make::put_count(&mut out, count);
-    write_made(&out, begun);
+    let made = feed::make::put_count(&mut out, count);
+    write_made(&out, made);
+}
+
+// The correction of the line at a place.
+fn write_line(text: &[u8], at: usize) {
+    let mut out = tool::out_room();
+    let value = number_at(text, at);
+    let new = part(text, bytes_from(text, at), line_end(text, at));
+    let made = feed::make::put_correction(&mut out, value, new);
+    write_made(&out, made);
+}
+
+fn make(text: &[u8], count: usize) {
+    write_count(count);
     let mut left = count;
     let mut at: usize = 0;
     while 0 < left {
-        let value = number_at(text, at);
-        let new = part(text, bytes_from(text, at), line_end(text, at));
-        let made = feed::make::put_correction(&mut out, value, new);
-        write_made(&out, made);
+        write_line(text, at);
         at = line_next(text, at);
         left -= 1;
     }
