@@ -4,6 +4,8 @@ extern crate sgf_parse;
 mod bench;
 mod bench_records;
 mod bench_values;
+#[cfg(not(stand_in))]
+mod blocks;
 mod by_hand;
 mod display;
 mod edits;

@@ -60,6 +60,7 @@
 //! ```
 #![deny(unsafe_code)]
 
+mod blocks;
 mod error;
 #[allow(unsafe_code, dead_code)]
 mod ffi;
@@ -69,6 +70,7 @@ mod property;
 mod record;
 mod tables;
 
+pub use blocks::{Blocks, TokenKind, TokenSpan, Tokens};
 pub use error::{Error, ErrorKind};
 pub use go::{Color, GoValue, Move, Point, PointSet};
 pub use node::{GameType, Node, Tree};
