@@ -7,6 +7,8 @@ mod bench_board;
 mod bench_feeds;
 mod bench_records;
 mod bench_values;
+#[cfg(not(stand_in))]
+mod blocks;
 mod board;
 mod by_hand;
 mod display;

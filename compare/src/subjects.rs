@@ -25,6 +25,9 @@ pub struct Scale {
     placed_runs_step: usize,
     damaged_runs_step: usize,
     size_symbols: usize,
+    block_bytes: usize,
+    block_step: usize,
+    block_records: usize,
 }
 
 pub const SHORT: Scale = Scale {
@@ -48,6 +51,9 @@ pub const SHORT: Scale = Scale {
     placed_runs_step: 41,
     damaged_runs_step: 1_501,
     size_symbols: 4,
+    block_bytes: 4,
+    block_step: 41,
+    block_records: 300,
 };
 
 pub const LONG: Scale = Scale {
@@ -71,6 +77,9 @@ pub const LONG: Scale = Scale {
     placed_runs_step: 1,
     damaged_runs_step: 31,
     size_symbols: 5,
+    block_bytes: 6,
+    block_step: 1,
+    block_records: 20_000,
 };
 
 /// Compares the families of texts that tokens and readings share; of the edges of UTF-8 one in so many.
@@ -240,6 +249,8 @@ fn compare_index(scale: &Scale) -> bool {
     texts::made(11, scale.written_records, 1, &mut |text| records.text(text));
     texts::corpus().iter().for_each(|text| records.text(text));
     good & records.close()
+}
+
 #[cfg(not(stand_in))]
 fn compare_feeds(scale: &Scale) -> bool {
     let mut report = Report::new("feeds", crate::feeds::compare);
@@ -259,13 +270,32 @@ fn compare_feeds(_: &Scale) -> bool {
     true
 }
 
+/// Texts in blocks; the stand-in has none.
+#[cfg(stand_in)]
+fn compare_blocks(_: &Scale) -> bool {
+    true
+}
+
+#[cfg(not(stand_in))]
+fn compare_blocks(scale: &Scale) -> bool {
+    let mut report = Report::new("blocks", crate::blocks::compare);
+    texts::sequences(texts::TOKEN_BYTES, scale.block_bytes, &mut |text| report.text(text));
+    report.group("all short strings, cut in every way");
+    texts::runs(scale.block_step, &mut |text| report.text(text));
+    report.group("runs");
+    compare_shared(&mut report, scale, scale.block_records, 1);
+    let good = report.close();
+    let mut forged = Report::new("forged states", crate::blocks::compare_forged);
+    texts::sequences(texts::TOKEN_BYTES, scale.block_bytes, &mut |text| forged.text(text));
+    good & forged.close()
+}
+
 type Subject = fn(&Scale) -> bool;
 
 /// Compares one subject, or all; true if nothing differed.
 pub fn compare(scale: &Scale, subject: Option<&str>) -> bool {
     println!("library: {}", library::NAME);
-    let subjects: [(&str, Subject); 12] = [
-    let subjects: [(&str, Subject); 11] = [
+    let subjects: [(&str, Subject); 14] = [
         ("tokens", compare_tokens),
         ("places", compare_places),
         ("examples", |_| examples::hold()),
@@ -279,6 +309,7 @@ pub fn compare(scale: &Scale, subject: Option<&str>) -> bool {
         ("index", compare_index),
         ("board", compare_board),
         ("feeds", compare_feeds),
+        ("blocks", compare_blocks),
     ];
     let wanted: Vec<_> = subjects.iter().filter(|(name, _)| subject.is_none_or(|chosen| *name == chosen)).collect();
     wanted.iter().fold(!wanted.is_empty(), |good, (_, run)| run(scale) & good)

@@ -141,6 +141,42 @@ pub struct Check {
     pub place: usize,
 }
 
+/// What is known between two blocks; all zero is the start.
+#[repr(C)]
+#[derive(Debug, Clone, Copy, Default, PartialEq, Eq)]
+pub struct Blocks {
+    pub total: u32,
+    pub utf: u32,
+    pub utf_from: u32,
+    pub code: u32,
+    pub last: u32,
+    pub now: u32,
+    pub now_from: u32,
+    pub count: u32,
+    pub kept: u32,
+    pub kept_from: u32,
+    pub held: u32,
+    pub closed: u32,
+}
+
+/// The answer to a block: number 0 or 20, and what is known then.
+#[repr(C)]
+#[derive(Debug, Clone, Copy, PartialEq, Eq)]
+pub struct Block {
+    pub number: u32,
+    pub state: Blocks,
+}
+
+/// The answer to a close: number and place, how many tokens, and what is known then.
+#[repr(C)]
+#[derive(Debug, Clone, Copy, PartialEq, Eq)]
+pub struct Close {
+    pub number: u32,
+    pub place: usize,
+    pub tokens: usize,
+    pub state: Blocks,
+}
+
 /// A text of which `used` bytes are the record's, the counts, and the tables of trees, nodes, properties and values.
 #[derive(Debug, Clone, Copy)]
 pub struct Held<'a> {
@@ -206,6 +242,8 @@ unsafe extern "C" {
     fn sgf_trim(text: *const u8, text_len: usize) -> Trimmed;
     fn sgf_token(text: *const u8, text_len: usize, at: usize) -> Token;
     fn sgf_next_value(text: *const u8, text_len: usize, at: usize) -> Value;
+    fn sgf_block(state: Blocks, block: *const u8, block_len: usize, rows: *mut u32, rows_len: usize) -> Block;
+    fn sgf_close(state: Blocks, rows: *mut u32, rows_len: usize) -> Close;
     fn sgf_read_strict(
         text: *const u8,
         text_len: usize,
@@ -283,6 +321,14 @@ pub fn token(text: &[u8], at: usize) -> Token {
 
 pub fn next_value(text: &[u8], at: usize) -> Value {
     unsafe { sgf_next_value(text.as_ptr(), text.len(), at) }
+}
+
+pub fn block(state: Blocks, block: &[u8], rows: &mut [u32]) -> Block {
+    unsafe { sgf_block(state, block.as_ptr(), block.len(), rows.as_mut_ptr(), rows.len()) }
+}
+
+pub fn close(state: Blocks, rows: &mut [u32]) -> Close {
+    unsafe { sgf_close(state, rows.as_mut_ptr(), rows.len()) }
 }
 
 /// Calls one of the two readings.

@@ -61,6 +61,7 @@
 #![deny(unsafe_code)]
 
 mod board;
+mod blocks;
 mod error;
 mod feed;
 #[allow(unsafe_code, dead_code)]
@@ -76,6 +77,7 @@ mod tables;
 mod walk;
 
 pub use board::Board;
+pub use blocks::{Blocks, TokenKind, TokenSpan, Tokens};
 pub use error::{Error, ErrorKind};
 pub use index::{Entry, PropertyType, Section, Simple, ValueKind, entry_of};
 pub use go::{Color, GoValue, Move, NoPoint, Point, PointSet};

@@ -9,7 +9,7 @@ use Rattle.blocks.specs.Room.{Room, room, takesAll}
 abbrev pub afterBlock : State → (bytes rows : List ℕ) → Room
 afterBlock s bs t = takesAll (room (stateSays s) t) bs
 
--- a block is taken; after close it is refused and nothing changes (SCOPE 175)
+-- a block is taken; after close it is refused and nothing changes (SCOPE 184)
 pub record BlockIs (s : State) (bs t : List ℕ) (r : Blocked) (t′ : List ℕ) : Type 0 where
   pub answer : r ≡ pick (eqb (s .closed) 0) (record { number = 0; state = stateOf (afterBlock s bs t .known) }) (record { number = 20; state = s })
   pub rows : t′ ≡ pick (eqb (s .closed) 0) (afterBlock s bs t .cells) t

@@ -33,7 +33,7 @@ closingAt Whole p n l = pick (eqb l 0) (Rows 0) (closingBy (finish (machineOf p)
 closingAt (Within left s code) p n l = Refused 2 s
 closingAt (Bad q) p n l = Refused 2 q
 
--- 1, then 2, then 3 to 5 (SCOPE 175)
+-- 1, then 2, then 3 to 5 (SCOPE 183)
 unfoldable pub closing : Known → Closing
 closing k = pick (ltb textLimit (k .total)) (Refused 1 0) (closingAt (k .utf8) (k .kept) (k .held) (k .last))
 
@@ -85,7 +85,7 @@ cellsBy (Last n f l) t = pick (ltb (length t / 3) (n + 1)) (clearedRows t 0) (cl
 abbrev pub closedBefore : State → Closed
 closedBefore s = record { number = 20; place = 0; tokens = 0; state = s }
 
--- close; a second one is refused and nothing changes (SCOPE 175)
+-- close; a second one is refused and nothing changes (SCOPE 184)
 pub record CloseIs (s : State) (t : List ℕ) (r : Closed) (t′ : List ℕ) : Type 0 where
   pub answer : r ≡ pick (eqb (s .closed) 0) (closedBy (closing (stateSays s)) s (length t / 3)) (closedBefore s)
   pub rows : t′ ≡ pick (eqb (s .closed) 0) (cellsBy (closing (stateSays s)) t) t

@@ -1,4 +1,5 @@
-pub mod State
-pub mod Room
 pub mod Block
 pub mod Close
+pub mod LocalsQuiet
+pub mod Room
+pub mod State

@@ -15,7 +15,7 @@ use Rattle.blocks.specs.declared.Known.{Known}
 
 -- ---- rows
 
--- a token row: kind, start, end (SCOPE 168)
+-- a token row: kind, start, end (SCOPE 181)
 abbrev pub tokenRow : (kind from to : ℕ) → List ℕ
 tokenRow k a e = k ∷ a ∷ e ∷ []
 
@@ -118,7 +118,7 @@ pastLimit w =
       held = w .known .held;
     }) (w .cells)
 
--- one byte (SCOPE 175)
+-- one byte (SCOPE 180)
 unfoldable pub takesByte : Room → ℕ → Room
 takesByte w b = pick (ltb (w .known .total) textLimit) (settled (decodes (w .known .utf8) (w .known .total) b) w b) (pastLimit w)
 

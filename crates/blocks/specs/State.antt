@@ -73,7 +73,7 @@ phaseBy n s =
     pick (eqb n 0) Between
     (pick (eqb n 1) (Ident s) (pick (eqb n 2) (Value s) (pick (eqb n 3) (Escaped s) (pick (eqb n 4) (After s) (Foreign s)))))
 
--- what a state says (SCOPE 175)
+-- what a state says
 abbrev pub stateSays : State → Known
 stateSays s =
     record {

@@ -1,9 +1,10 @@
 // Tokens from blocks: what is known between two blocks, a block, and the close.
 ghost use mathlib.Core.Path.{_≡_};
 ghost use mathlib.Core.List.{[], _∷_};
-ghost use Prim.Native.Nat.{suc, _+_, _*_, _/_, _<_, _≤_};
+ghost use Prim.Native.Nat.{ℕ, suc, _+_, _*_, _/_, _<_, _≤_};
+ghost use mathlib.Core.Bool.{true};
 ghost use lib.Dec.{ltb};
-ghost use lib.ListN.{length};
+ghost use lib.ListN.{length, getD};
 ghost use Rattle.lists.specs.Pick.{pick};
 ghost use Rattle.lists.specs.Put.{PutWhole};
 ghost use Rattle.tables.specs.Numbers.{textLimit};
@@ -11,6 +12,7 @@ ghost use Rattle.blocks.specs.State.{leftNumber, utf8Number, utf8From, u
 ghost use Rattle.blocks.specs.Room.{filledWith, tokenRow, rowsAt, countedOn, addRow, addRows, room, goes, takesByte};
 ghost use Rattle.blocks.specs.Close.{closing, clearedRows, shutOf, refusedAt, acceptedWith, CloseIs};
 ghost use Rattle.blocks.specs.Block.{BlockIs};
+ghost use Rattle.blocks.specs.LocalsQuiet.{PlainByte, PlainRun, ValueRun, StillIs, quietly, QuietIs, QuietFrom};
 use blocks_step::Char;
 use blocks_step::Left;
 use blocks_step::Phase;
@@ -344,6 +346,196 @@ fn take_byte(k: Known, b: u8, rows: &mut [u32]) -> Known
     }
 }
 
+// ---- bytes that complete no token
+
+// Are `n` bytes ASCII, and none of them `]` or a backslash: no early way out, so that the compiler takes 16 at once.
+fn all_plain(s: &[u8], i: usize, n: usize) -> bool
+    requires { ⌜ i + n ≤ length (now s) ⌝ }
+    ensures { λ r. ⌜ (r ≡ true → (j : ℕ) → j < n → PlainByte (getD (now (s .entry)) (i + j) 0)) ⌝ }
+{
+    let mut plain = true;
+    for j in 0..n {
+        let b = s[i + j];
+        plain = plain & ((b < 128) & ((b != 93) & (b != 92)));
+    }
+    plain
+}
+
+// Are there `n` such bytes from `i` on, and the last of them no white space.
+fn plain_run(s: &[u8], i: usize, n: usize) -> bool
+    requires { ⌜ (i ≤ length (now s)) × (0 < n) ⌝ }
+    ensures { λ r. ⌜ (r ≡ true → PlainRun (now (s .entry)) i n) ⌝ }
+{
+    if s.len() - i < n {
+        return false;
+    }
+    if s[i + n - 1] <= 32 {
+        return false;
+    }
+    all_plain(s, i, n)
+}
+
+// How far bytes that complete no token were taken, and where the token rules stand there.
+pub struct Quiet {
+    pub to: usize,
+    pub stands: Phase,
+}
+
+// What a byte that is no white space does where it completes no token.
+pub enum Still {
+    Stands(Phase),
+    Speaks,
+}
+
+// The token rules and one byte more, where it completes no token.
+fn quiet_next(stands: Phase, at: u32, b: u8) -> Still
+    ensures { λ r. ⌜ StillIs stands at b r ⌝ }
+{
+    match stands {
+        Phase::Value(start) => {
+            if b == b']' {
+                return Still::Stands(Phase::After(start));
+            }
+            if b == b'\\' {
+                return Still::Stands(Phase::Escaped(start));
+            }
+            Still::Stands(Phase::Value(start))
+        }
+        Phase::Ident(start) => {
+            if b == b'[' {
+                return Still::Stands(Phase::Value(start));
+            }
+            Still::Stands(Phase::Ident(start))
+        }
+        Phase::Between => {
+            if (b == b'(') | ((b == b')') | (b == b';')) {
+                return Still::Speaks;
+            }
+            if b == b'[' {
+                return Still::Stands(Phase::Value(at));
+            }
+            Still::Stands(Phase::Ident(at))
+        }
+        Phase::After(start) => {
+            if b == b'[' {
+                return Still::Stands(Phase::Value(start));
+            }
+            Still::Speaks
+        }
+        Phase::Escaped(start) => Still::Stands(Phase::Value(start)),
+        Phase::Foreign(start) => Still::Stands(Phase::Foreign(start)),
+    }
+}
+
+// How many bytes of a value can be taken together: 64, or 16, or none.
+fn value_run(stands: Phase, at: u32, bytes: &[u8], i: usize) -> u32
+    requires { ⌜ i ≤ length (now bytes) ⌝ }
+    ensures { λ r. ⌜ (0 < r → ValueRun stands at (now (bytes .entry)) i r) ⌝ }
+{
+    match stands {
+        Phase::Value(_) => {
+            if LIMIT - 64 < at {
+                return 0;
+            }
+            if plain_run(bytes, i, 64) {
+                return 64;
+            }
+            if plain_run(bytes, i, 16) {
+                return 16;
+            }
+            0
+        }
+        Phase::Between => 0,
+        Phase::Ident(_) => 0,
+        Phase::Escaped(_) => 0,
+        Phase::After(_) => 0,
+        Phase::Foreign(_) => 0,
+    }
+}
+
+// Takes bytes that complete no token, as long as they are ASCII and no white space; within a value 64 or 16 at once, white space among them.
+fn quiet_run(stands: Phase, at: u32, bytes: &[u8], from: usize) -> Quiet
+    requires { ⌜ from ≤ length (now bytes) ⌝ }
+    ensures { λ r. ⌜ QuietIs stands at (now (bytes .entry)) from r ⌝ }
+{
+    let mut p = stands;
+    let mut i = from;
+    let mut place = at;
+    let mut again = from;
+    while i < bytes.len() {
+        if LIMIT <= place {
+            return Quiet { to: i, stands: p };
+        }
+        if again <= i {
+            let n = value_run(p, place, bytes, i);
+            if 0 < n {
+                i += lists::wide(n);
+                place += n;
+                again = i;
+                continue;
+            }
+            again = i + 16;
+        }
+        let b = bytes[i];
+        if (b <= 32) | (128 <= b) {
+            return Quiet { to: i, stands: p };
+        }
+        match quiet_next(p, place, b) {
+            Still::Speaks => {
+                return Quiet { to: i, stands: p };
+            }
+            Still::Stands(q) => {
+                p = q;
+            }
+        }
+        i += 1;
+        place += 1;
+    }
+    Quiet { to: i, stands: p }
+}
+
+// The same from what is known, where a character that is no white space came before and none is begun.
+fn quiet_bytes(k: Known, bytes: &[u8], from: usize) -> Quiet
+    requires { ⌜ from ≤ length (now bytes) ⌝ }
+    ensures { λ r. ⌜ QuietFrom k (now (bytes .entry)) from r ⌝ }
+{
+    let stands = k.now;
+    if k.last == 0 {
+        return Quiet {
+            to: from,
+            stands: stands,
+        };
+    }
+    let u = k.utf8;
+    match u {
+        Utf8::Whole => quiet_run(stands, k.total, bytes, from),
+        Utf8::Within(_, _, _) => Quiet {
+            to: from,
+            stands: stands,
+        },
+        Utf8::Bad(_) => Quiet {
+            to: from,
+            stands: stands,
+        },
+    }
+}
+
+// What is known `n` bytes on, where they complete no token.
+fn went_quiet(k: Known, n: u32, stands: Phase) -> Known
+    requires { ⌜ k .total + n ≤ textLimit ⌝ }
+    ensures { λ r. ⌜ r ≡ quietly k n stands ⌝ }
+{
+    Known {
+        total: k.total + n,
+        utf8: Utf8::Whole,
+        last: k.total + n,
+        now: stands,
+        count: k.count,
+        kept: stands,
+        held: k.count,
+    }
+}
+
 // ---- a block
 
 // The number, 0 or 20, and what is known then.
@@ -366,6 +558,14 @@ pub fn block(state: State, bytes: &[u8], rows: &mut [u32]) -> Blocked
     let mut k = known_of(state);
     let mut i = 0;
     while i < bytes.len() {
+        let q = quiet_bytes(k, bytes, i);
+        let to = q.to;
+        if i < to {
+            let stands = q.stands;
+            k = went_quiet(k, (to - i) as u32, stands);
+            i = to;
+            continue;
+        }
         k = take_byte(k, bytes[i], rows);
         i += 1;
     }

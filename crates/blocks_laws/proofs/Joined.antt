@@ -114,7 +114,7 @@ module _ (t xs : List ℕ) (w : Room) (b : ℕ) (f : Follows t xs w) where
           (λ q. follows-past l (omega (arith, f .beyond (omega (arith, q, l)))))
       go false e = follows-on (leb-false textLimit (length xs) e)
 
-follows-all : (t xs : List ℕ) (w : Room) (bs : List ℕ) → Follows t xs w → Follows t (xs ++ bs) (takesAll w bs)
+pub follows-all : (t xs : List ℕ) (w : Room) (bs : List ℕ) → Follows t xs w → Follows t (xs ++ bs) (takesAll w bs)
 follows-all t xs w [] f = subst⁻¹ (λ (z : List ℕ). Follows t z w) (append-nil xs) f
 follows-all t xs w (b ∷ bs) f =
     subst (λ (z : List ℕ). Follows t z (takesAll (takesByte w b) bs)) (append-assoc xs (b ∷ []) bs) (follows-all t (xs ++ (b ∷ [])) (takesByte w b) bs (follows-more t xs w b f))

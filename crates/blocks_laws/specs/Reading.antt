@@ -1,5 +1,5 @@
 -- One reading of a whole text into token rows: what trimming keeps, its tokens, and what is left in the lent rows.
-use Rattle.lists.specs.Prelude.{ℕ, suc, _-_, _*_, _/_, List, [], _∷_, _++_, map, length, take, drop, replicate, ltb, pick}
+use Rattle.lists.specs.Prelude.{ℕ, suc, _-_, _*_, _/_, _≡_, List, [], _∷_, _++_, map, length, take, drop, replicate, ltb, pick}
 use Rattle.tables.specs.Numbers.{textLimit}
 use Rattle.text_utf8.specs.declared.Trimmed.{Trimmed}
 use Rattle.text_utf8.specs.declared.Trimmed.the-variants.{NotUtf8, Blank, Kept}
@@ -52,3 +52,11 @@ flatRows (r ∷ rs) = r ++ flatRows rs
 -- what is lent then: these rows, zeros to the last whole row, and a rest that is no row as it was (SCOPE 185)
 abbrev pub rowsLeft : List (List ℕ) → List ℕ → List ℕ
 rowsLeft rs t = flatRows rs ++ (replicate (length t / 3 * 3 - length rs * 3) 0 ++ drop (length t / 3 * 3) t)
+
+-- no row is left, and a rest that is no row is as it was
+abbrev pub NoRows : (before after : List ℕ) → Type 0
+NoRows t t′ = t′ ≡ replicate (length t / 3 * 3) 0 ++ drop (length t / 3 * 3) t
+
+-- behind n rows are zeros to the last whole row, and a rest that is no row is as it was
+abbrev pub ZerosBehind : ℕ → (before after : List ℕ) → Type 0
+ZerosBehind n t t′ = drop (n * 3) t′ ≡ replicate (length t / 3 * 3 - n * 3) 0 ++ drop (length t / 3 * 3) t

@@ -31,7 +31,7 @@ machineOf (Escaped s) = machine.value s 0 [] [] true 0 []
 machineOf (After s) = machine.after (record { from = s; to = 0; name = []; vals = [] })
 machineOf (Foreign s) = machine.fault UnexpectedEndOfPropertyIdentifier s
 
--- the kind of a token: 1 `(`, 2 `)`, 3 `;`, 4 a property (SCOPE 168)
+-- the kind of a token: 1 `(`, 2 `)`, 3 `;`, 4 a property
 abbrev pub tokenKind : Tok → ℕ
 tokenKind (start o) = 1
 tokenKind (end o) = 2

@@ -4,6 +4,7 @@ pub mod Boards
 pub mod CallsShown
 pub mod Converted
 pub mod Demand1
+pub mod Demand1Blocks
 pub mod Demand1Lenient
 pub mod Demand1Texts
 pub mod Demand2

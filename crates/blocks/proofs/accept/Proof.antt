@@ -1,18 +1,11 @@
-use Rattle.blocks.specs.declared.Closed.{Closed}
-use Rattle.blocks.specs.declared.State.{State}
-use Rattle.lists.proofs.Prelude.{ap}
+-- `blocks::accept` meets its contract. Assumes nothing.
 use borrow.Author.Needs.{needs}
 use Rattle.blocks.proofs.accept.Statement.{statement}
 use Rattle.blocks.proofs.accept.Tie as tie
-use Rattle.blocks.proofs.accept.Reads as reads
-use Rattle.blocks.proofs.accept.Lts as lts
-use Rattle.blocks.proofs.shut.Reads as shut-reads
 
--- src/lib.rt:478:9
 shut-requires : tie.Need-shut-requires
 shut-requires c κs = search needs
 
--- src/lib.rt:475:1
 returns : tie.Need-returns
 returns c = rw (c .shut .ensures)
 

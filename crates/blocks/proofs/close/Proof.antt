@@ -1,132 +1,95 @@
+-- `blocks::close` meets its contract. Assumes nothing.
 use Rattle.blocks.proofs.Ending.{closes-after, closes-refused, closes-short, closes-rows, closes-full, closes-last}
 use Rattle.blocks.specs.Close.{closing}
-use Rattle.lists.proofs.Prelude.{_≡_, sym, ap, _∙_}
+use Rattle.lists.proofs.Prelude.{sym, ap, _∙_}
 use borrow.Author.Needs.{needs}
 use Rattle.blocks.proofs.close.Statement.{statement}
 use Rattle.blocks.proofs.close.Tie as tie
-use Rattle.blocks.proofs.close.Reads as reads
-use Rattle.blocks.proofs.close.Lts as lts
-use Rattle.blocks.proofs.accept.Reads as accept-reads
-use Rattle.blocks.proofs.clear.Reads as clear-reads
-use Rattle.blocks.proofs.closing_of.Reads as closing-of-reads
-use Rattle.blocks.proofs.known_of.Reads as known-of-reads
-use Rattle.blocks.proofs.put3.Reads as put3-reads
-use Rattle.blocks.proofs.refuse.Reads as refuse-reads
-use Rattle.lists.proofs.wide.Reads as wide-reads
 
--- src/lib.rt:492:9
 returns : tie.Need-returns
 returns c = closes-after (c .before .before .before .args .state) (c .before .before .before .args .rows .now) (c .if1 .taken)
 
--- src/lib.rt:500:22
 known-of-requires : tie.Need-known-of-requires
 known-of-requires c κs = search needs
 
--- src/lib.rt:500:11
 closing-of-requires : tie.Need-closing-of-requires
 closing-of-requires c κs = search needs
 
--- src/lib.rt:501:26
 enum-known-number : tie.Need-enum-known-number
 enum-known-number c = search needs
 
--- src/lib.rt:501:44
 refuse-requires : tie.Need-refuse-requires
 refuse-requires c κs = search needs
 
--- src/lib.rt:502:23
 enum-known-count : tie.Need-enum-known-count
 enum-known-count c = search needs
 
--- src/lib.rt:503:17
 wide-requires : tie.Need-wide-requires
 wide-requires c κs = search needs
 
--- src/lib.rt:505:17
 refuse-requires-2 : tie.Need-refuse-requires-2
 refuse-requires-2 c κs = search needs
 
--- src/lib.rt:505:17
 same-length : tie.Need-same-length
 same-length c = search needs
 
--- src/lib.rt:505:17
 returns-2 : tie.Need-returns-2
 returns-2 c = closes-short (c .before .before .before .before .before .before .before .before .before .before .before .before .before .before .args .state) (c .before .before .before .before .before .before .before .before .before .before .before .before .before .before .args .rows .now) (c .before .before .before .before .before .before .before .before .before .before .before .if1 .left) (c .before .before .before .before .before .before .before .count .given .0 .0) (c .before .before .before .before .before .wide .result) (c .before .before .before .before .before .wide .ensures) _ _ (sym (c .before .before .before .before .before .before .before .count .given .1) ∙ c .before .before .before .before .before .before .before .before .before .closing-of .ensures ∙ ap closing (c .before .before .before .before .before .before .before .before .before .before .known-of .ensures)) (c .before .before .before .before .if2 .taken) (c .before .before .refuse2 .ensures .0) (c .before .before .refuse2 .ensures .1)
 
--- src/lib.rt:507:13
 clear-requires : tie.Need-clear-requires
 clear-requires c κs = search needs
 
--- src/lib.rt:508:13
 accept-requires : tie.Need-accept-requires
 accept-requires c κs = search needs
 
--- src/lib.rt:510:23
 enum-known-count-2 : tie.Need-enum-known-count-2
 enum-known-count-2 c = search needs
 
--- src/lib.rt:511:17
 wide-requires-2 : tie.Need-wide-requires-2
 wide-requires-2 c κs = search needs
 
--- src/lib.rt:513:17
 refuse-requires-3 : tie.Need-refuse-requires-3
 refuse-requires-3 c κs = search needs
 
--- src/lib.rt:513:17
 same-length-2 : tie.Need-same-length-2
 same-length-2 c = search needs
 
--- src/lib.rt:513:17
 returns-3 : tie.Need-returns-3
 returns-3 c = closes-full (c .before .before .before .before .before .before .before .before .before .before .before .before .before .before .args .state) (c .before .before .before .before .before .before .before .before .before .before .before .before .before .before .args .rows .now) (c .before .before .before .before .before .before .before .before .before .before .before .if1 .left) (c .before .before .before .before .before .before .before .count2 .given .0 .0) (c .before .before .before .before .before .wide2 .result) (c .before .before .before .before .before .wide2 .ensures) _ _ (c .before .before .before .before .before .before .before .count2 .given .0 .1 .0) (c .before .before .before .before .before .before .before .count2 .given .0 .1 .1 .0) (sym (c .before .before .before .before .before .before .before .count2 .given .1) ∙ c .before .before .before .before .before .before .before .before .before .closing-of .ensures ∙ ap closing (c .before .before .before .before .before .before .before .before .before .before .known-of .ensures)) (c .before .before .before .before .if3 .taken) (c .before .before .refuse3 .ensures .0) (c .before .before .refuse3 .ensures .1)
 
--- src/lib.rt:515:24
 mul-put3 : tie.Need-mul-put3
 mul-put3 c = search needs
 
--- src/lib.rt:515:13
 put3-requires : tie.Need-put3-requires
 put3-requires c κs = search needs
 
--- src/lib.rt:516:25
 add-clear : tie.Need-add-clear
 add-clear c = search needs
 
--- src/lib.rt:516:13
 clear-requires-2 : tie.Need-clear-requires-2
 clear-requires-2 c κs = search needs
 
--- src/lib.rt:517:27
 add-accept : tie.Need-add-accept
 add-accept c = search needs
 
--- src/lib.rt:517:13
 accept-requires-2 : tie.Need-accept-requires-2
 accept-requires-2 c κs = search needs
 
--- src/lib.rt:488:1
 same-length-3 : tie.Need-same-length-3
 same-length-3 c = search needs
 
--- src/lib.rt:488:1
 returns-4 : tie.Need-returns-4
 returns-4 c = closes-refused (c .before .before .before .before .before .before .before .before .before .before .before .before .args .state) (c .before .before .before .before .before .before .before .before .before .before .before .before .args .rows .now) (c .before .before .before .before .before .before .before .before .before .if1 .left) (c .before .before .before .before .before .number .given .0 .0) (c .before .before .before .before .before .number .given .0 .1 .0) (sym (c .before .before .before .before .before .number .given .1) ∙ c .before .before .before .before .before .before .before .closing-of .ensures ∙ ap closing (c .before .before .before .before .before .before .before .before .known-of .ensures)) _ _ (c .before .before .refuse .ensures .0) (c .before .before .refuse .ensures .1)
 
--- src/lib.rt:488:1
 same-length-4 : tie.Need-same-length-4
 same-length-4 c = search needs
 
--- src/lib.rt:488:1
 returns-5 : tie.Need-returns-5
 returns-5 c = closes-rows (c .before .before .before .before .before .before .before .before .before .before .before .before .before .before .before .args .state) (c .before .before .before .before .before .before .before .before .before .before .before .before .before .before .before .args .rows .now) (c .before .before .before .before .before .before .before .before .before .before .before .before .if1 .left) (c .before .before .before .before .before .before .before .before .count .given .0 .0) (c .before .before .before .before .before .before .wide .result) (c .before .before .before .before .before .before .wide .ensures) _ _ (sym (c .before .before .before .before .before .before .before .before .count .given .1) ∙ c .before .before .before .before .before .before .before .before .before .before .closing-of .ensures ∙ ap closing (c .before .before .before .before .before .before .before .before .before .before .before .known-of .ensures)) (c .before .before .before .before .before .if2 .left) (c .accept .ensures) (c .before .before .before .clear .ensures)
 
--- src/lib.rt:488:1
 same-length-5 : tie.Need-same-length-5
 same-length-5 c = search needs
 
--- src/lib.rt:488:1
 returns-6 : tie.Need-returns-6
 returns-6 c = closes-last (c .before .before .before .before .before .before .before .before .before .before .before .before .before .before .before .before .before .before .before .args .state) (c .before .before .before .before .before .before .before .before .before .before .before .before .before .before .before .before .before .before .before .args .rows .now) (c .before .before .before .before .before .before .before .before .before .before .before .before .before .before .before .before .if1 .left) (c .before .before .before .before .before .before .before .before .before .before .before .before .count2 .given .0 .0) (c .before .before .before .before .before .before .before .before .before .before .wide2 .result) (c .before .before .before .before .before .before .before .before .before .before .wide2 .ensures) _ _ (c .before .before .before .before .before .before .before .before .before .before .before .before .count2 .given .0 .1 .0) (c .before .before .before .before .before .before .before .before .before .before .before .before .count2 .given .0 .1 .1 .0) (sym (c .before .before .before .before .before .before .before .before .before .before .before .before .count2 .given .1) ∙ c .before .before .before .before .before .before .before .before .before .before .before .before .before .before .closing-of .ensures ∙ ap closing (c .before .before .before .before .before .before .before .before .before .before .before .before .before .before .before .known-of .ensures)) (c .before .before .before .before .before .before .before .before .before .if3 .left) (c .accept2 .ensures) _ (c .before .before .before .before .before .before .before .put3 .ensures) (c .before .before .before .clear2 .ensures)
 

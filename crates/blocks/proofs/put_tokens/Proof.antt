@@ -1,80 +1,61 @@
+-- `blocks::put_tokens` meets its contract. Assumes nothing.
 use Prim.Native.Nat.{_+_}
 use Rattle.blocks_step.specs.declared.Tokens.{Tokens}
 use Rattle.blocks.specs.Room.{Filled, filledWith, tokenRow, rowsAt, addRow, addRows}
 use Rattle.blocks.proofs.Taking.{row-single}
-use Rattle.lists.proofs.Prelude.{ap, sym, _∙_, ℕ, suc, []}
+use Rattle.lists.proofs.Prelude.{ap, sym, _∙_}
 use borrow.Author.Needs.{needs}
 use Rattle.blocks.proofs.put_tokens.Statement.{statement}
 use Rattle.blocks.proofs.put_tokens.Tie as tie
-use Rattle.blocks.proofs.put_tokens.Reads as reads
-use Rattle.blocks.proofs.put_tokens.Lts as lts
-use Rattle.blocks.proofs.put_row.Reads as put-row-reads
 
--- src/lib.rt:260:27
 enum-told : tie.Need-enum-told
 enum-told c = search needs
 
--- src/lib.rt:261:24
 enum-known-tokens : tie.Need-enum-known-tokens
 enum-known-tokens c = search needs
 
--- src/lib.rt:261:64
 add-put-row : tie.Need-add-put-row
 add-put-row c = search needs
 
--- src/lib.rt:261:33
 put-row-requires : tie.Need-put-row-requires
 put-row-requires c κs = search needs
 
--- src/lib.rt:262:26
 enum-known-tokens-2 : tie.Need-enum-known-tokens-2
 enum-known-tokens-2 c = search needs
 
--- src/lib.rt:262:35
 put-row-requires-2 : tie.Need-put-row-requires-2
 put-row-requires-2 c κs = search needs
 
--- src/lib.rt:263:22
 enum-known-tokens-3 : tie.Need-enum-known-tokens-3
 enum-known-tokens-3 c = search needs
 
--- src/lib.rt:264:17
 put-row-requires-3 : tie.Need-put-row-requires-3
 put-row-requires-3 c κs = search needs
 
--- src/lib.rt:265:43
 add-put-row-2 : tie.Need-add-put-row-2
 add-put-row-2 c = search needs
 
--- src/lib.rt:265:13
 put-row-requires-4 : tie.Need-put-row-requires-4
 put-row-requires-4 c κs = search needs
 
--- src/lib.rt:255:1
 returns : tie.Need-returns
 returns c = ap (λ (z : Tokens). addRows (filledWith (c .before .before .before .args .count) (c .before .before .before .args .rows .now)) (rowsAt z (c .before .before .before .args .at))) (sym (c .enum-told .given .1))
 
--- src/lib.rt:255:1
 same-length : tie.Need-same-length
 same-length c = search needs
 
--- src/lib.rt:255:1
 returns-2 : tie.Need-returns-2
 returns-2 c = c .before .before .put-row .ensures ∙ row-single (filledWith (c .before .before .before .before .before .before .before .before .args .count) (c .before .before .before .before .before .before .before .before .args .rows .now)) (c .before .before .before .before .before .tokens .given .0 .0) (c .before .before .before .before .before .before .before .before .args .at) ∙ ap (λ (z : Tokens). addRows (filledWith (c .before .before .before .before .before .before .before .before .args .count) (c .before .before .before .before .before .before .before .before .args .rows .now)) (rowsAt z (c .before .before .before .before .before .before .before .before .args .at))) (sym (c .before .before .before .before .before .tokens .given .1))
 
--- src/lib.rt:255:1
 same-length-2 : tie.Need-same-length-2
 same-length-2 c = search needs
 
--- src/lib.rt:255:1
 returns-3 : tie.Need-returns-3
 returns-3 c = c .before .before .put-row2 .ensures ∙ ap (λ (z : Tokens). addRows (filledWith (c .before .before .before .before .before .before .before .before .args .count) (c .before .before .before .before .before .before .before .before .args .rows .now)) (rowsAt z (c .before .before .before .before .before .before .before .before .args .at))) (sym (c .before .before .before .before .before .tokens2 .given .1))
 
--- src/lib.rt:255:1
 same-length-3 : tie.Need-same-length-3
 same-length-3 c = search needs
 
--- src/lib.rt:255:1
 returns-4 : tie.Need-returns-4
 returns-4 c = c .before .before .put-row4 .ensures
     ∙ ap (λ (f : Filled). addRow f (tokenRow (c .before .before .before .before .before .before .before .before .before .tokens3 .given .0 .1 .0) (c .before .before .before .before .before .before .before .before .before .before .before .before .args .at) (c .before .before .before .before .before .before .before .before .before .before .before .before .args .at + 1))) (c .before .before .before .before .before .before .put-row3 .ensures)

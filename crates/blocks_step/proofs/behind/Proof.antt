@@ -1,40 +1,29 @@
+-- `blocks_step::behind` meets its contract. Assumes nothing.
 use Rattle.blocks_step.specs.declared.Tokens.the-variants.{Property}
 use Rattle.lists.proofs.Prelude.{ap, sym, _∙_}
 use Rattle.blocks_step.proofs.Moving.{moved, after-skips, after-opens, after-both, after-property}
 use borrow.Author.Needs.{needs}
 use Rattle.blocks_step.proofs.behind.Statement.{statement}
 use Rattle.blocks_step.proofs.behind.Tie as tie
-use Rattle.blocks_step.proofs.behind.Reads as reads
-use Rattle.blocks_step.proofs.behind.Lts as lts
-use Rattle.blocks_step.proofs.identifies.Reads as identifies-reads
-use Rattle.blocks_step.proofs.kind.Reads as kind-reads
-use Rattle.lexer_scan.proofs.is_space.Reads as is-space-reads
 
--- src/lib.rt:233:8
 is-space-requires : tie.Need-is-space-requires
 is-space-requires c κs = search needs
 
--- src/lib.rt:234:9
 returns : tie.Need-returns
 returns c = after-skips (c .before .before .args .start) (c .before .before .args .at) (c .before .before .args .b) (sym (c .before .is-space .ensures) ∙ c .if1 .taken)
 
--- src/lib.rt:240:9
 returns-2 : tie.Need-returns-2
 returns-2 c = after-opens (c .before .before .before .args .start) (c .before .before .before .args .at) (c .before .before .before .args .b) (sym (c .before .before .is-space .ensures) ∙ c .before .if1 .left) (c .if2 .taken)
 
--- src/lib.rt:245:9
 kind-requires : tie.Need-kind-requires
 kind-requires c κs = search needs
 
--- src/lib.rt:247:9
 returns-3 : tie.Need-returns-3
 returns-3 c = after-both (c .before .before .before .before .before .args .start) (c .before .before .before .before .before .args .at) (c .before .before .before .before .before .args .b) (sym (c .before .before .before .before .is-space .ensures) ∙ c .before .before .before .if1 .left) (c .before .before .if2 .left) (c .before .kind .result) (c .before .kind .ensures) (c .if3 .taken)
 
--- src/lib.rt:254:15
 identifies-requires : tie.Need-identifies-requires
 identifies-requires c κs = search needs
 
--- src/lib.rt:230:1
 returns-4 : tie.Need-returns-4
 returns-4 c = ap (moved (Property (c .before .before .before .before .before .before .args .start))) (c .identifies .ensures)
     ∙ after-property (c .before .before .before .before .before .before .args .start) (c .before .before .before .before .before .before .args .at) (c .before .before .before .before .before .before .args .b) (sym (c .before .before .before .before .before .is-space .ensures) ∙ c .before .before .before .before .if1 .left) (c .before .before .before .if2 .left) (sym (c .before .if3 .left) ∙ c .before .before .kind .ensures)

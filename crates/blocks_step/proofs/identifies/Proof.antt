@@ -1,22 +1,17 @@
+-- `blocks_step::identifies` meets its contract. Assumes nothing.
 use Rattle.blocks_step.specs.Lean.{propertyPhase}
 use Rattle.lists.proofs.Prelude.{eq-eqb, ne-eqb, le-leb, lt-leb}
-use borrow.Author.Needs.{needs}
 use Rattle.blocks_step.proofs.identifies.Statement.{statement}
 use Rattle.blocks_step.proofs.identifies.Tie as tie
-use Rattle.blocks_step.proofs.identifies.Reads as reads
-use Rattle.blocks_step.proofs.identifies.Lts as lts
 
--- src/lib.rt:176:9
 returns : tie.Need-returns
 unfolding propertyPhase
 returns c = rw (eq-eqb _ 0x5b (c .if1 .taken))
 
--- src/lib.rt:179:9
 returns-2 : tie.Need-returns-2
 unfolding propertyPhase
 returns-2 c = rw (ne-eqb _ 0x5b (c .before .if1 .left), le-leb 0x80 _ (c .if2 .taken))
 
--- src/lib.rt:172:1
 returns-3 : tie.Need-returns-3
 unfolding propertyPhase
 returns-3 c = rw (ne-eqb _ 0x5b (c .before .if1 .left), lt-leb 0x80 _ (c .if2 .left))

@@ -1,85 +1,63 @@
+-- `blocks_step::later_byte` meets its contract. Assumes nothing.
 use Rattle.blocks_step.specs.Decode.{moreOf}
 use Rattle.lists.proofs.Prelude.{not-true, not-false}
 use Rattle.blocks_step.proofs.Decoding.{later-bad, later-last, later-more}
-use Rattle.lists.proofs.Prelude.{ap, sym, _∙_, refl}
+use Rattle.lists.proofs.Prelude.{ap, sym, _∙_}
 use borrow.Author.Needs.{needs}
 use Rattle.blocks_step.proofs.later_byte.Statement.{statement}
 use Rattle.blocks_step.proofs.later_byte.Tie as tie
-use Rattle.blocks_step.proofs.later_byte.Reads as reads
-use Rattle.blocks_step.proofs.later_byte.Lts as lts
-use Rattle.blocks_step.proofs.fits.Reads as fits-reads
-use Rattle.blocks_step.proofs.shifted.Reads as shifted-reads
-use Rattle.text_chars.proofs.is_white.Reads as is-white-reads
 
--- src/lib.rt:104:9
 fits-requires : tie.Need-fits-requires
 fits-requires c κs = search needs
 
--- src/lib.rt:105:9
 returns : tie.Need-returns
 returns c = later-bad (c .before .before .args .left) (c .before .before .args .from) (c .before .before .args .code) (c .before .before .args .at) (c .before .before .args .b) (sym (c .before .fits2 .ensures) ∙ not-true _ (c .if1 .taken))
 
--- src/lib.rt:107:9
 shifted-requires : tie.Need-shifted-requires
 shifted-requires c κs = search needs
 
--- src/lib.rt:109:34
 enum-told : tie.Need-enum-told
 enum-told c = search needs
 
--- src/lib.rt:109:34
 is-white-requires : tie.Need-is-white-requires
 is-white-requires c κs = search needs
 
--- src/lib.rt:110:52
 enum-told-2 : tie.Need-enum-told-2
 enum-told-2 c = search needs
 
--- src/lib.rt:111:50
 enum-told-3 : tie.Need-enum-told-3
 enum-told-3 c = search needs
 
--- src/lib.rt:112:46
 enum-told-4 : tie.Need-enum-told-4
 enum-told-4 c = search needs
 
--- src/lib.rt:113:54
 enum-told-5 : tie.Need-enum-told-5
 enum-told-5 c = search needs
 
--- src/lib.rt:114:48
 enum-told-6 : tie.Need-enum-told-6
 enum-told-6 c = search needs
 
--- src/lib.rt:115:52
 enum-told-7 : tie.Need-enum-told-7
 enum-told-7 c = search needs
 
--- src/lib.rt:101:1
 returns-2 : tie.Need-returns-2
 returns-2 c = later-last (c .before .before .before .before .before .before .args .left) (c .before .before .before .before .before .before .args .from) (c .before .before .before .before .before .before .args .code) (c .before .before .before .before .before .before .args .at) (c .before .before .before .before .before .before .args .b) (sym (c .before .before .before .before .before .fits2 .ensures) ∙ not-false _ (c .before .before .before .before .if1 .left)) (c .before .before .before .shifted .ensures) (ap moreOf (c .before .enum-told .given .1)) (c .is-white .ensures)
 
--- src/lib.rt:101:1
 returns-3 : tie.Need-returns-3
 returns-3 c = later-more (c .before .before .before .before .before .args .left) (c .before .before .before .before .before .args .from) (c .before .before .before .before .before .args .code) (c .before .before .before .before .before .args .at) (c .before .before .before .before .before .args .b) (sym (c .before .before .before .before .fits2 .ensures) ∙ not-false _ (c .before .before .before .if1 .left)) (c .before .before .shifted .ensures) 0 (ap moreOf (c .enum-told2 .given .1))
 
--- src/lib.rt:101:1
 returns-4 : tie.Need-returns-4
 returns-4 c = later-more (c .before .before .before .before .before .args .left) (c .before .before .before .before .before .args .from) (c .before .before .before .before .before .args .code) (c .before .before .before .before .before .args .at) (c .before .before .before .before .before .args .b) (sym (c .before .before .before .before .fits2 .ensures) ∙ not-false _ (c .before .before .before .if1 .left)) (c .before .before .shifted .ensures) 0 (ap moreOf (c .enum-told3 .given .1))
 
--- src/lib.rt:101:1
 returns-5 : tie.Need-returns-5
 returns-5 c = later-more (c .before .before .before .before .before .args .left) (c .before .before .before .before .before .args .from) (c .before .before .before .before .before .args .code) (c .before .before .before .before .before .args .at) (c .before .before .before .before .before .args .b) (sym (c .before .before .before .before .fits2 .ensures) ∙ not-false _ (c .before .before .before .if1 .left)) (c .before .before .shifted .ensures) 0 (ap moreOf (c .enum-told4 .given .1))
 
--- src/lib.rt:101:1
 returns-6 : tie.Need-returns-6
 returns-6 c = later-more (c .before .before .before .before .before .args .left) (c .before .before .before .before .before .args .from) (c .before .before .before .before .before .args .code) (c .before .before .before .before .before .args .at) (c .before .before .before .before .before .args .b) (sym (c .before .before .before .before .fits2 .ensures) ∙ not-false _ (c .before .before .before .if1 .left)) (c .before .before .shifted .ensures) 1 (ap moreOf (c .enum-told5 .given .1))
 
--- src/lib.rt:101:1
 returns-7 : tie.Need-returns-7
 returns-7 c = later-more (c .before .before .before .before .before .args .left) (c .before .before .before .before .before .args .from) (c .before .before .before .before .before .args .code) (c .before .before .before .before .before .args .at) (c .before .before .before .before .before .args .b) (sym (c .before .before .before .before .fits2 .ensures) ∙ not-false _ (c .before .before .before .if1 .left)) (c .before .before .shifted .ensures) 1 (ap moreOf (c .enum-told6 .given .1))
 
--- src/lib.rt:101:1
 returns-8 : tie.Need-returns-8
 returns-8 c = later-more (c .before .before .before .before .before .args .left) (c .before .before .before .before .before .args .from) (c .before .before .before .before .before .args .code) (c .before .before .before .before .before .args .at) (c .before .before .before .before .before .args .b) (sym (c .before .before .before .before .fits2 .ensures) ∙ not-false _ (c .before .before .before .if1 .left)) (c .before .before .shifted .ensures) 1 (ap moreOf (c .enum-told7 .given .1))
 

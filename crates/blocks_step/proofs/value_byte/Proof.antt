@@ -1,22 +1,17 @@
+-- `blocks_step::value_byte` meets its contract. Assumes nothing.
 use Rattle.blocks_step.specs.Lean.{moves}
 use Rattle.lists.proofs.Prelude.{eq-eqb, ne-eqb}
-use borrow.Author.Needs.{needs}
 use Rattle.blocks_step.proofs.value_byte.Statement.{statement}
 use Rattle.blocks_step.proofs.value_byte.Tie as tie
-use Rattle.blocks_step.proofs.value_byte.Reads as reads
-use Rattle.blocks_step.proofs.value_byte.Lts as lts
 
--- src/lib.rt:212:9
 returns : tie.Need-returns
 unfolding moves
 returns c = rw (eq-eqb _ 0x5d (c .if1 .taken))
 
--- src/lib.rt:218:9
 returns-2 : tie.Need-returns-2
 unfolding moves
 returns-2 c = rw (ne-eqb _ 0x5d (c .before .if1 .left), eq-eqb _ 0x5c (c .if2 .taken))
 
--- src/lib.rt:208:1
 returns-3 : tie.Need-returns-3
 unfolding moves
 returns-3 c = rw (ne-eqb _ 0x5d (c .before .if1 .left), ne-eqb _ 0x5c (c .if2 .left))
