@@ -42,6 +42,7 @@ static unsigned long operations, accepted, refusals[NUMBERS_END];
 
 /* What a fuzzer is told beside the code that was reached: which call gave which number, and sizes by their bits. */
 enum { READ, WALK, FITS, VALUE, DISPLAY, DISPLAY_VALUE, GO_VALUE, GO_BY_RULE, SIZE, ENTRY, SIMPLE_VALUE, SIMPLE_PROPERTY, WRITE, EDIT, SESSION, CALLS };
+enum { READ, WALK, FITS, VALUE, DISPLAY, DISPLAY_VALUE, GO_VALUE, GO_PROPERTY, WRITE, EDIT, LOOKUP, CORRECT, CALLS };
 #ifdef FUZZER
 __attribute__((section("__libfuzzer_extra_counters")))
 #endif
@@ -395,6 +396,80 @@ static void session(void) {
         for (int t = 0; t < TABLES; t++) {
             REQUIRE(memcmp(way % 2 == 0 ? first[t] : last[t], lent[t].at, lent[t].length) == 0);
         }
+/* A feed of up to three corrections from value k on, in the lent bytes; now and then damaged. */
+static void make_feed(size_t k) {
+    uint8_t feed[NEW], new[NEW];
+    uint32_t count = draw(4);
+    size_t at = sgf_feed_begin(count, feed, sizeof feed).length;
+    for (uint32_t i = 0; i < count; i++) {
+        size_t length = make(new, 100, 4, draw(3) == 2 ? WORDS : GOOD);
+        SgfWriting w = sgf_feed_add(k + i, new, length, feed + at, sizeof feed - at);
+        REQUIRE(w.number == 0 || w.number == 14 || w.number == 24);
+        at += w.length;
+    }
+    if (at > 0 && draw(3) == 2) {
+        feed[draw((uint32_t)at)] = (uint8_t)draw(256);
+    }
+    lend(&lent[NEWS], at, draw(4) == 3);
+    memcpy(lent[NEWS].at, feed, at);
+}
+
+static const uint32_t FEED_MAY = UINT32_C(1) << 19 | UINT32_C(1) << 24 | 1 << 16 | 1 << 17 | 1 << 2 | 1 << 18;
+
+/* The lookup, the check and the find agree. */
+static void lookup(size_t k) {
+    make_feed(draw((uint32_t)(counts.values % TEXT) + 2));
+    remember_all();
+    SgfCheck c = sgf_feed_check(RECORD, BYTES(NEWS));
+    SgfPart p = sgf_corrected(RECORD, BYTES(NEWS), k), f = sgf_feed_find(BYTES(NEWS), k);
+    REQUIRE(f.number == 0 && f.place == 0 && f.from <= f.to && f.to <= lent[NEWS].length);
+    REQUIRE(c.place == 0 || (c.number == 2 && c.place < lent[NEWS].length));
+    if (!answered(LOOKUP, p.number, FEED_MAY, 0)) {
+        REQUIRE(p.source == 0 && p.from == 0 && p.to == 0 && (c.number == 0 ? p.number == 16 : p.number == c.number && p.place == c.place));
+        return;
+    }
+    REQUIRE(c.number == 0 && p.place == 0 && p.source == f.source && p.from <= p.to);
+    if (p.source == SGF_FROM_FEED) {
+        REQUIRE(p.from == f.from && p.to == f.to);
+    } else {
+        SgfSpan span = sgf_value(RECORD, k);
+        REQUIRE(p.from == span.from && p.to == span.to);
+    }
+}
+
+/* A feed applied: every value's bytes are what the lookup handed out. */
+static void correct(size_t k) {
+    make_feed(k % TEXT);
+    uint8_t handed[NEW + TEXT];
+    size_t old_used = used, asked = draw((uint32_t)(counts.values % TEXT) + 1), length = 0;
+    SgfPart p = sgf_corrected(RECORD, BYTES(NEWS), asked);
+    if (p.number == 0) {
+        length = p.to - p.from;
+        REQUIRE(length <= sizeof handed);
+        memcpy(handed, lent[p.source == SGF_FROM_FEED ? NEWS : TEXTS].at + p.from, length);
+    }
+    remember_all();
+    SgfEdit e = sgf_correct(RECORD, BYTES(NEWS));
+    REQUIRE(e.place == 0 || (e.number == 2 && e.place < lent[NEWS].length));
+    if (!answered(CORRECT, e.number, FEED_MAY | MAY(14), MAY(TEXTS) | MAY(PROPERTIES) | MAY(VALUES))) {
+        REQUIRE(e.used == 0 && same_counts(e.counts, (SgfCounts){0, 0, 0, 0}));
+        return;
+    }
+    REQUIRE(same_counts(e.counts, counts) && sgf_feed_check(RECORD, BYTES(NEWS)).reserved == 0);
+    used = e.used;
+    stays_but(TEXTS, 0, used > old_used ? used : old_used);
+    stays_but(PROPERTIES, 0, 16 * counts.properties);
+    stays_but(VALUES, 0, 8 * counts.values);
+    for (size_t at = used; at < old_used; at++) {
+        REQUIRE(lent[TEXTS].at[at] == 0);
+    }
+    if (p.number == 0) {
+        SgfSpan span = sgf_value(RECORD, asked);
+        REQUIRE(span.number == 0 && span.to - span.from == length && memcmp(lent[TEXTS].at + span.from, handed, length) == 0);
+    }
+    tell(CORRECT, 1, used > old_used ? used - old_used : 0);
+    if (is_strict) {
+        check_fresh();
     }
 }
 
@@ -525,6 +600,8 @@ static void call(int what) {
     case SIZE: size(draw(8) == 7 ? k : k % 4); break;
     case WRITE: write_text(); break;
     case SESSION: session(); break;
+    case LOOKUP: lookup(k); break;
+    case CORRECT: correct(k); break;
     default: edit(k); break;
     }
 }

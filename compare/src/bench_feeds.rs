@@ -36,8 +36,9 @@ pub fn run() {
         let values = read.counts.values;
         println!("{} bytes, {values} values, {} properties", text.len(), read.counts.properties);
         for k in [1, 10, 100, 1_000] {
-            let corrections: Vec<(usize, &[u8])> =
-                (0..k).map(|i| (2 + i * (values - 3) / k, if i % 2 == 0 { &b"a longer value than the old one"[..] } else { b"x" })).collect();
+            let corrections: Vec<(usize, &[u8])> = (0..k)
+                .map(|i| (2 + i * (values - 3) / k, if i % 2 == 0 { &b"a longer value than the old one"[..] } else { b"x" }))
+                .collect();
             let mut feed = count_bytes(k);
             corrections.iter().for_each(|(v, new)| feed.extend(correction_bytes(*v, new)));
             let fitting = least(5, || {

@@ -23,7 +23,8 @@ pub fn compare(text: &[u8]) -> Result<(), String> {
             _ => rng.below(3),
         };
         let Some(mut whole) = Whole::read(text, mode, room)? else { return Ok(()) };
-        one(&mut rng, &mut whole, mode, &feed).map_err(|e| format!("feed {turn}, {:?}, room {room}, {e}", feed.escape_ascii().to_string()))?;
+        one(&mut rng, &mut whole, mode, &feed)
+            .map_err(|e| format!("feed {turn}, {:?}, room {room}, {e}", feed.escape_ascii().to_string()))?;
         count(1);
     }
     Ok(())
@@ -115,7 +116,11 @@ fn one(rng: &mut Rng, whole: &mut Whole, mode: Mode, feed: &[u8]) -> Result<(), 
                 same("a value after", whole.raw(k), &bytes[..])?;
             }
             same("tables that fit", crate::held::fits(&whole.held()), 0)?;
-            if mode == Mode::Strict { compare_fresh(whole) } else { Ok(()) }
+            if mode == Mode::Strict {
+                compare_fresh(whole)
+            } else {
+                Ok(())
+            }
         }
     }
 }

@@ -240,6 +240,29 @@ static void check_edit(void) {
     CHECK(edit(0, "").number == SGF_NOT_FITTING);
 }
 
+static void check_feed(void) {
+    read_text("(;C[ab];B[cd])", sgf_read_strict, 0);
+    uint8_t feed[16];
+    SgfWriting w = sgf_feed_begin(2, feed, sizeof feed);
+    CHECK(w.number == 0 && w.reserved == 0 && w.length == 1);
+    CHECK(sgf_feed_add(0, (const uint8_t *)"xyz", 3, feed + 1, 4).number == SGF_NO_ROOM);
+    CHECK(sgf_feed_add(268435456, feed, 0, feed + 1, 15).number == SGF_MALFORMED_FEED);
+    CHECK(sgf_feed_add(0, (const uint8_t *)"xyz", 3, feed + 1, 15).length == 5 && sgf_feed_add(1, feed, 0, feed + 6, 10).length == 2);
+    CHECK(memcmp(feed, "\2\0\3xyz\1\0", 8) == 0);
+    SgfCheck c = sgf_feed_check(RECORD, feed, 8);
+    CHECK(c.number == 0 && c.reserved == 0 && c.place == 0);
+    SgfPart p = sgf_corrected(RECORD, feed, 8, 0);
+    CHECK(p.number == 0 && p.source == SGF_FROM_FEED && p.place == 0 && p.from == 3 && p.to == 6);
+    p = sgf_feed_find(feed, 8, 2);
+    CHECK(p.number == 0 && p.source == SGF_FROM_RECORD && p.from == 0 && p.to == 0);
+    CHECK(sgf_corrected(RECORD, feed, 8, 2).number == SGF_NO_SUCH_NUMBER && sgf_corrected(RECORD, feed, 7, 0).number == SGF_MALFORMED_FEED);
+    SgfEdit e = sgf_correct(RECORD, feed, 7);
+    CHECK(e.number == SGF_MALFORMED_FEED && e.used == 0);
+    e = sgf_correct(RECORD, feed, 8);
+    CHECK(e.number == 0 && e.reserved == 0 && e.place == 0 && e.used == 13 && has(e.counts, 1, 2, 2, 2));
+    CHECK(memcmp(text, "(;C[xyz];B[])\0", 14) == 0 && values[0] == 4 && values[1] == 7 && values[2] == 11 && values[3] == 11);
+}
+
 int main(void) {
     check_version();
     check_tokens();
@@ -249,6 +272,7 @@ int main(void) {
     check_sizes();
     check_writing();
     check_edit();
+    check_feed();
     printf("layout: %d checks, %d failures\n", checks, failures);
     return failures != 0;
 }

@@ -17,7 +17,9 @@ fn answer(text: &str, feed: &[u8]) -> (u32, usize) {
 #[test]
 fn smallest() {
     let text = "(;C[ab];B[cd])";
-    for feed in [&[][..], &[0, 0], &[1], &[2, 1, 0, 1, 0], &[0x80, 0], &[0x80, 0x80, 0x80, 0x80, 1], &[0xff, 0xff, 0xff, 0x7f], &[2, 9, 0, 1]] {
+    for feed in
+        [&[][..], &[0, 0], &[1], &[2, 1, 0, 1, 0], &[0x80, 0], &[0x80, 0x80, 0x80, 0x80, 1], &[0xff, 0xff, 0xff, 0x7f], &[2, 9, 0, 1]]
+    {
         assert_eq!(answer(text, feed), (24, 0), "{feed:?}");
     }
     assert_eq!(answer(text, &[0]), (0, 0));
