@@ -16,7 +16,7 @@ use Rattle.go_size.specs.declared.RootSize.the-variants.{Wrong}
 use Rattle.board_path.specs.Way.{wayTo}
 use Rattle.board_path.proofs.Ways.{way-root, way-split}
 use Rattle.board.specs.Answer.{nodeProperties, wayProperties, treeOver, isGoNode, saidSize, isWrong, columnsBy, rowsBy, wayRight, wayNumber, boardNumber, refusedBoard, PlayedBoard, SizedBoard, BoardIs}
-use Rattle.board.specs.Locals.{SidesRight, Walk, WayAnswer}
+use Rattle.board.specs.Locals.{SidesRight, WayWalk, WayAnswer}
 use Rattle.board.specs.declared.SgfBoard.{SgfBoard}
 use Rattle.board.proofs.Sizes.{size-small}
 use Rattle.board.proofs.Trees.{Rooted, tree-rooted}
@@ -71,7 +71,7 @@ module _ (m : Memory) (k : ℕ) where
           pub root-row : root < length (m .nodes) / nodeStride
           root-row = let i = rooted .inside in let b = f .held .nodes in let e = root-is in omega arith
 
-          pub walk-to : Walk (m .nodes) root k (m .counts .nodes)
+          pub walk-to : WayWalk (m .nodes) root k (m .counts .nodes)
           walk-to =
               record {
                 ruled = ruled;

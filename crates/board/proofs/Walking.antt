@@ -20,7 +20,7 @@ use Rattle.board_path.specs.LocalsNext.{NextIs}
 use Rattle.board_path.proofs.Nexts.{Linked, next-way}
 use Rattle.board_path.proofs.Ways.{way-child, way-root, way-split}
 use Rattle.board.specs.Answer.{wayRight, wayActs, refusedBoard, shownBoard, posIn, Shows}
-use Rattle.board.specs.Locals.{startState, Walk, WayAnswer}
+use Rattle.board.specs.Locals.{startState, WayWalk, WayAnswer}
 use Rattle.board.specs.declared.SgfBoard.{SgfBoard}
 use Rattle.board.proofs.Next.{wrong-node, right-node}
 use Rattle.board.proofs.Ways.{steps-then, right-one, acts-one, right-front}
@@ -80,7 +80,7 @@ module _ (w h : ℕ) (nd : List ℕ) (P : ℕ → List Property) (k : ℕ) where
     root-refused e g =
         refused-way (off-way root o (ap (λ (z : List ℕ). wayRight w h (map P z)) root-way ∙ right-one w h [] (P root) true false refl (wrong-node f e))) g
 
-  module _ {n root at to : ℕ} {b : List ℕ} {s : State} (walk : Walk nd root k n) (y : Walked at b s) (before : at < k) (move : NextIs nd at k to) where
+  module _ {n root at to : ℕ} {b : List ℕ} {s : State} (walk : WayWalk nd root k n) (y : Walked at b s) (before : at < k) (move : NextIs nd at k to) where
     to-next : (parentAt nd to ≡ at) × (onPath nd k to ≡ true)
     to-next =
         let l = walk .ruled .most in

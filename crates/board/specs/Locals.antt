@@ -20,7 +20,7 @@ pub record SidesRight (w h : ℕ) : Type 0 where
   pub rows : h < 53
 
 -- the links of n nodes are right, and the root is on the path of k
-pub record Walk (nd : List ℕ) (root k n : ℕ) : Type 0 where
+pub record WayWalk (nd : List ℕ) (root k n : ℕ) : Type 0 where
   pub ruled : Ruled nd n
   pub rows : n ≤ length nd / nodeStride
   pub children : each n (childRight nd n) ≡ true

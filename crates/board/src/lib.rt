@@ -9,7 +9,7 @@ ghost use Rattle.tables.specs.Memory.{memory};
 ghost use Rattle.board_node.specs.Answer.{positionOf, answerOf, NodeIs};
 ghost use Rattle.board_path.specs.Way.{wayTo};
 ghost use Rattle.board.specs.Answer.{treeOver, nodeProperties, refusedBoard, shownBoard, BoardIs, NextBoardIs};
-ghost use Rattle.board.specs.Locals.{startState, SidesRight, Walk, WayAnswer};
+ghost use Rattle.board.specs.Locals.{startState, SidesRight, WayWalk, WayAnswer};
 use board_acts::State;
 use board_acts::Sums;
 use board_node::Turn;
@@ -162,7 +162,7 @@ fn play_way(
     root: usize,
     k: usize,
 ) -> SgfBoard
-    requires { ⌜ SidesRight columns rows × Walk (now nodes) root k n ⌝ }
+    requires { ⌜ SidesRight columns rows × WayWalk (now nodes) root k n ⌝ }
     ensures { λ r. ⌜ WayAnswer columns rows
         (map (nodeProperties (now (text .entry)) (now (nodes .entry)) (now (properties .entry)) (now (values .entry))) (wayTo (now (nodes .entry)) k)) r ⌝ }
 {

@@ -16,7 +16,7 @@ use Rattle.feed_laid.proofs.OverMemory.{named}
 use Rattle.feed_laid.proofs.Places.{sum-more}
 use Rattle.feed_laws.specs.Corrected.{newBytes, correctedText, correctedRows}
 use Rattle.feed_laws.proofs.Lengths.{laid-length}
-use Rattle.feed_apply.specs.LocalsSizes.{oldSize, grownTo, shrunkTo, spannedTo, movedBy, movedVal, movedProp, Spread, NamesStand}
+use Rattle.feed_apply.specs.LocalsSizes.{oldSize, grownTo, shrunkTo, spannedTo, sizeMoved, movedVal, movedProp, Spread, NamesStand}
 use Rattle.feed_apply.proofs.Measuring.{spread, new-sum}
 use Rattle.feed_apply.proofs.Sizes.{spanned-more, spanned-none, spanned-low, shrunk-spanned}
 use Rattle.feed_apply.proofs.Sweeping.{used-is}
@@ -67,7 +67,7 @@ module _ (m : Memory) (fit : Fit m ≡ true) (w : List ℕ) where
 
   -- ---- places
 
-  moved-is : (k p : ℕ) → k ≤ n → spannedTo vl k ≤ p → movedBy vl w k p ≡ shift a e (newBytes m w) k p
+  moved-is : (k p : ℕ) → k ≤ n → spannedTo vl k ≤ p → sizeMoved vl w k p ≡ shift a e (newBytes m w) k p
   unfolding shift spannedTo
   moved-is k p l h = omega (arith, new-sum m fit w k l, h)
 

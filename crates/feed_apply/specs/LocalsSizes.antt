@@ -29,19 +29,19 @@ unfoldable pub spannedTo : List ℕ → ℕ → ℕ
 spannedTo vl k = sum (λ j. oldSize vl j) k
 
 -- where a place behind the first k values, and before the next, then stands
-abbrev pub movedBy : List ℕ → (feed : List ℕ) → (k place : ℕ) → ℕ
-movedBy vl w k p = p + grownTo vl w k - shrunkTo vl w k
+abbrev pub sizeMoved : List ℕ → (feed : List ℕ) → (k place : ℕ) → ℕ
+sizeMoved vl w k p = p + grownTo vl w k - shrunkTo vl w k
 
 -- a value's row moved
 abbrev pub movedVal : List ℕ → (feed : List ℕ) → ℕ → ValRow
-movedVal vl w j = record { from = movedBy vl w j (valFromAt vl j); to = movedBy vl w (suc j) (valToAt vl j) }
+movedVal vl w j = record { from = sizeMoved vl w j (valFromAt vl j); to = sizeMoved vl w (suc j) (valToAt vl j) }
 
 -- a property's
 abbrev pub movedProp : (pr vl feed : List ℕ) → ℕ → PropRow
 movedProp pr vl w p =
     record {
-      from = movedBy vl w (firstValAt pr p) (nameFromAt pr p);
-      to = movedBy vl w (firstValAt pr p) (nameToAt pr p);
+      from = sizeMoved vl w (firstValAt pr p) (nameFromAt pr p);
+      to = sizeMoved vl w (firstValAt pr p) (nameToAt pr p);
       first = firstValAt pr p;
       count = valCountAt pr p;
     }
