@@ -41,8 +41,7 @@ enum { NUMBERS_END = 25 };
 static unsigned long operations, accepted, refusals[NUMBERS_END];
 
 /* What a fuzzer is told beside the code that was reached: which call gave which number, and sizes by their bits. */
-enum { READ, WALK, FITS, VALUE, DISPLAY, DISPLAY_VALUE, GO_VALUE, GO_BY_RULE, SIZE, ENTRY, SIMPLE_VALUE, SIMPLE_PROPERTY, WRITE, EDIT, SESSION, CALLS };
-enum { READ, WALK, FITS, VALUE, DISPLAY, DISPLAY_VALUE, GO_VALUE, GO_PROPERTY, WRITE, EDIT, LOOKUP, CORRECT, CALLS };
+enum { READ, WALK, FITS, VALUE, DISPLAY, DISPLAY_VALUE, GO_VALUE, GO_BY_RULE, SIZE, ENTRY, SIMPLE_VALUE, SIMPLE_PROPERTY, WRITE, EDIT, SESSION, LOOKUP, CORRECT, CALLS };
 #ifdef FUZZER
 __attribute__((section("__libfuzzer_extra_counters")))
 #endif
@@ -396,6 +395,9 @@ static void session(void) {
         for (int t = 0; t < TABLES; t++) {
             REQUIRE(memcmp(way % 2 == 0 ? first[t] : last[t], lent[t].at, lent[t].length) == 0);
         }
+    }
+}
+
 /* A feed of up to three corrections from value k on, in the lent bytes; now and then damaged. */
 static void make_feed(size_t k) {
     uint8_t feed[NEW], new[NEW];
