@@ -2,6 +2,8 @@
 extern crate sgf_parse;
 
 mod bench;
+#[cfg(not(stand_in))]
+mod bench_blocks;
 mod bench_records;
 mod bench_values;
 #[cfg(not(stand_in))]
@@ -57,6 +59,11 @@ fn run() -> bool {
         Some("store-tokens") => {
             stored::write(&folder.unwrap_or_else(|| Path::new(env!("CARGO_MANIFEST_DIR")).join("../crates/cases_tokens")))
         }
+        #[cfg(not(stand_in))]
+        Some("bench-blocks") => {
+            bench_blocks::run();
+            true
+        }
         Some("bench-values") => {
             bench_values::run();
             true
@@ -67,7 +74,7 @@ fn run() -> bool {
             true
         }
         _ => {
-            eprintln!("usage: compare short [SUBJECT] | long [SUBJECT] | store-tokens [DIR] | bench | bench-values");
+            eprintln!("usage: compare short [SUBJECT] | long [SUBJECT] | store-tokens [DIR] | bench | bench-values | bench-blocks");
             false
         }
     }

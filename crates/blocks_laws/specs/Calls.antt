@@ -27,7 +27,8 @@ atStart =
 -- blocks taken one after another: each call gets the state and the rows that the one before left
 pub data BlockCalls : State → List ℕ → List (List ℕ) → State → List ℕ → Type 0 where
   noMore : {s : State} {t : List ℕ} → BlockCalls s t [] s t
-  oneMore : {s : State} {t x t1 : List ℕ} {r : Blocked} {xs : List (List ℕ)} {s′ : State} {t′ : List ℕ} → BlockIs s x t r t1 → BlockCalls (r .state) t1 xs s′ t′ → BlockCalls s t (x ∷ xs) s′ t′
+  oneMore : {s : State} {t x t1 : List ℕ} {r : Blocked} {xs : List (List ℕ)} {s′ : State} {t′ : List ℕ}
+      → BlockIs s x t r t1 → BlockCalls (r .state) t1 xs s′ t′ → BlockCalls s t (x ∷ xs) s′ t′
 
 -- the joined text
 abbrev pub joinedText : List (List ℕ) → List ℕ
