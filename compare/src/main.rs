@@ -3,6 +3,7 @@ extern crate sgf_parse;
 
 mod bench;
 #[cfg(not(stand_in))]
+mod bench_blocks;
 mod bench_board;
 mod bench_feeds;
 mod bench_records;
@@ -75,6 +76,10 @@ fn run() -> bool {
             bench_feeds::run();
             true
         }
+        Some("bench-blocks") => {
+            bench_blocks::run();
+            true
+        }
         Some("bench-values") => {
             bench_values::run();
             true
@@ -90,7 +95,7 @@ fn run() -> bool {
             true
         }
         _ => {
-            eprintln!("usage: compare short [SUBJECT] | long [SUBJECT] | store-tokens [DIR] | bench | bench-values | bench-board");
+            eprintln!("usage: compare short [SUBJECT] | long [SUBJECT] | store-tokens [DIR] | bench | bench-values | bench-board | bench-feeds | bench-blocks");
             false
         }
     }
