@@ -21,7 +21,7 @@
  * is its place, but for numbers 2 to 5. After acceptance, what lies behind the counts given back stays as well,
  * except for the bytes that sgf_edit sets to 0. Fields called `reserved` are always 0.
  *
- * Stack: sgf_go_value 11.4 KB, sgf_write 8.8 KB, sgf_go_by_rule 8.5 KB, sgf_read_strict and sgf_read_lenient 5 KB, the others at most 0.5 KB.
+ * Stack: sgf_go_value 11.4 KB, sgf_write 8.8 KB, sgf_go_by_rule 8.5 KB, sgf_read_strict and sgf_read_lenient 5 KB, the others at most 0.6 KB.
  */
 #ifndef SGF_H
 #define SGF_H
