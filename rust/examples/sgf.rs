@@ -1,5 +1,5 @@
 //! `write`, `show` and `same` as the script `sgf` has them, for records of up to 1 MiB.
-use ekimorepa::{Error, GameType, GoValue, Move, Node, Property, Record, Section, TEXT_LIMIT, Tree, parse, parse_lenient};
+use ekimorepa::{BoardSize, Error, GameType, GoValue, Move, Node, Property, Record, Section, TEXT_LIMIT, Tree, parse, parse_lenient};
 use std::ffi::{OsStr, OsString};
 use std::fs::File;
 use std::io::{Read, Write, stdin, stdout};
@@ -72,7 +72,12 @@ fn show_tree(tree: Tree) -> String {
     let main_line: Vec<String> = tree.root().main_variation().flat_map(Node::properties).filter_map(shown).collect();
     let lines: Vec<String> = main_line.chunks(10).map(|line| format!("  {}", line.join(", "))).collect();
     let end = if lines.is_empty() { "" } else { "\n" };
-    format!("tree {number}: Go, nodes {nodes}, depth {depth}, moves {moves}\n{}{end}", lines.join(",\n"))
+    let board = match tree.size() {
+        BoardSize::Absent => "19 by 19".to_string(),
+        BoardSize::Sized(columns, rows) => format!("{columns} by {rows}"),
+        BoardSize::Wrong => "board unclear".to_string(),
+    };
+    format!("tree {number}: Go, {board}, nodes {nodes}, depth {depth}, moves {moves}\n{}{end}", lines.join(",\n"))
 }
 
 /// How many properties of a tree are of each section of FF[4], a line, if it has any.

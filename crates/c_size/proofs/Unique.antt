@@ -2,6 +2,7 @@
 use Rattle.lists.proofs.Prelude.{ℕ, _≡_, List}
 use Rattle.lists.specs.Once.{Once}
 use Rattle.lists.proofs.Once.{once-is}
+use Rattle.tables.specs.Columns.{gameAt}
 use Rattle.tables.specs.Memory.{Memory}
 use Rattle.go_size.specs.declared.RootSize.{RootSize}
 use Rattle.fit_rule.specs.Rule.{ruleBy, sizeAt, ruleAt}
@@ -10,6 +11,9 @@ use Rattle.c_size.specs.declared.SgfSize.{SgfSize}
 
 pub rule-of-once : (game : ℕ) (size : RootSize) → Once (λ (r : ℕ). r ≡ ruleBy game size)
 rule-of-once game size = once-is (ruleBy game size)
+
+pub game-at-once : (tr : List ℕ) (r : ℕ) → Once (λ (g : ℕ). g ≡ gameAt tr r)
+game-at-once tr r = once-is (gameAt tr r)
 
 module _ (text tr nd pr vl : List ℕ) (r : ℕ) where
   pub size-at-once : Once (λ (s : RootSize). s ≡ sizeAt text tr nd pr vl r)

@@ -11,7 +11,7 @@ use Rattle.go_size.specs.declared.RootSize.the-variants.{Absent, Sized, Wrong}
 use Rattle.fit_rule.specs.Rule.{sizeOfTree, ruleOf}
 use Rattle.c_size.specs.declared.SgfSize.{SgfSize}
 
--- kind 0 no SZ, 1 one valid SZ, 2 an SZ that is repeated or invalid; columns and rows, 19 where there is no SZ, 0 where it is wrong (SCOPE 176)
+-- kind 0 no SZ, 1 one valid SZ, 2 an SZ that is repeated or invalid; columns and rows, 19 where there is no SZ, 0 where it is wrong (SCOPE 243)
 abbrev pub sizeInC : RootSize → (rule : ℕ) → SgfSize
 sizeInC Absent rule = record { number = 0; kind = 0; columns = 19; rows = 19; rule = rule }
 sizeInC (Sized x y) rule = record { number = 0; kind = 1; columns = x; rows = y; rule = rule }
@@ -25,7 +25,7 @@ noSizeInC n = record { number = n; kind = 0; columns = 0; rows = 0; rule = 0 }
 abbrev pub noTree : Tree
 noTree = record { root = 0; game = 0; nodes = [] }
 
--- 19 where the tables don't fit the text; then 16 where r is not below the count; else the size and the rule of tree r (SCOPE 176)
+-- 19 where the tables don't fit the text; then 16 where r is not below the count; else the size and the rule of tree r (SCOPE 243)
 unfoldable pub treeSizeInC : Memory → ℕ → SgfSize
 treeSizeInC m r =
     pick (Fit m)

@@ -76,7 +76,7 @@ pub fn size_by_rows(
         (ruleAt (now (text .entry)) (now (trees .entry)) (now (nodes .entry)) (now (properties .entry)) (now (values .entry)) r) ⌝ }
 {
     let size = fit_rule::size_at(text, trees, nodes, properties, values, r);
-    let rule = fit_rule::rule_at(text, trees, nodes, properties, values, r);
+    let rule = fit_rule::rule_of(fit_rule::game_at(trees, r), size);
     in_c(size, rule)
 }
 

@@ -10,7 +10,7 @@ use Rattle.go_size.specs.Root.{sizeIn}
 use Rattle.go_size.specs.declared.RootSize.{RootSize}
 use Rattle.go_size.specs.declared.RootSize.the-variants.{Absent, Sized, Wrong}
 
--- `tt` is a pass where there is no SZ, or one valid SZ with both sides at most 19; not where SZ is repeated or invalid (SCOPE 173, 174)
+-- `tt` is a pass where there is no SZ, or one valid SZ with both sides at most 19; not where SZ is repeated or invalid (SCOPE 240)
 unfoldable pub ttPasses : RootSize → Bool
 ttPasses Absent = true
 ttPasses (Sized x y) = leb x 19 && leb y 19
@@ -29,7 +29,7 @@ abbrev pub firstProps : List Node → List Prop
 firstProps [] = []
 firstProps (n ∷ ns) = n .props
 
--- the size that the root of a tree says (SCOPE 174)
+-- the size that the root of a tree says (SCOPE 241)
 unfoldable pub sizeOfTree : Tree → RootSize
 sizeOfTree t = sizeIn (map propertyOf (firstProps (t .nodes)))
 

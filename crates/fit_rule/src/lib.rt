@@ -29,7 +29,7 @@ pub fn rule_of(game: u32, size: RootSize) -> u32
 }
 
 // The game type of tree r; 0 where it has no row.
-fn game_at(trees: &[u32], r: usize) -> u32
+pub fn game_at(trees: &[u32], r: usize) -> u32
     ensures { λ g. ⌜ g ≡ gameAt (now (trees .entry)) r ⌝ }
 {
     if trees.len() / tables::TREE_STRIDE <= r {

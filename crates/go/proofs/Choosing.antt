@@ -7,7 +7,7 @@ use Rattle.values.specs.Decimal.{decimalOf}
 use Rattle.go_points.specs.Area.{moveOf}
 use Rattle.parts.specs.Rows.{valueAt, valuesAt}
 use Rattle.go_shape.specs.Shape.{shapeOf}
-use Rattle.go.specs.Value.{isGo, played, oneBy, unmarked, pointsOf, valueBy, goValue}
+use Rattle.go.specs.Value.{isGo, moveUnder, oneBy, unmarked, pointsOf, valueBy, goValue}
 use Rattle.go_points.specs.Handicap.{handicapOf}
 use Rattle.go.specs.declared.value.GoValue.{GoValue}
 use Rattle.go_shape.specs.declared.Shape.{Shape}
@@ -56,15 +56,15 @@ module _ (rule : ℕ) (text vals : List ℕ) (first count : ℕ) where
 
   pub by-many : (s : Shape) → OneOf (0 ∷ 1 ∷ 2 ∷ []) (tagOf shape.the-type s) → (s ≡ ManyPoints → ⊥) → (count ≡ 1 → ⊥) → Invalid ≡ valueBy rule s vs .value
   unfolding valueBy
-  by-many OneMove h m n = none-or-many (λ v. played rule (moveOf (readValue v))) text vals first count n
+  by-many OneMove h m n = none-or-many (λ v. moveUnder rule (moveOf (readValue v))) text vals first count n
   by-many OneNumber h m n = none-or-many (λ v. handicapOf (decimalOf (2 ^ 63 - 1) (readValue v))) text vals first count n
   by-many ManyPoints h m n = absurd (m refl)
   by-many Unread h m n = absurd (miss (0 ∷ 1 ∷ 2 ∷ []) 3 tt h)
 
   module _ {v : List ℕ} {x : Value} (h : count ≡ 1) (q : v ≡ valueAt text vals (first + 0)) where
-    pub by-move : {s : Shape} → s ≡ OneMove → x ≡ played rule (moveOf (readValue v)) → x ≡ valueBy rule s vs .value
+    pub by-move : {s : Shape} → s ≡ OneMove → x ≡ moveUnder rule (moveOf (readValue v)) → x ≡ valueBy rule s vs .value
     unfolding valueBy
-    by-move e m = m ∙ one-only (λ v. played rule (moveOf (readValue v))) text vals first count h q ∙ ap (λ (z : Shape). valueBy rule z vs .value) (sym e)
+    by-move e m = m ∙ one-only (λ v. moveUnder rule (moveOf (readValue v))) text vals first count h q ∙ ap (λ (z : Shape). valueBy rule z vs .value) (sym e)
 
     pub by-number : (s : Shape) → OneOf (0 ∷ 1 ∷ 2 ∷ []) (tagOf shape.the-type s) → OneOf (1 ∷ 2 ∷ 3 ∷ []) (tagOf shape.the-type s) → (s ≡ ManyPoints → ⊥)
         → x ≡ handicapOf (decimalOf (2 ^ 63 - 1) (readValue v)) → x ≡ valueBy rule s vs .value

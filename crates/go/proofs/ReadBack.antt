@@ -6,7 +6,7 @@ use Rattle.go_points.specs.Area.{moveOf}
 use Rattle.go.specs.Marks.{allGood, inSome, marksOf}
 use Rattle.go.specs.Normal.{normalBy, normal}
 use Rattle.go_shape.specs.Shape.{shapeOf}
-use Rattle.go.specs.Value.{isGo, played, noMarks, unmarked, areasOf, pointsOf, valueBy, goValue}
+use Rattle.go.specs.Value.{isGo, moveUnder, noMarks, unmarked, areasOf, pointsOf, valueBy, goValue}
 use Rattle.go_points.specs.Handicap.{handicapOf}
 use Rattle.go.specs.declared.value.GoValue.{GoValue}
 use Rattle.go_shape.specs.declared.Shape.{Shape}
@@ -21,11 +21,11 @@ use Rattle.go.proofs.Shapes.{Moved, Numbered, moves, numbers, moves-mov
 -- ---- each shape reads back
 
 moves-back : (rule : ℕ) (v : Value) (ms : List Bool) (vs : List (List ℕ)) → moves rule vs ≡ v → Moved rule v → moves rule (normalBy v ms vs) ≡ v
-unfolding normalBy readFrom moveOf played
+unfolding normalBy readFrom moveOf moveUnder
 moves-back rule Other ms vs e h = e
 moves-back rule Invalid ms vs e h = e
 moves-back rule Pass ms vs e h = refl
-moves-back rule (Move x y) ms vs e h = ap (played rule) (move-back x y (omega (arith, h .0)) (omega (arith, h .1))) ∙ rw (h .2)
+moves-back rule (Move x y) ms vs e h = ap (moveUnder rule) (move-back x y (omega (arith, h .0)) (omega (arith, h .1))) ∙ rw (h .2)
 moves-back rule (Handicap n) ms vs e h = absurd h
 moves-back rule Points ms vs e h = absurd h
 

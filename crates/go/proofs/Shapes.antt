@@ -8,7 +8,7 @@ use Rattle.values.specs.declared.decimal.Number.the-variants.{Bad, Plus, Minus}
 use Rattle.values.proofs.Bounds.{Within, decimal-within}
 use Rattle.go_points.specs.Area.{letterOf, moveTo, moveOf}
 use Rattle.go.specs.Marks.{allGood, inSome, marksOf}
-use Rattle.go.specs.Value.{played, oneBy, unmarked, marked, areasOf, pointsOf}
+use Rattle.go.specs.Value.{moveUnder, oneBy, unmarked, marked, areasOf, pointsOf}
 use Rattle.go_points.specs.Handicap.{handicapOf}
 use Rattle.go_points.specs.declared.Value.{Value}
 use Rattle.go_points.specs.declared.Value.the-variants.{Other, Invalid, Pass, Move, Handicap, Points}
@@ -27,17 +27,17 @@ Moved rule (Handicap n) = ⊥
 Moved rule Points = ⊥
 
 module _ (rule : ℕ) where
-  point-moved : (x y : ℕ) → x ≤ 51 → y ≤ 51 → Moved rule (played rule (Move x y))
-  unfolding played
+  point-moved : (x y : ℕ) → x ≤ 51 → y ≤ 51 → Moved rule (moveUnder rule (Move x y))
+  unfolding moveUnder
   point-moved x y p q = pick-elim (Moved rule) (ttGone rule x y) (λ e. tt) (λ e. (p, q, e))
 
-  move-moved : (l : List ℕ) → Moved rule (played rule (moveOf l))
-  unfolding moveOf moveTo played
+  move-moved : (l : List ℕ) → Moved rule (moveUnder rule (moveOf l))
+  unfolding moveOf moveTo moveUnder
   move-moved [] = tt
   move-moved (a ∷ []) = tt
   move-moved (a ∷ b ∷ []) = go (leb (letterOf a) 51) (leb (letterOf b) 51) refl refl
     where
-      go : (p q : Bool) → leb (letterOf a) 51 ≡ p → leb (letterOf b) 51 ≡ q → Moved rule (played rule (pick (p && q) (Move (letterOf a) (letterOf b)) Invalid))
+      go : (p q : Bool) → leb (letterOf a) 51 ≡ p → leb (letterOf b) 51 ≡ q → Moved rule (moveUnder rule (pick (p && q) (Move (letterOf a) (letterOf b)) Invalid))
       go true true e f = point-moved (letterOf a) (letterOf b) (leb-true (letterOf a) 51 e) (leb-true (letterOf b) 51 f)
       go true false e f = tt
       go false q e f = tt
@@ -63,13 +63,13 @@ one-holds P f p q (v ∷ []) = q v
 one-holds P f p q (v ∷ w ∷ ws) = p
 
 abbrev pub moves : (rule : ℕ) → List (List ℕ) → Value
-moves rule vs = oneBy (λ v. played rule (moveOf (readValue v))) vs
+moves rule vs = oneBy (λ v. moveUnder rule (moveOf (readValue v))) vs
 
 abbrev pub numbers : List (List ℕ) → Value
 numbers vs = oneBy (λ v. handicapOf (decimalOf (2 ^ 63 - 1) (readValue v))) vs
 
 pub moves-moved : (rule : ℕ) (vs : List (List ℕ)) → Moved rule (moves rule vs)
-moves-moved rule vs = one-holds (Moved rule) (λ v. played rule (moveOf (readValue v))) tt (λ v. move-moved rule (readValue v)) vs
+moves-moved rule vs = one-holds (Moved rule) (λ v. moveUnder rule (moveOf (readValue v))) tt (λ v. move-moved rule (readValue v)) vs
 
 pub numbers-numbered : (vs : List (List ℕ)) → Numbered (numbers vs)
 numbers-numbered vs =

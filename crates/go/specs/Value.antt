@@ -17,14 +17,14 @@ use Rattle.go.specs.declared.value.GoValue.{GoValue}
 abbrev pub isGo : ℕ → Bool
 isGo rule = eqb rule 0 || eqb rule 2
 
--- a move under a rule: the point (19, 19), which only `tt` reads as, is a pass where the rule is 0 (SCOPE 173)
-unfoldable pub played : (rule : ℕ) → Value → Value
-played rule Other = Other
-played rule Invalid = Invalid
-played rule Pass = Pass
-played rule (Move x y) = pick (eqb rule 0 && (eqb x 19 && eqb y 19)) Pass (Move x y)
-played rule (Handicap n) = Handicap n
-played rule Points = Points
+-- a move under a rule: the point (19, 19), which only `tt` reads as, is a pass where the rule is 0 (SCOPE 240)
+unfoldable pub moveUnder : (rule : ℕ) → Value → Value
+moveUnder rule Other = Other
+moveUnder rule Invalid = Invalid
+moveUnder rule Pass = Pass
+moveUnder rule (Move x y) = pick (eqb rule 0 && (eqb x 19 && eqb y 19)) Pass (Move x y)
+moveUnder rule (Handicap n) = Handicap n
+moveUnder rule Points = Points
 
 -- one value by f (SCOPE 98)
 abbrev pub oneBy : (List ℕ → Value) → List (List ℕ) → Value
@@ -54,7 +54,7 @@ pointsOf vs = pick (allGood (areasOf vs)) (marked (marksOf (inSome (areasOf vs))
 
 -- a move under the rule, a number of stones, a set of points, or "other"
 unfoldable pub valueBy : (rule : ℕ) → Shape → List (List ℕ) → GoValue
-valueBy rule OneMove vs = unmarked (oneBy (λ v. played rule (moveOf (readValue v))) vs)
+valueBy rule OneMove vs = unmarked (oneBy (λ v. moveUnder rule (moveOf (readValue v))) vs)
 valueBy rule OneNumber vs = unmarked (oneBy (λ v. handicapOf (decimalOf (2 ^ 63 - 1) (readValue v))) vs)
 valueBy rule ManyPoints vs = pointsOf vs
 valueBy rule Unread vs = unmarked Other

@@ -2,7 +2,7 @@
 ghost use mathlib.Core.Path.{_≡_};
 ghost use Rattle.values.specs.Read.{readIdentifier};
 ghost use Rattle.parts.specs.Rows.{valuesAt};
-ghost use Rattle.go.specs.Value.{isGo, played, unmarked, valueBy, goValue};
+ghost use Rattle.go.specs.Value.{isGo, moveUnder, unmarked, valueBy, goValue};
 use go_points::Value;
 use go_shape::Shape;
 
@@ -32,7 +32,7 @@ fn is_go(rule: u32) -> bool
 
 // A move under a rule: the point (19, 19) is a pass where the rule is 0.
 fn play(rule: u32, v: Value) -> Value
-    ensures { λ r. ⌜ r ≡ played rule v ⌝ }
+    ensures { λ r. ⌜ r ≡ moveUnder rule v ⌝ }
 {
     let Value::Move(x, y) = v else {
         return v;

@@ -7,7 +7,7 @@ use Rattle.tables.specs.Numbers.{none}
 use Rattle.go.specs.Normal.{normal}
 use Rattle.parts.specs.Rows.{valuesAt}
 use Rattle.go_shape.proofs.Identifiers.{letter-past, letter-here}
-use Rattle.tables.specs.Columns.{parentAt, firstPropAt, propCountAt, nameFromAt, nameToAt, firstValAt, valCountAt}
+use Rattle.tables.specs.Columns.{gameAt, parentAt, firstPropAt, propCountAt, nameFromAt, nameToAt, firstValAt, valCountAt}
 use Rattle.lists.proofs.Tests.{same-or}
 use Rattle.tables.proofs.Each.{each-at, each-all}
 use Rattle.fit_spans.proofs.Lists.{part-slice}
@@ -15,8 +15,10 @@ use Rattle.fit_nodes.proofs.Rule.{rule-at, rule-before}
 use Rattle.fit_nodes.specs.Nodes.{parentRight}
 use Rattle.fit_nodes.specs.Locals.{Ruled}
 use Rattle.serialize.specs.Locals.{Placed, Above, NodesHeld}
-use Rattle.serialize.specs.LocalsWalk.{texts, rootsBelow, nodeRule, readNameAt, valuesText, propText, propsText, startText, endsBefore, nodeBy, nodeText, linksText, hasName}
-use Rattle.fit_rule.specs.Rule.{ruleAt}
+use Rattle.serialize.specs.LocalsWalk.{texts, rootsBelow, ruleTold, readNameAt, valuesText, propText, propsText, startText, endsBefore, nodeBy, nodeText, linksText, hasName}
+use Rattle.lists.proofs.Pick.{pick-elim}
+use Rattle.go_size.specs.declared.RootSize.the-variants.{Absent}
+use Rattle.fit_rule.specs.Rule.{ttPasses, ruleBy, sizeAt, ruleAt}
 use Rattle.serialize_values.specs.LocalsForm.{rawsText}
 use Rattle.serialize_values.proofs.Writing.{writing-first, writing-is, writing-next, writing-last}
 use Rattle.tables.specs.LocalsNames.{NameHeld}
@@ -79,30 +81,49 @@ module _ (nd : List ℕ) (k : ℕ) {r : ℕ} (e : r ≡ rootsBelow nd k) where
 pub roots-next : (nd : List ℕ) (k : ℕ) {r : ℕ} → r ≡ rootsBelow nd (suc k) → r ≡ rootsBelow nd (k + 1)
 roots-next nd k e = e ∙ ap (rootsBelow nd) (sym (add-one k))
 
-module _ (t tr nd pr vl : List ℕ) (k : ℕ) where
-  pub rule-asked : (roots rule : ℕ) {r : ℕ} → parentAt nd k ≡ none → r ≡ ruleAt t tr nd pr vl roots → r ≡ pick (eqb (parentAt nd k) none) (ruleAt t tr nd pr vl roots) rule
+-- what is asked at a root, and kept for the nodes behind it
+module _ (ask : ℕ → ℕ) (nd : List ℕ) (k : ℕ) where
+  pub rule-asked : (roots rule : ℕ) {r : ℕ} → parentAt nd k ≡ none → r ≡ ask roots → r ≡ pick (eqb (parentAt nd k) none) (ask roots) rule
   rule-asked roots rule h e = rw (eq-eqb (parentAt nd k) none h) e
 
-  pub rule-stays : (roots rule : ℕ) → (parentAt nd k ≡ none → ⊥) → rule ≡ pick (eqb (parentAt nd k) none) (ruleAt t tr nd pr vl roots) rule
+  pub rule-stays : (roots rule : ℕ) → (parentAt nd k ≡ none → ⊥) → rule ≡ pick (eqb (parentAt nd k) none) (ask roots) rule
   rule-stays roots rule h = rw (ne-eqb (parentAt nd k) none h)
 
-  -- the rule of a node's tree, asked at its root; node 0 is a root
-  pub rule-kept : {roots rule r : ℕ} → Ruled nd (suc k) → roots ≡ rootsBelow nd k → (0 < k → rule ≡ ruleAt t tr nd pr vl (rootsBelow nd k - 1))
-      → r ≡ pick (eqb (parentAt nd k) none) (ruleAt t tr nd pr vl roots) rule → r ≡ nodeRule t tr nd pr vl k
+  -- node 0 is a root
+  pub rule-kept : {roots rule r : ℕ} → Ruled nd (suc k) → roots ≡ rootsBelow nd k → (0 < k → rule ≡ ask (rootsBelow nd k - 1))
+      → r ≡ pick (eqb (parentAt nd k) none) (ask roots) rule → r ≡ ask (rootsBelow nd (suc k) - 1)
   rule-kept {roots} {rule} {r} x e before h =
       same-or (parentAt nd k) none
       (λ p.
-      let a : r ≡ ruleAt t tr nd pr vl roots = h ∙ rw (eq-eqb (parentAt nd k) none p) in
+      let a : r ≡ ask roots = h ∙ rw (eq-eqb (parentAt nd k) none p) in
       let b : roots ≡ rootsBelow nd (suc k) - 1 = omega (arith, roots-more nd k e p) in
-      a ∙ ap (ruleAt t tr nd pr vl) b)
+      a ∙ ap ask b)
       (λ p.
       let a : r ≡ rule = h ∙ rw (ne-eqb (parentAt nd k) none p) in
       let z : 0 < k = rule-at x k (omega arith) p .0 in
       let b : rootsBelow nd k ≡ rootsBelow nd (suc k) = roots-same nd k refl p in
-      a ∙ before z ∙ ap (λ (n : ℕ). ruleAt t tr nd pr vl (n - 1)) b)
+      a ∙ before z ∙ ap (λ (n : ℕ). ask (n - 1)) b)
 
-  pub rule-next : {r : ℕ} → r ≡ nodeRule t tr nd pr vl k → 0 < k + 1 → r ≡ ruleAt t tr nd pr vl (rootsBelow nd (k + 1) - 1)
-  rule-next e h = e ∙ ap (λ (n : ℕ). ruleAt t tr nd pr vl (rootsBelow nd n - 1)) (sym (add-one k))
+  pub rule-next : {r : ℕ} → r ≡ ask (rootsBelow nd (suc k) - 1) → 0 < k + 1 → r ≡ ask (rootsBelow nd (k + 1) - 1)
+  rule-next e h = e ∙ ap (λ (n : ℕ). ask (rootsBelow nd n - 1)) (sym (add-one k))
+
+module _ (t tr nd pr vl : List ℕ) (r : ℕ) where
+  pub told-asked : {b : Bool} {k : ℕ} → b ≡ true → k ≡ ruleAt t tr nd pr vl r → k ≡ ruleTold b t tr nd pr vl r
+  unfolding ruleTold
+  told-asked h e = rw h e
+
+  pub told-game : {b : Bool} {g k : ℕ} → b ≡ false → g ≡ gameAt tr r → k ≡ ruleBy g Absent → k ≡ ruleTold b t tr nd pr vl r
+  unfolding ruleTold
+  told-game h e f = rw (h, ← e) f
+
+  -- what is written by it, of a node that both rules of Go write the same
+  pub told-writes : (b : Bool) (w : ℕ → List ℕ) → (b ≡ false → w 0 ≡ w 2) → w (ruleTold b t tr nd pr vl r) ≡ w (ruleAt t tr nd pr vl r)
+  unfolding ruleTold ruleAt ruleBy ttPasses
+  told-writes true w h = refl
+  told-writes false w h =
+      same-or (gameAt tr r) 0
+      (λ e. rw (eq-eqb (gameAt tr r) 0 e) (pick-elim (λ (n : ℕ). w 0 ≡ w n) (ttPasses (sizeAt t tr nd pr vl r)) (λ z. refl) (λ z. h refl)))
+      (λ e. rw (ne-eqb (gameAt tr r) 0 e))
 
 -- ---- a node
 
@@ -143,8 +164,10 @@ unfolding nodeBy
 node-wrote t nd pr vl rule k s l a b c d = writing-last d (writing-next c (writing-next b (writing-next a (writing-first (nodeBy t nd pr vl rule k) _ _ s l))))
 
 -- its rule is that of its tree
-pub node-ruled : (t tr nd pr vl : List ℕ) (k : ℕ) {rule : ℕ} → rule ≡ nodeRule t tr nd pr vl k → nodeBy t nd pr vl rule k ≡ nodeText t tr nd pr vl k
-node-ruled t tr nd pr vl k h = ap (λ (z : ℕ). nodeBy t nd pr vl z k) h
+pub node-ruled : (b : Bool) (t tr nd pr vl : List ℕ) (k : ℕ) {rule : ℕ} → (b ≡ false → nodeBy t nd pr vl 0 k ≡ nodeBy t nd pr vl 2 k)
+    → rule ≡ ruleTold b t tr nd pr vl (rootsBelow nd (suc k) - 1) → nodeBy t nd pr vl rule k ≡ nodeText t tr nd pr vl k
+node-ruled b t tr nd pr vl k calm h =
+    ap (λ (z : ℕ). nodeBy t nd pr vl z k) h ∙ told-writes t tr nd pr vl (rootsBelow nd (suc k) - 1) b (λ z. nodeBy t nd pr vl z k) calm
 
 pub linked-wrote : (t tr nd pr vl : List ℕ) (n : ℕ) {o : List ℕ} {at : ℕ} {o1 : List ℕ} {r1 : ℕ} {o2 : List ℕ} {r2 : ℕ} → length o < 2 ^ 64
     → Wrote (texts (nodeText t tr nd pr vl) n) o at o1 r1 → Wrote (endsBefore nd n none) o1 r1 o2 r2 → Wrote (linksText t tr nd pr vl n) o at o2 r2

@@ -25,7 +25,7 @@ formProp k p = record { from = p .from; to = p .to; name = p .name; vals = map p
 abbrev pub formNode : (k : ℕ) → Node → Node
 formNode k n = record { parent = n .parent; props = map (formProp k) (n .props) }
 
--- a tree: the values of all its nodes by its one rule (SCOPE 175)
+-- a tree: the values of all its nodes by its one rule (SCOPE 242)
 abbrev pub formTree : Tree → Tree
 formTree t = record { root = t .root; game = t .game; nodes = map (formNode (ruleOf t)) (t .nodes) }
 

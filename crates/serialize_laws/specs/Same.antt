@@ -41,7 +41,7 @@ pub record SameNode (k : ℕ) (n m : Node) : Type 0 where
   pub parent : m .parent ≡ n .parent
   pub props : Pairs (SameProp k) (n .props) (m .props)
 
--- a tree: so that it has the rule by which it was written (SCOPE 121, 175)
+-- a tree: so that it has the rule by which it was written (SCOPE 121, 242)
 pub record SameTree (t u : Tree) : Type 0 where
   pub root : u .root ≡ t .root
   pub game : u .game ≡ t .game

@@ -11,7 +11,7 @@ use Rattle.go_points.specs.declared.Value.the-variants.{Other, Invalid, Pass, M
 use Rattle.go_shape.specs.Shape.{shapeOf}
 use Rattle.go.specs.Marks.{inRect, marksFrom, marksOf}
 use Rattle.go.specs.Normal.{pointsFrom, normalBy, normal}
-use Rattle.go.specs.Value.{played, pointsOf, valueBy, goValue}
+use Rattle.go.specs.Value.{moveUnder, pointsOf, valueBy, goValue}
 use Rattle.go_size.specs.Size.{sideOf, pairOf, sizeOf}
 use Rattle.go_size.specs.Root.{sizeOfValues, sizeIn}
 use Rattle.fit_rule.specs.Rule.{ttPasses, ruleBy, sizeOfTree, ruleOf}
@@ -35,7 +35,7 @@ sizeRow t p v w = record { text = t; property = p; value = v; writes = w }
 abbrev pub corner : Value
 corner = Move 19 19
 
--- a pass; a point; other values, lists and games (SCOPE 173 to 175)
+-- a pass; a point; other values, lists and games (SCOPE 240 to 242)
 abbrev pub sizeRows : List SizeRow
 sizeRows =
     sizeRow "(;B[tt])" 0 Pass "(;B[])"
@@ -69,26 +69,26 @@ sizeRows =
     ∷ []
 
 -- what is shown of a text
-pub record Sized : Type 0 where
+pub record SizeSays : Type 0 where
   pub value : Value
   pub writes : List ℕ
 
 -- by what was read
-abbrev pub sized : ℕ → Answer → Sized
-sized p (refused r n) = record { value = Other; writes = [] }
-sized p (accepted ts) = record { value = goAt ts p .value; writes = writing ts }
+abbrev pub sizeSays : ℕ → Answer → SizeSays
+sizeSays p (refused r n) = record { value = Other; writes = [] }
+sizeSays p (accepted ts) = record { value = goAt ts p .value; writes = writing ts }
 
 -- what reading and writing give, row by row
-abbrev pub sizesAnswered : List SizeRow → List Sized
+abbrev pub sizesAnswered : List SizeRow → List SizeSays
 sizesAnswered [] = []
-sizesAnswered (r ∷ rs) = sized (r .property) (read strict (bytes (r .text))) ∷ sizesAnswered rs
+sizesAnswered (r ∷ rs) = sizeSays (r .property) (read strict (bytes (r .text))) ∷ sizesAnswered rs
 
 -- what is wanted, row by row
-abbrev pub sizesWanted : List SizeRow → List Sized
+abbrev pub sizesWanted : List SizeRow → List SizeSays
 sizesWanted [] = []
 sizesWanted (r ∷ rs) = record { value = r .value; writes = bytes (r .writes) } ∷ sizesWanted rs
 
 -- each text is read and written as its row says
 pub sizes-right : sizesAnswered sizeRows ≡ sizesWanted sizeRows
-unfolding white space readFrom readIdentifier decimalOf digitsFrom digitOf letterOf letter moveTo moveOf cornered areaOf shapeOf inRect marksFrom marksOf pointsFrom normalBy normal played pointsOf valueBy goValue sideOf pairOf sizeOf sizeOfValues sizeIn ttPasses ruleBy sizeOfTree ruleOf
+unfolding white space readFrom readIdentifier decimalOf digitsFrom digitOf letterOf letter moveTo moveOf cornered areaOf shapeOf inRect marksFrom marksOf pointsFrom normalBy normal moveUnder pointsOf valueBy goValue sideOf pairOf sizeOf sizeOfValues sizeIn ttPasses ruleBy sizeOfTree ruleOf
 sizes-right = refl

@@ -1,12 +1,12 @@
 -- Values that are written as they are raw: one point, in two letters. Assumes nothing.
-use Rattle.lists.proofs.Prelude.{ℕ, zero, suc, _+_, _*_, _/_, _%_, _-_, _≤_, _<_, _≡_, refl, sym, ap, ap₂, _∙_, subst, Bool, true, false, _&&_, List, [], _∷_, arith, eqb, leb, length, getD, drop, set, length-set, replicate, length-replicate, leb-true, drop-cons, and-false}
+use Rattle.lists.proofs.Prelude.{ℕ, zero, suc, _+_, _*_, _/_, _%_, _-_, _≤_, _<_, _≡_, refl, sym, ap, ap₂, _∙_, subst, Bool, true, false, _&&_, List, [], _∷_, arith, eqb, leb, length, getD, drop, set, length-set, replicate, length-replicate, leb-true, drop-cons, and-false, eq-eqb, ne-eqb}
 use Rattle.lists.proofs.Pick.{pick-elim}
-use Rattle.lists.proofs.Tests.{and-both}
+use Rattle.lists.proofs.Tests.{and-both, same-or}
 use Rattle.values.specs.Read.{readValue}
 use Rattle.go_points.specs.Area.{letterOf, letter, moveOf}
 use Rattle.go_points.proofs.Letters.{move-back}
 use Rattle.go.specs.Normal.{pointText, pointsFrom, normalBy}
-use Rattle.go.specs.Value.{played, noMarks, unmarked, marked, pointsOf, valueBy}
+use Rattle.go.specs.Value.{moveUnder, noMarks, unmarked, marked, pointsOf, valueBy}
 use Rattle.go.specs.declared.value.GoValue.{GoValue}
 use Rattle.go.proofs.Listed.{points-back}
 use Rattle.go_shape.specs.declared.Shape.{Shape}
@@ -38,6 +38,14 @@ letter-forth b =
     let z : 0x41 + (b - 0x41 + 26 - 26) ≡ b = omega arith in
     sym (letter-high (b - 0x41 + 26) (omega arith)) ∙ z)
     (λ e h. absurd (omega arith)))
+
+-- the coordinate 19 is the letter `t`
+pub corner-byte : (b : ℕ) → letterOf b ≤ 51 → eqb (letterOf b) 19 ≡ eqb b 0x74
+unfolding letterOf letter
+corner-byte b h =
+    same-or (letterOf b) 19
+    (λ e. let f : b ≡ 0x74 = sym (letter-forth b h) ∙ ap letter e in rw (eq-eqb (letterOf b) 19 e, eq-eqb b 0x74 f))
+    (λ e. rw (ne-eqb (letterOf b) 19 e, ne-eqb b 0x74 (λ f. e (ap letterOf f))))
 
 as-letters : (v : List ℕ) → length v ≡ 2 → letterOf (getD v 0 0) ≤ 51 → letterOf (getD v 1 0) ≤ 51 → letter (letterOf (getD v 0 0)) ∷ letter (letterOf (getD v 1 0)) ∷ [] ≡ v
 as-letters [] l p q = absurd (omega arith)
@@ -76,9 +84,16 @@ module _ (v : List ℕ) (l : length v ≡ 2) {x y : ℕ} (ex : x ≡ letterOf (g
   letters : letter x ∷ letter y ∷ [] ≡ v
   letters = ap₂ (λ (m n : ℕ). letter m ∷ letter n ∷ []) ex ey ∙ as-letters v l (subst (λ (z : ℕ). z ≤ 51) ex p) (subst (λ (z : ℕ). z ≤ 51) ey q)
 
+  -- of two letters that are not `tt`
+  pub corner-none : eqb (getD v 0 0) 0x74 && eqb (getD v 1 0) 0x74 ≡ false → eqb x 19 && eqb y 19 ≡ false
+  corner-none h =
+      ap₂ (λ (m n : ℕ). eqb m 19 && eqb n 19) ex ey
+      ∙ ap₂ (λ (a b : Bool). a && b) (corner-byte (getD v 0 0) (subst (λ (z : ℕ). z ≤ 51) ex p)) (corner-byte (getD v 1 0) (subst (λ (z : ℕ). z ≤ 51) ey q))
+      ∙ h
+
   -- a point that is not `tt` is a point under every rule
-  point-played : eqb x 19 && eqb y 19 ≡ false → (rule : ℕ) → Move x y ≡ played rule (Move x y)
-  unfolding played
+  point-played : eqb x 19 && eqb y 19 ≡ false → (rule : ℕ) → Move x y ≡ moveUnder rule (Move x y)
+  unfolding moveUnder
   point-played h rule = rw (h, and-false)
 
   pub plain-move : {s : Shape} → s ≡ OneMove → eqb x 19 && eqb y 19 ≡ false → (rule : ℕ) → v ∷ [] ≡ formBy rule s (v ∷ [])
@@ -86,7 +101,7 @@ module _ (v : List ℕ) (l : length v ≡ 2) {x y : ℕ} (ex : x ≡ letterOf (g
   plain-move e h rule =
       let m : Move x y ≡ moveOf (readValue v) = sym (move-back x y (omega arith) (omega arith)) ∙ ap (λ (z : List ℕ). moveOf (readValue z)) letters in
       ap (λ (z : List ℕ). z ∷ []) (sym letters)
-      ∙ ap (λ (z : Value). normalBy z noMarks (v ∷ [])) (point-played h rule ∙ ap (played rule) m)
+      ∙ ap (λ (z : Value). normalBy z noMarks (v ∷ [])) (point-played h rule ∙ ap (moveUnder rule) m)
       ∙ ap (λ (z : Shape). formBy rule z (v ∷ [])) (sym e)
 
   pub plain-set : {s : Shape} → s ≡ ManyPoints → (rule : ℕ) → v ∷ [] ≡ formBy rule s (v ∷ [])

@@ -75,16 +75,14 @@ fn is_plain(shape: Shape, count: usize, value: &[u8]) -> bool
     if value.len() != 2 {
         return false;
     }
-    let x = go_points::letter_of(value[0]);
-    if 51 < x {
+    if 51 < go_points::letter_of(value[0]) {
         return false;
     }
-    let y = go_points::letter_of(value[1]);
-    if 51 < y {
+    if 51 < go_points::letter_of(value[1]) {
         return false;
     }
     match shape {
-        Shape::OneMove => !((x == 19) & (y == 19)),
+        Shape::OneMove => !((value[0] == b't') & (value[1] == b't')),
         Shape::ManyPoints => true,
         _ => false,
     }

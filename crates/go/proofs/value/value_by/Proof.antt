@@ -1,6 +1,6 @@
 -- `value::value_by` meets its contract. Assumes nothing.
 use Rattle.lists.proofs.Prelude.{ap, _∙_, needs}
-use Rattle.go.specs.Value.{played}
+use Rattle.go.specs.Value.{moveUnder}
 use Rattle.go.proofs.Choosing.{not-set, by-unread, by-set, by-many, by-move, by-number}
 use Rattle.go.proofs.value.value_by.Statement.{statement}
 use Rattle.go.proofs.value.value_by.Tie as tie
@@ -23,7 +23,7 @@ returns-3 c =
 returns-4 : tie.Need-returns-4
 returns-4 c =
     let args = c .before .before .before .before .before .before .before .before .before .before .args in
-    by-move (args .rule) (args .text .now) (args .vals .now) (args .first) (args .count) (c .before .before .before .before .before .if1 .left) (c .before .before .before .before .value-at .ensures) (c .before .before .enum-told3 .given .1) (c .play .ensures ∙ ap (played (args .rule)) (c .before .read-move .ensures))
+    by-move (args .rule) (args .text .now) (args .vals .now) (args .first) (args .count) (c .before .before .before .before .before .if1 .left) (c .before .before .before .before .value-at .ensures) (c .before .before .enum-told3 .given .1) (c .play .ensures ∙ ap (moveUnder (args .rule)) (c .before .read-move .ensures))
 
 returns-5 : tie.Need-returns-5
 returns-5 c =

@@ -2,18 +2,17 @@
 use Rattle.lists.proofs.Prelude.{_-_, _≤_, _<_, _≡_, refl, arith, needs}
 use Rattle.store_bytes.proofs.Written.{wrote-is, wrote-length}
 use Rattle.store_bytes.specs.LocalsWrote.{Wrote}
-use Rattle.fit_rule.specs.Rule.{ruleAt}
-use Rattle.serialize.specs.LocalsWalk.{texts, rootsBelow, nodeText}
+use Rattle.serialize.specs.LocalsWalk.{texts, rootsBelow, ruleTold, nodeText}
 use Rattle.serialize.proofs.Walked.{roots-next, rule-kept, rule-next, nodes-up, nodes-above, node-ruled, linked-wrote}
 use Rattle.serialize.proofs.Texts.{texts-none, texts-more, texts-end}
 use Rattle.serialize.proofs.walk.put_all.Statement.{statement}
 use Rattle.serialize.proofs.walk.put_all.Tie as tie
 
 abbrev Inv-loop : tie.InvT-loop
-Inv-loop out₀ text trees nodes n properties values to₀ roots₀ rule₀ k₀ out to roots rule k = (k ≤ n) × (roots ≤ k) × (roots ≡ rootsBelow nodes k) × (0 < k → rule ≡ ruleAt text trees nodes properties values (rootsBelow nodes k - 1)) × Wrote (texts (nodeText text trees nodes properties values) k) out₀ 0 out to
+Inv-loop out₀ text trees nodes n properties values corners to₀ roots₀ rule₀ k₀ out to roots rule k = (k ≤ n) × (roots ≤ k) × (roots ≡ rootsBelow nodes k) × (0 < k → rule ≡ ruleTold corners text trees nodes properties values (rootsBelow nodes k - 1)) × Wrote (texts (nodeText text trees nodes properties values) k) out₀ 0 out to
 
 abbrev μ-loop : tie.MeasureT-loop
-μ-loop out₀ text trees nodes n properties values to₀ roots₀ rule₀ k₀ out to roots rule k = n - k
+μ-loop out₀ text trees nodes n properties values corners to₀ roots₀ rule₀ k₀ out to roots rule k = n - k
 
 loop-holds : tie.Need-loop-holds Inv-loop μ-loop
 unfolding rootsBelow
@@ -22,15 +21,15 @@ loop-holds c =
     (omega arith, omega arith, refl, (λ l. absurd (omega arith)), texts-none (nodeText (args .text .now) (args .trees .now) (args .nodes .now) (args .properties .now) (args .values .now)) (args .out .now) 0 (omega arith))
 
 rule-with-requires : tie.Need-rule-with-requires Inv-loop μ-loop
-rule-with-requires c κs = omega (arith, c .before .before .before .before .before .before .before .before .pre .lent, c .loop-test .taken)
+rule-with-requires c κs = omega (arith, c .before .before .before .before .before .before .before .before .pre .0 .lent, c .loop-test .taken)
 
 roots-with-requires : tie.Need-roots-with-requires Inv-loop μ-loop
 roots-with-requires c κs =
     let loop = c .before .before .loop in
-    (omega (arith, c .before .before .before .before .before .before .before .before .before .pre .lent, c .before .loop-test .taken), loop .inv .1, loop .inv .2)
+    (omega (arith, c .before .before .before .before .before .before .before .before .before .pre .0 .lent, c .before .loop-test .taken), loop .inv .1, loop .inv .2)
 
 put-node-requires : tie.Need-put-node-requires Inv-loop μ-loop
-put-node-requires c κs = nodes-up (c .before .before .before .before .before .before .before .before .before .before .before .pre) (c .before .before .before .before .loop .k) (c .before .before .before .loop-test .taken)
+put-node-requires c κs = nodes-up (c .before .before .before .before .before .before .before .before .before .before .before .pre .0) (c .before .before .before .before .loop .k) (c .before .before .before .loop-test .taken)
 
 loop-again : tie.Need-loop-again Inv-loop μ-loop
 loop-again c =
@@ -39,11 +38,11 @@ loop-again c =
     let loop = c .before .before .before .before .before .before .before .loop in
     let below = c .before .before .before .before .before .before .loop-test .taken in
     let roots-with = c .before .before .before .before .roots-with in
-    let rule = rule-kept (args .text .now) (args .trees .now) (args .nodes .now) (args .properties .now) (args .values .now) (loop .k) (nodes-up (start .pre) (loop .k) below .ruled) (loop .inv .2) (loop .inv .3) (c .before .before .before .before .before .rule-with .ensures) in
-    (omega (arith, below), omega (arith, roots-with .ensures .1), roots-next (args .nodes .now) (loop .k) (roots-with .ensures .0), rule-next (args .text .now) (args .trees .now) (args .nodes .now) (args .properties .now) (args .values .now) (loop .k) rule, texts-more (nodeText (args .text .now) (args .trees .now) (args .nodes .now) (args .properties .now) (args .values .now)) (loop .k) (omega (arith, start .good)) (loop .inv .4) (wrote-is (node-ruled (args .text .now) (args .trees .now) (args .nodes .now) (args .properties .now) (args .values .now) (loop .k) rule) (c .before .before .put-node .ensures)))
+    let rule = rule-kept (ruleTold (args .corners) (args .text .now) (args .trees .now) (args .nodes .now) (args .properties .now) (args .values .now)) (args .nodes .now) (loop .k) (nodes-up (start .pre .0) (loop .k) below .ruled) (loop .inv .2) (loop .inv .3) (c .before .before .before .before .before .rule-with .ensures) in
+    (omega (arith, below), omega (arith, roots-with .ensures .1), roots-next (args .nodes .now) (loop .k) (roots-with .ensures .0), rule-next (ruleTold (args .corners) (args .text .now) (args .trees .now) (args .nodes .now) (args .properties .now) (args .values .now)) (args .nodes .now) (loop .k) rule, texts-more (nodeText (args .text .now) (args .trees .now) (args .nodes .now) (args .properties .now) (args .values .now)) (loop .k) (omega (arith, start .good)) (loop .inv .4) (wrote-is (node-ruled (args .corners) (args .text .now) (args .trees .now) (args .nodes .now) (args .properties .now) (args .values .now) (loop .k) (λ z. start .pre .1 z (loop .k) below) rule) (c .before .before .put-node .ensures)))
 
 put-ends-requires : tie.Need-put-ends-requires Inv-loop μ-loop
-put-ends-requires c κs = nodes-above (c .before .before .before .before .before .before .before .before .before .pre)
+put-ends-requires c κs = nodes-above (c .before .before .before .before .before .before .before .before .before .pre .0)
 
 same-length : tie.Need-same-length Inv-loop μ-loop
 same-length c =
