@@ -16,7 +16,7 @@ use Rattle.season_tally.specs.declared.Played.{Played}
 use Rattle.season_tally.specs.declared.Played.the-variants.{Black, White, Passed, Nothing}
 use Rattle.season_tally.specs.declared.Moves.{Moves}
 use Rattle.season_tally.specs.Tally.{movedBy, playedBy, isBlack, isWhite, isPassed}
-use Rattle.season_tally.specs.Locals.{playedAt, one, BelowAll, Counted, Goes, nextFirst}
+use Rattle.season_tally.specs.Locals.{playedAt, onePlayed, BelowAll, Counted, Goes, nextFirst}
 
 other-none : (name : List ℕ) → Nothing ≡ playedBy name Other
 unfolding playedBy
@@ -55,7 +55,7 @@ module _ (rule : ℕ) (text pr vl : List ℕ) (p : ℕ) where
   unfolding playedAt playedBy
   played-neither h k = rw (h, k)
 
-pub one-below : (m : Moves) (w : Played) (n : ℕ) → BelowAll m n → BelowAll (one m w) (n + 1)
+pub one-below : (m : Moves) (w : Played) (n : ℕ) → BelowAll m n → BelowAll (onePlayed m w) (n + 1)
 one-below m Black n b = let x = b .black in let y = b .white in let z = b .passes in record { black = omega arith; white = omega arith; passes = omega arith }
 one-below m White n b = let x = b .black in let y = b .white in let z = b .passes in record { black = omega arith; white = omega arith; passes = omega arith }
 one-below m Passed n b = let x = b .black in let y = b .white in let z = b .passes in record { black = omega arith; white = omega arith; passes = omega arith }
@@ -65,12 +65,12 @@ sum-one : (f : ℕ → ℕ) (n k : ℕ) → f n ≡ k → sum f (n + 1) ≡ sum 
 unfolding sum
 sum-one f n k e = rw (add-one, e)
 
-pub one-counted : (f : ℕ → Played) (n : ℕ) (m : Moves) (w : Played) → f n ≡ w → Counted f n m → Counted f (n + 1) (one m w)
+pub one-counted : (f : ℕ → Played) (n : ℕ) (m : Moves) (w : Played) → f n ≡ w → Counted f n m → Counted f (n + 1) (onePlayed m w)
 one-counted f n m w e c =
     go w (sum-one (λ p. isBlack (f p)) n (isBlack w) (ap isBlack e)) (sum-one (λ p. isWhite (f p)) n (isWhite w) (ap isWhite e)) (sum-one (λ p. isPassed (f p)) n (isPassed w) (ap isPassed e))
   where
     go : (w : Played) → sum (λ p. isBlack (f p)) (n + 1) ≡ sum (λ p. isBlack (f p)) n + isBlack w → sum (λ p. isWhite (f p)) (n + 1) ≡ sum (λ p. isWhite (f p)) n + isWhite w
-        → sum (λ p. isPassed (f p)) (n + 1) ≡ sum (λ p. isPassed (f p)) n + isPassed w → Counted f (n + 1) (one m w)
+        → sum (λ p. isPassed (f p)) (n + 1) ≡ sum (λ p. isPassed (f p)) n + isPassed w → Counted f (n + 1) (onePlayed m w)
     go Black x y z = let b = c .black in let d = c .white in let g = c .passes in record { black = omega arith; white = omega arith; passes = omega arith }
     go White x y z = let b = c .black in let d = c .white in let g = c .passes in record { black = omega arith; white = omega arith; passes = omega arith }
     go Passed x y z = let b = c .black in let d = c .white in let g = c .passes in record { black = omega arith; white = omega arith; passes = omega arith }
@@ -80,7 +80,7 @@ one-counted f n m w e c =
 pub goes-first : (g : ℕ → Played) (from : ℕ) (m : Moves) → BelowAll m from → Goes g from m from m
 goes-first g from m b = record { below = b; counted = λ f h c. c }
 
-pub goes-next : (g : ℕ → Played) (from : ℕ) (m : Moves) (p : ℕ) (m1 : Moves) (w : Played) → from ≤ p → w ≡ g p → Goes g from m p m1 → Goes g from m (p + 1) (one m1 w)
+pub goes-next : (g : ℕ → Played) (from : ℕ) (m : Moves) (p : ℕ) (m1 : Moves) (w : Played) → from ≤ p → w ≡ g p → Goes g from m p m1 → Goes g from m (p + 1) (onePlayed m1 w)
 goes-next g from m p m1 w l e x =
     record {
       below = one-below m1 w p (x .below);
@@ -114,7 +114,7 @@ module _ (tr nd : List ℕ) (m r n : ℕ) where
   unfolding nextFirst
   next-root h root f x y = rw (lt-ltb (r + 1) m h) (y ∙ ap (firstPropAt nd) x)
 
-pub goes-step : (g : ℕ → Played) (from : ℕ) (m : Moves) (p : ℕ) (m1 m2 : Moves) (w : Played) → from ≤ p → w ≡ g p → m2 ≡ one m1 w → Goes g from m p m1 → Goes g from m (p + 1) m2
+pub goes-step : (g : ℕ → Played) (from : ℕ) (m : Moves) (p : ℕ) (m1 m2 : Moves) (w : Played) → from ≤ p → w ≡ g p → m2 ≡ onePlayed m1 w → Goes g from m p m1 → Goes g from m (p + 1) m2
 goes-step g from m p m1 m2 w l e z x = subst (λ (y : Moves). Goes g from m (p + 1) y) (sym z) (goes-next g from m p m1 w l e x)
 
 pub goes-end : (g : ℕ → Played) (from : ℕ) (m : Moves) (p to : ℕ) (m1 : Moves) → p ≤ to → to ≤ p → Goes g from m p m1 → Goes g from m to m1

@@ -18,11 +18,11 @@ playedAt rule text pr vl p =
     playedBy name (goValue rule name (valuesAt text vl (firstValAt pr p) (valCountAt pr p)) .value)
 
 -- one property more
-abbrev pub one : Moves → Played → Moves
-one m Black = record { black = m .black + 1; white = m .white; passes = m .passes }
-one m White = record { black = m .black; white = m .white + 1; passes = m .passes }
-one m Passed = record { black = m .black; white = m .white; passes = m .passes + 1 }
-one m Nothing = m
+abbrev pub onePlayed : Moves → Played → Moves
+onePlayed m Black = record { black = m .black + 1; white = m .white; passes = m .passes }
+onePlayed m White = record { black = m .black; white = m .white + 1; passes = m .passes }
+onePlayed m Passed = record { black = m .black; white = m .white; passes = m .passes + 1 }
+onePlayed m Nothing = m
 
 -- none of the three is above n
 pub record BelowAll (m : Moves) (n : ℕ) : Type 0 where

@@ -54,7 +54,7 @@ isPassed White = 0
 isPassed Passed = 1
 isPassed Nothing = 0
 
--- trees, nodes; over all properties, moves of each colour that are points, and passes of either (SCOPE 180)
+-- trees, nodes; over all properties, moves of each colour that are points, and passes of either
 unfoldable pub tallyOf : List Tree → Tally
 tallyOf ts =
     let n = length (allProps (allNodes ts)) in

@@ -11,7 +11,7 @@ ghost use Rattle.go.specs.Value.{isGo};
 ghost use Rattle.fit.specs.Fit.{Fit};
 ghost use Rattle.fit.specs.Record.{recordIn};
 ghost use Rattle.season_tally.specs.Tally.{movedBy, countsAs, tallyOf, tallyAnswer};
-ghost use Rattle.season_tally.specs.Locals.{RootsLent, playedAt, nextFirst, one, Goes, Counted, BelowAll};
+ghost use Rattle.season_tally.specs.Locals.{RootsLent, playedAt, nextFirst, onePlayed, Goes, Counted, BelowAll};
 
 // What a property counts as: a move of a colour to a point, a pass of either, or nothing.
 pub enum Played {
@@ -82,7 +82,7 @@ fn played_at(rule: u32, text: &[u8], properties: &[u32], values: &[u32], p: usiz
 // One property more.
 fn add(moves: Moves, what: Played) -> Moves
     requires { ⌜ BelowAll moves (2 ^ 64 - 2) ⌝ }
-    ensures { λ r. ⌜ r ≡ one moves what ⌝ }
+    ensures { λ r. ⌜ r ≡ onePlayed moves what ⌝ }
 {
     match what {
         Played::Black => Moves {
@@ -176,7 +176,7 @@ fn count_moves(
 }
 
 // The tally of tables that are known to fit.
-pub fn count(
+fn count(
     text: &[u8],
     used: usize,
     counts: Counts,

@@ -1,7 +1,7 @@
 use borrow.Author.Needs.{needs}
 -- `season_tally::add` meets its contract. Assumes nothing.
 use Rattle.lists.proofs.Prelude.{ap, sym, needs, arith}
-use Rattle.season_tally.specs.Locals.{one}
+use Rattle.season_tally.specs.Locals.{onePlayed}
 use Rattle.season_tally.proofs.add.Statement.{statement}
 use Rattle.season_tally.proofs.add.Tie as tie
 use Rattle.season_tally.proofs.add.Reads as reads
@@ -37,19 +37,19 @@ enum-told-4 c = search needs
 
 -- src/lib.rt:83:1
 returns : tie.Need-returns
-returns c = sym (ap (one (c .before .before .before .args .moves)) (c .before .enum-told .given .1))
+returns c = sym (ap (onePlayed (c .before .before .before .args .moves)) (c .before .enum-told .given .1))
 
 -- src/lib.rt:83:1
 returns-2 : tie.Need-returns-2
-returns-2 c = sym (ap (one (c .before .before .before .args .moves)) (c .before .enum-told2 .given .1))
+returns-2 c = sym (ap (onePlayed (c .before .before .before .args .moves)) (c .before .enum-told2 .given .1))
 
 -- src/lib.rt:83:1
 returns-3 : tie.Need-returns-3
-returns-3 c = sym (ap (one (c .before .before .before .args .moves)) (c .before .enum-told3 .given .1))
+returns-3 c = sym (ap (onePlayed (c .before .before .before .args .moves)) (c .before .enum-told3 .given .1))
 
 -- src/lib.rt:83:1
 returns-4 : tie.Need-returns-4
-returns-4 c = sym (ap (one (c .before .before .args .moves)) (c .enum-told4 .given .1))
+returns-4 c = sym (ap (onePlayed (c .before .before .args .moves)) (c .enum-told4 .given .1))
 
 pub add-spec : {M : Type 1} → statement M
 add-spec =
