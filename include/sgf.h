@@ -24,7 +24,7 @@
  * One exception: rows lent to sgf_block and sgf_close are working room until the close. After a close that is accepted
  * the rows behind its count are 0, after one that is refused all rows; only number 20 leaves them as they were.
  *
- * Stack: sgf_board 24 KB, sgf_board_next 20 KB at most, sgf_go_value 11.4 KB, sgf_write 8.8 KB, sgf_go_by_rule 8.5 KB,
+ * Stack: sgf_board 25 KB, sgf_board_next 22 KB, sgf_go_value 11.4 KB, sgf_write 8.8 KB, sgf_go_by_rule 5.7 KB,
  * sgf_read_strict and sgf_read_lenient 5 KB, sgf_simple_value, sgf_simple_property and sgf_entry 2 KB, the others at
  * most 1 KB.
  */
