@@ -6,7 +6,8 @@
  *
  * Every lent array stands between fences (lent.h). After each call what it may not write is as it was, a refusal has
  * written nothing and its number is one that the call may give; tables of a reading fit; after an accepted edit of a
- * strict reading the tables are those of a fresh one; a writing reads back, and is written again as the same bytes.
+ * strict reading the tables are those of a fresh one; a session of edits is undone and redone, step by step, to the same
+ * used bytes and the same tables; a writing reads back, and is written again as the same bytes.
  * The process holds no more memory at the end than after a tenth of them. */
 #define _GNU_SOURCE
 #include "lent.h"
@@ -40,7 +41,7 @@ enum { NUMBERS_END = 25 };
 static unsigned long operations, accepted, refusals[NUMBERS_END];
 
 /* What a fuzzer is told beside the code that was reached: which call gave which number, and sizes by their bits. */
-enum { READ, WALK, FITS, VALUE, DISPLAY, DISPLAY_VALUE, GO_VALUE, GO_PROPERTY, WRITE, EDIT, CALLS };
+enum { READ, WALK, FITS, VALUE, DISPLAY, DISPLAY_VALUE, GO_VALUE, GO_BY_RULE, SIZE, ENTRY, SIMPLE_VALUE, SIMPLE_PROPERTY, WRITE, EDIT, SESSION, LOOKUP, CORRECT, CALLS };
 #ifdef FUZZER
 __attribute__((section("__libfuzzer_extra_counters")))
 #endif
@@ -326,6 +327,154 @@ static void edit(size_t k) {
     }
 }
 
+/* The states of a session: used texts, and the bytes of a value to come to the one before, or to the one behind. */
+enum { STEPS = 64 };
+static struct {
+    uint8_t text[TEXT + ROOM], bytes[TEXT + ROOM];
+    size_t used, value, length;
+} states[STEPS + 1];
+static uint8_t first[TABLES][4 * SGF_NODE_STRIDE * TEXT], last[TABLES][4 * SGF_NODE_STRIDE * TEXT];
+static unsigned long sessions, undone;
+
+static void keep_state(size_t at) {
+    states[at].used = used;
+    memcpy(states[at].text, lent[TEXTS].at, used);
+}
+
+/* Keeps the bytes of value k in a state. */
+static void keep_bytes(size_t at, size_t k) {
+    SgfSpan span = sgf_value(RECORD, k);
+    states[at].value = k;
+    states[at].length = span.to - span.from;
+    memcpy(states[at].bytes, lent[TEXTS].at + span.from, states[at].length);
+}
+
+/* Puts the bytes kept in a state, keeps there what they replace, and comes to the used text of state `to`. */
+static void put(size_t at, size_t to) {
+    static uint8_t bytes[TEXT + ROOM];
+    size_t k = states[at].value, length = states[at].length;
+    memcpy(bytes, states[at].bytes, length);
+    keep_bytes(at, k);
+    remember_all();
+    SgfEdit e = sgf_edit(RECORD, k, bytes, length);
+    REQUIRE(e.number == 0 && same_counts(e.counts, counts));
+    answered(SESSION, 0, 0, MAY(TEXTS) | MAY(PROPERTIES) | MAY(VALUES));
+    used = e.used;
+    REQUIRE(used == states[to].used && memcmp(lent[TEXTS].at, states[to].text, used) == 0);
+}
+
+/* A session of edits, undone, done again, and now and then undone once more; tables at either end are compared whole. */
+static void session(void) {
+    size_t steps = 0;
+    if (sgf_fits(RECORD) != 0 || counts.values == 0) {
+        return;
+    }
+    for (int t = 0; t < TABLES; t++) {
+        memcpy(first[t], lent[t].at, lent[t].length);
+    }
+    keep_state(0);
+    for (uint32_t left = draw(STEPS + 1); left > 0; left--) {
+        size_t k = draw((uint32_t)counts.values);
+        unsigned long before = accepted;
+        keep_bytes(steps, k);
+        edit(k);
+        if (accepted > before) {
+            keep_state(++steps);
+        }
+    }
+    tell(SESSION, 0, steps);
+    sessions += steps > 0;
+    undone += steps;
+    for (int t = 0; t < TABLES; t++) {
+        memcpy(last[t], lent[t].at, lent[t].length);
+    }
+    for (int way = 0, ways = 2 + (int)draw(2); way < ways; way++) {
+        for (size_t at = 0; at < steps; at++) {
+            way % 2 == 0 ? put(steps - 1 - at, steps - 1 - at) : put(at, at + 1);
+        }
+        for (int t = 0; t < TABLES; t++) {
+            REQUIRE(memcmp(way % 2 == 0 ? first[t] : last[t], lent[t].at, lent[t].length) == 0);
+        }
+    }
+}
+
+/* A feed of up to three corrections from value k on, in the lent bytes; now and then damaged. */
+static void make_feed(size_t k) {
+    uint8_t feed[NEW], new[NEW];
+    uint32_t count = draw(4);
+    size_t at = sgf_feed_begin(count, feed, sizeof feed).length;
+    for (uint32_t i = 0; i < count; i++) {
+        size_t length = make(new, 100, 4, draw(3) == 2 ? WORDS : GOOD);
+        SgfWriting w = sgf_feed_add(k + i, new, length, feed + at, sizeof feed - at);
+        REQUIRE(w.number == 0 || w.number == 14 || w.number == 24);
+        at += w.length;
+    }
+    if (at > 0 && draw(3) == 2) {
+        feed[draw((uint32_t)at)] = (uint8_t)draw(256);
+    }
+    lend(&lent[NEWS], at, draw(4) == 3);
+    memcpy(lent[NEWS].at, feed, at);
+}
+
+static const uint32_t FEED_MAY = UINT32_C(1) << 19 | UINT32_C(1) << 24 | 1 << 16 | 1 << 17 | 1 << 2 | 1 << 18;
+
+/* The lookup, the check and the find agree. */
+static void lookup(size_t k) {
+    make_feed(draw((uint32_t)(counts.values % TEXT) + 2));
+    remember_all();
+    SgfCheck c = sgf_feed_check(RECORD, BYTES(NEWS));
+    SgfPart p = sgf_corrected(RECORD, BYTES(NEWS), k), f = sgf_feed_find(BYTES(NEWS), k);
+    REQUIRE(f.number == 0 && f.place == 0 && f.from <= f.to && f.to <= lent[NEWS].length);
+    REQUIRE(c.place == 0 || (c.number == 2 && c.place < lent[NEWS].length));
+    if (!answered(LOOKUP, p.number, FEED_MAY, 0)) {
+        REQUIRE(p.source == 0 && p.from == 0 && p.to == 0 && (c.number == 0 ? p.number == 16 : p.number == c.number && p.place == c.place));
+        return;
+    }
+    REQUIRE(c.number == 0 && p.place == 0 && p.source == f.source && p.from <= p.to);
+    if (p.source == SGF_FROM_FEED) {
+        REQUIRE(p.from == f.from && p.to == f.to);
+    } else {
+        SgfSpan span = sgf_value(RECORD, k);
+        REQUIRE(p.from == span.from && p.to == span.to);
+    }
+}
+
+/* A feed applied: every value's bytes are what the lookup handed out. */
+static void correct(size_t k) {
+    make_feed(k % TEXT);
+    uint8_t handed[NEW + TEXT];
+    size_t old_used = used, asked = draw((uint32_t)(counts.values % TEXT) + 1), length = 0;
+    SgfPart p = sgf_corrected(RECORD, BYTES(NEWS), asked);
+    if (p.number == 0) {
+        length = p.to - p.from;
+        REQUIRE(length <= sizeof handed);
+        memcpy(handed, lent[p.source == SGF_FROM_FEED ? NEWS : TEXTS].at + p.from, length);
+    }
+    remember_all();
+    SgfEdit e = sgf_correct(RECORD, BYTES(NEWS));
+    REQUIRE(e.place == 0 || (e.number == 2 && e.place < lent[NEWS].length));
+    if (!answered(CORRECT, e.number, FEED_MAY | MAY(14), MAY(TEXTS) | MAY(PROPERTIES) | MAY(VALUES))) {
+        REQUIRE(e.used == 0 && same_counts(e.counts, (SgfCounts){0, 0, 0, 0}));
+        return;
+    }
+    REQUIRE(same_counts(e.counts, counts) && sgf_feed_check(RECORD, BYTES(NEWS)).reserved == 0);
+    used = e.used;
+    stays_but(TEXTS, 0, used > old_used ? used : old_used);
+    stays_but(PROPERTIES, 0, 16 * counts.properties);
+    stays_but(VALUES, 0, 8 * counts.values);
+    for (size_t at = used; at < old_used; at++) {
+        REQUIRE(lent[TEXTS].at[at] == 0);
+    }
+    if (p.number == 0) {
+        SgfSpan span = sgf_value(RECORD, asked);
+        REQUIRE(span.number == 0 && span.to - span.from == length && memcmp(lent[TEXTS].at + span.from, handed, length) == 0);
+    }
+    tell(CORRECT, 1, used > old_used ? used - old_used : 0);
+    if (is_strict) {
+        check_fresh();
+    }
+}
+
 static void write_text(void) {
     SgfWriting w = sgf_write(RECORD, BYTES(OUTS));
     if (answered(WRITE, w.number, MAY(19) | MAY(15) | MAY(14), MAY(OUTS))) {
@@ -379,12 +528,60 @@ static void go_value(size_t p) {
 }
 
 /* Any rows, which need not fit. */
-static void go_property(size_t first) {
+static void go_by_rule(size_t first) {
     size_t name = draw(4), length = lent[TEXTS].length;
-    uint32_t game = draw(2), count = draw(4);
-    SgfGoValue v = sgf_go_property(game, lent[TEXTS].at, name < length ? name : length, BYTES(TEXTS), NUMBERS(VALUES), first, count);
-    answered(GO_PROPERTY, v.number, 0, 0);
-    tell(GO_PROPERTY, 0, (size_t)1 << v.kind);
+    uint32_t rule = draw(4), count = draw(4);
+    SgfGoValue v = sgf_go_by_rule(rule, lent[TEXTS].at, name < length ? name : length, BYTES(TEXTS), NUMBERS(VALUES), first, count);
+    answered(GO_BY_RULE, v.number, 0, 0);
+    tell(GO_BY_RULE, 0, (size_t)1 << v.kind);
+}
+
+/* By its number, and by its rows, which need not fit. */
+static void size(size_t tree) {
+    SgfSize s = sgf_size(RECORD, tree);
+    SgfSize rows = sgf_tree_size(lent[TEXTS].at, used < lent[TEXTS].length ? used : lent[TEXTS].length, NUMBERS(TREES), NUMBERS(NODES),
+                                 NUMBERS(PROPERTIES), NUMBERS(VALUES), tree);
+    bool given = answered(SIZE, s.number, MAY(19) | MAY(16), 0);
+    REQUIRE(rows.number == 0 && rows.kind < 3 && rows.rule < 3 && rows.columns <= 52 && rows.rows <= 52);
+    REQUIRE((rows.columns == 0) == (rows.kind == SGF_SIZE_WRONG) && (rows.rows == 0) == (rows.kind == SGF_SIZE_WRONG));
+    REQUIRE(given ? memcmp(&s, &rows, sizeof s) == 0 : (s.kind | s.columns | s.rows | s.rule) == 0);
+    tell(SIZE, 0, (size_t)1 << (3 * rows.kind + rows.rule));
+}
+
+/* Any part of the text as an identifier. */
+static void entry(void) {
+    size_t length = lent[TEXTS].length, from = draw((uint32_t)length + 1), to = from + draw((uint32_t)(length - from) + 1);
+    SgfEntry e = sgf_entry(lent[TEXTS].at + from, to - from);
+    answered(ENTRY, 0, 0, 0);
+    tell(ENTRY, 0, (size_t)1 << e.section);
+    REQUIRE((e.kind == 0) == (e.section == 0) && e.kind <= SGF_KIND_FIGURE && e.type <= SGF_TYPE_INHERIT && e.section <= SGF_SECTION_GO);
+}
+
+static void is_simple(SgfSimple v) {
+    bool sized = v.kind == SGF_SIMPLE_DOUBLE || v.kind == SGF_SIMPLE_COLOR;
+    REQUIRE(v.reserved == 0 && v.kind <= SGF_SIMPLE_NUMBER && (v.number == 0 || v.kind == SGF_SIMPLE_OTHER));
+    REQUIRE(sized ? v.size == 1 || v.size == 2 : v.size == 0 || v.kind == SGF_SIMPLE_NUMBER);
+    REQUIRE(v.negative <= (v.kind == SGF_SIMPLE_NUMBER) && v.size <= (uint64_t)INT64_MAX + v.negative);
+}
+
+static void simple_value(size_t p) {
+    SgfSimple v = sgf_simple_value(RECORD, p);
+    answered(SIMPLE_VALUE, v.number, MAY(19) | MAY(16), 0);
+    tell(SIMPLE_VALUE, 0, (size_t)1 << v.kind);
+    is_simple(v);
+}
+
+/* Any rows, which need not fit. */
+static void simple_property(size_t first) {
+    static const char *names[] = {"TE", "PL", "KO", "MN", "HA", "C"};
+    size_t name = draw(4), length = lent[TEXTS].length;
+    uint32_t rule = draw(4), count = draw(4), listed = draw(8);
+    const uint8_t *identifier = listed < 6 ? (const uint8_t *)names[listed] : lent[TEXTS].at;
+    size_t identifier_len = listed < 6 ? strlen(names[listed]) : name < length ? name : length;
+    SgfSimple v = sgf_simple_property(rule, identifier, identifier_len, BYTES(TEXTS), NUMBERS(VALUES), first, count);
+    answered(SIMPLE_PROPERTY, v.number, 0, 0);
+    tell(SIMPLE_PROPERTY, 0, (size_t)1 << v.kind);
+    is_simple(v);
 }
 
 static void call(int what) {
@@ -398,17 +595,31 @@ static void call(int what) {
     case DISPLAY: display(k, draw(3)); break;
     case DISPLAY_VALUE: display_value(k, draw(3)); break;
     case GO_VALUE: go_value(k); break;
-    case GO_PROPERTY: go_property(k); break;
+    case ENTRY: entry(); break;
+    case SIMPLE_VALUE: simple_value(k); break;
+    case SIMPLE_PROPERTY: simple_property(k); break;
+    case GO_BY_RULE: go_by_rule(k); break;
+    case SIZE: size(draw(8) == 7 ? k : k % 4); break;
     case WRITE: write_text(); break;
+    case SESSION: session(); break;
+    case LOOKUP: lookup(k); break;
+    case CORRECT: correct(k); break;
     default: edit(k); break;
     }
 }
 
 static void step(void) {
+    int what = READ;
     operations++;
     switch (draw(12)) {
     case 0: draw(8) == 7 ? damage() : read_text(); break;
-    default: call(WALK + (int)draw(CALLS - WALK)); break;
+    default: what = WALK + (int)draw(CALLS - WALK); break;
+    }
+    if (what == SESSION && draw(16) != 0) {
+        what = EDIT;
+    }
+    if (what != READ) {
+        call(what);
     }
 }
 
@@ -420,6 +631,9 @@ static void begin(void) {
         make_room(&lent[TEXTS], TEXT + ROOM);
         make_room(&lent[OUTS], OUT);
         make_room(&lent[NEWS], NEW);
+        memset(states, 1, sizeof states);
+        memset(first, 1, sizeof first);
+        memset(last, 1, sizeof last);
     }
     read_text();
 }
@@ -465,6 +679,7 @@ int main(int argc, char **argv) {
     for (int n = 1; n < NUMBERS_END; n++) {
         printf(" %d:%lu", n, refusals[n]);
     }
+    printf("\nsessions: %lu, of %lu edits, undone and redone", sessions, undone);
     printf("\nmemory: %ld KB after a tenth of them, %ld KB at the end\n", before, after);
     return after > before;
 }

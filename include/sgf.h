@@ -16,12 +16,17 @@
  * text + values[2 * k] up to text + values[2 * k + 1]. An identifier's span is raw too, any ASCII before the `[`: the
  * property's name is the uppercase letters of it, `WB` of `White;B`.
  *
- * Every answer but SgfValue and the version has a number: SGF_ACCEPTED, or why the call is refused. A refusal leaves
+ * Every answer but SgfValue, SgfEntry and the version has a number: SGF_ACCEPTED, or why the call is refused. A refusal leaves
  * every lent byte and number as it was, and its counts, lengths and spans are 0 (SgfToken's are its token's start); so
  * is its place, but for numbers 2 to 5. After acceptance, what lies behind the counts given back stays as well,
  * except for the bytes that sgf_edit sets to 0. Fields called `reserved` are always 0.
  *
- * Stack: sgf_go_value 11.4 KB, sgf_write 8.8 KB, sgf_go_property 8.5 KB, sgf_read_strict and sgf_read_lenient 5 KB, the others at most 0.5 KB.
+ * One exception: rows lent to sgf_block and sgf_close are working room until the close. After a close that is accepted
+ * the rows behind its count are 0, after one that is refused all rows; only number 20 leaves them as they were.
+ *
+ * Stack: sgf_board 25 KB, sgf_board_next 22 KB, sgf_go_value 11.4 KB, sgf_write 8.8 KB, sgf_go_by_rule 5.7 KB,
+ * sgf_read_strict and sgf_read_lenient 5 KB, sgf_simple_value, sgf_simple_property and sgf_entry 2 KB, the others at
+ * most 1 KB.
  */
 #ifndef SGF_H
 #define SGF_H
@@ -32,9 +37,9 @@
 
 /* The version of this header; sgf_version() is that of the archive, equal where both are of one release. */
 #define SGF_VERSION_MAJOR 0
-#define SGF_VERSION_MINOR 7
+#define SGF_VERSION_MINOR 8
 #define SGF_VERSION_PATCH 0
-#define SGF_VERSION_STRING "0.7.0"
+#define SGF_VERSION_STRING "0.8.0"
 #define SGF_VERSION (SGF_VERSION_MAJOR * UINT32_C(65536) + SGF_VERSION_MINOR * UINT32_C(256) + SGF_VERSION_PATCH)
 
 #ifdef __cplusplus
@@ -203,7 +208,7 @@ SgfDisplay sgf_display_value(uint32_t kind, const uint8_t *raw, size_t raw_len, 
 enum {
     SGF_OTHER = 0,    /* not one of B, W, HA, AB, AW, AE, TB, TW, or not in a Go tree */
     SGF_INVALID = 1,  /* one of them, with values that it cannot have */
-    SGF_PASS = 2,     /* B, W: an empty value */
+    SGF_PASS = 2,     /* B, W: an empty value, or `tt` where that is a pass */
     SGF_MOVE = 3,     /* B, W: a point: x, the column from the left, and y, the row from the top, each 0 to 51 */
     SGF_HANDICAP = 4, /* HA: at least 2, in handicap */
     SGF_POINTS = 5    /* AB, AW, AE, TB, TW: a set of points, in marks */
@@ -213,7 +218,8 @@ enum {
 #define SGF_POINT_PLACES 2704
 #define SGF_POINT_PLACE(x, y) (52 * (x) + (y))
 
-/* A number and a Go value; what its kind does not name is 0 or false. `tt` is the move (19, 19). */
+/* A number and a Go value; what its kind does not name is 0 or false. The move `tt` is a pass where the tree's root has
+ * no SZ, or one valid SZ with both sides at most 19; else it is the point (19, 19). In a list it is always that point. */
 typedef struct {
     uint32_t number, kind, x, y;
     uint64_t handicap;
@@ -223,14 +229,14 @@ typedef struct {
 /* The Go value of property p. Numbers: 19, 16; the kind is then SGF_OTHER. */
 SgfGoValue sgf_go_value(SGF_RECORD, size_t p);
 
-/* The same of one property without the check, for callers whose tables are known to fit: the game type of its tree,
- * its raw identifier, and its values, `count` rows of the value table from row `first` on. The number is 0. Rows that
+/* The same of one property without the check, for callers whose tables are known to fit: the rule of its tree, which
+ * sgf_tree_size says (any number but SGF_RULE_GO and SGF_RULE_GO_LARGE is another game), its raw identifier, and its values, `count` rows of the value table from row `first` on. The number is 0. Rows that
  * do not fit do no harm: a row that is not there is an empty value, a span is cut at the end of the text. With count
  * 0, which no text and no tables that fit can have, AB, AW, AE, TB and TW are valid sets without a point, B, W and HA
  * invalid. */
-SgfGoValue sgf_go_property(uint32_t game_type, const uint8_t *identifier, size_t identifier_len,
-                           const uint8_t *text, size_t text_len, const uint32_t *values, size_t values_len,
-                           size_t first, size_t count);
+SgfGoValue sgf_go_by_rule(uint32_t rule, const uint8_t *identifier, size_t identifier_len,
+                          const uint8_t *text, size_t text_len, const uint32_t *values, size_t values_len,
+                          size_t first, size_t count);
 
 /* A number, and how many bytes were written. */
 typedef struct {
@@ -254,11 +260,78 @@ typedef struct {
  * stay fitting, and those of a strict reading, after any run of edits, are what a fresh strict reading of the new text
  * gives. Writes the text from the value on and moves the rows behind it; where the text became shorter, the bytes
  * between the new and the old used length become 0. Numbers: 19, 16, 17, 2 (place: in the new value), 18, 1, 14 (the
- * new used length exceeds text_len). After a refusal go on with the used length and counts from before. */
+ * new used length exceeds text_len). After a refusal go on with the used length and counts from before.
+ * Undo: the old raw bytes, kept before each accepted edit and put back in reverse order, are accepted at every step and
+ * end with the first used text and tables, in the same buffer (bytes behind the used text may then be 0). */
 SgfEdit sgf_edit(uint8_t *text, size_t text_len, size_t used, SgfCounts counts,
                  const uint32_t *trees, size_t trees_len, const uint32_t *nodes, size_t nodes_len,
                  uint32_t *properties, size_t properties_len, uint32_t *values, size_t values_len,
                  size_t k, const uint8_t *replacement, size_t replacement_len);
+
+/* ---- The board on screen ---------------------------------------------------------------------------------- */
+
+/* What stands at a point. */
+enum { SGF_EMPTY = 0, SGF_BLACK = 1, SGF_WHITE = 2 };
+
+/* A number; the sides of the board; stones put on and taken off so far; what stands at each point, 0 off the board.
+ * All else 0 where refused. What the sums mean: a stone is put on where setup or a move sets a point to black or white
+ * that was not that colour before; it is taken off where a move captures it, where a move is suicide, where AE clears
+ * it, and where another colour is set over it. A point set again to its own colour counts nowhere. So for each colour
+ * put on is what stands and what was taken off: captures are taken off without the stones that were cleared or
+ * overwritten. Sums stop at 2 ^ 64 - 1, which no record that fits reaches. */
+typedef struct {
+    uint32_t number, columns, rows, reserved;
+    uint64_t black_on, black_off, white_on, white_off;
+    uint8_t stones[SGF_POINT_PLACES]; /* at SGF_POINT_PLACE(x, y): the columns bound x, the rows y */
+} SgfBoard;
+
+/* The board at a node of a Go tree, played from its root: of each node all setup, then all moves, in property order.
+ * Only a move captures: groups of the other colour without liberty go, on the whole board, then the mover's own. The size
+ * is SZ of the root, 19 by 19 without. Numbers, in this order: 19; 21 where there is no such node or its tree is not Go's;
+ * 22 where SZ is invalid or repeated; 23 where a node on the way sets or plays a point off the board, or has a point in
+ * two setup properties. An invalid property changes nothing. */
+SgfBoard sgf_board(SGF_RECORD, size_t node);
+
+/* One node more: its properties, `count` rows from row `first` on, played upon a board, without the check, for callers
+ * whose tables are known to fit. Upon the board of its parent it gives the board of the node. Numbers: 23, or that of the
+ * board given, which then comes back as it is. `reserved` comes back 0, whatever was given. A byte of `stones` above 2 is
+ * neither stone nor liberty. Rows that are not there are no properties. */
+SgfBoard sgf_board_next(SgfBoard board, const uint8_t *text, size_t text_len, const uint32_t *properties,
+                        size_t properties_len, const uint32_t *values, size_t values_len, size_t first, size_t count);
+/* Plain text as a raw value for sgf_edit, in `out`: a `\` before each `\` and each `]`. Read back it is the text; it is
+ * closed, and UTF-8 where the text is; it has at most twice the text's bytes. The number is 0, or 14 where it exceeds
+ * out_len. */
+SgfDisplay sgf_escape(const uint8_t *text, size_t text_len, uint8_t *out, size_t out_len);
+
+/* ---- Board sizes ------------------------------------------------------------------------------------------- */
+
+/* Whether a root has a board size: SZ is one number, or columns and rows with one colon, each from 1 to 52. */
+enum {
+    SGF_SIZE_ABSENT = 0, /* no SZ */
+    SGF_SIZE_SIZED = 1,  /* one SZ with one valid value */
+    SGF_SIZE_WRONG = 2   /* SZ is repeated or invalid */
+};
+
+/* How a tree's values are read. */
+enum {
+    SGF_RULE_GO = 0,      /* Go where the move `tt` is a pass */
+    SGF_RULE_UNKNOWN = 1, /* another game */
+    SGF_RULE_GO_LARGE = 2 /* Go where it is the point (19, 19): a side above 19, or SZ wrong */
+};
+
+/* A number; the kind of size; columns and rows, 19 where absent, 0 where wrong; the rule of the tree. */
+typedef struct {
+    uint32_t number, kind, columns, rows, rule;
+} SgfSize;
+
+/* The board size of a tree, of any game. Numbers: 19, 16 (no tree has this number); all else is then 0. */
+SgfSize sgf_size(SGF_RECORD, size_t tree);
+
+/* The same without the check, for callers whose tables are known to fit: once a tree, then sgf_go_by_rule. The number is
+ * 0. Rows that do not fit do no harm: a row that is not there is no property. */
+SgfSize sgf_tree_size(const uint8_t *text, size_t text_len, const uint32_t *trees, size_t trees_len,
+                      const uint32_t *nodes, size_t nodes_len, const uint32_t *properties, size_t properties_len,
+                      const uint32_t *values, size_t values_len, size_t tree);
 
 /* ---- Token by token, without tables ----------------------------------------------------------------------- */
 
@@ -299,6 +372,194 @@ typedef struct {
 
 /* The value whose `[` stands at a place: from a property's `opens` on, then from `next` to `next`. */
 SgfValue sgf_next_value(const uint8_t *text, size_t text_len, size_t at);
+
+/* ---- FF[4]'s property index, and its simple values --------------------------------------------------------- */
+
+/* What the values of a property are. SGF_KIND_STONES and SGF_KIND_POINTS are lists, SGF_KIND_POINTS_OR_NONE an elist,
+ * SGF_KIND_POINT_PAIRS (AR, LN) and SGF_KIND_LABELS (LB) lists of composed values, SGF_KIND_TEXT_PAIR is AP's,
+ * SGF_KIND_BOARD_SIZE SZ's and SGF_KIND_FIGURE FG's. */
+enum {
+    SGF_KIND_UNKNOWN = 0,
+    SGF_KIND_NONE = 1,
+    SGF_KIND_NUMBER = 2,
+    SGF_KIND_REAL = 3,
+    SGF_KIND_DOUBLE = 4,
+    SGF_KIND_COLOR = 5,
+    SGF_KIND_SIMPLETEXT = 6,
+    SGF_KIND_TEXT = 7,
+    SGF_KIND_MOVE = 8,
+    SGF_KIND_STONES = 9,
+    SGF_KIND_POINTS = 10,
+    SGF_KIND_POINTS_OR_NONE = 11,
+    SGF_KIND_POINT_PAIRS = 12,
+    SGF_KIND_LABELS = 13,
+    SGF_KIND_TEXT_PAIR = 14,
+    SGF_KIND_BOARD_SIZE = 15,
+    SGF_KIND_FIGURE = 16
+};
+
+/* Property types. */
+enum { SGF_TYPE_NONE = 0, SGF_TYPE_MOVE = 1, SGF_TYPE_SETUP = 2, SGF_TYPE_ROOT = 3, SGF_TYPE_GAME_INFO = 4, SGF_TYPE_INHERIT = 5 };
+
+/* The parts of FF[4] that describe properties. */
+enum {
+    SGF_SECTION_UNKNOWN = 0,
+    SGF_SECTION_MOVE = 1,
+    SGF_SECTION_SETUP = 2,
+    SGF_SECTION_NODE_ANNOTATION = 3,
+    SGF_SECTION_MOVE_ANNOTATION = 4,
+    SGF_SECTION_MARKUP = 5,
+    SGF_SECTION_ROOT = 6,
+    SGF_SECTION_GAME_INFO = 7,
+    SGF_SECTION_TIMING = 8,
+    SGF_SECTION_MISCELLANEOUS = 9,
+    SGF_SECTION_GO = 10
+};
+
+/* What FF[4] lists of a property; all 0 where it does not list it. */
+typedef struct {
+    uint32_t kind, type, section, reserved;
+} SgfEntry;
+
+/* What FF[4] lists of the property with this raw identifier: its 63 general properties, and HA, KM, TB and TW of Go. By
+ * the uppercase letters, so `Comment` is C; an identifier without a letter or with more than two is not listed. */
+SgfEntry sgf_entry(const uint8_t *identifier, size_t identifier_len);
+
+/* Kinds of simple value. */
+enum {
+    SGF_SIMPLE_OTHER = 0,   /* not listed, or of a kind that is not read here; HA in another game */
+    SGF_SIMPLE_INVALID = 1, /* not one value, or not as its kind wants it */
+    SGF_SIMPLE_NONE = 2,    /* one empty value */
+    SGF_SIMPLE_DOUBLE = 3,  /* size: 1 or 2 */
+    SGF_SIMPLE_COLOR = 4,   /* size: 1 black, 2 white */
+    SGF_SIMPLE_NUMBER = 5   /* its size, and 1 in `negative` where it has a minus: SGF_INT64 makes one of both */
+};
+
+/* A number, the kind, and what the kind says of the other fields, which else are 0. */
+typedef struct {
+    uint32_t number, kind, negative, reserved;
+    uint64_t size;
+} SgfSimple;
+
+/* The int64_t of an SgfSimple that is a Number. */
+#define SGF_INT64(simple) \
+    ((simple).negative && (simple).size ? -(int64_t)((simple).size - 1) - 1 : (int64_t)(simple).size)
+
+/* The simple value of property p: of those listed as None, Double, Color and Number, over the read value. None is empty,
+ * a Double `1` or `2`, a Color `B` or `W`, a Number an optional sign and digits within 64 bits with sign, without the
+ * ranges that FF[4] sets for FF, ST and PM; `HA[1]` is a Number, though its Go value is invalid. Numbers: 19, 16. */
+SgfSimple sgf_simple_value(SGF_RECORD, size_t p);
+
+/* The same of one property without the check, for callers whose tables are known to fit: how its tree is read (0 and 2
+ * as Go, any other number as another game), its raw identifier, and its values, `count` rows of the value table from row
+ * `first` on. The number is 0. A row that is not there is an empty value, a span is cut at the end of the text. */
+SgfSimple sgf_simple_property(uint32_t rule, const uint8_t *identifier, size_t identifier_len,
+                              const uint8_t *text, size_t text_len, const uint32_t *values, size_t values_len,
+                              size_t first, size_t count);
+
+/* ---- Corrections over the air ----------------------------------------------------------------------------- */
+
+/* A feed is a count, then for each correction a value number, a length and that many bytes. Numbers are groups of seven
+ * bits, lowest first, the top bit set when another follows: at most four groups, shortest form only. Value numbers
+ * strictly rise, and nothing stands behind the last correction. */
+
+/* Where a value's bytes stand: in the record's text, or in the feed. */
+enum { SGF_FROM_RECORD = 0, SGF_FROM_FEED = 1 };
+
+/* Number 0 and the span of a value's bytes in its source; or the number of a refusal and its place, all else 0. */
+typedef struct {
+    uint32_t number, source;
+    size_t place, from, to;
+} SgfPart;
+
+/* Number 0; or the number of a refusal and its place. */
+typedef struct {
+    uint32_t number, reserved;
+    size_t place;
+} SgfCheck;
+
+/* The bytes of value k as corrected: a part of the feed where it is corrected, else of the record. Nothing is copied.
+ * Numbers: 19, 24, then for each correction 16, 17, 2 (place: in the feed), 18; then 16 for k itself. */
+SgfPart sgf_corrected(const uint8_t *text, size_t text_len, size_t used, SgfCounts counts,
+                      const uint32_t *trees, size_t trees_len, const uint32_t *nodes, size_t nodes_len,
+                      const uint32_t *properties, size_t properties_len, const uint32_t *values, size_t values_len,
+                      const uint8_t *feed, size_t feed_len, size_t k);
+
+/* Whether a feed may be applied to a record, but for the length of the text: 19, 24, then for each correction 16, 17, 2
+ * (place: in the feed), 18. Once this is 0, and while neither text, tables nor feed change, sgf_feed_find serves. */
+SgfCheck sgf_feed_check(const uint8_t *text, size_t text_len, size_t used, SgfCounts counts,
+                        const uint32_t *trees, size_t trees_len, const uint32_t *nodes, size_t nodes_len,
+                        const uint32_t *properties, size_t properties_len, const uint32_t *values, size_t values_len,
+                        const uint8_t *feed, size_t feed_len);
+
+/* Where a feed has the bytes of value k: SGF_FROM_FEED and their span; SGF_FROM_RECORD and 0..0 where it has none.
+ * Nothing is checked and nothing refused: the corrections before the first fault are looked through. */
+SgfPart sgf_feed_find(const uint8_t *feed, size_t feed_len, size_t k);
+
+/* Puts all corrections of a feed into the record in place, or changes nothing. Writes the text from the first corrected
+ * value on and moves the rows behind it, once; where the text became shorter, the bytes between the new and the old used
+ * length become 0. Tables that fit stay fitting; those of a strict reading are then what a fresh strict reading of the
+ * new text gives; every value's bytes are what sgf_corrected gave before. Numbers: 19, 24, then for each correction 16,
+ * 17, 2 (place: in the feed), 18, then 1 and 14 for the final length. After a refusal go on with the used length and
+ * counts from before. */
+SgfEdit sgf_correct(uint8_t *text, size_t text_len, size_t used, SgfCounts counts,
+                    const uint32_t *trees, size_t trees_len, const uint32_t *nodes, size_t nodes_len,
+                    uint32_t *properties, size_t properties_len, uint32_t *values, size_t values_len,
+                    const uint8_t *feed, size_t feed_len);
+
+/* Making a feed: its count, then each correction in the order of value numbers, each call behind the bytes of the one
+ * before. Number 0 and how many bytes were put in front of the output; or a refusal, and nothing changes: 24 (a number
+ * or a length of 2^28 or more), 14 (no room). */
+SgfWriting sgf_feed_begin(size_t count, uint8_t *out, size_t out_len);
+SgfWriting sgf_feed_add(size_t value, const uint8_t *bytes, size_t bytes_len, uint8_t *out, size_t out_len);
+
+/* ---- Tokens from blocks ------------------------------------------------------------------------------------ */
+
+/* A text that arrives in blocks, of any length and cut anywhere: through a character, an escape, white space. A box
+ * needs 48 bytes for what is known between two blocks and 12 bytes for each token, whatever the length of the text; a
+ * block may be thrown away as soon as its call is back. After the close, number, place and rows are those of one
+ * strict making of tokens from the joined text: nothing else is read, and 6 to 13 are not given. */
+
+/* A token row: its kind (SGF_START to SGF_PROPERTY; 0 is none), its start and its end, counted from the start of the
+ * joined text. A text of n bytes has at most n tokens. */
+enum { SGF_TOKEN_KIND = 0, SGF_TOKEN_FROM = 1, SGF_TOKEN_TO = 2, SGF_TOKEN_STRIDE = 3 };
+#define SGF_TOKENS_FOR(n) ((size_t)(n))
+
+/* What is known between two blocks. All zero is the start: `SgfBlocks state = {0};`. Pass on what the last call gave;
+ * other numbers have an answer too. The fields are the library's own: `total` bytes so far (at most 1,048,577); where
+ * UTF-8 stands (`utf` 0 between characters, 1 to 7 within one, else bad), since which place, with which bits; the end of
+ * the last character that is no white space; where the token rules stand and how many rows there are, `now` and after
+ * that character; and whether it is `closed`. */
+typedef struct {
+    uint32_t total, utf, utf_from, code, last, now, now_from, count, kept, kept_from, held, closed;
+} SgfBlocks;
+
+/* Number 0, or 20 after the close; and what is known now. */
+typedef struct {
+    uint32_t number;
+    SgfBlocks state;
+} SgfBlock;
+
+/* A block of the text, also of no bytes. Lend the same rows to every call, untouched between them; rows that do not fit
+ * are counted and not written. Number: 20 (nothing changes). What is wrong with the text is said by sgf_close. */
+SgfBlock sgf_block(SgfBlocks state, const uint8_t *block, size_t block_len, uint32_t *rows, size_t rows_len);
+
+/* Number 0 and how many tokens there are; or why not, and the place. */
+typedef struct {
+    uint32_t number;
+    size_t place, tokens;
+    SgfBlocks state;
+} SgfClose;
+
+/* The end of the text. Numbers, in this order: 20 (after a close, also one that was refused; nothing changes), 1, 2,
+ * 3 to 5, 14 (rows_len is less than SGF_TOKEN_STRIDE for each token). */
+SgfClose sgf_close(SgfBlocks state, uint32_t *rows, size_t rows_len);
+
+/* ---- A season in numbers ----------------------------------------------------------------------------------- */
+
+/* The tag of bytes: FNV-1a, 64 bits. That of a record is the tag of what sgf_write gives, so that records which are
+ * written alike have one tag. It is shown as 16 hex digits, highest first (`%016llx`). */
+uint64_t sgf_tag(const uint8_t *bytes, size_t bytes_len);
 
 #ifdef __cplusplus
 }

@@ -60,11 +60,12 @@ fn row(name: &str, text: &str) {
 
 /// All Go values of a game.
 fn go_pass(h: &Held) -> u64 {
+    let rule = held::tree_size(h.text, h.tables, 0).rule;
     (0..h.counts.properties)
         .map(|p| {
             let row = &h.tables[2][4 * p..][..4];
             let name = &h.text[row[0] as usize..row[1] as usize];
-            u64::from(held::go_property(0, name, h.text, h.tables[3], row[2] as usize, row[3] as usize).kind)
+            u64::from(held::go_by_rule(rule, name, h.text, h.tables[3], row[2] as usize, row[3] as usize).kind)
         })
         .sum()
 }

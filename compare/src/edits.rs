@@ -10,7 +10,7 @@ use crate::whole::Whole;
 const RUN: usize = 20;
 
 /// New values: closed, not closed, not UTF-8.
-const NEW: &[&[u8]] = &[
+pub const NEW: &[&[u8]] = &[
     b"",
     b"x",
     b"aa",
@@ -78,12 +78,12 @@ fn compare_edit(whole: &mut Whole, k: usize, new: &[u8]) -> Result<(), String> {
     }
 }
 
-fn shown(number: u32, place: usize, used: usize, counts: Counts) -> Edit {
+pub fn shown(number: u32, place: usize, used: usize, counts: Counts) -> Edit {
     Edit { number, reserved: 0, place, used, counts }
 }
 
 /// Counts and rows are those of a fresh strict reading of the used text.
-fn compare_fresh(whole: &Whole) -> Result<(), String> {
+pub fn compare_fresh(whole: &Whole) -> Result<(), String> {
     let fresh = Whole::read(&whole.text.lent()[..whole.used], Mode::Strict, 0)?.ok_or("the new text is refused")?;
     same("counts of a fresh reading", fresh.counts, whole.counts)?;
     let used = |w: &Whole, t: usize| w.tables[t].lent()[..w.counts.rows()[t] * held::STRIDES[t]].to_vec();

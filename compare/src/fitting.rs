@@ -3,6 +3,7 @@ use crate::held::{self, Counts, Length, Span, STRIDES};
 use crate::library::Mode;
 use crate::plain_fit;
 use crate::plain_go::{self, shown, Go};
+use crate::plain_size;
 use crate::report::{count, same};
 use crate::rng::Rng;
 use crate::whole::{Fenced, Whole};
@@ -110,10 +111,10 @@ fn damage_text(whole: &mut Whole, rng: &mut Rng) -> Result<(), String> {
 
 /// A Go value without the check, of rows that may be anything.
 fn unchecked(h: &held::Held, row: usize) -> Result<(), String> {
-    for (name, count) in [("B", 1), ("AB", 1), ("TW", 3), ("HA", 1), ("AE", 0)] {
+    for (rule, name, count) in [(0, "B", 1), (2, "B", 1), (1, "W", 1), (3, "W", 1), (0, "AB", 1), (2, "TW", 3), (2, "HA", 1), (0, "AE", 0)] {
         let raw: Vec<&[u8]> = (0..count).map(|i| plain_go::row_value(h.text, h.tables[3], row.saturating_add(i))).collect();
-        let ours = held::go_property(0, name.as_bytes(), h.text, h.tables[3], row, count);
-        same("Go value of a row", ours == shown(plain_go::value(0, name.as_bytes(), &raw)), true)?;
+        let ours = held::go_by_rule(rule, name.as_bytes(), h.text, h.tables[3], row, count);
+        same("Go value of a row", ours == shown(plain_go::value(rule, name.as_bytes(), &raw)), true)?;
     }
     Ok(())
 }
@@ -130,6 +131,7 @@ fn all_refuse(whole: &mut Whole) -> Result<(), String> {
     for row in [0, h.tables[3].len() / 4, h.tables[3].len() / 2, usize::MAX] {
         unchecked(&h, row)?;
     }
+    same("size", held::size(&h, 0), plain_size::refused(19))?;
     let go = held::go_value(&h, 0);
     same("Go value", go == held::GoValue { number: 19, ..shown(Go::Other) }, true)?;
     let edit = held::edit(&mut whole.edited(), 0, b"x");

@@ -1,9 +1,11 @@
-//! Go values of every property of a text: the library beside the crate and beside the scope's words.
+//! Go values of every property of a text, and the board size of every tree: the library beside the crate and beside the scope's words. The crate
+//! takes every `tt` for the point (19, 19); here it is that point exactly where the rule of its tree keeps it, else a pass.
 use crate::held::{self, GoValue};
 use crate::library::Mode;
 use crate::oracle;
 use crate::plain_fit;
 use crate::plain_go::{self, shown, Go};
+use crate::plain_size::{self, GO as PASSES};
 use crate::plain_write::raw_values;
 use crate::report::{count, same};
 use crate::whole::Whole;
@@ -24,11 +26,13 @@ pub fn compare(text: &[u8]) -> Result<(), String> {
     same("properties", h.counts.properties, theirs.len())?;
     count(theirs.len());
     let step = theirs.len() / CHECKED + 1;
-    for (p, (game_type, their)) in game_types(&h).into_iter().zip(theirs).enumerate() {
+    compare_sizes(&h)?;
+    for (p, (rule, their)) in plain_size::rules(&h).into_iter().zip(theirs).enumerate() {
+        let their = if rule == PASSES && their == Go::Move(19, 19) { Go::Pass } else { their };
         let row = &h.tables[2][4 * p..][..4];
         let name = plain_fit::identifier(&h, p);
-        same("plain beside the crate", plain_go::value(game_type, name, &raw_values(&h, p)), their.clone())?;
-        let ours = held::go_property(game_type, name, h.text, h.tables[3], row[2] as usize, row[3] as usize);
+        same("plain beside the crate", plain_go::value(rule, name, &raw_values(&h, p)), their.clone())?;
+        let ours = held::go_by_rule(rule, name, h.text, h.tables[3], row[2] as usize, row[3] as usize);
         same_value("Go value", &ours, &shown(their))?;
         if p % step == 0 {
             same_value("Go value, checked", &held::go_value(&h, p), &ours)?;
@@ -38,17 +42,17 @@ pub fn compare(text: &[u8]) -> Result<(), String> {
     same("fences", whole.stands(), true)
 }
 
-/// The game type of each property's tree.
-fn game_types(h: &held::Held) -> Vec<u32> {
-    let mut kinds = vec![];
-    let mut tree = 0;
-    for k in 0..h.counts.nodes {
-        while tree + 1 < h.counts.trees && h.tables[0][2 * (tree + 1)] as usize <= k {
-            tree += 1;
+/// The size of each tree, by its rows and, of a few, by its number; none has the number past the last.
+fn compare_sizes(h: &held::Held) -> Result<(), String> {
+    let step = h.counts.trees / CHECKED + 1;
+    for tree in 0..h.counts.trees {
+        let expected = plain_size::shown(h, tree);
+        same("size", held::tree_size(h.text, h.tables, tree), expected)?;
+        if tree % step == 0 {
+            same("size, checked", held::size(h, tree), expected)?;
         }
-        kinds.extend((0..h.tables[1][held::STRIDES[1] * k + 4]).map(|_| h.tables[0][2 * tree + 1]));
     }
-    kinds
+    same("size past the last", held::size(h, h.counts.trees), plain_size::refused(16))
 }
 
 fn refused(number: u32) -> GoValue {

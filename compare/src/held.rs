@@ -1,5 +1,5 @@
 //! A record in memory, and the operations over it, by the declarations of the Rust crate (rust/src/ffi.rs).
-pub use crate::ffi::{Counts, Edit, Edited, GoValue, Held, Length, Span};
+pub use crate::ffi::{Counts, Edit, Edited, GoValue, Held, Length, Size, Span};
 
 /// Numbers a row of each table: trees, nodes, properties, values.
 pub const STRIDES: [usize; 4] = [2, 6, 4, 2];
@@ -26,6 +26,6 @@ pub const TEXT: u32 = 0;
 pub const SIMPLE_TEXT: u32 = 1;
 
 #[cfg(not(stand_in))]
-pub use crate::ffi::{display, display_value, edit, fits, go_property, go_value, value, write};
+pub use crate::ffi::{display, display_value, edit, fits, go_by_rule, go_value, size, tree_size, value, write};
 #[cfg(stand_in)]
-pub use crate::stand_in_held::{display, display_value, edit, fits, go_property, go_value, value, write};
+pub use crate::stand_in_held::{display, display_value, edit, fits, go_by_rule, go_value, size, tree_size, value, write};

@@ -2,12 +2,21 @@
 extern crate sgf_parse;
 
 mod bench;
+#[cfg(not(stand_in))]
+mod bench_blocks;
+mod bench_board;
+mod bench_feeds;
 mod bench_records;
 mod bench_values;
+#[cfg(not(stand_in))]
+mod blocks;
+mod board;
 mod by_hand;
 mod display;
 mod edits;
 mod examples;
+#[cfg(not(stand_in))]
+mod feeds;
 #[allow(dead_code)]
 #[path = "../../rust/src/ffi.rs"]
 mod ffi;
@@ -15,19 +24,26 @@ mod fitting;
 mod go_values;
 mod heap;
 mod held;
+mod index;
 mod library;
 mod limits;
 mod oracle;
 mod plain;
+mod plain_board;
 mod plain_edit;
+#[cfg(not(stand_in))]
+mod plain_feed;
 mod plain_fit;
 mod plain_go;
+mod plain_index;
 mod plain_reader;
+mod plain_size;
 mod plain_write;
 mod reader;
 mod records;
 mod report;
 mod rng;
+mod size_texts;
 #[cfg(stand_in)]
 mod stand_in;
 #[cfg(stand_in)]
@@ -55,8 +71,22 @@ fn run() -> bool {
         Some("store-tokens") => {
             stored::write(&folder.unwrap_or_else(|| Path::new(env!("CARGO_MANIFEST_DIR")).join("../crates/cases_tokens")))
         }
+        #[cfg(not(stand_in))]
+        Some("bench-feeds") => {
+            bench_feeds::run();
+            true
+        }
+        Some("bench-blocks") => {
+            bench_blocks::run();
+            true
+        }
         Some("bench-values") => {
             bench_values::run();
+            true
+        }
+        #[cfg(not(stand_in))]
+        Some("bench-board") => {
+            bench_board::run();
             true
         }
         Some("bench") => {
@@ -65,7 +95,7 @@ fn run() -> bool {
             true
         }
         _ => {
-            eprintln!("usage: compare short [SUBJECT] | long [SUBJECT] | store-tokens [DIR] | bench | bench-values");
+            eprintln!("usage: compare short [SUBJECT] | long [SUBJECT] | store-tokens [DIR] | bench | bench-values | bench-board | bench-feeds | bench-blocks");
             false
         }
     }

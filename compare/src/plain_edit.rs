@@ -43,7 +43,7 @@ pub fn edit(h: &Held, k: usize, new: &[u8]) -> Result<After, Refusal> {
 }
 
 /// The property that has value k.
-fn owner(h: &Held, k: usize) -> usize {
+pub fn owner(h: &Held, k: usize) -> usize {
     let has = |p: &usize| (h.tables[2][4 * p + 2] as usize..).take(h.tables[2][4 * p + 3] as usize).any(|v| v == k);
     (0..h.counts.properties).find(has).expect("ranges without gap")
 }

@@ -1,6 +1,7 @@
 //! Go values in plain Rust, written from the scope alone.
 use crate::held::{GoValue, HANDICAP, INVALID, MOVE, OTHER, PASS, POINTS};
 use crate::plain;
+use crate::plain_size::{GO, GO_LARGE};
 use std::collections::BTreeSet;
 
 /// What a property stands for.
@@ -19,16 +20,16 @@ pub fn read_identifier(raw: &[u8]) -> String {
     raw.iter().filter(|b| b.is_ascii_uppercase()).map(|b| *b as char).collect()
 }
 
-/// The Go value of a property of a tree with this game type, by its raw identifier and raw values.
-pub fn value(game_type: u32, identifier: &[u8], raw: &[&[u8]]) -> Go {
+/// The Go value of a property of a tree with this rule, by its raw identifier and raw values.
+pub fn value(rule: u32, identifier: &[u8], raw: &[&[u8]]) -> Go {
     let read: Vec<Vec<u8>> = raw.iter().map(|r| plain::unescape(r)).collect();
-    match (game_type, read_identifier(identifier).as_str(), &read[..]) {
-        (1.., ..) => Go::Other,
-        (0, "B" | "W", [v]) if v.is_empty() => Go::Pass,
-        (0, "B" | "W", [v]) => point(v).map_or(Go::Invalid, |(x, y)| Go::Move(x, y)),
-        (0, "HA", [v]) => handicap(v).map_or(Go::Invalid, Go::Handicap),
-        (0, "B" | "W" | "HA", _) => Go::Invalid,
-        (0, "AB" | "AW" | "AE" | "TB" | "TW", values) => points(values).map_or(Go::Invalid, Go::Points),
+    match (read_identifier(identifier).as_str(), &read[..]) {
+        _ if rule != GO && rule != GO_LARGE => Go::Other,
+        ("B" | "W", [v]) if v.is_empty() || (rule == GO && v == b"tt") => Go::Pass,
+        ("B" | "W", [v]) => point(v).map_or(Go::Invalid, |(x, y)| Go::Move(x, y)),
+        ("HA", [v]) => handicap(v).map_or(Go::Invalid, Go::Handicap),
+        ("B" | "W" | "HA", _) => Go::Invalid,
+        ("AB" | "AW" | "AE" | "TB" | "TW", values) => points(values).map_or(Go::Invalid, Go::Points),
         _ => Go::Other,
     }
 }

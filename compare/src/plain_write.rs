@@ -3,6 +3,7 @@ use crate::held::{Held, STRIDES};
 use crate::plain_fit::{fits, identifier};
 use crate::plain_go::{self, letter, Go};
 use crate::plain_reader::NONE;
+use crate::plain_size;
 
 /// The writing of a record, or the number of the refusal: 19, 15; 14 is the caller's.
 pub fn write(h: &Held) -> Result<Vec<u8>, u32> {
@@ -13,8 +14,8 @@ pub fn write(h: &Held) -> Result<Vec<u8>, u32> {
         return Err(15);
     }
     let mut out = vec![];
-    for tree in h.tables[0].chunks_exact(2).take(h.counts.trees) {
-        write_tree(h, tree[0], tree[1], &mut out);
+    for (t, tree) in h.tables[0].chunks_exact(2).take(h.counts.trees).enumerate() {
+        write_tree(h, tree[0], plain_size::rule(h, t), &mut out);
     }
     Ok(out)
 }
@@ -26,7 +27,7 @@ enum Todo {
 }
 
 /// `(`, the root, `)`; a node, then its children: one directly, two or more each in brackets.
-fn write_tree(h: &Held, root: u32, game_type: u32, out: &mut Vec<u8>) {
+fn write_tree(h: &Held, root: u32, rule: u32, out: &mut Vec<u8>) {
     let mut todo = vec![Todo::Text(")"), Todo::Node(root), Todo::Text("(")];
     while let Some(next) = todo.pop() {
         let node = match next {
@@ -39,7 +40,7 @@ fn write_tree(h: &Held, root: u32, game_type: u32, out: &mut Vec<u8>) {
         out.push(b';');
         let row = &h.tables[1][node as usize * STRIDES[1]..][..STRIDES[1]];
         for p in row[3]..row[3] + row[4] {
-            write_property(h, p as usize, game_type, out);
+            write_property(h, p as usize, rule, out);
         }
         let children: Vec<u32> = children(h, row[1]).collect();
         match children[..] {
@@ -63,10 +64,10 @@ pub fn raw_values<'a>(h: &Held<'a>, p: usize) -> Vec<&'a [u8]> {
 }
 
 /// The read identifier, and the values: moves, handicaps and sets in their one form, the others raw.
-fn write_property(h: &Held, p: usize, game_type: u32, out: &mut Vec<u8>) {
+fn write_property(h: &Held, p: usize, rule: u32, out: &mut Vec<u8>) {
     let raw = raw_values(h, p);
     out.extend(plain_go::read_identifier(identifier(h, p)).bytes());
-    let values: Vec<Vec<u8>> = match plain_go::value(game_type, identifier(h, p), &raw) {
+    let values: Vec<Vec<u8>> = match plain_go::value(rule, identifier(h, p), &raw) {
         Go::Other | Go::Invalid => raw.iter().map(|r| r.to_vec()).collect(),
         Go::Pass => vec![vec![]],
         Go::Move(x, y) => vec![vec![letter(x), letter(y)]],

@@ -1,7 +1,7 @@
 //! The plain implementations behind the operations over a record; text display is the crate's own.
 use crate::held::*;
 use crate::plain_go::{self, shown, Go};
-use crate::{plain, plain_edit, plain_fit, plain_write};
+use crate::{plain, plain_edit, plain_fit, plain_size, plain_write};
 
 pub fn fits(h: &Held) -> u32 {
     if plain_fit::fits(h) {
@@ -52,16 +52,34 @@ pub fn go_value(h: &Held, p: usize) -> GoValue {
         0 => {
             let node = (0..h.counts.nodes).rev().find(|k| h.tables[1][STRIDES[1] * k + 3] as usize <= p).expect("ranges from 0");
             let tree = (0..h.counts.trees).rev().find(|t| h.tables[0][2 * t] as usize <= node).expect("node 0 is a root");
-            let go = plain_go::value(h.tables[0][2 * tree + 1], plain_fit::identifier(h, p), &plain_write::raw_values(h, p));
+            let go = plain_go::value(plain_size::rule(h, tree), plain_fit::identifier(h, p), &plain_write::raw_values(h, p));
             answer(0, go)
         }
         number => answer(number, Go::Other),
     }
 }
 
-pub fn go_property(game_type: u32, identifier: &[u8], text: &[u8], values: &[u32], first: usize, count: usize) -> GoValue {
+pub fn size(h: &Held, tree: usize) -> Size {
+    match fits(h) {
+        0 if tree >= h.counts.trees => plain_size::refused(16),
+        0 => plain_size::shown(h, tree),
+        number => plain_size::refused(number),
+    }
+}
+
+/// For tables that fit; of any others only that there is no such tree.
+pub fn tree_size(text: &[u8], tables: [&[u32]; 4], tree: usize) -> Size {
+    let rows = |t: usize| tables[t].len() / STRIDES[t];
+    let counts = Counts::of([rows(0), rows(1), rows(2), rows(3)]);
+    if tree >= rows(0) {
+        return Size { number: 0, kind: 0, columns: 19, rows: 19, rule: 0 };
+    }
+    plain_size::shown(&Held { text, used: text.len(), counts, tables }, tree)
+}
+
+pub fn go_by_rule(rule: u32, identifier: &[u8], text: &[u8], values: &[u32], first: usize, count: usize) -> GoValue {
     let raw: Vec<&[u8]> = (0..count).map(|i| plain_go::row_value(text, values, first.saturating_add(i))).collect();
-    answer(0, plain_go::value(game_type, identifier, &raw))
+    answer(0, plain_go::value(rule, identifier, &raw))
 }
 
 pub fn write(h: &Held, out: &mut [u8]) -> Length {

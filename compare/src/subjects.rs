@@ -1,7 +1,7 @@
 //! The subjects that are compared, each on its families of texts, and how many of them.
 use crate::report::Report;
 use crate::rng::Rng;
-use crate::{by_hand, display, edits, examples, fitting, go_values, library, limits, reader, texts, tokens, value_texts, writing};
+use crate::{board, by_hand, display, edits, examples, fitting, go_values, index, library, limits, reader, size_texts, texts, tokens, value_texts, writing};
 
 /// How many texts of each family to compare.
 pub struct Scale {
@@ -24,6 +24,10 @@ pub struct Scale {
     limits_step: usize,
     placed_runs_step: usize,
     damaged_runs_step: usize,
+    size_symbols: usize,
+    block_bytes: usize,
+    block_step: usize,
+    block_records: usize,
 }
 
 pub const SHORT: Scale = Scale {
@@ -46,6 +50,10 @@ pub const SHORT: Scale = Scale {
     limits_step: 13,
     placed_runs_step: 41,
     damaged_runs_step: 1_501,
+    size_symbols: 4,
+    block_bytes: 4,
+    block_step: 41,
+    block_records: 300,
 };
 
 pub const LONG: Scale = Scale {
@@ -68,6 +76,10 @@ pub const LONG: Scale = Scale {
     limits_step: 1,
     placed_runs_step: 1,
     damaged_runs_step: 31,
+    size_symbols: 5,
+    block_bytes: 6,
+    block_step: 1,
+    block_records: 20_000,
 };
 
 /// Compares the families of texts that tokens and readings share; of the edges of UTF-8 one in so many.
@@ -147,6 +159,24 @@ fn compare_go_values(scale: &Scale) -> bool {
     value_texts::decimals(&mut |text| report.text(text));
     value_texts::lists(4, scale.lists, &mut |text| report.text(text));
     report.group("rectangles, decimals, lists");
+    size_texts::sizes(scale.size_symbols, &mut |text| report.text(text));
+    report.group("board sizes");
+    texts::corpus().iter().for_each(|text| report.text(text));
+    report.close()
+}
+
+fn compare_board(scale: &Scale) -> bool {
+    let mut report = Report::new("board", board::compare);
+    let longest = scale.words - 1;
+    for (columns, rows, moves) in [(1, 1, longest + 2), (2, 1, longest + 1), (1, 2, longest), (2, 2, longest)] {
+        board::sequences(columns, rows, moves, &mut |text| report.text(text));
+    }
+    report.group("every sequence of moves on small boards");
+    let mut rng = Rng::new(8);
+    for _ in 0..scale.tree_records {
+        report.text(&board::made(&mut rng));
+    }
+    report.group("made records");
     texts::corpus().iter().for_each(|text| report.text(text));
     report.close()
 }
@@ -185,6 +215,8 @@ fn compare_writing(scale: &Scale) -> bool {
     report.group("words and vertical tabs");
     value_texts::alike(9, scale.written_records, &mut |text| report.text(text));
     report.group("records that the crate writes alike");
+    size_texts::sizes(scale.size_symbols, &mut |text| report.text(text));
+    report.group("board sizes");
     value_texts::lists(6, scale.lists / 2, &mut |text| report.text(text));
     texts::made(7, scale.written_records, 1, &mut |text| report.text(text));
     report.group("made records");
@@ -206,12 +238,64 @@ fn compare_edits(scale: &Scale) -> bool {
     report.close()
 }
 
+fn compare_index(scale: &Scale) -> bool {
+    let mut entries = Report::new("property index", index::compare_entry);
+    index::identifiers(scale.lists, &mut |text| entries.text(text));
+    let good = entries.close();
+    let mut values = Report::new("simple values", index::compare_value);
+    index::values(scale.shown_bytes - 2, &mut |text| values.text(text));
+    let good = good & values.close();
+    let mut records = Report::new("simple values of records", index::compare_record);
+    texts::made(11, scale.written_records, 1, &mut |text| records.text(text));
+    texts::corpus().iter().for_each(|text| records.text(text));
+    good & records.close()
+}
+
+#[cfg(not(stand_in))]
+fn compare_feeds(scale: &Scale) -> bool {
+    let mut report = Report::new("feeds", crate::feeds::compare);
+    texts::sequences(texts::TAB_WORDS, scale.words + 1, &mut |text| report.text(text));
+    report.group("words and vertical tabs");
+    texts::made(9, scale.edited_records, 1, &mut |text| report.text(text));
+    report.group("made records");
+    texts::corpus().iter().for_each(|text| report.text(text));
+    report.group("real records");
+    limits::texts(scale.limits).iter().step_by(scale.limits_step).for_each(|text| report.text(text));
+    report.close()
+}
+
+/// The stand-in has no feeds.
+#[cfg(stand_in)]
+fn compare_feeds(_: &Scale) -> bool {
+    true
+}
+
+/// Texts in blocks; the stand-in has none.
+#[cfg(stand_in)]
+fn compare_blocks(_: &Scale) -> bool {
+    true
+}
+
+#[cfg(not(stand_in))]
+fn compare_blocks(scale: &Scale) -> bool {
+    let mut report = Report::new("blocks", crate::blocks::compare);
+    texts::sequences(texts::TOKEN_BYTES, scale.block_bytes, &mut |text| report.text(text));
+    report.group("all short strings, cut in every way");
+    texts::runs(scale.block_step, &mut |text| report.text(text));
+    report.group("runs");
+    compare_shared(&mut report, scale, scale.block_records, 1);
+    let good = report.close();
+    let mut forged = Report::new("forged states", crate::blocks::compare_forged);
+    texts::sequences(texts::TOKEN_BYTES, scale.block_bytes, &mut |text| forged.text(text));
+    good & forged.close()
+}
+
 type Subject = fn(&Scale) -> bool;
 
 /// Compares one subject, or all; true if nothing differed.
 pub fn compare(scale: &Scale, subject: Option<&str>) -> bool {
     println!("library: {}", library::NAME);
-    let subjects: [(&str, Subject); 10] = [
+    let subjects: [(&str, Subject); 14] = [
         ("tokens", compare_tokens),
         ("places", compare_places),
         ("examples", |_| examples::hold()),
@@ -222,6 +306,10 @@ pub fn compare(scale: &Scale, subject: Option<&str>) -> bool {
         ("fitting", compare_fitting),
         ("writing", compare_writing),
         ("edits", compare_edits),
+        ("index", compare_index),
+        ("board", compare_board),
+        ("feeds", compare_feeds),
+        ("blocks", compare_blocks),
     ];
     let wanted: Vec<_> = subjects.iter().filter(|(name, _)| subject.is_none_or(|chosen| *name == chosen)).collect();
     wanted.iter().fold(!wanted.is_empty(), |good, (_, run)| run(scale) & good)

@@ -7,9 +7,11 @@ use crate::plain::{self, Token};
 use crate::plain_fit::identifier;
 use crate::plain_go::{self, Go};
 use crate::plain_reader;
+use crate::plain_size;
 use crate::plain_write::{self, raw_values};
 use crate::report::{count, same};
 use crate::whole::{Fenced, Whole};
+use sgf_parse::go::{Move, Point, Prop as GoProp};
 use sgf_parse::{GameTree, SgfNode, SgfProp};
 
 /// The reader's limits.
@@ -56,14 +58,19 @@ fn compare_plain(whole: &Whole) -> Result<(), String> {
 
 fn compare_crate(text: &[u8], h: &Held, written: &[u8]) -> Result<(), String> {
     let read = std::str::from_utf8(text).expect("an accepted text is UTF-8");
-    let trees = oracle::read(read, Mode::Strict).map_err(|number| format!("crate refused {number}"))?;
+    let mut trees = oracle::read(read, Mode::Strict).map_err(|number| format!("crate refused {number}"))?;
     let mut p = 0;
     let mut alike = Alike::Bytes;
-    for (t, tree) in trees.iter().enumerate() {
-        let game_type = h.tables[0][2 * t + 1];
+    for (t, tree) in trees.iter_mut().enumerate() {
+        let rule = plain_size::rule(h, t);
         match tree {
-            GameTree::GoGame(root) => alike_nodes(h, game_type, root, &mut p, &mut alike),
-            GameTree::Unknown(root) => alike_nodes(h, game_type, root, &mut p, &mut alike),
+            GameTree::GoGame(root) => {
+                alike_nodes(h, rule, root, &mut p, &mut alike);
+                if rule == plain_size::GO {
+                    pass_corners(root);
+                }
+            }
+            GameTree::Unknown(root) => alike_nodes(h, rule, root, &mut p, &mut alike),
         }
     }
     let theirs = match alike {
@@ -75,6 +82,21 @@ fn compare_crate(text: &[u8], h: &Held, written: &[u8]) -> Result<(), String> {
     same("beside the crate", String::from_utf8_lossy(written).as_ref(), &theirs)
 }
 
+/// The crate takes every `tt` for the point (19, 19): that move becomes a pass, where the rule of its tree says so.
+fn pass_corners(root: &mut SgfNode<GoProp>) {
+    let corner = Move::Move(Point { x: 19, y: 19 });
+    let mut pending = vec![root];
+    while let Some(node) = pending.pop() {
+        for property in &mut node.properties {
+            match property {
+                GoProp::B(played) | GoProp::W(played) if *played == corner => *played = Move::Pass,
+                _ => {}
+            }
+        }
+        pending.extend(node.children.iter_mut());
+    }
+}
+
 /// How far the crate writes a record alike.
 #[derive(Clone, Copy, PartialEq, Eq, PartialOrd, Ord)]
 enum Alike {
@@ -83,20 +105,20 @@ enum Alike {
     Not,
 }
 
-fn alike_nodes<Prop: SgfProp>(h: &Held, game_type: u32, root: &SgfNode<Prop>, p: &mut usize, alike: &mut Alike) {
+fn alike_nodes<Prop: SgfProp>(h: &Held, rule: u32, root: &SgfNode<Prop>, p: &mut usize, alike: &mut Alike) {
     for property in in_order(root).flat_map(|node| &node.properties) {
         let is_unknown = format!("{property:?}").starts_with("Unknown");
-        *alike = (*alike).max(alike_property(h, game_type, *p, is_unknown));
+        *alike = (*alike).max(alike_property(h, rule, *p, is_unknown));
         *p += 1;
     }
 }
 
 /// The scope's domain, and the wider one of docs/DECISIONS.md.
-fn alike_property(h: &Held, game_type: u32, p: usize, is_unknown: bool) -> Alike {
+fn alike_property(h: &Held, rule: u32, p: usize, is_unknown: bool) -> Alike {
     let (name, raw) = (plain_go::read_identifier(identifier(h, p)), raw_values(h, p));
     let plain = !raw.concat().contains(&b'\\');
     let low = |x: &u8, y: &u8| *x < 26 && *y < 26;
-    let yes = match plain_go::value(game_type, identifier(h, p), &raw) {
+    let yes = match plain_go::value(rule, identifier(h, p), &raw) {
         Go::Pass | Go::Handicap(_) => true,
         Go::Move(x, y) => low(&x, &y),
         Go::Points(set) if set.len() > 1 && set.iter().all(|(x, y)| low(x, y)) => return Alike::Sorted,
@@ -189,9 +211,11 @@ fn compare_read_back(whole: &Whole, written: &[u8]) -> Result<(), String> {
     same("trees", &back.tables[0][..2 * back.counts.trees], &h.tables[0][..2 * h.counts.trees])?;
     let parents = |h: &Held| h.tables[1].chunks_exact(5).take(h.counts.nodes).map(|row| [row[0], row[4]]).collect::<Vec<_>>();
     same("parents and property counts", parents(&back), parents(&h))?;
+    let rules = plain_size::rules(&h);
+    same("rules", plain_size::rules(&back), rules.clone())?;
     for p in 0..h.counts.properties {
         same("identifier", identifier(&back, p), identifier(&h, p))?;
-        let go = |h: &Held| plain_go::value(0, identifier(h, p), &raw_values(h, p));
+        let go = |h: &Held| plain_go::value(rules[p], identifier(h, p), &raw_values(h, p));
         same("Go value", go(&back), go(&h))?;
         if matches!(go(&h), Go::Other | Go::Invalid) {
             same("raw values", raw_values(&back, p), raw_values(&h, p))?;

@@ -174,10 +174,45 @@ static void check_record(void) {
     CHECK(go.kind == SGF_MOVE && go.x == 2 && go.y == 51);
     CHECK(sgf_go_value(RECORD, 5).kind == SGF_PASS && sgf_go_value(RECORD, 0).kind == SGF_OTHER);
     CHECK(sgf_go_value(RECORD, 6).number == SGF_NO_SUCH_NUMBER);
-    CHECK(sgf_go_property(SGF_GO, (const uint8_t *)"HA", 2, text, used, values, 2 * ROWS, 0, 1).kind == SGF_INVALID);
-    CHECK(sgf_go_property(SGF_UNKNOWN_GAME, (const uint8_t *)"B", 1, text, used, values, 2 * ROWS, 6, 1).kind == SGF_OTHER);
+    CHECK(sgf_go_by_rule(SGF_RULE_GO, (const uint8_t *)"HA", 2, text, used, values, 2 * ROWS, 0, 1).kind == SGF_INVALID);
+    CHECK(sgf_go_by_rule(SGF_RULE_UNKNOWN, (const uint8_t *)"B", 1, text, used, values, 2 * ROWS, 6, 1).kind == SGF_OTHER);
     counts.nodes--;
     CHECK(sgf_fits(RECORD) == SGF_NOT_FITTING && sgf_value(RECORD, 0).number == SGF_NOT_FITTING);
+}
+
+#define TREE_SIZE(t) sgf_tree_size(text, used, TABLES, t)
+
+/* Every field of a size, kinds and rules; `tt` by them. */
+static void check_sizes(void) {
+    read_text("(;SZ[9:13]B[tt])(;SZ[20]B[tt])(;B[tt])(;SZ[9][9]B[tt])(;GM[2]SZ[7]B[tt])", sgf_read_strict, 0);
+    SgfSize s = sgf_size(RECORD, 0);
+    CHECK(s.number == 0 && s.kind == SGF_SIZE_SIZED && s.columns == 9 && s.rows == 13 && s.rule == SGF_RULE_GO);
+    s = sgf_size(RECORD, 1);
+    CHECK(s.kind == SGF_SIZE_SIZED && s.columns == 20 && s.rows == 20 && s.rule == SGF_RULE_GO_LARGE);
+    s = sgf_size(RECORD, 2);
+    CHECK(s.kind == SGF_SIZE_ABSENT && s.columns == 19 && s.rows == 19 && s.rule == SGF_RULE_GO);
+    s = sgf_size(RECORD, 3);
+    CHECK(s.kind == SGF_SIZE_WRONG && s.columns == 0 && s.rows == 0 && s.rule == SGF_RULE_GO_LARGE);
+    s = sgf_size(RECORD, 4);
+    CHECK(s.kind == SGF_SIZE_SIZED && s.columns == 7 && s.rows == 7 && s.rule == SGF_RULE_UNKNOWN);
+    s = sgf_size(RECORD, 5);
+    CHECK(s.number == SGF_NO_SUCH_NUMBER && s.kind == 0 && s.columns == 0 && s.rows == 0 && s.rule == 0);
+    for (size_t t = 0; t < 5; t++) {
+        SgfSize a = sgf_size(RECORD, t), b = TREE_SIZE(t);
+        CHECK(memcmp(&a, &b, sizeof a) == 0);
+    }
+    s = TREE_SIZE((size_t)-1);
+    CHECK(s.number == 0 && s.kind == SGF_SIZE_ABSENT && s.columns == 19 && s.rows == 19 && s.rule == SGF_RULE_GO);
+    CHECK(sgf_go_value(RECORD, 1).kind == SGF_PASS && sgf_go_value(RECORD, 3).kind == SGF_MOVE);
+    CHECK(sgf_go_value(RECORD, 3).x == 19 && sgf_go_value(RECORD, 3).y == 19 && sgf_go_value(RECORD, 4).kind == SGF_PASS);
+    CHECK(sgf_go_value(RECORD, 6).kind == SGF_MOVE && sgf_go_value(RECORD, 9).kind == SGF_OTHER);
+    const uint8_t *b = (const uint8_t *)"B";
+    CHECK(sgf_go_by_rule(SGF_RULE_GO, b, 1, text, used, values, 2 * ROWS, 1, 1).kind == SGF_PASS);
+    CHECK(sgf_go_by_rule(SGF_RULE_GO_LARGE, b, 1, text, used, values, 2 * ROWS, 1, 1).kind == SGF_MOVE);
+    CHECK(sgf_go_by_rule(SGF_RULE_UNKNOWN, b, 1, text, used, values, 2 * ROWS, 1, 1).kind == SGF_OTHER);
+    CHECK(sgf_go_by_rule(3, b, 1, text, used, values, 2 * ROWS, 1, 1).kind == SGF_OTHER);
+    counts.nodes--;
+    CHECK(sgf_size(RECORD, 0).number == SGF_NOT_FITTING && sgf_size(RECORD, 0).columns == 0);
 }
 
 static void check_writing(void) {
@@ -205,14 +240,39 @@ static void check_edit(void) {
     CHECK(edit(0, "").number == SGF_NOT_FITTING);
 }
 
+static void check_feed(void) {
+    read_text("(;C[ab];B[cd])", sgf_read_strict, 0);
+    uint8_t feed[16];
+    SgfWriting w = sgf_feed_begin(2, feed, sizeof feed);
+    CHECK(w.number == 0 && w.reserved == 0 && w.length == 1);
+    CHECK(sgf_feed_add(0, (const uint8_t *)"xyz", 3, feed + 1, 4).number == SGF_NO_ROOM);
+    CHECK(sgf_feed_add(268435456, feed, 0, feed + 1, 15).number == SGF_MALFORMED_FEED);
+    CHECK(sgf_feed_add(0, (const uint8_t *)"xyz", 3, feed + 1, 15).length == 5 && sgf_feed_add(1, feed, 0, feed + 6, 10).length == 2);
+    CHECK(memcmp(feed, "\2\0\3xyz\1\0", 8) == 0);
+    SgfCheck c = sgf_feed_check(RECORD, feed, 8);
+    CHECK(c.number == 0 && c.reserved == 0 && c.place == 0);
+    SgfPart p = sgf_corrected(RECORD, feed, 8, 0);
+    CHECK(p.number == 0 && p.source == SGF_FROM_FEED && p.place == 0 && p.from == 3 && p.to == 6);
+    p = sgf_feed_find(feed, 8, 2);
+    CHECK(p.number == 0 && p.source == SGF_FROM_RECORD && p.from == 0 && p.to == 0);
+    CHECK(sgf_corrected(RECORD, feed, 8, 2).number == SGF_NO_SUCH_NUMBER && sgf_corrected(RECORD, feed, 7, 0).number == SGF_MALFORMED_FEED);
+    SgfEdit e = sgf_correct(RECORD, feed, 7);
+    CHECK(e.number == SGF_MALFORMED_FEED && e.used == 0);
+    e = sgf_correct(RECORD, feed, 8);
+    CHECK(e.number == 0 && e.reserved == 0 && e.place == 0 && e.used == 13 && has(e.counts, 1, 2, 2, 2));
+    CHECK(memcmp(text, "(;C[xyz];B[])\0", 14) == 0 && values[0] == 4 && values[1] == 7 && values[2] == 11 && values[3] == 11);
+}
+
 int main(void) {
     check_version();
     check_tokens();
     check_reading();
     check_refused_readings();
     check_record();
+    check_sizes();
     check_writing();
     check_edit();
+    check_feed();
     printf("layout: %d checks, %d failures\n", checks, failures);
     return failures != 0;
 }

@@ -84,15 +84,15 @@ static bool is_named(const Record *r, size_t p, const char *name) {
     return *name == '\0';
 }
 
-/* The moves of one node of a tree with this game type. The tables come from a reading, so they fit. */
-static void print_moves(const Record *r, const uint32_t *node, uint32_t game_type) {
+/* The moves of one node of a tree with this rule. The tables come from a reading, so they fit. */
+static void print_moves(const Record *r, const uint32_t *node, uint32_t rule) {
     size_t first = node[SGF_NODE_FIRST_PROPERTY];
     for (size_t p = first; p < first + node[SGF_NODE_PROPERTY_COUNT]; p++) {
         const uint32_t *row = r->properties + p * SGF_PROPERTY_STRIDE;
         const uint8_t *name = r->text + row[SGF_PROPERTY_IDENTIFIER_START];
         size_t length = row[SGF_PROPERTY_IDENTIFIER_END] - row[SGF_PROPERTY_IDENTIFIER_START];
-        SgfGoValue value = sgf_go_property(game_type, name, length, r->text, r->used, r->values, r->values_len,
-                                           row[SGF_PROPERTY_FIRST_VALUE], row[SGF_PROPERTY_VALUE_COUNT]);
+        SgfGoValue value = sgf_go_by_rule(rule, name, length, r->text, r->used, r->values, r->values_len,
+                                          row[SGF_PROPERTY_FIRST_VALUE], row[SGF_PROPERTY_VALUE_COUNT]);
         const char *colour = is_named(r, p, "B") ? "B" : "W";
         if (value.kind == SGF_MOVE) {
             printf("  %s %c%c\n", colour, letter(value.x), letter(value.y));
@@ -120,11 +120,13 @@ static const uint32_t *fork_above(const Record *r, const uint32_t *node) {
 static void print_main_line(const Record *r) {
     for (size_t t = 0; t < r->counts.trees; t++) {
         const uint32_t *tree = r->trees + t * SGF_TREE_STRIDE;
+        uint32_t rule = sgf_tree_size(r->text, r->used, r->trees, r->trees_len, r->nodes, r->nodes_len, r->properties,
+                                      r->properties_len, r->values, r->values_len, t).rule;
         printf("game %zu\n", t + 1);
         const uint32_t *last = NULL;
         for (uint32_t k = tree[SGF_TREE_ROOT]; k != SGF_NONE; k = last[SGF_NODE_FIRST_CHILD]) {
             last = node_row(r, k);
-            print_moves(r, last, tree[SGF_TREE_GAME_TYPE]);
+            print_moves(r, last, rule);
         }
         const uint32_t *fork = fork_above(r, last);
         if (fork != NULL) {

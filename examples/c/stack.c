@@ -26,12 +26,16 @@ static SgfReading reading;
 static SgfSpan span;
 static SgfDisplay display;
 static SgfGoValue go;
+static SgfEntry entry;
+static SgfSimple simple;
+static SgfSize size;
 static SgfWriting writing;
 static SgfEdit edit;
 static SgfTrim trim;
 static SgfToken token;
 static SgfValue value;
 static uint32_t number;
+static SgfBoard board;
 
 static unsigned char stack[STACK];
 static volatile uintptr_t begin;
@@ -54,7 +58,14 @@ NOTE(SgfDisplay, note_display, SGF_RECORD, size_t k, uint32_t kind, uint8_t *to,
 NOTE(SgfDisplay, note_display_value, uint32_t kind, const uint8_t *raw, size_t raw_len, uint8_t *to, size_t to_len)
 NOTE(uint32_t, note_version, void)
 NOTE(SgfGoValue, note_go_value, SGF_RECORD, size_t p)
-NOTE(SgfGoValue, note_go_property, uint32_t type, const uint8_t *i, size_t n, const uint8_t *t, size_t m, const uint32_t *v, size_t l, size_t first, size_t count)
+NOTE(SgfEntry, note_entry, const uint8_t *i, size_t n)
+NOTE(SgfSimple, note_simple_value, SGF_RECORD, size_t p)
+NOTE(SgfSimple, note_simple_property, uint32_t rule, const uint8_t *i, size_t n, const uint8_t *t, size_t m, const uint32_t *v, size_t l, size_t first, size_t count)
+NOTE(SgfGoValue, note_go_by_rule, uint32_t rule, const uint8_t *i, size_t n, const uint8_t *t, size_t m, const uint32_t *v, size_t l, size_t first, size_t count)
+NOTE(SgfSize, note_size, SGF_RECORD, size_t tree)
+NOTE(SgfSize, note_tree_size, const uint8_t *t, size_t n, const uint32_t *a, size_t b, const uint32_t *c, size_t d, const uint32_t *e, size_t f, const uint32_t *g, size_t h, size_t tree)
+NOTE(SgfBoard, note_board, SGF_RECORD, size_t k)
+NOTE(SgfBoard, note_board_next, SgfBoard on, const uint8_t *t, size_t n, const uint32_t *p, size_t m, const uint32_t *v, size_t l, size_t first, size_t count)
 NOTE(SgfWriting, note_write, SGF_RECORD, uint8_t *to, size_t to_len)
 NOTE(SgfEdit, note_edit, uint8_t *t, size_t n, size_t m, SgfCounts k, const uint32_t *a, size_t b, const uint32_t *c, size_t d, uint32_t *e, size_t f, uint32_t *g, size_t h, size_t i, const uint8_t *r, size_t l)
 NOTE(SgfTrim, note_trim, const uint8_t *t, size_t n)
@@ -71,9 +82,27 @@ static void call_display(void) { display = EITHER(display)(RECORD, asked, option
 static void call_display_value(void) { display = EITHER(display_value)(options, text, used, out, room); }
 static void call_version(void) { number = EITHER(version)(); }
 static void call_go_value(void) { go = EITHER(go_value)(RECORD, asked); }
-static void call_go_property(void) {
+static void call_go_by_rule(void) {
     const uint32_t *row = properties + asked * SGF_PROPERTY_STRIDE;
-    go = EITHER(go_property)(SGF_GO, text + row[0], row[1] - row[0], text, used, values, sizeof values / 4, row[2], row[3]);
+    go = EITHER(go_by_rule)(SGF_RULE_GO, text + row[0], row[1] - row[0], text, used, values, sizeof values / 4, row[2], row[3]);
+}
+static void call_entry(void) {
+    const uint32_t *row = properties + asked * SGF_PROPERTY_STRIDE;
+    entry = EITHER(entry)(text + row[0], row[1] - row[0]);
+}
+static void call_simple_value(void) { simple = EITHER(simple_value)(RECORD, asked); }
+static void call_simple_property(void) {
+    const uint32_t *row = properties + asked * SGF_PROPERTY_STRIDE;
+    simple = EITHER(simple_property)(0, text + row[0], row[1] - row[0], text, used, values, sizeof values / 4, row[2], row[3]);
+}
+static void call_size(void) { size = EITHER(size)(RECORD, asked); }
+static void call_tree_size(void) { size = EITHER(tree_size)(text, used, TABLES, asked); }
+static void call_board(void) { board = EITHER(board)(RECORD, asked); }
+static void call_board_next(void) {
+    const uint32_t *row = nodes + asked * SGF_NODE_STRIDE;
+    memset(&board, 0, sizeof board);
+    board.columns = 19, board.rows = 19, board.stones[1] = SGF_WHITE;
+    board = EITHER(board_next)(board, text, used, properties, sizeof properties / 4, values, sizeof values / 4, row[3], row[4]);
 }
 static void call_write(void) { writing = EITHER(write)(RECORD, out, room); }
 static void call_edit(void) { edit = EITHER(edit)(RECORD, asked, (const uint8_t *)replacement, strlen(replacement)); }
@@ -94,7 +123,14 @@ static struct function {
     {"sgf_display_value", call_display_value, 0, 1024},
     {"sgf_version", call_version, 0, 512},
     {"sgf_go_value", call_go_value, 0, 12288},
-    {"sgf_go_property", call_go_property, 0, 9216},
+    {"sgf_entry", call_entry, 0, 2048},
+    {"sgf_simple_value", call_simple_value, 0, 2048},
+    {"sgf_simple_property", call_simple_property, 0, 2048},
+    {"sgf_go_by_rule", call_go_by_rule, 0, 9216},
+    {"sgf_size", call_size, 0, 1024},
+    {"sgf_tree_size", call_tree_size, 0, 1024},
+    {"sgf_board", call_board, 0, 26624},
+    {"sgf_board_next", call_board_next, 0, 23552},
     {"sgf_write", call_write, 0, 10240},
     {"sgf_edit", call_edit, 0, 1024},
     {"sgf_trim", call_trim, 0, 512},
@@ -148,6 +184,7 @@ int main(void) {
     static const char *texts[] = {
         "(;FF[4]GM[1]SZ[19]HA[2]AB[aa:cc][dd]AW[ZZ]TB[ba][aa]C[a\\]b\\\nc\r\n\td];B[ee]C [x];W[](;B[tt])(;Black[zz]N[\xC3\xA9]))(;GM[2];B[e4])",
         "\xC2\xA0(;HA[+012]HA[-1]AB[aa:ZZ];AB[x]TW[])\xE3\x80\x80",
+        "(;SZ[19]AB[aa][ab][ba]AW[cc];W[bb];B[ac];W[ca];AE[aa]B[cd];W[bc];B[tt])", "(;SZ[2];B[aa];W[ba];W[ab];B[bb])", "(;AB[aa]AB[aa])",
         "(;[x])", "(;a[])", "", "(;B)", "(;\xC3)", "(;B\xC3\xA9[])", "(;A[x][y", ")", "(;", "((;))", "(B[aa])", "(;GM[x])", "(;GM[1]GM[2])", "(;())(", deep,
     };
     static const char *const news[] = {"", "a longer value than it was", "]", "\\", "\xFF", "a\\]b"};
@@ -175,6 +212,6 @@ int main(void) {
             failed = 1;
         }
     }
-    (void)span, (void)display, (void)go, (void)writing, (void)edit, (void)trim, (void)token, (void)value, (void)number;
+    (void)span, (void)entry, (void)simple, (void)display, (void)go, (void)writing, (void)edit, (void)trim, (void)token, (void)value, (void)number, (void)board;
     return failed;
 }

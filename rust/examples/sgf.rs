@@ -1,5 +1,5 @@
 //! `write`, `show` and `same` as the script `sgf` has them, for records of up to 1 MiB.
-use ekimorepa::{Error, GameType, GoValue, Move, Node, Property, Record, TEXT_LIMIT, Tree, parse, parse_lenient};
+use ekimorepa::{BoardSize, Error, GameType, GoValue, Move, Node, Property, Record, Section, TEXT_LIMIT, Tree, parse, parse_lenient};
 use std::ffi::{OsStr, OsString};
 use std::fs::File;
 use std::io::{Read, Write, stdin, stdout};
@@ -72,14 +72,40 @@ fn show_tree(tree: Tree) -> String {
     let main_line: Vec<String> = tree.root().main_variation().flat_map(Node::properties).filter_map(shown).collect();
     let lines: Vec<String> = main_line.chunks(10).map(|line| format!("  {}", line.join(", "))).collect();
     let end = if lines.is_empty() { "" } else { "\n" };
-    format!("tree {number}: Go, nodes {nodes}, depth {depth}, moves {moves}\n{}{end}", lines.join(",\n"))
+    let board = match tree.size() {
+        BoardSize::Absent => "19 by 19".to_string(),
+        BoardSize::Sized(columns, rows) => format!("{columns} by {rows}"),
+        BoardSize::Wrong => "board unclear".to_string(),
+    };
+    format!("tree {number}: Go, {board}, nodes {nodes}, depth {depth}, moves {moves}\n{}{end}", lines.join(",\n"))
+}
+
+/// How many properties of a tree are of each section of FF[4], a line, if it has any.
+fn sections(tree: Tree) -> String {
+    let order = [
+        Section::Root,
+        Section::GameInfo,
+        Section::Go,
+        Section::Setup,
+        Section::Move,
+        Section::Timing,
+        Section::MoveAnnotation,
+        Section::NodeAnnotation,
+        Section::Markup,
+        Section::Miscellaneous,
+    ];
+    let all: Vec<Option<Section>> = tree.nodes().flat_map(Node::properties).map(|p| p.entry().map(|entry| entry.section)).collect();
+    let named = order.iter().map(|section| (Some(*section), section.to_string())).chain([(None, "unknown".into())]);
+    let counted = named.map(|(section, name)| (name, all.iter().filter(|s| **s == section).count()));
+    let words: Vec<String> = counted.filter(|(_, n)| *n > 0).map(|(name, n)| format!("{name} {n}")).collect();
+    if words.is_empty() { String::new() } else { format!("  {}\n", words.join(", ")) }
 }
 
 fn show(record: &Record) -> String {
     let tables = record.tables();
     let counts = [tables.trees.len(), tables.nodes.len(), tables.properties.len(), tables.values.len()];
     let [trees, nodes, properties, values] = counts;
-    let trees_shown: String = record.trees().map(show_tree).collect();
+    let trees_shown: String = record.trees().map(|tree| show_tree(tree) + &sections(tree)).collect();
     format!("trees {trees}, nodes {nodes}, properties {properties}, values {values}\n{trees_shown}")
 }
 

@@ -67,7 +67,9 @@ const KINDS: [(ErrorKind, &str); 24] = [
 ];
 
 /// A refusal: why, and for some kinds where. Refusals are equal where these are, whatever settings were ignored.
-#[derive(Debug, Clone, Copy)]
+///
+/// Its `Debug` is its sentence too, so that a `main` that returns it prints that.
+#[derive(Clone, Copy)]
 pub struct Error {
     kind: ErrorKind,
     place: usize,
@@ -168,6 +170,12 @@ impl fmt::Display for Error {
             write!(f, "at byte {}: ", self.place)?;
         }
         write!(f, "{} ({:?})", self.meaning(), self.kind)
+    }
+}
+
+impl fmt::Debug for Error {
+    fn fmt(&self, f: &mut fmt::Formatter<'_>) -> fmt::Result {
+        fmt::Display::fmt(self, f)
     }
 }
 

@@ -53,6 +53,32 @@ pub struct GoValue {
     pub marks: [u8; 2704],
 }
 
+/// A number; whether there is a board size, 0 none, 1 one, 2 a wrong one; columns and rows; the rule of the tree.
+#[repr(C)]
+#[derive(Debug, Clone, Copy, PartialEq, Eq)]
+pub struct Size {
+    pub number: u32,
+    pub kind: u32,
+    pub columns: u32,
+    pub rows: u32,
+    pub rule: u32,
+}
+
+/// A board: a number, the sides, stones put on and taken off, and what stands at 52 * x + y.
+#[repr(C)]
+#[derive(Debug, Clone, Copy, PartialEq, Eq)]
+pub struct Board {
+    pub number: u32,
+    pub columns: u32,
+    pub rows: u32,
+    pub reserved: u32,
+    pub black_on: u64,
+    pub black_off: u64,
+    pub white_on: u64,
+    pub white_off: u64,
+    pub stones: [u8; 2704],
+}
+
 /// The answer of an edit: number and place, used bytes, used rows.
 #[repr(C)]
 #[derive(Debug, Clone, Copy, PartialEq, Eq)]
@@ -95,6 +121,62 @@ pub struct Value {
     pub next: usize,
 }
 
+/// Where a value's bytes stand, in the record (source 0) or in the feed (1); or the number of a refusal and its place.
+#[repr(C)]
+#[derive(Debug, Clone, Copy, PartialEq, Eq)]
+pub struct Part {
+    pub number: u32,
+    pub source: u32,
+    pub place: usize,
+    pub from: usize,
+    pub to: usize,
+}
+
+/// Number 0; or the number of a refusal and its place.
+#[repr(C)]
+#[derive(Debug, Clone, Copy, PartialEq, Eq)]
+pub struct Check {
+    pub number: u32,
+    pub reserved: u32,
+    pub place: usize,
+}
+
+/// What is known between two blocks; all zero is the start.
+#[repr(C)]
+#[derive(Debug, Clone, Copy, Default, PartialEq, Eq)]
+pub struct Blocks {
+    pub total: u32,
+    pub utf: u32,
+    pub utf_from: u32,
+    pub code: u32,
+    pub last: u32,
+    pub now: u32,
+    pub now_from: u32,
+    pub count: u32,
+    pub kept: u32,
+    pub kept_from: u32,
+    pub held: u32,
+    pub closed: u32,
+}
+
+/// The answer to a block: number 0 or 20, and what is known then.
+#[repr(C)]
+#[derive(Debug, Clone, Copy, PartialEq, Eq)]
+pub struct Block {
+    pub number: u32,
+    pub state: Blocks,
+}
+
+/// The answer to a close: number and place, how many tokens, and what is known then.
+#[repr(C)]
+#[derive(Debug, Clone, Copy, PartialEq, Eq)]
+pub struct Close {
+    pub number: u32,
+    pub place: usize,
+    pub tokens: usize,
+    pub state: Blocks,
+}
+
 /// A text of which `used` bytes are the record's, the counts, and the tables of trees, nodes, properties and values.
 #[derive(Debug, Clone, Copy)]
 pub struct Held<'a> {
@@ -131,16 +213,37 @@ declare! {
     const sgf_value(k: usize) -> Span;
     const sgf_display(k: usize, kind: u32, out: *mut u8, out_len: usize) -> Length;
     const sgf_go_value(p: usize) -> GoValue;
+    const sgf_size(tree: usize) -> Size;
+    const sgf_board(node: usize) -> Board;
     const sgf_write(out: *mut u8, out_len: usize) -> Length;
     mut sgf_edit(k: usize, new: *const u8, new_len: usize) -> Edit;
+    const sgf_corrected(feed: *const u8, feed_len: usize, k: usize) -> Part;
+    const sgf_feed_check(feed: *const u8, feed_len: usize) -> Check;
+    mut sgf_correct(feed: *const u8, feed_len: usize) -> Edit;
 }
 
 unsafe extern "C" {
     fn sgf_version() -> u32;
+    fn sgf_board_next(
+        board: Board,
+        text: *const u8,
+        text_len: usize,
+        properties: *const u32,
+        properties_len: usize,
+        values: *const u32,
+        values_len: usize,
+        first: usize,
+        count: usize,
+    ) -> Board;
+    fn sgf_feed_find(feed: *const u8, feed_len: usize, k: usize) -> Part;
+    fn sgf_feed_begin(count: usize, out: *mut u8, out_len: usize) -> Length;
+    fn sgf_feed_add(value: usize, bytes: *const u8, bytes_len: usize, out: *mut u8, out_len: usize) -> Length;
     fn sgf_display_value(kind: u32, raw: *const u8, raw_len: usize, out: *mut u8, out_len: usize) -> Length;
     fn sgf_trim(text: *const u8, text_len: usize) -> Trimmed;
     fn sgf_token(text: *const u8, text_len: usize, at: usize) -> Token;
     fn sgf_next_value(text: *const u8, text_len: usize, at: usize) -> Value;
+    fn sgf_block(state: Blocks, block: *const u8, block_len: usize, rows: *mut u32, rows_len: usize) -> Block;
+    fn sgf_close(state: Blocks, rows: *mut u32, rows_len: usize) -> Close;
     fn sgf_read_strict(
         text: *const u8,
         text_len: usize,
@@ -167,8 +270,21 @@ unsafe extern "C" {
         values: *mut u32,
         values_len: usize,
     ) -> Reading;
-    fn sgf_go_property(
-        game_type: u32,
+    fn sgf_tree_size(
+        text: *const u8,
+        text_len: usize,
+        trees: *const u32,
+        trees_len: usize,
+        nodes: *const u32,
+        nodes_len: usize,
+        properties: *const u32,
+        properties_len: usize,
+        values: *const u32,
+        values_len: usize,
+        tree: usize,
+    ) -> Size;
+    fn sgf_go_by_rule(
+        rule: u32,
         identifier: *const u8,
         identifier_len: usize,
         text: *const u8,
@@ -205,6 +321,14 @@ pub fn token(text: &[u8], at: usize) -> Token {
 
 pub fn next_value(text: &[u8], at: usize) -> Value {
     unsafe { sgf_next_value(text.as_ptr(), text.len(), at) }
+}
+
+pub fn block(state: Blocks, block: &[u8], rows: &mut [u32]) -> Block {
+    unsafe { sgf_block(state, block.as_ptr(), block.len(), rows.as_mut_ptr(), rows.len()) }
+}
+
+pub fn close(state: Blocks, rows: &mut [u32]) -> Close {
+    unsafe { sgf_close(state, rows.as_mut_ptr(), rows.len()) }
 }
 
 /// Calls one of the two readings.
@@ -257,14 +381,57 @@ pub fn go_value(h: &Held, p: usize) -> GoValue {
     over!(sgf_go_value, h, p)
 }
 
+pub fn board(h: &Held, node: usize) -> Board {
+    over!(sgf_board, h, node)
+}
+
+pub fn board_next(board: Board, text: &[u8], properties: &[u32], values: &[u32], first: usize, count: usize) -> Board {
+    unsafe {
+        sgf_board_next(
+            board,
+            text.as_ptr(),
+            text.len(),
+            properties.as_ptr(),
+            properties.len(),
+            values.as_ptr(),
+            values.len(),
+            first,
+            count,
+        )
+    }
+}
+
 pub fn write(h: &Held, out: &mut [u8]) -> Length {
     over!(sgf_write, h, out.as_mut_ptr(), out.len())
 }
 
-pub fn go_property(game_type: u32, identifier: &[u8], text: &[u8], values: &[u32], first: usize, count: usize) -> GoValue {
+pub fn size(h: &Held, tree: usize) -> Size {
+    over!(sgf_size, h, tree)
+}
+
+pub fn tree_size(text: &[u8], tables: [&[u32]; 4], tree: usize) -> Size {
+    let [trees, nodes, properties, values] = tables;
     unsafe {
-        sgf_go_property(
-            game_type,
+        sgf_tree_size(
+            text.as_ptr(),
+            text.len(),
+            trees.as_ptr(),
+            trees.len(),
+            nodes.as_ptr(),
+            nodes.len(),
+            properties.as_ptr(),
+            properties.len(),
+            values.as_ptr(),
+            values.len(),
+            tree,
+        )
+    }
+}
+
+pub fn go_by_rule(rule: u32, identifier: &[u8], text: &[u8], values: &[u32], first: usize, count: usize) -> GoValue {
+    unsafe {
+        sgf_go_by_rule(
+            rule,
             identifier.as_ptr(),
             identifier.len(),
             text.as_ptr(),
@@ -295,6 +462,111 @@ pub fn edit(e: &mut Edited, k: usize, new: &[u8]) -> Edit {
             k,
             new.as_ptr(),
             new.len(),
+        )
+    }
+}
+
+/// What FF[4] lists of a property; all 0 where it does not list it.
+#[repr(C)]
+#[derive(Debug, Clone, Copy, PartialEq, Eq)]
+pub struct Entry {
+    pub kind: u32,
+    pub property_type: u32,
+    pub section: u32,
+    pub reserved: u32,
+}
+
+/// A number and a simple value.
+#[repr(C)]
+#[derive(Debug, Clone, Copy, PartialEq, Eq)]
+pub struct Simple {
+    pub number: u32,
+    pub kind: u32,
+    pub negative: u32,
+    pub reserved: u32,
+    pub size: u64,
+}
+
+declare! {
+    const sgf_simple_value(p: usize) -> Simple;
+}
+
+unsafe extern "C" {
+    fn sgf_entry(identifier: *const u8, identifier_len: usize) -> Entry;
+    fn sgf_simple_property(
+        rule: u32,
+        identifier: *const u8,
+        identifier_len: usize,
+        text: *const u8,
+        text_len: usize,
+        values: *const u32,
+        values_len: usize,
+        first: usize,
+        count: usize,
+    ) -> Simple;
+}
+
+pub fn entry(identifier: &[u8]) -> Entry {
+    unsafe { sgf_entry(identifier.as_ptr(), identifier.len()) }
+}
+
+pub fn simple_value(h: &Held, p: usize) -> Simple {
+    over!(sgf_simple_value, h, p)
+}
+
+pub fn simple_property(rule: u32, identifier: &[u8], text: &[u8], values: &[u32], first: usize, count: usize) -> Simple {
+    unsafe {
+        sgf_simple_property(
+            rule,
+            identifier.as_ptr(),
+            identifier.len(),
+            text.as_ptr(),
+            text.len(),
+            values.as_ptr(),
+            values.len(),
+            first,
+            count,
+        )
+    }
+}
+
+pub fn corrected(h: &Held, feed: &[u8], k: usize) -> Part {
+    over!(sgf_corrected, h, feed.as_ptr(), feed.len(), k)
+}
+
+pub fn feed_check(h: &Held, feed: &[u8]) -> Check {
+    over!(sgf_feed_check, h, feed.as_ptr(), feed.len())
+}
+
+pub fn feed_find(feed: &[u8], k: usize) -> Part {
+    unsafe { sgf_feed_find(feed.as_ptr(), feed.len(), k) }
+}
+
+pub fn feed_begin(count: usize, out: &mut [u8]) -> Length {
+    unsafe { sgf_feed_begin(count, out.as_mut_ptr(), out.len()) }
+}
+
+pub fn feed_add(value: usize, bytes: &[u8], out: &mut [u8]) -> Length {
+    unsafe { sgf_feed_add(value, bytes.as_ptr(), bytes.len(), out.as_mut_ptr(), out.len()) }
+}
+
+pub fn correct(e: &mut Edited, feed: &[u8]) -> Edit {
+    unsafe {
+        sgf_correct(
+            e.text.as_mut_ptr(),
+            e.text.len(),
+            e.used,
+            e.counts,
+            e.trees.as_ptr(),
+            e.trees.len(),
+            e.nodes.as_ptr(),
+            e.nodes.len(),
+            e.properties.as_mut_ptr(),
+            e.properties.len(),
+            e.values.as_mut_ptr(),
+            e.values.len(),
+            feed.as_ptr(),
+            feed.len(),
         )
     }
 }

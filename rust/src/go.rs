@@ -2,6 +2,7 @@
 #![forbid(unsafe_code)]
 use crate::ffi;
 use std::fmt;
+use std::str::FromStr;
 
 /// Whose move.
 #[derive(Debug, Clone, Copy, PartialEq, Eq, Hash)]
@@ -35,12 +36,78 @@ impl fmt::Display for Point {
     }
 }
 
-/// A move.
+/// Letters that are no point.
+#[derive(Debug, Clone, Copy, PartialEq, Eq)]
+pub struct NoPoint;
+
+impl fmt::Display for NoPoint {
+    fn fmt(&self, f: &mut fmt::Formatter<'_>) -> fmt::Result {
+        f.write_str("a point is two letters, `a` to `z` or `A` to `Z`")
+    }
+}
+
+impl std::error::Error for NoPoint {}
+
+impl FromStr for Point {
+    type Err = NoPoint;
+
+    /// The point of two letters, as it is displayed.
+    ///
+    /// ```
+    /// use ekimorepa::Point;
+    ///
+    /// assert_eq!("aZ".parse(), Ok(Point { x: 0, y: 51 }));
+    /// assert!("a".parse::<Point>().is_err() && "a1".parse::<Point>().is_err());
+    /// ```
+    fn from_str(letters: &str) -> Result<Self, NoPoint> {
+        let side = |b: u8| match b {
+            b'a'..=b'z' => Ok(b - b'a'),
+            b'A'..=b'Z' => Ok(b - b'A' + 26),
+            _ => Err(NoPoint),
+        };
+        match letters.as_bytes() {
+            [x, y] => Ok(Point { x: side(*x)?, y: side(*y)? }),
+            _ => Err(NoPoint),
+        }
+    }
+}
+
+/// A move; displayed as its point, or as `pass`.
 #[derive(Debug, Clone, Copy, PartialEq, Eq, Hash)]
 #[allow(missing_docs)]
 pub enum Move {
     Pass,
     Move(Point),
+}
+
+impl fmt::Display for Move {
+    fn fmt(&self, f: &mut fmt::Formatter<'_>) -> fmt::Result {
+        match self {
+            Move::Pass => f.write_str("pass"),
+            Move::Move(point) => point.fmt(f),
+        }
+    }
+}
+
+impl FromStr for Move {
+    type Err = NoPoint;
+
+    /// The move as it is displayed; nothing, as SGF writes a pass, is one too. `tt` is the point (19, 19): whether it is
+    /// a pass, the tree says.
+    ///
+    /// ```
+    /// use ekimorepa::{Move, Point};
+    ///
+    /// assert_eq!(["", "pass", "ba"].map(|played| played.parse()), [Ok(Move::Pass), Ok(Move::Pass), Ok(Move::Move(Point { x: 1, y: 0 }))]);
+    /// assert_eq!(Move::Move("ba".parse()?).to_string(), "ba");
+    /// # Ok::<(), ekimorepa::NoPoint>(())
+    /// ```
+    fn from_str(played: &str) -> Result<Self, NoPoint> {
+        match played {
+            "" | "pass" => Ok(Move::Pass),
+            letters => letters.parse().map(Move::Move),
+        }
+    }
 }
 
 /// What a property says in the game of Go.

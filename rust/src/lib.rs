@@ -60,21 +60,35 @@
 //! ```
 #![deny(unsafe_code)]
 
+mod board;
+mod blocks;
 mod error;
+mod feed;
 #[allow(unsafe_code, dead_code)]
 mod ffi;
 mod go;
+mod index;
 mod node;
 mod property;
 mod record;
+mod session;
+mod size;
 mod tables;
+mod walk;
 
+pub use board::Board;
+pub use blocks::{Blocks, TokenKind, TokenSpan, Tokens};
 pub use error::{Error, ErrorKind};
-pub use go::{Color, GoValue, Move, Point, PointSet};
+pub use index::{Entry, PropertyType, Section, Simple, ValueKind, entry_of};
+pub use go::{Color, GoValue, Move, NoPoint, Point, PointSet};
+pub use feed::{Feed, Overlaid};
 pub use node::{GameType, Node, Tree};
 pub use property::{Property, Value, escape};
 pub use record::{ParseOptions, Record, parse, parse_lenient, parse_lenient_with_options, parse_with_options, serialize};
+pub use session::Session;
+pub use size::BoardSize;
 pub use tables::Tables;
+pub use walk::{Step, Walk};
 
 /// The version of the linked library: major, minor, patch; that of this crate, where both are of one release.
 ///

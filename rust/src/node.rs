@@ -1,7 +1,9 @@
 //! Trees and nodes.
 #![forbid(unsafe_code)]
 use crate::tables::NONE;
+use crate::size::Ruled;
 use crate::{Color, GoValue, Move, Property, Record};
+use std::iter::FusedIterator;
 
 /// The game of a tree.
 #[derive(Debug, Clone, Copy, PartialEq, Eq, Hash)]
@@ -17,6 +19,7 @@ pub enum GameType {
 pub struct Tree<'r> {
     pub(crate) record: &'r Record<'r>,
     pub(crate) number: usize,
+    pub(crate) ruled: Ruled,
 }
 
 impl<'r> Tree<'r> {
@@ -39,10 +42,10 @@ impl<'r> Tree<'r> {
     }
 
     /// Its nodes, in the order of the text: each before its children.
-    pub fn nodes(self) -> impl Iterator<Item = Node<'r>> {
+    pub fn nodes(self) -> impl DoubleEndedIterator<Item = Node<'r>> + ExactSizeIterator + FusedIterator {
         let tables = &self.record.tables;
         let end = tables.trees.get(self.number + 1).map_or(tables.nodes.len() as u32, |next| next[0]);
-        (self.row()[0]..end).map(move |number| self.node(number))
+        (self.row()[0] as usize..end as usize).map(move |number| self.node(number as u32))
     }
 
     fn row(self) -> [u32; 2] {
@@ -54,12 +57,40 @@ impl<'r> Tree<'r> {
     }
 }
 
-/// A node of a tree.
+/// A node of a tree. Nodes are equal where they are one node of one record in memory.
 #[derive(Debug, Clone, Copy)]
 pub struct Node<'r> {
     tree: Tree<'r>,
     number: usize,
 }
+
+impl PartialEq for Node<'_> {
+    fn eq(&self, other: &Self) -> bool {
+        std::ptr::eq(self.record(), other.record()) && self.number == other.number
+    }
+}
+
+impl Eq for Node<'_> {}
+
+/// The ancestors of a node, the nearest first: as many as its depth.
+#[derive(Debug, Clone)]
+struct Ancestors<'r>(Node<'r>);
+
+impl<'r> Iterator for Ancestors<'r> {
+    type Item = Node<'r>;
+
+    fn next(&mut self) -> Option<Node<'r>> {
+        self.0 = self.0.parent()?;
+        Some(self.0)
+    }
+
+    fn size_hint(&self) -> (usize, Option<usize>) {
+        (self.0.depth(), Some(self.0.depth()))
+    }
+}
+
+impl ExactSizeIterator for Ancestors<'_> {}
+impl FusedIterator for Ancestors<'_> {}
 
 impl<'r> Node<'r> {
     /// Its number in the record.
@@ -90,8 +121,18 @@ impl<'r> Node<'r> {
     }
 
     /// Its parent, that one's parent, and so on up to the root: as many as its depth.
-    pub fn ancestors(self) -> impl Iterator<Item = Node<'r>> {
-        std::iter::successors(self.parent(), |node| node.parent())
+    pub fn ancestors(self) -> impl ExactSizeIterator<Item = Node<'r>> + FusedIterator {
+        Ancestors(self)
+    }
+
+    /// Its first child, if it has one.
+    pub fn first_child(self) -> Option<Node<'r>> {
+        self.linked(self.row()[1])
+    }
+
+    /// The next child of its parent, if there is one.
+    pub fn next_sibling(self) -> Option<Node<'r>> {
+        self.linked(self.row()[2])
     }
 
     /// The nearest ancestor with two or more children: where "back to the fork" leads. None where no ancestor has them;
@@ -118,19 +159,19 @@ impl<'r> Node<'r> {
     /// assert_eq!(answers, ["bb", "cc"]);
     /// # Ok::<(), ekimorepa::Error>(())
     /// ```
-    pub fn children(self) -> impl Iterator<Item = Node<'r>> {
-        std::iter::successors(self.linked(self.row()[1]), |child| child.linked(child.row()[2]))
+    pub fn children(self) -> impl FusedIterator<Item = Node<'r>> {
+        std::iter::successors(self.first_child(), |child| child.next_sibling())
     }
 
     /// The node, its first child, that one's first child, and so on.
-    pub fn main_variation(self) -> impl Iterator<Item = Node<'r>> {
-        std::iter::successors(Some(self), |node| node.linked(node.row()[1]))
+    pub fn main_variation(self) -> impl FusedIterator<Item = Node<'r>> {
+        std::iter::successors(Some(self), |node| node.first_child())
     }
 
     /// Its properties, in the order of the text.
-    pub fn properties(self) -> impl Iterator<Item = Property<'r>> {
-        let [_, _, _, first, count, _] = self.row();
-        (first..first + count).map(move |number| Property { node: self, number: number as usize })
+    pub fn properties(self) -> impl DoubleEndedIterator<Item = Property<'r>> + ExactSizeIterator + FusedIterator {
+        let [first, count] = [self.row()[3] as usize, self.row()[4] as usize];
+        (first..first + count).map(move |number| Property { node: self, number })
     }
 
     /// Its first property with this identifier.
@@ -165,7 +206,7 @@ impl<'r> Node<'r> {
         self.tree.record
     }
 
-    fn row(self) -> [u32; 6] {
+    pub(crate) fn row(self) -> [u32; 6] {
         self.record().tables.nodes[self.number]
     }
 

@@ -1,7 +1,8 @@
 //! Properties and their values.
 #![forbid(unsafe_code)]
-use crate::{GameType, GoValue, Node, Record, ffi};
+use crate::{GoValue, Node, Record, ffi};
 use std::borrow::Cow;
+use std::iter::FusedIterator;
 
 /// A property of a node.
 #[derive(Debug, Clone, Copy)]
@@ -44,9 +45,9 @@ impl<'r> Property<'r> {
     }
 
     /// Its values, in the order of the text: at least one.
-    pub fn values(self) -> impl Iterator<Item = Value<'r>> {
-        let [_, _, first, count] = self.row();
-        (first..first + count).map(move |number| Value { record: self.record(), number: number as usize })
+    pub fn values(self) -> impl DoubleEndedIterator<Item = Value<'r>> + ExactSizeIterator + FusedIterator {
+        let [first, count] = [self.row()[2] as usize, self.row()[3] as usize];
+        (first..first + count).map(move |number| Value { record: self.record(), number })
     }
 
     /// Its first value.
@@ -68,13 +69,10 @@ impl<'r> Property<'r> {
     /// ```
     pub fn go_value(self) -> GoValue {
         let [_, _, first, count] = self.row();
-        let game = match self.node.tree().game_type() {
-            GameType::Go => 0,
-            GameType::Unknown => 1,
-        };
+        let rule = self.node.tree().ruled.rule;
         let Record { text, tables, .. } = self.record();
         let name = self.raw_identifier().as_bytes();
-        ffi::go_property(game, name, text, tables.values.as_flattened(), first as usize, count as usize).into()
+        ffi::go_by_rule(rule, name, text, tables.values.as_flattened(), first as usize, count as usize).into()
     }
 
     fn record(self) -> &'r Record<'r> {

@@ -1,7 +1,9 @@
 //! A record: a text and its tables.
 #![forbid(unsafe_code)]
+use crate::size::ruled;
 use crate::{Error, Node, Property, TEXT_LIMIT, Tables, Tree, Value, ffi};
 use std::borrow::Cow;
+use std::iter::FusedIterator;
 
 /// Settings as profiles store them. None of them changes a reading.
 ///
@@ -198,8 +200,8 @@ impl<'t> Record<'t> {
     }
 
     /// The trees, in the order of the text.
-    pub fn trees(&self) -> impl Iterator<Item = Tree<'_>> {
-        (0..self.tables.trees.len()).map(|number| Tree { record: self, number })
+    pub fn trees(&self) -> impl DoubleEndedIterator<Item = Tree<'_>> + ExactSizeIterator + FusedIterator {
+        (0..self.tables.trees.len()).map(|number| Tree { record: self, number, ruled: ruled(self, number) })
     }
 
     /// The nodes of all trees, in the order of the text.
@@ -244,6 +246,23 @@ impl<'t> Record<'t> {
         }
         text.truncate(edit.used);
         Ok(())
+    }
+
+    /// Replaces the raw bytes of a value as [`set_value`](Record::set_value) does, and gives back those that it had: put back
+    /// in reverse order they undo a run of edits. [`Session`](crate::Session) keeps them.
+    ///
+    /// ```
+    /// let mut record = ekimorepa::parse("(;C[ab];B[cd])")?;
+    /// let old = record.replace_value(0, "x")?;
+    /// assert_eq!(old, b"ab");
+    /// record.set_value(0, old)?;
+    /// assert_eq!(record, ekimorepa::parse("(;C[ab];B[cd])")?);
+    /// # Ok::<(), ekimorepa::Error>(())
+    /// ```
+    pub fn replace_value(&mut self, number: usize, new: impl AsRef<[u8]>) -> Result<Vec<u8>, Error> {
+        let old = self.value(number).map_or_else(Vec::new, |value| value.as_bytes().to_vec());
+        self.set_value(number, new)?;
+        Ok(old)
     }
 
     /// The record as text, in one form: identifiers as their uppercase letters, moves, handicaps and sets of points of Go games

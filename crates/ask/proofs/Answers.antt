@@ -11,9 +11,10 @@ use Rattle.fit.specs.Fit.{Fit}
 use Rattle.fit.proofs.Clauses.{Clauses, fit-clauses, name-in}
 use Rattle.fit.proofs.RootRows.{root-in}
 use Rattle.ask.specs.Ask.{given, refuses, goAnswer}
-use Rattle.ask.specs.Locals.{Rooted, gameFrom, nameAt}
+use Rattle.ask.specs.Locals.{Rooted, treeFrom, nameAt}
 use Rattle.ask.proofs.Goes.{trees-some, go-of-rows}
 use Rattle.fit.specs.Record.{textIn}
+use Rattle.fit_rule.specs.Rule.{ruleAt}
 use Rattle.tables.specs.LocalsNames.{NameHeld}
 
 module _ (m : Memory) (p : ℕ) where
@@ -41,7 +42,7 @@ module _ (m : Memory) (p : ℕ) where
       pub go-named : NameHeld (textIn m) (m .properties) p
       go-named = record { row = omega (arith, f .held .properties); rises = name-in f p l .0; inside = name-in f p l .1 }
 
-      pub go-yes : {k : ℕ} {g : GoValue} → k ≡ gameFrom (m .trees) (m .nodes) p 0 (m .counts .trees - 1) → g ≡ goValue k (readIdentifier (nameAt (textIn m) (m .properties) p)) (valuesAt (textIn m) (m .values) (firstValAt (m .properties) p) (valCountAt (m .properties) p))
+      pub go-yes : {r k : ℕ} {g : GoValue} → r ≡ treeFrom (m .trees) (m .nodes) p 0 (m .counts .trees - 1) → k ≡ ruleAt (textIn m) (m .trees) (m .nodes) (m .properties) (m .values) r → g ≡ goValue k (readIdentifier (nameAt (textIn m) (m .properties) p)) (valuesAt (textIn m) (m .values) (firstValAt (m .properties) p) (valCountAt (m .properties) p))
           → given g ≡ goAnswer m p
       unfolding goAnswer
-      go-yes x e = rw (h, lt-ltb p (m .counts .properties) l) (ap given (e ∙ ap (λ (z : ℕ). goValue z (readIdentifier (nameAt (textIn m) (m .properties) p)) (valuesAt (textIn m) (m .values) (firstValAt (m .properties) p) (valCountAt (m .properties) p))) x ∙ sym (go-of-rows f p l)))
+      go-yes w y e = rw (h, lt-ltb p (m .counts .properties) l) (ap given (e ∙ ap (λ (z : ℕ). goValue z (readIdentifier (nameAt (textIn m) (m .properties) p)) (valuesAt (textIn m) (m .values) (firstValAt (m .properties) p) (valCountAt (m .properties) p))) (y ∙ ap (ruleAt (textIn m) (m .trees) (m .nodes) (m .properties) (m .values)) w) ∙ sym (go-of-rows f p l)))

@@ -1,4 +1,4 @@
--- The Go value of a property of tables that fit, by its rows and the game type of its tree. Assumes nothing.
+-- The Go value of a property of tables that fit, by its rows and the rule of its tree. Assumes nothing.
 use Rattle.lists.proofs.Prelude.{ℕ, zero, suc, _+_, _-_, _≤_, _<_, List, _≡_, ap, ap₂, _∙_, arith, ltb, length, take, drop, getD, length-map, length-drop, getD-take, getD-drop, length-take-le, lt-ltb, le-ltb, pick}
 use Rattle.lexer.specs.Token.{Val, Prop}
 use Rattle.values.specs.Read.{readIdentifier}
@@ -9,6 +9,8 @@ use Rattle.tables.specs.Record.{Node, allProps}
 use Rattle.tables.specs.declared.Counts.{Counts}
 use Rattle.tables.specs.Columns.{rootAt, gameAt, firstPropAt, propCountAt, firstValAt, valCountAt}
 use Rattle.tables.specs.Each.{sum, tabulate}
+use Rattle.fit_rule.specs.Rule.{ruleOf, ruleAt}
+use Rattle.fit_rule.proofs.Denotes.{values-raw, rule-tree}
 use Rattle.fit.specs.Record.{treeRow, nodeRow, propRow, propOf, nodeOf, treesOf, recordOf, rowsOf}
 use Rattle.tables.proofs.Cases.{below-or}
 use Rattle.fit.proofs.Clauses.{Clauses}
@@ -17,11 +19,11 @@ use Rattle.fit_spans.proofs.Ranges.{gapless-first, gapless-sum, sum-up}
 use Rattle.fit.proofs.RecordRows.{valsIn, propsIn, props-part, first-root, no-trees}
 use Rattle.fit.proofs.RootRows.{root-in, root-rises}
 use Rattle.ask.specs.Ask.{noProp, goOf, goAt}
-use Rattle.ask.specs.Locals.{gameFrom, nameAt}
-use Rattle.ask.proofs.Values.{values-raw}
+use Rattle.ask.specs.Locals.{treeFrom, nameAt}
 
 module _ (tr nd : List ℕ) (M N P : ℕ) (ps : List Prop) (whole : length ps ≡ P) (total : sum (propCountAt nd) N ≡ P)
-    (first : (k : ℕ) → k < N → firstPropAt nd k ≡ sum (propCountAt nd) k) (inside : (r : ℕ) → r < M → rootAt tr r < N) (rises : (r : ℕ) → suc r < M → rootAt tr r < rootAt tr (suc r)) where
+    (first : (k : ℕ) → k < N → firstPropAt nd k ≡ sum (propCountAt nd) k) (inside : (r : ℕ) → r < M → rootAt tr r < N) (rises : (r : ℕ) → suc r < M → rootAt tr r < rootAt tr (suc r))
+    (rule : ℕ → ℕ) (ruled : (r b : ℕ) → r < M → rootAt tr r < b → ruleOf (record { root = rootAt tr r; game = gameAt tr r; nodes = tabulate (λ k. nodeOf ps (nodeRow nd k)) (rootAt tr r) (b - rootAt tr r) }) ≡ rule r) where
   abbrev S : ℕ → ℕ
   S = sum (propCountAt nd)
 
@@ -61,24 +63,24 @@ module _ (tr nd : List ℕ) (M N P : ℕ) (ps : List Prop) (whole : length ps �
         (λ c. rw (part-length, le-ltb (p - S a) (S e - S a) (omega arith), le-ltb p (S e) c))
 
   go-from : (m r p : ℕ) → r + suc m ≡ M → S (rootAt tr r) ≤ p → p < P
-      → goAt (treesOf nodes (tabulate (treeRow tr) r (suc m))) (p - S (rootAt tr r)) ≡ goOf (gameFrom tr nd p r m) (getD ps p noProp)
-  unfolding gameFrom tabulate
+      → goAt (treesOf nodes (tabulate (treeRow tr) r (suc m))) (p - S (rootAt tr r)) ≡ goOf (rule (treeFrom tr nd p r m)) (getD ps p noProp)
+  unfolding treeFrom tabulate
   go-from zero r p e b h =
       let a : ℕ = rootAt tr r in
       let d : drop a nodes ≡ tabulate nodeFor a (N - a) = (let o : 0 + a ≡ a = omega arith in tabulate-drop nodeFor a 0 N ∙ ap (λ (z : ℕ). tabulate nodeFor z (N - a)) o) in
       let i = inside r (omega arith) in
-      rw d (part-go a N (omega arith) (omega arith) (gameAt tr r) p _ b ∙ rw (lt-ltb p (S N) (omega (arith, total))))
+      rw (d, ruled r N (omega arith) i) (part-go a N (omega arith) (omega arith) (rule r) p _ b ∙ rw (lt-ltb p (S N) (omega (arith, total))))
   go-from (suc m) r p e b h =
       let a : ℕ = rootAt tr r in
       let z : ℕ = rootAt tr (suc r) in
-      let l : a ≤ z = (let u = rises r (omega arith) in omega arith) in
+      let u : a < z = rises r (omega arith) in
+      let l : a ≤ z = omega arith in
       let i : z < N = inside (suc r) (omega arith) in
       let f : firstPropAt nd z ≡ S z = first z i in
       let d : take (z - a) (drop a nodes) ≡ tabulate nodeFor a (z - a) = tabulate-part nodeFor a (z - a) N (omega arith) in
       let n : length (part a z l (omega arith)) ≡ S z - S a = part-length a z l (omega arith) in
-      let x : GoValue = goOf (gameAt tr r) (getD ps p noProp) in
       let y : GoValue = goAt (treesOf nodes (tabulate (treeRow tr) (suc r) (suc m))) (p - S a - length (part a z l (omega arith))) in
-      rw d (part-go a z l (omega arith) (gameAt tr r) p y b
+      rw (d, ruled r z (omega arith) u) (part-go a z l (omega arith) (rule r) p y b
       ∙ below-or p (S z) (λ c. rw (f, lt-ltb p (S z) c))
       (λ c.
       let o : p - S a - (S z - S a) ≡ p - S z = (let u = sum-up (firstPropAt nd) (propCountAt nd) a z l in omega arith) in
@@ -106,7 +108,7 @@ module _ {t : List ℕ} {c : Counts} {tr nd pr vl : List ℕ} (f : Clauses t c t
 
 -- property p of fitting tables over the used text t
 pub go-of-rows : {t : List ℕ} {c : Counts} {tr nd pr vl : List ℕ} → Clauses t c tr nd pr vl → (p : ℕ) → p < c .properties
-    → goAt (recordOf t (rowsOf c tr nd pr vl)) p ≡ goValue (gameFrom tr nd p 0 (c .trees - 1)) (readIdentifier (nameAt t pr p)) (valuesAt t vl (firstValAt pr p) (valCountAt pr p))
+    → goAt (recordOf t (rowsOf c tr nd pr vl)) p ≡ goValue (ruleAt t tr nd pr vl (treeFrom tr nd p 0 (c .trees - 1))) (readIdentifier (nameAt t pr p)) (valuesAt t vl (firstValAt pr p) (valCountAt pr p))
 go-of-rows {t} {c} {tr} {nd} {pr} {vl} f p h =
     let M : ℕ = c .trees in
     let N : ℕ = c .nodes in
@@ -117,11 +119,11 @@ go-of-rows {t} {c} {tr} {nd} {pr} {vl} f p h =
     let zero-root : rootAt tr 0 ≡ 0 = first-root f (trees-some f p h) in
     let z : S-zero nd (rootAt tr 0) = sum-zero nd (rootAt tr 0) zero-root in
     let one : M ≡ suc (M - 1) = omega (arith, trees-some f p h) in
-    let k : ℕ = gameFrom tr nd p 0 (M - 1) in
+    let k : ℕ = ruleAt t tr nd pr vl (treeFrom tr nd p 0 (M - 1)) in
     ap (λ (ns : List Node). goAt (treesOf ns (tabulate (treeRow tr) 0 M)) p) (map-tabulate (nodeRow nd) (nodeOf ps) 0 N)
     ∙ ap₂ (λ (m q : ℕ). goAt (treesOf (tabulate (λ i. nodeOf ps (nodeRow nd i)) 0 N) (tabulate (treeRow tr) 0 m)) q) one (omega (arith, z))
     ∙ go-from tr nd M N P ps (length-map (tabulate (propRow pr) 0 P) (propOf t vs) ∙ tabulate-length (propRow pr) 0 P) total
-    (gapless-first (firstPropAt nd) (propCountAt nd) N P (f .node-ranges)) (λ r l. root-in tr nd M N (f .roots) r l .0) (root-rises tr nd M N (f .roots)) (M - 1) 0 p (omega (arith, one)) (omega (arith, z)) h
+    (gapless-first (firstPropAt nd) (propCountAt nd) N P (f .node-ranges)) (λ r l. root-in tr nd M N (f .roots) r l .0) (root-rises tr nd M N (f .roots)) (ruleAt t tr nd pr vl) (rule-tree f) (M - 1) 0 p (omega (arith, one)) (omega (arith, z)) h
     ∙ ap (goOf k) (ap (λ (l : List Prop). getD l p noProp) (map-tabulate (propRow pr) (propOf t vs) 0 P) ∙ tabulate-at (λ i. propOf t vs (propRow pr i)) 0 P p noProp h
     ∙ ap (λ (i : ℕ). propOf t vs (propRow pr i)) (omega arith))
     ∙ ap (goValue k (readIdentifier (nameAt t pr p))) (values-raw f p h)

@@ -1,5 +1,4 @@
 pub mod Answers
-pub mod Game
 pub mod Goes
+pub mod Search
 pub mod Shows
-pub mod Values

@@ -17,6 +17,7 @@ use Rattle.tables.specs.declared.Reason.the-variants as reason
 use Rattle.ask_value.specs.Access.{accessed}
 use Rattle.fit.specs.Fit.{Fit}
 use Rattle.fit.specs.Record.{rawsOf, recordIn}
+use Rattle.fit_rule.specs.Rule.{ruleOf}
 use Rattle.ask_value.specs.declared.Accessed.{Accessed}
 use Rattle.ask_value.specs.declared.Accessed.the-variants.{Part, Refused}
 use Rattle.ask.specs.declared.DisplayAnswer.{DisplayAnswer}
@@ -57,14 +58,14 @@ pub record DisplayIs (m : Memory) (k : ℕ) (kind : Kind) (out out′ : List ℕ
 abbrev pub noProp : Prop
 noProp = record { from = 0; to = 0; name = []; vals = [] }
 
--- the Go value of a property of a tree with game type k (SCOPE 96)
+-- the Go value of a property of a tree with rule k (SCOPE 96)
 abbrev pub goOf : (k : ℕ) → Prop → GoValue
 goOf k p = goValue k (readIdentifier (p .name)) (rawsOf p)
 
 -- property p of these trees, numbered from 0 (SCOPE 97)
 abbrev pub goAt : List Tree → ℕ → GoValue
 goAt [] p = unmarked Other
-goAt (t ∷ ts) p = let n = length (allProps (t .nodes)) in pick (ltb p n) (goOf (t .game) (getD (allProps (t .nodes)) p noProp)) (goAt ts (p - n))
+goAt (t ∷ ts) p = let n = length (allProps (t .nodes)) in pick (ltb p n) (goOf (ruleOf t) (getD (allProps (t .nodes)) p noProp)) (goAt ts (p - n))
 
 -- a Go value that is given
 abbrev pub given : GoValue → GoAnswer

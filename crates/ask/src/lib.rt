@@ -12,7 +12,7 @@ ghost use Rattle.parts.specs.Rows.{valuesAt};
 ghost use Rattle.go.specs.Value.{goValue};
 ghost use Rattle.values.specs.Read.{readIdentifier};
 ghost use Rattle.ask.specs.Ask.{displayRaw, displayRawIn, DisplayIs, refuses, goAnswer};
-ghost use Rattle.ask.specs.Locals.{Rooted, gameFrom, nameAt};
+ghost use Rattle.ask.specs.Locals.{Rooted, treeFrom, nameAt};
 ghost use Rattle.tables.specs.Columns.{firstValAt, valCountAt};
 ghost use Rattle.tables.specs.Memory.{memory};
 ghost use Rattle.tables.specs.LocalsNames.{NameHeld};
@@ -83,33 +83,33 @@ fn refused(reason: Reason) -> GoAnswer
     }
 }
 
-// The game type of the tree that has property p: of the last whose root's first property is not behind it.
-fn property_game(trees: &[u32], m: usize, nodes: &[u32], p: usize) -> u32
+// The number of the tree that has property p: the last whose root's first property is not behind it.
+fn property_tree(trees: &[u32], m: usize, nodes: &[u32], p: usize) -> usize
     requires { ⌜ Rooted m (now trees) (now nodes) ⌝ }
-    ensures { λ r. ⌜ r ≡ gameFrom (now (trees .entry)) (now (nodes .entry)) p 0 (m - 1) ⌝ }
+    ensures { λ r. ⌜ r ≡ treeFrom (now (trees .entry)) (now (nodes .entry)) p 0 (m - 1) ⌝ }
 {
     let mut r: usize = 0;
     while r + 1 < m {
         let root = lists::wide(trees[(r + 1) * tables::TREE_STRIDE]);
-        if p < lists::wide(nodes[root * tables::NODE_STRIDE + 3]) {
-            return trees[r * tables::TREE_STRIDE + 1];
+        if p < lists::wide(nodes[root * tables::NODE_STRIDE + tables::NODE_FIRST]) {
+            return r;
         }
         r += 1;
     }
-    trees[r * tables::TREE_STRIDE + 1]
+    r
 }
 
-// The Go value of property p in a tree with this game type.
-fn value_of(game: u32, text: &[u8], properties: &[u32], values: &[u32], p: usize) -> GoValue
+// The Go value of property p in a tree with this rule.
+fn value_of(rule: u32, text: &[u8], properties: &[u32], values: &[u32], p: usize) -> GoValue
     requires { ⌜ NameHeld (now text) (now properties) p ⌝ }
-    ensures { λ r. ⌜ r ≡ goValue game (readIdentifier (nameAt (now (text .entry)) (now (properties .entry)) p))
+    ensures { λ r. ⌜ r ≡ goValue rule (readIdentifier (nameAt (now (text .entry)) (now (properties .entry)) p))
         (valuesAt (now (text .entry)) (now (values .entry)) (firstValAt (now (properties .entry)) p) (valCountAt (now (properties .entry)) p)) ⌝ }
 {
     let start = lists::wide(properties[p * tables::PROPERTY_STRIDE]);
-    let end = lists::wide(properties[p * tables::PROPERTY_STRIDE + 1]);
-    let first = lists::wide(properties[p * tables::PROPERTY_STRIDE + 2]);
-    let count = lists::wide(properties[p * tables::PROPERTY_STRIDE + 3]);
-    go::value::go_value(game, &text[start..end], text, values, first, count)
+    let end = lists::wide(properties[p * tables::PROPERTY_STRIDE + tables::PROPERTY_END]);
+    let first = lists::wide(properties[p * tables::PROPERTY_STRIDE + tables::PROPERTY_FIRST]);
+    let count = lists::wide(properties[p * tables::PROPERTY_STRIDE + tables::PROPERTY_COUNT]);
+    go::value::go_value(rule, &text[start..end], text, values, first, count)
 }
 
 // The Go value of property p, or why it is not given: 19, 16.
@@ -132,8 +132,10 @@ pub fn go_value(
     if counts.properties <= p {
         return refused(Reason::NoSuchNumber);
     }
-    let game = property_game(trees, counts.trees, nodes, p);
-    let go = value_of(game, &text[..used], properties, values, p);
+    let tree = property_tree(trees, counts.trees, nodes, p);
+    let used_text = &text[..used];
+    let rule = fit_rule::rule_at(used_text, trees, nodes, properties, values, tree);
+    let go = value_of(rule, used_text, properties, values, p);
     GoAnswer {
         refusal: Refusal::Not,
         go: go,

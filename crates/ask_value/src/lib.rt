@@ -19,7 +19,7 @@ fn part_of(values: &[u32], k: usize) -> Accessed
     ensures { λ r. ⌜ r ≡ Part (valFromAt (now (values .entry)) k) (valToAt (now (values .entry)) k) ⌝ }
 {
     let start = lists::wide(values[k * tables::VALUE_STRIDE]);
-    let end = lists::wide(values[k * tables::VALUE_STRIDE + 1]);
+    let end = lists::wide(values[k * tables::VALUE_STRIDE + tables::VALUE_END]);
     Accessed::Part(start, end)
 }
 

@@ -7,7 +7,8 @@ ghost use Rattle.board_play.specs.Play.{settable, playable};
 ghost use Rattle.board_play.specs.Steps.{sets, plays, oneIf, sumUpTo};
 ghost use Rattle.board_acts.specs.Acts.{setSums, takeSums, setCounts, takeCounts, BoardActIs};
 
-// Of one colour, how many stones were put on and taken off.
+// Of one colour, how many stones were put on and taken off; also as a C caller sees them.
+#[repr(C)]
 pub struct Sums {
     pub on: u64,
     pub off: u64,

@@ -44,7 +44,7 @@ module _ (w h : ℕ) (p : Property) where
   unfolding movesOf
   moves-none l = rw (le-ltb 0 (moveColour (p .name)) (omega arith))
 
-  pub moves-are : {c : ℕ} → c ≡ moveColour (p .name) → 1 ≤ c → {v : Value} → v ≡ goValue 0 (p .name) (p .raws) .value → moveActs w h c v ≡ movesOf w h p
+  pub moves-are : {c : ℕ} → c ≡ moveColour (p .name) → 1 ≤ c → {v : Value} → v ≡ goValue 2 (p .name) (p .raws) .value → moveActs w h c v ≡ movesOf w h p
   unfolding movesOf
   moves-are e l f = let k : 0 < moveColour (p .name) = omega arith in rw (lt-ltb 0 (moveColour (p .name)) k, e, f)
 

@@ -11,6 +11,14 @@ use Rattle.board_node.specs.declared.NodeAnswer.{NodeAnswer}
 abbrev pub noState : State
 noState = record { black = record { on = 0; off = 0 }; white = record { on = 0; off = 0 }; settled = false }
 
+-- stones and sums
+abbrev pub positionOf : List ℕ → State → Position
+positionOf b s = record { stones = b; state = s }
+
+-- whether a node is refused, and what stands then
+abbrev pub answerOf : Bool → List ℕ → State → NodeAnswer
+answerOf v b s = record { refused = v; position = positionOf b s }
+
 -- nothing stands
 abbrev pub emptyPosition : Position
 emptyPosition = record { stones = replicate 2704 0; state = noState }

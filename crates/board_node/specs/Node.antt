@@ -38,9 +38,9 @@ moveActs w h c Points = []
 unfoldable pub setupsOf : Property → List Act
 setupsOf p = pick (ltb (setupColour (p .name)) 3) (setsFrom (setupColour (p .name)) 0 (goValue 0 (p .name) (p .raws) .marks)) []
 
--- what a property plays, on a board of w columns and h rows
+-- what a property plays, on a board of w columns and h rows: its Go value under the rule that leaves `tt` a point, since `ttPass` goes by the board
 unfoldable pub movesOf : (w h : ℕ) → Property → List Act
-movesOf w h p = pick (ltb 0 (moveColour (p .name))) (moveActs w h (moveColour (p .name)) (goValue 0 (p .name) (p .raws) .value)) []
+movesOf w h p = pick (ltb 0 (moveColour (p .name))) (moveActs w h (moveColour (p .name)) (goValue 2 (p .name) (p .raws) .value)) []
 
 -- all setup, in property order
 abbrev pub allSetups : List Property → List Act

@@ -12,7 +12,7 @@ ghost use Rattle.board_groups.specs.Board.{onBoard};
 ghost use Rattle.board_play.specs.Play.{Player};
 ghost use Rattle.board_play.specs.Steps.{sets};
 ghost use Rattle.board_node.specs.Node.{setupColour, moveColour, setsFrom, moveActs, setupsOf, movesOf, allSetups, allMoves};
-ghost use Rattle.board_node.specs.Answer.{refusedNode, NodeIs};
+ghost use Rattle.board_node.specs.Answer.{noState, positionOf, answerOf, refusedNode, NodeIs};
 ghost use Rattle.board_node.specs.LocalsTurn.{TurnIs, MovesIs};
 use board_acts::State;
 use board_acts::Sums;
@@ -31,9 +31,9 @@ pub struct NodeAnswer {
 }
 
 // What one step leaves: whether it is refused, and the sums.
-struct Turn {
-    refused: bool,
-    state: State,
+pub struct Turn {
+    pub refused: bool,
+    pub state: State,
 }
 
 // The place is a point of the board.
@@ -171,8 +171,8 @@ fn set_row(
             state: state,
         };
     }
-    let start = lists::wide(properties[p * tables::PROPERTY_STRIDE + 2]);
-    let many = lists::wide(properties[p * tables::PROPERTY_STRIDE + 3]);
+    let start = lists::wide(properties[p * tables::PROPERTY_STRIDE + tables::PROPERTY_FIRST]);
+    let many = lists::wide(properties[p * tables::PROPERTY_STRIDE + tables::PROPERTY_COUNT]);
     let go = go::value::go_value(0, identifier, text, values, start, many);
     let marks = go.marks;
     set_places(stones, seen, &marks, state, columns, rows, colour)
@@ -279,9 +279,9 @@ fn play_row(
             state: state,
         };
     }
-    let start = lists::wide(properties[p * tables::PROPERTY_STRIDE + 2]);
-    let many = lists::wide(properties[p * tables::PROPERTY_STRIDE + 3]);
-    let go = go::value::go_value(0, identifier, text, values, start, many);
+    let start = lists::wide(properties[p * tables::PROPERTY_STRIDE + tables::PROPERTY_FIRST]);
+    let many = lists::wide(properties[p * tables::PROPERTY_STRIDE + tables::PROPERTY_COUNT]);
+    let go = go::value::go_value(2, identifier, text, values, start, many);
     let value = go.value;
     let Value::Move(x, y) = value else {
         return Turn {
@@ -326,29 +326,82 @@ fn play_rows(
     }
 }
 
-// A refused node: nothing stands, the sums are 0.
-fn refuse() -> NodeAnswer
-    ensures { λ r. ⌜ r ≡ refusedNode ⌝ }
+// Nothing put on or taken off, on a board of which nothing is known.
+fn no_state() -> State
+    ensures { λ r. ⌜ r ≡ noState ⌝ }
 {
-    let none = [0u8; 2704];
     let black = Sums { on: 0, off: 0 };
     let white = Sums { on: 0, off: 0 };
-    let state = State {
+    State {
         black: black,
         white: white,
         settled: false,
-    };
-    let position = Position {
-        stones: none,
-        state: state,
-    };
-    NodeAnswer {
-        refused: true,
-        position: position,
     }
 }
 
-// Plays the properties of `count` rows from `first` on upon a position: setup first, then moves, each in property order.
+// A refused node: nothing stands, the sums are 0.
+fn refuse(stones: &mut [u8; 2704]) -> Turn
+    ensures { λ r. ⌜ answerOf (r .refused) (now (stones .exit)) (r .state) ≡ refusedNode ⌝ }
+{
+    *stones = [0u8; 2704];
+    Turn {
+        refused: true,
+        state: no_state(),
+    }
+}
+
+// Plays the properties of `count` rows from `first` on upon a board: setup first, then moves, each in property order. A refusal leaves it empty.
+pub fn play_upon(
+    stones: &mut [u8; 2704],
+    state: State,
+    columns: usize,
+    rows: usize,
+    text: &[u8],
+    properties: &[u32],
+    values: &[u32],
+    first: usize,
+    count: usize,
+) -> Turn
+    ensures { λ r. ⌜ NodeIs columns rows (propertiesAt (now (text .entry)) (now (properties .entry)) (now (values .entry)) first count)
+        (positionOf (now (stones .entry)) state) (answerOf (r .refused) (now (stones .exit)) (r .state)) ⌝ }
+{
+    let to = first + parts_props::row_count(properties, first, count);
+    let mut seen = [false; 2704];
+    let set = set_rows(
+        stones,
+        &mut seen,
+        state,
+        columns,
+        rows,
+        text,
+        properties,
+        values,
+        first,
+        to,
+    );
+    let bad = set.refused;
+    if bad {
+        return refuse(stones);
+    }
+    let played = play_rows(
+        stones,
+        set.state,
+        columns,
+        rows,
+        text,
+        properties,
+        values,
+        first,
+        to,
+    );
+    let off = played.refused;
+    if off {
+        return refuse(stones);
+    }
+    played
+}
+
+// The same upon a position, which is given back.
 pub fn play_node(
     position: Position,
     columns: usize,
@@ -361,12 +414,9 @@ pub fn play_node(
 ) -> NodeAnswer
     ensures { λ r. ⌜ NodeIs columns rows (propertiesAt (now (text .entry)) (now (properties .entry)) (now (values .entry)) first count) position r ⌝ }
 {
-    let to = first + parts_props::row_count(properties, first, count);
     let mut stones = position.stones;
-    let mut seen = [false; 2704];
-    let set = set_rows(
+    let turn = play_upon(
         &mut stones,
-        &mut seen,
         position.state,
         columns,
         rows,
@@ -374,34 +424,15 @@ pub fn play_node(
         properties,
         values,
         first,
-        to,
+        count,
     );
-    let bad = set.refused;
-    if bad {
-        return refuse();
-    }
-    let played = play_rows(
-        &mut stones,
-        set.state,
-        columns,
-        rows,
-        text,
-        properties,
-        values,
-        first,
-        to,
-    );
-    let off = played.refused;
-    if off {
-        return refuse();
-    }
-    let state = played.state;
+    let state = turn.state;
     let then = Position {
         stones: stones,
         state: state,
     };
     NodeAnswer {
-        refused: false,
+        refused: turn.refused,
         position: then,
     }
 }

@@ -10,13 +10,13 @@ pub fn next_on(nodes: &[u32], at: usize, k: usize) -> usize
     if rows <= at {
         return at;
     }
-    let first = lists::wide(nodes[at * tables::NODE_STRIDE + 1]);
+    let first = lists::wide(nodes[at * tables::NODE_STRIDE + tables::NODE_CHILD]);
     if rows <= first {
         return at;
     }
     let mut c = first;
     loop {
-        let next = lists::wide(nodes[c * tables::NODE_STRIDE + 2]);
+        let next = lists::wide(nodes[c * tables::NODE_STRIDE + tables::NODE_SIBLING]);
         if next <= c {
             return c;
         }

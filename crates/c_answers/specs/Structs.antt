@@ -24,13 +24,13 @@ use Rattle.c_answers.specs.declared.SgfSpan.{SgfSpan}
 use Rattle.c_answers.specs.declared.SgfWriting.{SgfWriting}
 
 -- no row of any table
-abbrev pub noRows : Counts
-noRows = record { trees = 0; nodes = 0; properties = 0; values = 0 }
+abbrev pub noCounts : Counts
+noCounts = record { trees = 0; nodes = 0; properties = 0; values = 0 }
 
 -- number, the settings that were ignored, place, and the used rows of each table (SCOPE 55, 95, 160)
 abbrev pub readingInC : (ignored : ℕ) → Reading → SgfReading
 readingInC i (Accepted c) = record { number = 0; ignored = i; place = 0; counts = c }
-readingInC i (NotRead r s) = record { number = numberOf r; ignored = i; place = s; counts = noRows }
+readingInC i (NotRead r s) = record { number = numberOf r; ignored = i; place = s; counts = noCounts }
 
 -- the span of a value that is accessed; a refusal's number and an empty span
 abbrev pub spanInC : Accessed → SgfSpan
@@ -67,4 +67,4 @@ writingInC (NotWritten r) = record { number = numberOf r; reserved = 0; length =
 -- the new used length and the counts; a refusal's number and place, and all else 0 (SCOPE 55)
 abbrev pub editInC : Counts → Edited → SgfEdit
 editInC c (Changed n) = record { number = 0; reserved = 0; place = 0; used = n; counts = c }
-editInC c (NotChanged r p) = record { number = numberOf r; reserved = 0; place = p; used = 0; counts = noRows }
+editInC c (NotChanged r p) = record { number = numberOf r; reserved = 0; place = p; used = 0; counts = noCounts }

@@ -24,7 +24,7 @@ use Rattle.serialize.specs.declared.Written.the-variants as written
 use Rattle.edit_answer.specs.Answer.{outcomeOf}
 use Rattle.edit_answer.specs.declared.Edited.the-variants as edited
 use Rattle.edit.specs.Lent.{EditIs}
-use Rattle.c_answers.specs.Structs.{spanInC, goInC}
+use Rattle.c_answers.specs.Structs.{spanInC, goInC, noCounts}
 use Rattle.c_answers.specs.declared.SgfDisplay.{SgfDisplay}
 use Rattle.c_answers.specs.declared.SgfEdit.{SgfEdit}
 use Rattle.c_answers.specs.declared.SgfGoValue.{SgfGoValue}
@@ -36,7 +36,7 @@ use Rattle.sgf.specs.ChangeInC.{WriteInC, EditInC}
 use Rattle.sgf.specs.ReadInC.{ignoredOf, ReadInC}
 use Rattle.edit_laws.specs.Edits.{Allowed, Forbidden}
 use Rattle.demands.specs.Calls.{countsIn}
-use Rattle.demands.specs.Cells.{countsRead, noCounts}
+use Rattle.demands.specs.Cells.{countsRead}
 use Rattle.demands.specs.Lists.{OneOf, strictNumbers, writerNumbers, editNumbers, accessNumbers, displayNumbers, fitsNumbers, tokenNumbers}
 use Rattle.demands.specs.Settings.{Ignores, SameAnswer}
 use Rattle.demands.specs.When.{Exactly, ReadsInto, Unread, Writes, Unwritten, Answered, Unanswered, Displays, Undisplayed}
@@ -57,7 +57,7 @@ pub use Rattle.demands.proofs.Accepts.{strict-0, lenient-0, upto-12, ne
 -- sgf_read_lenient
 pub use Rattle.demands.proofs.Demand1Lenient.{lenient-exactly, lenient-stays, lenient-zeros, lenient-ignored, lenient-numbers, lenient-case}
 -- sgf_trim, sgf_token, sgf_display_value
-pub use Rattle.demands.proofs.Demand1Texts.{trim-kept, trim-keeps, trim-numbers, token-exactly, raw-exactly, raw-stays, raw-numbers}
+pub use Rattle.demands.proofs.Demand1Texts.{trim-kept, trim-keeps, trim-numbers, token-exactly, raw-exactly, raw-stays, raw-numbers, escape-exactly, escape-stays, escape-numbers}
 
 -- no reason has the number of acceptance
 pub number-some : (r : Reason) → 0 < numberOf r
@@ -77,25 +77,25 @@ never-13 = numbers.never-13
 
 module _ {i : ℕ} (t : List ℕ) (before after : Lent) (r : SgfReading) (s : ReadInC i (readStrict t) before after r) where
   -- sgf_read_strict: 0 exactly where the text reads as a record whose rows are lent; each number, with its place, exactly where the definition refuses so, or, 14, rows are too few
-  pub reading-exactly : Exactly (r .number) (ReadsInto false t before) (λ x. (p : ℕ) × Unread false t before x p × (r .place ≡ p))
-  reading-exactly = reading.reading-exactly false t before after r s
+  pub strict-exactly : Exactly (r .number) (ReadsInto false t before) (λ x. (p : ℕ) × Unread false t before x p × (r .place ≡ p))
+  strict-exactly = reading.reading-exactly false t before after r s
 
   -- any other number than 0 leaves every number of the four tables
-  pub reading-stays : 0 < r .number → after ≡ before
-  reading-stays = reading.reading-stays false t before after r s
+  pub strict-stays : 0 < r .number → after ≡ before
+  strict-stays = reading.reading-stays false t before after r s
 
   -- and gives no counts
-  pub reading-zeros : 0 < r .number → countsRead r ≡ noCounts
-  reading-zeros = reading.reading-zeros false t before after r s
+  pub strict-zeros : 0 < r .number → countsRead r ≡ noCounts
+  strict-zeros = reading.reading-zeros false t before after r s
 
   -- 0 to 12 and 14 are its numbers
-  pub reading-numbers : OneOf strictNumbers (r .number)
-  reading-numbers = reading.strict-listed false t before after r s
+  pub strict-numbers : OneOf strictNumbers (r .number)
+  strict-numbers = reading.strict-listed false t before after r s
 
 -- the settings that were ignored are said, bit by bit, on refusals too
-pub reading-ignored : (settings : ℕ) (t : List ℕ) (before after : Lent) (r : SgfReading)
+pub strict-ignored : (settings : ℕ) (t : List ℕ) (before after : Lent) (r : SgfReading)
     → ReadInC (ignoredOf settings) (readStrict t) before after r → Ignores settings (r .ignored)
-reading-ignored settings t = reading.settings-ignored settings (readStrict t)
+strict-ignored settings t = reading.settings-ignored settings (readStrict t)
 
 -- and no setting changes anything else, of sgf_read_strict and sgf_read_lenient: the number, the place, the counts and every number of the tables are the same
 pub settings-change-nothing : (settings others : ℕ) (a : Answer) (before x y : Lent) (r q : SgfReading)
@@ -174,7 +174,7 @@ trim-exactly = texts.trim-exactly
 pub token-numbers : (at k n f o to : ℕ) (x : Step) → TokenIs at x k n f o to → OneOf tokenNumbers n
 token-numbers = texts.token-listed
 
--- sgf_go_property: 0
+-- sgf_go_by_rule: 0
 pub property-numbers : (g : GoValue) (r : SgfGoValue) → r ≡ goInC 0 g → r .number ≡ 0
 property-numbers g r e = ap (λ (z : SgfGoValue). z .number) e
 

@@ -5,10 +5,10 @@ use Rattle.tables.specs.declared.Lenient.{Lenient}
 use Rattle.tables.specs.declared.Lenient.the-variants.{Accepted, TextTooLong, NotUtf8, TooDeep, NoRoom}
 use Rattle.parser.specs.Read.{readLenient}
 use Rattle.reader.specs.Lent.{Lent}
-use Rattle.c_answers.specs.Structs.{readingInC}
+use Rattle.c_answers.specs.Structs.{readingInC, noCounts}
 use Rattle.c_answers.specs.declared.SgfReading.{SgfReading}
 use Rattle.sgf.specs.ReadInC.{ignoredOf, ReadInC}
-use Rattle.demands.specs.Cells.{countsRead, noCounts}
+use Rattle.demands.specs.Cells.{countsRead}
 use Rattle.demands.specs.Lists.{OneOf, lenientNumbers}
 use Rattle.demands.specs.Settings.{Ignores}
 use Rattle.demands.specs.When.{Exactly, ReadsInto, Unread}

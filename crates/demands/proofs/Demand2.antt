@@ -24,6 +24,7 @@ use Rattle.reader.proofs.Theorems.{counts-are-lengths}
 use Rattle.reader_laws.specs.Enough.{strictRows, Lends}
 use Rattle.reader_laws.proofs.Lent.{read-fits, read-rows}
 use Rattle.ask.specs.Ask.{goAnswer}
+use Rattle.go.specs.Value.{isGo}
 use Rattle.serialize.specs.Form as form
 use Rattle.serialize.specs.Form.{writing, WriteIs}
 use Rattle.serialize.specs.declared.Written.{Written}
@@ -85,7 +86,7 @@ pub memories-written : (m m′ : Memory) → Alike (recordIn m) (recordIn m′) 
 memories-written = writings.one-writing
 
 -- properties of one set of points are alike
-pub set-alike : (p q : Prop) → OneSet p q → AlikeProp 0 p q
+pub set-alike : (k : ℕ) → isGo k ≡ true → (p q : Prop) → OneSet p q → AlikeProp k p q
 set-alike = sets.set-alike
 
 -- and the same values in any order, each as often as one likes, are one set

@@ -7,14 +7,13 @@ use Rattle.edit_answer.specs.Answer.{outcomeOf}
 use Rattle.edit_answer.specs.declared.Edited.{Edited}
 use Rattle.edit_answer.specs.declared.Edited.the-variants.{Changed, Refused}
 use Rattle.edit.specs.Lent.{EditIs}
-use Rattle.c_answers.specs.Structs.{editInC}
+use Rattle.c_answers.specs.Structs.{editInC, noCounts}
 use Rattle.c_answers.specs.declared.SgfEdit.{SgfEdit}
 use Rattle.sgf.specs.ChangeInC.{EditInC}
 use Rattle.edit_laws.specs.Edits.{newLength, Allowed, Forbidden, misfit, beyond, fixed, garbled, open-ended, long, full, Moves, Edits}
 use Rattle.edit_laws.proofs.EditAccepted.{allowed-leaves}
 use Rattle.edit_laws.proofs.Judging.{allowed-given, forbidden-given, given-allowed, given-forbidden, judged}
 use Rattle.demands.specs.Calls.{countsIn}
-use Rattle.demands.specs.Cells.{noCounts}
 use Rattle.demands.specs.When.{Exactly}
 use Rattle.demands.specs.Lists.{OneOf, editNumbers}
 use Rattle.demands.proofs.Listed.{one-of}

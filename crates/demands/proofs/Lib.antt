@@ -1,13 +1,16 @@
 pub mod Accepts
 pub mod Asked
+pub mod Boards
 pub mod CallsShown
 pub mod Converted
 pub mod Demand1
+pub mod Demand1Blocks
 pub mod Demand1Lenient
 pub mod Demand1Texts
 pub mod Demand2
 pub mod Demand2Exported
 pub mod Demand3
+pub mod Demand3Undo
 pub mod Depths
 pub mod Edited
 pub mod Editing
@@ -21,6 +24,7 @@ pub mod Refusals
 pub mod Rereadings
 pub mod RoundTrip
 pub mod Salvaged
+pub mod Sessions
 pub mod Texts
 pub mod UniqueExported
 pub mod UniqueReading

@@ -10,10 +10,10 @@ use Rattle.tables.proofs.Cases.{either-bool, true-false}
 use Rattle.parser.specs.Read.{Answer, refused, accepted, read}
 use Rattle.reader.specs.Lent.{Lent, roomy, answers}
 use Rattle.reader.proofs.Reasons.{refused-with}
-use Rattle.c_answers.specs.Structs.{readingInC}
+use Rattle.c_answers.specs.Structs.{readingInC, noCounts}
 use Rattle.c_answers.specs.declared.SgfReading.{SgfReading}
 use Rattle.sgf.specs.ReadInC.{ignoredOf, ReadInC}
-use Rattle.demands.specs.Cells.{countsRead, noCounts}
+use Rattle.demands.specs.Cells.{countsRead}
 use Rattle.demands.specs.When.{Exactly, ReadsInto, Unread, unread, few}
 use Rattle.demands.specs.Lists.{OneOf, strictNumbers, lenientNumbers}
 use Rattle.demands.specs.Settings.{Ignores, SameAnswer}

@@ -1,4 +1,4 @@
--- The exported questions about a text alone: trimming, tokens, the display of a value. When each number is given, and which there are. Assumes nothing.
+-- The exported questions about a text alone: trimming, tokens, the display of a value, plain text escaped. When each number is given, and which there are. Assumes nothing.
 use Rattle.lists.proofs.Prelude.{ℕ, _≤_, _<_, Bool, List, _++_, _⊎_, inl, inr, ⊎-elim, _≡_, refl, sym, ap, _∙_, subst, subst⁻¹, arith, length, drop, le-leb, lt-leb, pick}
 use Rattle.lists.proofs.Tests.{never}
 use Rattle.text_chars.specs.Table.{WellFormed, BadFrom}
@@ -6,9 +6,7 @@ use Rattle.text_utf8.specs.Trim.{trimmed}
 use Rattle.text_utf8.specs.declared.Trimmed.{Trimmed}
 use Rattle.text_utf8.specs.declared.Trimmed.the-variants as trim
 use Rattle.text_utf8.proofs.WellFormed.{well-or-bad, bad-trimmed, well-formed-trimmed}
-use Rattle.values.specs.Read.{readValue}
-use Rattle.value_display.specs.Display.{displayText, displayed, displayedIn}
-use Rattle.value_display.specs.declared.Kind.{Kind}
+use Rattle.value_display.specs.Display.{displayed, displayedIn}
 use Rattle.value_display.specs.declared.Displayed.the-variants.{Length, NoRoom as Full}
 use Rattle.lexer.specs.Token.{faultNumber as faultNumber}
 use Rattle.lexer.specs.Step.{nextAt}
@@ -24,7 +22,6 @@ use Rattle.tables.proofs.Cases.{below-or}
 use Rattle.ask.specs.Ask.{displayFor}
 use Rattle.c_answers.specs.Structs.{displayInC}
 use Rattle.c_answers.specs.declared.SgfDisplay.{SgfDisplay}
-use Rattle.sgf.specs.AskInC.{RawInC}
 use Rattle.reader_exactly.specs.Kept.{Blanks, Keeps}
 use Rattle.reader_exactly.proofs.Trims.{trimmed-blank-exactly, trimmed-kept-exactly}
 use Rattle.demands.specs.When.{Exactly}
@@ -126,37 +123,34 @@ module _ (t : List ℕ) (at k n f o to : ℕ) (s : TokenIs at (nextAt t at) k n 
   pub token-exactly : Exactly n Calm Fails
   token-exactly = exactly n Calm Fails token-decided token-calm token-fails
 
--- ---- the display of a value that is lent by itself
+-- ---- bytes that are made of lent ones alone: a display, plain text escaped
 
-module _ (kind : Kind) (raw out out′ : List ℕ) (r : SgfDisplay) (s : RawInC kind raw out out′ r) where
-  abbrev W : List ℕ
-  W = displayText kind (readValue raw)
-
-  raw-zero : length W ≤ length out → r .number ≡ 0
+module _ (W out out′ : List ℕ) (r : SgfDisplay) (is : r ≡ displayInC (displayFor (displayed W out))) (bytes : out′ ≡ displayedIn W out) where
+  placed-zero : length W ≤ length out → r .number ≡ 0
   unfolding displayed
-  raw-zero l =
-      ap (λ (z : SgfDisplay). z .number) (s .is)
+  placed-zero l =
+      ap (λ (z : SgfDisplay). z .number) is
       ∙ ap (λ (b : Bool). displayInC (displayFor (pick b (Length (length W)) Full)) .number) (le-leb (length W) (length out) l)
 
-  raw-full : length out < length W → r .number ≡ 14
+  placed-full : length out < length W → r .number ≡ 14
   unfolding displayed
-  raw-full l =
-      ap (λ (z : SgfDisplay). z .number) (s .is)
+  placed-full l =
+      ap (λ (z : SgfDisplay). z .number) is
       ∙ ap (λ (b : Bool). displayInC (displayFor (pick b (Length (length W)) Full)) .number) (lt-leb (length W) (length out) l)
 
-  pub raw-exactly : Exactly (r .number) (length W ≤ length out) (λ x. (x ≡ NoRoom) × (length out < length W))
-  raw-exactly =
+  pub placed-exactly : Exactly (r .number) (length W ≤ length out) (λ x. (x ≡ NoRoom) × (length out < length W))
+  placed-exactly =
       exactly (r .number) (length W ≤ length out) (λ x. (x ≡ NoRoom) × (length out < length W))
-      (below-or (length out) (length W) (λ l. inr (NoRoom, (refl, l))) (λ l. inl l)) raw-zero (λ x b. raw-full (b .1) ∙ ap numberOf (sym (b .0)))
+      (below-or (length out) (length W) (λ l. inr (NoRoom, (refl, l))) (λ l. inl l)) placed-zero (λ x b. placed-full (b .1) ∙ ap numberOf (sym (b .0)))
 
-  pub raw-stays : 0 < r .number → out′ ≡ out
+  pub placed-stays : 0 < r .number → out′ ≡ out
   unfolding displayedIn
-  raw-stays z =
+  placed-stays z =
       below-or (length out) (length W)
-      (λ l. s .bytes ∙ ap (λ (b : Bool). pick b (W ++ drop (length W) out) out) (lt-leb (length W) (length out) l))
-      (λ l. absurd (omega (arith, z, raw-zero l)))
+      (λ l. bytes ∙ ap (λ (b : Bool). pick b (W ++ drop (length W) out) out) (lt-leb (length W) (length out) l))
+      (λ l. absurd (omega (arith, z, placed-zero l)))
 
-  pub raw-listed : OneOf rawNumbers (r .number)
-  raw-listed =
-      below-or (length out) (length W) (λ l. subst⁻¹ (OneOf rawNumbers) (raw-full l) (one-of rawNumbers 14 refl))
-      (λ l. subst⁻¹ (OneOf rawNumbers) (raw-zero l) (one-of rawNumbers 0 refl))
+  pub placed-listed : OneOf rawNumbers (r .number)
+  placed-listed =
+      below-or (length out) (length W) (λ l. subst⁻¹ (OneOf rawNumbers) (placed-full l) (one-of rawNumbers 14 refl))
+      (λ l. subst⁻¹ (OneOf rawNumbers) (placed-zero l) (one-of rawNumbers 0 refl))

@@ -7,6 +7,7 @@ use Rattle.lists.specs.Once.{Once}
 use Rattle.tables.specs.Memory.{Memory}
 use Rattle.value_display.specs.declared.Kind.{Kind}
 use Rattle.sgf.specs.AskInC.{fitsInC, DisplayInC, RawInC}
+use Rattle.sgf.specs.EscapeInC.{EscapeInC}
 use Rattle.sgf.specs.ChangeInC.{WriteInC, EditInC}
 use Rattle.c_version.specs.Version.{version}
 use Rattle.c_answers.specs.declared.SgfDisplay.{SgfDisplay}
@@ -36,6 +37,10 @@ display-once m k kind out x y r s p q = (p .is ∙ sym (q .is), p .bytes ∙ sym
 -- of one raw value
 pub display-value-once : (kind : Kind) (raw out x y : List ℕ) (r s : SgfDisplay) → RawInC kind raw out x r → RawInC kind raw out y s → (r ≡ s) × (x ≡ y)
 display-value-once kind raw out x y r s p q = (p .is ∙ sym (q .is), p .bytes ∙ sym (q .bytes))
+
+-- of plain text escaped
+pub escape-once : (text out x y : List ℕ) (r s : SgfDisplay) → EscapeInC text out x r → EscapeInC text out y s → (r ≡ s) × (x ≡ y)
+escape-once text out x y r s p q = (p .is ∙ sym (q .is), p .bytes ∙ sym (q .bytes))
 
 pub write-once : (m : Memory) (out x y : List ℕ) (r s : SgfWriting) → WriteInC m out x r → WriteInC m out y s → (r ≡ s) × (x ≡ y)
 write-once m out x y r s p q = (p .is ∙ sym (q .is), p .bytes ∙ sym (q .bytes))

@@ -149,8 +149,8 @@ module _ (text vals : List ℕ) (first n : ℕ) where
   pub read-points-once : Once (λ (r : GoValue). r ≡ pointsOf (valuesAt text vals first n))
   read-points-once = once-is (pointsOf (valuesAt text vals first n))
 
-  pub value-by-once : (shape : Shape) → Once (λ (r : Value). r ≡ valueBy shape (valuesAt text vals first n) .value)
-  value-by-once shape = once-is (valueBy shape (valuesAt text vals first n) .value)
+  pub value-by-once : (rule : ℕ) (shape : Shape) → Once (λ (r : Value). r ≡ valueBy rule shape (valuesAt text vals first n) .value)
+  value-by-once rule shape = once-is (valueBy rule shape (valuesAt text vals first n) .value)
 
-  pub go-value-once : (kind : ℕ) (identifier : List ℕ) → Once (λ (r : GoValue). r ≡ goValue kind (readIdentifier identifier) (valuesAt text vals first n))
-  go-value-once kind identifier = once-is (goValue kind (readIdentifier identifier) (valuesAt text vals first n))
+  pub go-value-once : (rule : ℕ) (identifier : List ℕ) → Once (λ (r : GoValue). r ≡ goValue rule (readIdentifier identifier) (valuesAt text vals first n))
+  go-value-once rule identifier = once-is (goValue rule (readIdentifier identifier) (valuesAt text vals first n))

@@ -8,7 +8,9 @@ use Rattle.value_display.specs.Display.{plain, escaped, itemOf, formatFrom, dis
 use Rattle.value_display.specs.declared.Kind.the-variants.{Text}
 use Rattle.go.specs.Normal as go
 use Rattle.go.specs.Normal.{normal}
-use Rattle.go.specs.Value.{valueBy, goValue}
+use Rattle.go.specs.Value.{moveUnder, valueBy, goValue}
+use Rattle.fit_rule.specs.Rule.{ttPasses, ruleBy, sizeOfTree, ruleOf}
+use Rattle.go_size.specs.Root.{sizeIn}
 use Rattle.go_shape.specs.Shape.{shapeOf}
 use Rattle.tables.specs.Columns.{depthAt}
 use Rattle.tables.specs.Each.{each, sum, tabulate}
@@ -90,7 +92,7 @@ abbrev eight : List ℕ
 eight = 0 ∷ 0 ∷ 0 ∷ 0 ∷ 0 ∷ 0 ∷ 0 ∷ 0 ∷ []
 
 one-written : (written one 8 ≡ Wrote 8) × (writing (recordIn one) ≡ bytes "(;C[ab])")
-unfolding white space readFrom readIdentifier normal go.normalBy goValue shapeOf valueBy Fit fitText nodesFit rangesFit spansFit trimmed each sum tabulate orphans upward onPath firstUnder spans ascending plainName
+unfolding white space readFrom readIdentifier ruleOf ruleBy ttPasses sizeOfTree sizeIn moveUnder normal go.normalBy goValue shapeOf valueBy Fit fitText nodesFit rangesFit spansFit trimmed each sum tabulate orphans upward onPath firstUnder spans ascending plainName
 one-written = (refl, refl)
 
 module _ (out′ : List ℕ) (r : SgfWriting) (x : WriteInC one eight out′ r) where

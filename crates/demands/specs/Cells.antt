@@ -24,7 +24,3 @@ pub record SameCells (c : Counts) (a b : Lent) : Type 0 where
 -- the counts that an exported reading gives back
 abbrev pub countsRead : SgfReading → Counts
 countsRead r = r .counts
-
--- all counts 0
-abbrev pub noCounts : Counts
-noCounts = record { trees = 0; nodes = 0; properties = 0; values = 0 }

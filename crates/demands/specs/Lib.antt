@@ -2,5 +2,6 @@ pub mod Calls
 pub mod Cells
 pub mod Holding
 pub mod Lists
+pub mod Sessions
 pub mod Settings
 pub mod When

@@ -23,7 +23,7 @@ pub fn span_of(values: &[u32], k: usize) -> Span
     let at = k * tables::VALUE_STRIDE;
     Span {
         start: lists::wide(values[at]),
-        end: lists::wide(values[at + 1]),
+        end: lists::wide(values[at + tables::VALUE_END]),
     }
 }
 
@@ -71,9 +71,9 @@ pub fn move_properties(properties: &mut [u32], n: usize, start: usize, end: usiz
     while k < n {
         let at = k * tables::PROPERTY_STRIDE;
         let from = moved_start(start, end, m, properties[at]);
-        let to = moved_end(start, end, m, properties[at + 1]);
-        let first = properties[at + 2];
-        let count = properties[at + 3];
+        let to = moved_end(start, end, m, properties[at + tables::PROPERTY_END]);
+        let first = properties[at + tables::PROPERTY_FIRST];
+        let count = properties[at + tables::PROPERTY_COUNT];
         store_numbers::put4(properties, at, from, to, first, count);
         k += 1;
     }
@@ -88,7 +88,7 @@ pub fn move_values(values: &mut [u32], n: usize, start: usize, end: usize, m: us
     while k < n {
         let at = k * tables::VALUE_STRIDE;
         let from = moved_start(start, end, m, values[at]);
-        let to = moved_end(start, end, m, values[at + 1]);
+        let to = moved_end(start, end, m, values[at + tables::VALUE_END]);
         store_numbers::put2(values, at, from, to);
         k += 1;
     }

@@ -64,11 +64,11 @@ fn is_fixed(text: &[u8], properties: &[u32], n: usize, k: usize) -> bool
     let mut p: usize = 0;
     while p < n {
         let at = p * tables::PROPERTY_STRIDE;
-        let first = wide(properties[at + 2]);
-        let count = wide(properties[at + 3]);
+        let first = wide(properties[at + tables::PROPERTY_FIRST]);
+        let count = wide(properties[at + tables::PROPERTY_COUNT]);
         if k < first + count {
             let start = wide(properties[at]);
-            let end = wide(properties[at + 1]);
+            let end = wide(properties[at + tables::PROPERTY_END]);
             return is_gm(&text[start..end]);
         }
         p += 1;
@@ -82,7 +82,7 @@ fn size_of(values: &[u32], k: usize) -> usize
     ensures { λ r. ⌜ r ≡ valToAt (now (values .entry)) k - valFromAt (now (values .entry)) k ⌝ }
 {
     let at = k * tables::VALUE_STRIDE;
-    lists::wide(values[at + 1]) - lists::wide(values[at])
+    lists::wide(values[at + tables::VALUE_END]) - lists::wide(values[at])
 }
 
 // Whether the new bytes may stand where `kept` bytes of the text stay and `room` are lent.

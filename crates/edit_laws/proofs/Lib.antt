@@ -17,4 +17,3 @@ pub mod Pasted
 pub mod PlacesLeft
 pub mod Reread
 pub mod Stays
-pub mod Undo

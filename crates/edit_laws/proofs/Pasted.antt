@@ -71,7 +71,7 @@ module _ (t new : List ℕ) (q e : ℕ) (qe : q ≤ e) (el : e ≤ length t) whe
     inside : e < length t
     inside = below-or e (length t) (λ z. z) (λ z. absurd (omega (arith, closes, List·getD-eq-default t 0 z)))
 
-    around : (mid : List ℕ) → take q t ++ (mid ++ drop e t) ≡ take (q - 1) t ++ (0x5b ∷ (mid ++ (0x5d ∷ drop (suc e) t)))
+    pub around : (mid : List ℕ) → take q t ++ (mid ++ drop e t) ≡ take (q - 1) t ++ (0x5b ∷ (mid ++ (0x5d ∷ drop (suc e) t)))
     around mid =
         let s : q ≡ suc (q - 1) = omega arith in
         let f : take q t ≡ take (q - 1) t ++ (0x5b ∷ []) =
@@ -79,7 +79,7 @@ module _ (t new : List ℕ) (q e : ℕ) (qe : q ≤ e) (el : e ≤ length t) whe
         let r : drop e t ≡ 0x5d ∷ drop (suc e) t = drop-cons t e 0 inside ∙ ap (λ (x : ℕ). x ∷ drop (suc e) t) closes in
         ap₂ (λ (x y : List ℕ). x ++ (mid ++ y)) f r ∙ append-assoc (take (q - 1) t) (0x5b ∷ []) (mid ++ (0x5d ∷ drop (suc e) t))
 
-    back : take q t ++ (slice q e t ++ drop e t) ≡ t
+    pub back : take q t ++ (slice q e t ++ drop e t) ≡ t
     back =
         sym (append-assoc (take q t) (slice q e t) (drop e t))
         ∙ ap (λ (x : List ℕ). x ++ drop e t) (ap (λ (x : List ℕ). x ++ slice q e t) (sym (take-take q e t qe)) ∙ take-append-drop q (take e t))

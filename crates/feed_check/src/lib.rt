@@ -78,8 +78,8 @@ fn owner_from(properties: &[u32], n: usize, from: usize, k: usize) -> usize
     let mut p = from;
     while p < n {
         let at = p * tables::PROPERTY_STRIDE;
-        let first = wide(properties[at + 2]);
-        let count = wide(properties[at + 3]);
+        let first = wide(properties[at + tables::PROPERTY_FIRST]);
+        let count = wide(properties[at + tables::PROPERTY_COUNT]);
         if k < first + count {
             return p;
         }
@@ -105,7 +105,7 @@ fn is_game_type(text: &[u8], properties: &[u32], n: usize, p: usize) -> bool
     }
     let at = p * tables::PROPERTY_STRIDE;
     let start = wide(properties[at]);
-    let end = wide(properties[at + 1]);
+    let end = wide(properties[at + tables::PROPERTY_END]);
     edit_answer::is_gm(&text[start..end])
 }
 

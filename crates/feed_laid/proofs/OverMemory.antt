@@ -50,16 +50,16 @@ module _ (m : Memory) (fit : Fit m ≡ true) where
       rises pr (m .values) (length (textIn m)) P 0 0 (λ i _ l. gapless-first (firstValAt pr) (valCountAt pr) P n (F .prop-ranges) i (omega arith))
       (λ i _ l. leb-true 1 (valCountAt pr i) (each-at (hasValue pr) P i (F .have-values) (omega arith))) (F .ascend)
 
-  order : (j : ℕ) → j < n → a j ≤ e j
+  pub order : (j : ℕ) → j < n → a j ≤ e j
   order j l = fit-vals m fit j l .0
 
-  inside : (j : ℕ) → j < n → e j ≤ length (textIn m)
+  pub inside : (j : ℕ) → j < n → e j ≤ length (textIn m)
   inside j l = omega (arith, fit-vals m fit j l .1, length-take-le (m .used) (m .text) (fit-lent m fit .0))
 
-  apart : (j : ℕ) → suc j < n → e j < a (suc j)
+  pub apart : (j : ℕ) → suc j < n → e j < a (suc j)
   apart j l = rise .values j (omega (arith, sum-none (valCountAt pr))) (omega (arith, up-all, l))
 
-  named : (p : ℕ) → p < P → Named a e n (propRow pr p)
+  pub named : (p : ℕ) → p < P → Named a e n (propRow pr p)
   named p l =
       let c = leb-true 1 (valCountAt pr p) (each-at (hasValue pr) P p (F .have-values) l) in
       record {
@@ -69,7 +69,7 @@ module _ (m : Memory) (fit : Fit m ≡ true) where
         behind = λ i h. rise .behind p i (omega arith) (omega arith) h (omega (arith, sum-none (valCountAt pr)));
       }
 
-  all-named : (k i : ℕ) → k + i ≤ P → All (Named a e n) (tabulate (propRow pr) k i)
+  pub all-named : (k i : ℕ) → k + i ≤ P → All (Named a e n) (tabulate (propRow pr) k i)
   unfolding tabulate
   all-named k zero h = tt
   all-named k (suc i) h = (named k (omega arith), all-named (suc k) i (omega arith))
@@ -92,10 +92,10 @@ module _ (m : Memory) (fit : Fit m ≡ true) where
   row-at : (j : ℕ) → j < n → getD (rowsIn m .vals) j (record { from = 0; to = 0 }) ≡ valRow (m .values) j
   row-at j l = let z : 0 + j ≡ j = omega arith in tabulate-at (valRow (m .values)) 0 n j (record { from = 0; to = 0 }) l ∙ ap (valRow (m .values)) z
 
-  from-at : (j : ℕ) → j < n → fromOf (rowsIn m .vals) j ≡ a j
+  pub from-at : (j : ℕ) → j < n → fromOf (rowsIn m .vals) j ≡ a j
   from-at j l = ap (λ (z : ValRow). z .from) (row-at j l)
 
-  to-at : (j : ℕ) → j < n → toOf (rowsIn m .vals) j ≡ e j
+  pub to-at : (j : ℕ) → j < n → toOf (rowsIn m .vals) j ≡ e j
   to-at j l = ap (λ (z : ValRow). z .to) (row-at j l)
 
   pub sums-at : (k : ℕ) → k ≤ n → sum (λ j. toOf (rowsIn m .vals) j - fromOf (rowsIn m .vals) j) k ≡ sum (λ j. e j - a j) k
@@ -112,14 +112,14 @@ module _ (m : Memory) (fit : Fit m ≡ true) where
     abbrev E : ℕ
     E = shift a e f (suc k) (e k)
 
-    span : spanAt (laidTables m f .vals) k ≡ laidVal a e f k
+    pub span : spanAt (laidTables m f .vals) k ≡ laidVal a e f k
     span = let z : 0 + k ≡ k = omega arith in tabulate-at (laidVal a e f) 0 n k (record { from = 0; to = 0 }) below ∙ ap (laidVal a e f) z
 
     place-is : shift (fromOf (rowsIn m .vals)) (toOf (rowsIn m .vals)) f k (fromOf (rowsIn m .vals) k) ≡ q
     unfolding shift
     place-is = ap₂ (λ (x y : ℕ). x - y + sum (λ j. length (f j)) k) (from-at k below) (sums-at k (omega arith))
 
-    ahead : length (before (textIn m) f 0 0 k (rowsIn m .vals)) ≡ q
+    pub ahead : length (before (textIn m) f 0 0 k (rowsIn m .vals)) ≡ q
     ahead =
         before-shift (textIn m) f (rowsIn m .vals) k chain (omega (arith, count, below)) (omega (arith, sums-at k (omega arith), from-at k below, old-low a e n order apart k below)) ∙ place-is
 

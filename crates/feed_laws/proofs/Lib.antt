@@ -1,2 +1,11 @@
+pub mod Accepted
+pub mod Cleared
+pub mod Flat
+pub mod Held
+pub mod Holds
+pub mod Judged
 pub mod Lengths
+pub mod Names
+pub mod Partly
+pub mod Runs
 pub mod Same

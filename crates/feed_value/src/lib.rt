@@ -28,7 +28,7 @@ fn source_of(values: &[u32], feed: &[u8], k: usize) -> Looked
         Found::At(from, to) => Looked::Feed(from, to),
         Found::Nowhere => {
             let start = lists::wide(values[k * tables::VALUE_STRIDE]);
-            let end = lists::wide(values[k * tables::VALUE_STRIDE + 1]);
+            let end = lists::wide(values[k * tables::VALUE_STRIDE + tables::VALUE_END]);
             Looked::Record(start, end)
         }
     }

@@ -50,12 +50,12 @@ fn depth_right(nodes: &[u32], k: usize) -> bool
     ensures { λ r. ⌜ r ≡ depthRight (now (nodes .entry)) k ⌝ }
 {
     let parent = nodes[k * tables::NODE_STRIDE];
-    let depth = nodes[k * tables::NODE_STRIDE + 5];
+    let depth = nodes[k * tables::NODE_STRIDE + tables::NODE_DEPTH];
     if parent == tables::NONE {
         return depth == 0;
     }
     let up = lists::wide(parent);
-    lists::wide(depth) == lists::wide(nodes[up * tables::NODE_STRIDE + 5]) + 1
+    lists::wide(depth) == lists::wide(nodes[up * tables::NODE_STRIDE + tables::NODE_DEPTH]) + 1
 }
 
 // Whether the roots of `m` trees are those of `n` nodes that have no parent, ascending, and the parents and depths of the nodes are right.
@@ -93,7 +93,7 @@ fn child_right(nodes: &[u32], n: usize, k: usize) -> bool
     requires { ⌜ (n ≤ length (now nodes) / nodeStride) × Ruled (now nodes) n × (k < n) ⌝ }
     ensures { λ r. ⌜ r ≡ childRight (now (nodes .entry)) n k ⌝ }
 {
-    let child = nodes[k * tables::NODE_STRIDE + 1];
+    let child = nodes[k * tables::NODE_STRIDE + tables::NODE_CHILD];
     let next = k + 1;
     if n <= next {
         return child == tables::NONE;
@@ -115,7 +115,7 @@ fn climb(nodes: &[u32], n: usize, k: usize, p: u32) -> bool
     }
     loop {
         let parent = nodes[j * tables::NODE_STRIDE];
-        let sibling = nodes[j * tables::NODE_STRIDE + 2];
+        let sibling = nodes[j * tables::NODE_STRIDE + tables::NODE_SIBLING];
         if parent == p {
             if p == tables::NONE {
                 return sibling == tables::NONE;
@@ -160,7 +160,7 @@ fn games_right(trees: &[u32], n: usize) -> bool
 {
     let mut k = 0;
     while k < n {
-        if 1 < trees[k * tables::TREE_STRIDE + 1] {
+        if 1 < trees[k * tables::TREE_STRIDE + tables::TREE_GAME] {
             return false;
         }
         k += 1;

@@ -49,7 +49,7 @@ fn have_values(properties: &[u32], n: usize) -> bool
 {
     let mut k = 0;
     while k < n {
-        if properties[k * tables::PROPERTY_STRIDE + 3] < 1 {
+        if properties[k * tables::PROPERTY_STRIDE + tables::PROPERTY_COUNT] < 1 {
             return false;
         }
         k += 1;
@@ -111,7 +111,7 @@ fn value_spans(values: &[u32], used: usize, from: usize, v: usize, m: usize) -> 
     let mut next = from;
     while k < last {
         let start = lists::wide(values[k * tables::VALUE_STRIDE]);
-        let end = lists::wide(values[k * tables::VALUE_STRIDE + 1]);
+        let end = lists::wide(values[k * tables::VALUE_STRIDE + tables::VALUE_END]);
         let step = span_after(used, next, start, end);
         if !step.ok {
             return step;
@@ -132,13 +132,13 @@ fn property_spans(properties: &[u32], k: usize, values: &[u32], used: usize, fro
     ensures { λ r. ⌜ Spanned used from (propSpans (now (properties .entry)) (now (values .entry)) k) (r .ok) (r .next) ⌝ }
 {
     let start = lists::wide(properties[k * tables::PROPERTY_STRIDE]);
-    let end = lists::wide(properties[k * tables::PROPERTY_STRIDE + 1]);
+    let end = lists::wide(properties[k * tables::PROPERTY_STRIDE + tables::PROPERTY_END]);
     let name = span_after(used, from, start, end);
     if !name.ok {
         return name;
     }
-    let first = lists::wide(properties[k * tables::PROPERTY_STRIDE + 2]);
-    let count = lists::wide(properties[k * tables::PROPERTY_STRIDE + 3]);
+    let first = lists::wide(properties[k * tables::PROPERTY_STRIDE + tables::PROPERTY_FIRST]);
+    let count = lists::wide(properties[k * tables::PROPERTY_STRIDE + tables::PROPERTY_COUNT]);
     value_spans(values, used, name.next, first, count)
 }
 
@@ -160,7 +160,7 @@ fn name_right(text: &[u8], properties: &[u32], k: usize) -> bool
     ensures { λ r. ⌜ r ≡ nameRight (now (text .entry)) (now (properties .entry)) k ⌝ }
 {
     let start = lists::wide(properties[k * tables::PROPERTY_STRIDE]);
-    let end = lists::wide(properties[k * tables::PROPERTY_STRIDE + 1]);
+    let end = lists::wide(properties[k * tables::PROPERTY_STRIDE + tables::PROPERTY_END]);
     is_plain(&text[start..end])
 }
 
@@ -225,7 +225,7 @@ fn values_right(text: &[u8], values: &[u32], n: usize) -> bool
     let mut k = 0;
     while k < n {
         let start = lists::wide(values[k * tables::VALUE_STRIDE]);
-        let end = lists::wide(values[k * tables::VALUE_STRIDE + 1]);
+        let end = lists::wide(values[k * tables::VALUE_STRIDE + tables::VALUE_END]);
         if !is_boxed(text, start, end) {
             return false;
         }

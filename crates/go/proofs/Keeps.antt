@@ -1,5 +1,5 @@
 -- What the normal form keeps: what holds of raw values and of bytes that stand for themselves, and that there is a value. Assumes nothing.
-use Rattle.lists.proofs.Prelude.{ℕ, _+_, _*_, _/_, _%_, _≤_, _<_, _≡_, refl, sym, ap, _∙_, subst, Bool, true, false, _&&_, _||_, false≢true, List, [], _∷_, arith, eqb, length, getD, le-leb, lt-ltb}
+use Rattle.lists.proofs.Prelude.{ℕ, _+_, _*_, _/_, _%_, _≤_, _<_, _≡_, refl, sym, ap, _∙_, subst, Bool, true, false, _&&_, _||_, false≢true, List, [], _∷_, arith, length, getD, le-leb, lt-ltb}
 use Rattle.lists.specs.All.{All}
 use Rattle.lists.proofs.All.{all-map}
 use Rattle.lists.proofs.Pick.{pick-elim}
@@ -10,7 +10,7 @@ use Rattle.go_points.specs.Area.{areaOf}
 use Rattle.go.specs.Marks.{inRect, good, inArea, allGood, inSome, marksOf}
 use Rattle.go.specs.Normal.{pointsFrom, normalBy, normal}
 use Rattle.go_shape.specs.Shape.{shapeOf}
-use Rattle.go.specs.Value.{noMarks, areasOf, pointsOf, valueBy, goValue}
+use Rattle.go.specs.Value.{isGo, noMarks, areasOf, pointsOf, valueBy, goValue}
 use Rattle.go_points.specs.declared.Area.{Area}
 use Rattle.go_points.specs.declared.Area.the-variants.{Bad, Rect}
 use Rattle.go.specs.declared.value.GoValue.{GoValue}
@@ -33,13 +33,13 @@ Fine vs (Move x y) ms = (x ≤ 51) × (y ≤ 51)
 Fine vs (Handicap n) ms = Unit {0}
 Fine vs Points ms = (length ms ≡ 2704) × (0 < length vs → (i : ℕ) × (getD ms i false ≡ true))
 
-moved-fine : (vs : List (List ℕ)) (v : Value) (ms : List Bool) → Moved v → Fine vs v ms
-moved-fine vs Other ms h = tt
-moved-fine vs Invalid ms h = tt
-moved-fine vs Pass ms h = tt
-moved-fine vs (Move x y) ms h = h
-moved-fine vs (Handicap n) ms h = tt
-moved-fine vs Points ms h = absurd h
+moved-fine : (rule : ℕ) (vs : List (List ℕ)) (v : Value) (ms : List Bool) → Moved rule v → Fine vs v ms
+moved-fine rule vs Other ms h = tt
+moved-fine rule vs Invalid ms h = tt
+moved-fine rule vs Pass ms h = tt
+moved-fine rule vs (Move x y) ms h = (h .0, h .1)
+moved-fine rule vs (Handicap n) ms h = tt
+moved-fine rule vs Points ms h = absurd h
 
 numbered-fine : (vs : List (List ℕ)) (v : Value) (ms : List Bool) → Numbered v → Fine vs v ms
 numbered-fine vs Other ms h = tt
@@ -78,16 +78,16 @@ set-fine vs = go (allGood (areasOf vs)) refl
     go true e = subst (λ (g : GoValue). Fine vs (g .value) (g .marks)) (sym (points-valid vs e)) (marks-all (inSome (areasOf vs)), some-marked vs e)
     go false e = subst (λ (g : GoValue). Fine vs (g .value) (g .marks)) (sym (points-invalid vs e)) tt
 
-shape-fine : (s : Shape) (vs : List (List ℕ)) → Fine vs (valueBy s vs .value) (valueBy s vs .marks)
+shape-fine : (rule : ℕ) (s : Shape) (vs : List (List ℕ)) → Fine vs (valueBy rule s vs .value) (valueBy rule s vs .marks)
 unfolding valueBy
-shape-fine OneMove vs = moved-fine vs (moves vs) noMarks (moves-moved vs)
-shape-fine OneNumber vs = numbered-fine vs (numbers vs) noMarks (numbers-numbered vs)
-shape-fine ManyPoints vs = set-fine vs
-shape-fine Unread vs = tt
+shape-fine rule OneMove vs = moved-fine rule vs (moves rule vs) noMarks (moves-moved rule vs)
+shape-fine rule OneNumber vs = numbered-fine vs (numbers vs) noMarks (numbers-numbered vs)
+shape-fine rule ManyPoints vs = set-fine vs
+shape-fine rule Unread vs = tt
 
-value-fine : (game : ℕ) (identifier : List ℕ) (vs : List (List ℕ)) → Fine vs (goValue game identifier vs .value) (goValue game identifier vs .marks)
+value-fine : (rule : ℕ) (identifier : List ℕ) (vs : List (List ℕ)) → Fine vs (goValue rule identifier vs .value) (goValue rule identifier vs .marks)
 unfolding goValue
-value-fine game identifier vs = pick-elim (λ (g : GoValue). Fine vs (g .value) (g .marks)) (eqb game 0) (λ e. shape-fine (shapeOf identifier) vs) (λ e. tt)
+value-fine rule identifier vs = pick-elim (λ (g : GoValue). Fine vs (g .value) (g .marks)) (isGo rule) (λ e. shape-fine rule (shapeOf identifier) vs) (λ e. tt)
 
 module _ (P : List ℕ → Type 0) (safe : (w : List ℕ) → All Safe w → P w) where
   written-all : (vs : List (List ℕ)) (v : Value) (ms : List Bool) → Fine vs v ms → All P vs → All P (normalBy v ms vs)
@@ -100,9 +100,9 @@ module _ (P : List ℕ → Type 0) (safe : (w : List ℕ) → All Safe w → P w
   written-all vs Points ms f h = all-map (All Safe) P safe (pointsFrom 0 ms) (points-safe 0 ms (omega (arith, f .0)))
 
   -- what holds of all raw values, and of bytes that stand for themselves, holds of all normal values
-  pub normal-all : (game : ℕ) (identifier : List ℕ) (vs : List (List ℕ)) → All P vs → All P (normal game identifier vs)
+  pub normal-all : (rule : ℕ) (identifier : List ℕ) (vs : List (List ℕ)) → All P vs → All P (normal rule identifier vs)
   unfolding normal
-  normal-all game identifier vs h = written-all vs (goValue game identifier vs .value) (goValue game identifier vs .marks) (value-fine game identifier vs) h
+  normal-all rule identifier vs h = written-all vs (goValue rule identifier vs .value) (goValue rule identifier vs .marks) (value-fine rule identifier vs) h
 
 written-some : (vs : List (List ℕ)) (v : Value) (ms : List Bool) → Fine vs v ms → 0 < length vs → 0 < length (normalBy v ms vs)
 unfolding normalBy
@@ -113,6 +113,6 @@ written-some vs (Move x y) ms f h = omega arith
 written-some vs (Handicap n) ms f h = omega arith
 written-some vs Points ms f h = let w = f .1 h in points-some 0 ms (w .0) (w .1)
 
-pub normal-some : (game : ℕ) (identifier : List ℕ) (vs : List (List ℕ)) → 0 < length vs → 0 < length (normal game identifier vs)
+pub normal-some : (rule : ℕ) (identifier : List ℕ) (vs : List (List ℕ)) → 0 < length vs → 0 < length (normal rule identifier vs)
 unfolding normal
-normal-some game identifier vs h = written-some vs (goValue game identifier vs .value) (goValue game identifier vs .marks) (value-fine game identifier vs) h
+normal-some rule identifier vs h = written-some vs (goValue rule identifier vs .value) (goValue rule identifier vs .marks) (value-fine rule identifier vs) h

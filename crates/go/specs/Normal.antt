@@ -24,6 +24,6 @@ normalBy (Move x y) marks vs = (letter x ∷ letter y ∷ []) ∷ []
 normalBy (Handicap n) marks vs = decimal n ∷ []
 normalBy Points marks vs = pointsFrom 0 marks
 
--- of a property with this game type, read identifier and raw values
-unfoldable pub normal : (game : ℕ) (identifier : List ℕ) (values : List (List ℕ)) → List (List ℕ)
-normal game identifier values = let g = goValue game identifier values in normalBy (g .value) (g .marks) values
+-- of a property of a tree with this rule, by its read identifier and raw values
+unfoldable pub normal : (rule : ℕ) (identifier : List ℕ) (values : List (List ℕ)) → List (List ℕ)
+normal rule identifier values = let g = goValue rule identifier values in normalBy (g .value) (g .marks) values

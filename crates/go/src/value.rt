@@ -2,7 +2,7 @@
 ghost use mathlib.Core.Path.{_≡_};
 ghost use Rattle.values.specs.Read.{readIdentifier};
 ghost use Rattle.parts.specs.Rows.{valuesAt};
-ghost use Rattle.go.specs.Value.{unmarked, valueBy, goValue};
+ghost use Rattle.go.specs.Value.{isGo, moveUnder, unmarked, valueBy, goValue};
 use go_points::Value;
 use go_shape::Shape;
 
@@ -23,9 +23,36 @@ fn unmarked_value(v: Value) -> GoValue
     }
 }
 
-// What the values of a property of this shape stand for, without the marks of a set: a move or a number where there is exactly one.
-pub fn value_by(shape: Shape, text: &[u8], vals: &[u32], first: usize, count: usize) -> Value
-    ensures { λ r. ⌜ r ≡ valueBy shape (valuesAt (now (text .entry)) (now (vals .entry)) first count) .value ⌝ }
+// Whether a rule is one of Go's.
+fn is_go(rule: u32) -> bool
+    ensures { λ r. ⌜ r ≡ isGo rule ⌝ }
+{
+    (rule == 0) | (rule == 2)
+}
+
+// A move under a rule: the point (19, 19) is a pass where the rule is 0.
+fn play(rule: u32, v: Value) -> Value
+    ensures { λ r. ⌜ r ≡ moveUnder rule v ⌝ }
+{
+    let Value::Move(x, y) = v else {
+        return v;
+    };
+    if (rule == 0) & ((x == 19) & (y == 19)) {
+        return Value::Pass;
+    }
+    v
+}
+
+// What the values of a property of this shape stand for under a rule, without the marks of a set: a move or a number where there is exactly one.
+pub fn value_by(
+    rule: u32,
+    shape: Shape,
+    text: &[u8],
+    vals: &[u32],
+    first: usize,
+    count: usize,
+) -> Value
+    ensures { λ r. ⌜ r ≡ valueBy rule shape (valuesAt (now (text .entry)) (now (vals .entry)) first count) .value ⌝ }
 {
     if let Shape::Unread = shape {
         return Value::Other;
@@ -39,28 +66,28 @@ pub fn value_by(shape: Shape, text: &[u8], vals: &[u32], first: usize, count: us
     }
     let value = parts::value_at(text, vals, first, 0);
     if let Shape::OneMove = shape {
-        return go_points::read_move(value);
+        return play(rule, go_points::read_move(value));
     }
     go_points::read_handicap(value)
 }
 
-// The Go value of a property: its game type, its raw identifier, and the rows of its values.
+// The Go value of a property: the rule of its tree, its raw identifier, and the rows of its values.
 pub fn go_value(
-    game: u32,
+    rule: u32,
     identifier: &[u8],
     text: &[u8],
     vals: &[u32],
     first: usize,
     count: usize,
 ) -> GoValue
-    ensures { λ r. ⌜ r ≡ goValue game (readIdentifier (now (identifier .entry))) (valuesAt (now (text .entry)) (now (vals .entry)) first count) ⌝ }
+    ensures { λ r. ⌜ r ≡ goValue rule (readIdentifier (now (identifier .entry))) (valuesAt (now (text .entry)) (now (vals .entry)) first count) ⌝ }
 {
-    if game != 0 {
+    if !is_go(rule) {
         return unmarked_value(Value::Other);
     }
     let shape = go_shape::shape_of(identifier);
     if let Shape::ManyPoints = shape {
         return crate::set::read_points(text, vals, first, count);
     }
-    unmarked_value(value_by(shape, text, vals, first, count))
+    unmarked_value(value_by(rule, shape, text, vals, first, count))
 }

@@ -128,7 +128,7 @@ pub fn size_in(
     if q < to {
         return RootSize::Wrong;
     }
-    let start = lists::wide(properties[p * tables::PROPERTY_STRIDE + 2]);
-    let many = lists::wide(properties[p * tables::PROPERTY_STRIDE + 3]);
+    let start = lists::wide(properties[p * tables::PROPERTY_STRIDE + tables::PROPERTY_FIRST]);
+    let many = lists::wide(properties[p * tables::PROPERTY_STRIDE + tables::PROPERTY_COUNT]);
     one_size(text, values, start, many)
 }

@@ -1,6 +1,7 @@
 pub mod AllNames
 pub mod Branches
 pub mod Climbs
+pub mod Corners
 pub mod Joined
 pub mod Linked
 pub mod OpenPath

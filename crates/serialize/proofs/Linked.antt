@@ -14,12 +14,14 @@ use Rattle.tables.specs.Each.{tabulate}
 use Rattle.tables.specs.Memory.{Memory}
 use Rattle.fit.specs.Fit.{Fit}
 use Rattle.fit.specs.Record.{treeRow, nodeRow, nodeOf, treesOf, textIn, recordIn}
+use Rattle.fit_rule.specs.Rule.{ruleOf, ruleAt}
+use Rattle.fit_rule.proofs.Denotes.{rule-tree}
 use Rattle.serialize.specs.Form.{formProp, formNode, formTree, writing}
-use Rattle.serialize.specs.LocalsWalk.{startText, endsBefore, nodeGame, propsText, nodeBy, nodeText, linksText}
+use Rattle.serialize.specs.LocalsWalk.{startText, endsBefore, nodeRule, propsText, nodeBy, nodeText, linksText}
 use Rattle.serialize.specs.Branch.{writeProps, treeText}
 use Rattle.serialize.proofs.Joined.{joined, joined-more, texts-joined}
 use Rattle.serialize.proofs.PropTexts.{node-text}
-use Rattle.serialize.proofs.TreeSlices.{linking, stretch-next, stretch-last, game-here}
+use Rattle.serialize.proofs.TreeSlices.{linking, stretch-next, stretch-last, rule-here}
 use Rattle.serialize.proofs.TreeWalk.{Stretch, textOf, tree-is}
 
 -- a tree's text, its ends, and the text of the next tree
@@ -51,7 +53,7 @@ module _ {t : List ℕ} {c : Counts} {tr nd pr vl : List ℕ} (fit : Clauses t c
   ns = map (nodeOf ps) (tabulate (nodeRow nd) 0 n)
 
   abbrev body : ℕ → List ℕ
-  body k = propsText t nd pr vl (nodeGame tr nd k) k
+  body k = propsText t nd pr vl (nodeRule t tr nd pr vl k) k
 
   abbrev head : ℕ → List ℕ
   head k = startText nd k ++ (0x3b ∷ body k)
@@ -60,21 +62,25 @@ module _ {t : List ℕ} {c : Counts} {tr nd pr vl : List ℕ} (fit : Clauses t c
   T = textOf nd body
 
   module _ (i b : ℕ) (l : i < m) (x : Stretch nd n (R i) b) where
+    abbrev rule : ℕ
+    rule = ruleAt t tr nd pr vl i
+
     abbrev propsOf : ℕ → List Prop
-    propsOf k = map (formProp (gameAt tr i)) (take (propCountAt nd k) (drop (firstPropAt nd k) ps))
+    propsOf k = map (formProp rule) (take (propCountAt nd k) (drop (firstPropAt nd k) ps))
 
     body-is : (k : ℕ) → R i ≤ k → k < b → writeProps (propsOf k) ≡ body k
     body-is k u v =
         node-text t vl (c .values) (fit .held .values) pr (c .properties)
-        (gapless-in (firstValAt pr) (valCountAt pr) (c .properties) (c .values) (fit .prop-ranges)) nd (gameAt tr i) k
+        (gapless-in (firstValAt pr) (valCountAt pr) (c .properties) (c .values) (fit .prop-ranges)) nd rule k
         (gapless-in (firstPropAt nd) (propCountAt nd) n (c .properties) (fit .node-ranges) k (omega (arith, x .inside)))
-        ∙ ap (λ (z : ℕ). propsText t nd pr vl z k) (sym (game-here fit i l x k u v))
+        ∙ ap (λ (z : ℕ). propsText t nd pr vl z k) (sym (rule-here fit i l x k u v))
 
     tree-text : (us : List Node) → us ≡ tabulate nodeK (R i) (b - R i)
         → treeText (formTree (record { root = R i; game = gameAt tr i; nodes = us })) ≡ head (R i) ++ (joined T (suc (R i)) (b - suc (R i)) ++ endsBefore nd b none)
     tree-text us e =
         ap (λ (z : List Node). treeText (formTree (record { root = R i; game = gameAt tr i; nodes = z }))) e
-        ∙ ap (λ (z : List Node). treeText (record { root = R i; game = gameAt tr i; nodes = z })) (map-tabulate nodeK (formNode (gameAt tr i)) (R i) (b - R i))
+        ∙ ap (λ (z : ℕ). treeText (record { root = R i; game = gameAt tr i; nodes = map (formNode z) (tabulate nodeK (R i) (b - R i)) })) (rule-tree fit i b l (x .some))
+        ∙ ap (λ (z : List Node). treeText (record { root = R i; game = gameAt tr i; nodes = z })) (map-tabulate nodeK (formNode rule) (R i) (b - R i))
         ∙ tree-is (linking fit) x propsOf body body-is (gameAt tr i)
 
   nodes-are : ns ≡ tabulate nodeK 0 n

@@ -33,20 +33,20 @@ module _ (t vl : List ℕ) (nv : ℕ) (lent : nv ≤ length vl / 2) where
   vals = valsIn t vl nv
 
   module _ (pr : List ℕ) (np : ℕ) (inside : (p : ℕ) → p < np → firstValAt pr p + valCountAt pr p ≤ nv) where
-    prop-text : (game p : ℕ) → p < np
-        → readNameAt t pr p ++ valsText (formProp game (propOf t vals (propRow pr p)) .vals) ≡ propText t pr vl game p
+    prop-text : (rule p : ℕ) → p < np
+        → readNameAt t pr p ++ valsText (formProp rule (propOf t vals (propRow pr p)) .vals) ≡ propText t pr vl rule p
     unfolding propText valuesText
-    prop-text game p h =
+    prop-text rule p h =
         ap (λ (z : List ℕ). readNameAt t pr p ++ z)
-        (boxed-boxes (normal game (readNameAt t pr p) (map rawOf (take (valCountAt pr p) (drop (firstValAt pr p) vals))))
-        ∙ ap (λ (z : List (List ℕ)). rawsText (normal game (readNameAt t pr p) z)) (raws-at t vl nv (valuesAt t vl) (values-none t vl) (λ a m l. values-more t vl a m (omega arith)) (firstValAt pr p) (valCountAt pr p) (inside p h)))
+        (boxed-boxes (normal rule (readNameAt t pr p) (map rawOf (take (valCountAt pr p) (drop (firstValAt pr p) vals))))
+        ∙ ap (λ (z : List (List ℕ)). rawsText (normal rule (readNameAt t pr p) z)) (raws-at t vl nv (valuesAt t vl) (values-none t vl) (λ a m l. values-more t vl a m (omega arith)) (firstValAt pr p) (valCountAt pr p) (inside p h)))
 
-    pub node-text : (nd : List ℕ) (game k : ℕ) → firstPropAt nd k + propCountAt nd k ≤ np
-        → writeProps (formNode game (nodeOf (propsIn t pr vl np nv) (nodeRow nd k)) .props) ≡ propsText t nd pr vl game k
+    pub node-text : (nd : List ℕ) (rule k : ℕ) → firstPropAt nd k + propCountAt nd k ≤ np
+        → writeProps (formNode rule (nodeOf (propsIn t pr vl np nv) (nodeRow nd k)) .props) ≡ propsText t nd pr vl rule k
     unfolding propsText
-    node-text nd game k h =
-        ap (λ (z : List Prop). writeProps (map (formProp game) (take (propCountAt nd k) (drop (firstPropAt nd k) z)))) (map-tabulate (propRow pr) (propOf t vals) 0 np)
-        ∙ ap (λ (z : List Prop). writeProps (map (formProp game) z)) (tabulate-part (λ p. propOf t vals (propRow pr p)) (firstPropAt nd k) (propCountAt nd k) np h)
-        ∙ ap writeProps (map-tabulate (λ p. propOf t vals (propRow pr p)) (formProp game) (firstPropAt nd k) (propCountAt nd k))
-        ∙ write-joined (λ p. formProp game (propOf t vals (propRow pr p))) (propText t pr vl game) (propCountAt nd k) (firstPropAt nd k) (λ i l u. prop-text game i (omega arith))
-        ∙ sym (texts-from (propText t pr vl game) (firstPropAt nd k) (propCountAt nd k))
+    node-text nd rule k h =
+        ap (λ (z : List Prop). writeProps (map (formProp rule) (take (propCountAt nd k) (drop (firstPropAt nd k) z)))) (map-tabulate (propRow pr) (propOf t vals) 0 np)
+        ∙ ap (λ (z : List Prop). writeProps (map (formProp rule) z)) (tabulate-part (λ p. propOf t vals (propRow pr p)) (firstPropAt nd k) (propCountAt nd k) np h)
+        ∙ ap writeProps (map-tabulate (λ p. propOf t vals (propRow pr p)) (formProp rule) (firstPropAt nd k) (propCountAt nd k))
+        ∙ write-joined (λ p. formProp rule (propOf t vals (propRow pr p))) (propText t pr vl rule) (propCountAt nd k) (firstPropAt nd k) (λ i l u. prop-text rule i (omega arith))
+        ∙ sym (texts-from (propText t pr vl rule) (firstPropAt nd k) (propCountAt nd k))

@@ -1,4 +1,4 @@
--- The trees of tables that fit: each root begins a stretch of nodes that ends at the next root, and its tree's game type is theirs. Assumes nothing.
+-- The trees of tables that fit: each root begins a stretch of nodes that ends at the next root, and its tree's rule is theirs. Assumes nothing.
 use Rattle.lists.proofs.Prelude.{ℕ, zero, suc, _+_, _≤_, _<_, _-_, List, _≡_, ap, _∙_, subst, arith, eq-eqb, ne-eqb, eqb-true}
 use Rattle.tables.specs.Numbers.{none}
 use Rattle.tables.specs.declared.Counts.{Counts}
@@ -7,9 +7,10 @@ use Rattle.fit.proofs.Clauses.{Clauses}
 use Rattle.tables.proofs.Each.{each-at}
 use Rattle.fit.proofs.RecordRows.{ruled, first-root}
 use Rattle.fit.proofs.RootRows.{root-in, root-rises, orphan-root}
-use Rattle.tables.specs.Columns.{rootAt, gameAt, parentAt, childAt, siblingAt}
+use Rattle.tables.specs.Columns.{rootAt, parentAt, childAt, siblingAt}
 use Rattle.fit_nodes.specs.Nodes.{firstUnder, nextSibling, childRight, siblingRight}
-use Rattle.serialize.specs.LocalsWalk.{rootsBelow, nodeGame}
+use Rattle.fit_rule.specs.Rule.{ruleAt}
+use Rattle.serialize.specs.LocalsWalk.{rootsBelow, nodeRule}
 use Rattle.serialize.proofs.TreeWalk.{Linking, Stretch}
 
 module _ {nd : List ℕ} {n a b : ℕ} (x : Stretch nd n a b) where
@@ -95,8 +96,8 @@ module _ {t : List ℕ} {c : Counts} {tr nd pr vl : List ℕ} (fit : Clauses t c
       let e : suc (R (suc i) - 1) ≡ R (suc i) = omega arith in
       subst (λ (z : ℕ). rootsBelow nd z ≡ suc i) e (below-in x (R (suc i) - 1) (omega arith) (omega arith) ∙ ap suc (below-root i (omega arith)))
 
-  pub game-here : {b : ℕ} (i : ℕ) → i < m → Stretch nd n (R i) b → (k : ℕ) → R i ≤ k → k < b → nodeGame tr nd k ≡ gameAt tr i
-  game-here i l x k u v =
+  pub rule-here : {b : ℕ} (i : ℕ) → i < m → Stretch nd n (R i) b → (k : ℕ) → R i ≤ k → k < b → nodeRule t tr nd pr vl k ≡ ruleAt t tr nd pr vl i
+  rule-here i l x k u v =
       let w : rootsBelow nd (suc k) ≡ suc i = below-in x k u v ∙ ap suc (below-root i l) in
       let e : rootsBelow nd (suc k) - 1 ≡ i = omega arith in
-      ap (gameAt tr) e
+      ap (ruleAt t tr nd pr vl) e

@@ -1,6 +1,5 @@
--- The walk: names, game types, properties and nodes. Assumes nothing.
-use Rattle.lists.proofs.Prelude.{ℕ, zero, suc, _+_, _/_, _^_, _≤_, _<_, _-_, Bool, true, false, _&&_, List, [], _∷_, _++_, _≡_, refl, sym, ap, ap₂, _∙_, subst, add-one, arith, leb, ltb, eqb, length, getD, take, drop, List·getD-eq-default, eq-eqb, ne-eqb, lt-ltb}
-use Rattle.lists.proofs.Pick.{pick-elim}
+-- The walk: names, rules, properties and nodes. Assumes nothing.
+use Rattle.lists.proofs.Prelude.{ℕ, zero, suc, _+_, _/_, _^_, _≤_, _<_, _-_, Bool, true, false, _&&_, List, [], _∷_, _++_, _≡_, refl, sym, ap, ap₂, _∙_, subst, add-one, arith, leb, ltb, eqb, length, getD, take, drop, eq-eqb, ne-eqb, lt-ltb, pick}
 use Rattle.values.specs.Read.{readIdentifier}
 use Rattle.store_bytes.specs.LocalsWrote.{Wrote}
 use Rattle.store_bytes.proofs.Written.{wrote-more}
@@ -16,7 +15,10 @@ use Rattle.fit_nodes.proofs.Rule.{rule-at, rule-before}
 use Rattle.fit_nodes.specs.Nodes.{parentRight}
 use Rattle.fit_nodes.specs.Locals.{Ruled}
 use Rattle.serialize.specs.Locals.{Placed, Above, NodesHeld}
-use Rattle.serialize.specs.LocalsWalk.{texts, rootsBelow, readNameAt, valuesText, propText, propsText, startText, endsBefore, nodeBy, nodeText, linksText, hasName}
+use Rattle.serialize.specs.LocalsWalk.{texts, rootsBelow, ruleTold, readNameAt, valuesText, propText, propsText, startText, endsBefore, nodeBy, nodeText, linksText, hasName}
+use Rattle.lists.proofs.Pick.{pick-elim}
+use Rattle.go_size.specs.declared.RootSize.the-variants.{Absent}
+use Rattle.fit_rule.specs.Rule.{ttPasses, ruleBy, sizeAt, ruleAt}
 use Rattle.serialize_values.specs.LocalsForm.{rawsText}
 use Rattle.serialize_values.proofs.Writing.{writing-first, writing-is, writing-next, writing-last}
 use Rattle.tables.specs.LocalsNames.{NameHeld}
@@ -47,25 +49,25 @@ name-tested t pr p q r h = h ∙ ap (λ (z : List ℕ). ltb 0 (length z)) (name-
 
 -- ---- a property
 
-module _ (t pr vl : List ℕ) (game p : ℕ) {a e first count : ℕ} (ea : a ≡ nameFromAt pr p) (ee : e ≡ nameToAt pr p) (ef : first ≡ firstValAt pr p) (ec : count ≡ valCountAt pr p) where
-  values-are : rawsText (normal game (readIdentifier (take (e - a) (drop a t))) (valuesAt t vl first count)) ≡ valuesText t pr vl game p
+module _ (t pr vl : List ℕ) (rule p : ℕ) {a e first count : ℕ} (ea : a ≡ nameFromAt pr p) (ee : e ≡ nameToAt pr p) (ef : first ≡ firstValAt pr p) (ec : count ≡ valCountAt pr p) where
+  values-are : rawsText (normal rule (readIdentifier (take (e - a) (drop a t))) (valuesAt t vl first count)) ≡ valuesText t pr vl rule p
   unfolding valuesText
   values-are =
-      ap₂ (λ (n : List ℕ) (vs : List (List ℕ)). rawsText (normal game n vs)) (name-part t pr p ea ee) (ap₂ (valuesAt t vl) ef ec)
+      ap₂ (λ (n : List ℕ) (vs : List (List ℕ)). rawsText (normal rule n vs)) (name-part t pr p ea ee) (ap₂ (valuesAt t vl) ef ec)
 
   pub property-wrote : {o : List ℕ} {at : ℕ} {o1 : List ℕ} {r1 : ℕ} {o2 : List ℕ} {r2 : ℕ} → length o < 2 ^ 64 → at < 2 ^ 64
       → Wrote (readIdentifier (take (e - a) (drop a t))) o at o1 r1
-      → Wrote (rawsText (normal game (readIdentifier (take (e - a) (drop a t))) (valuesAt t vl first count))) o1 r1 o2 r2 → Wrote (propText t pr vl game p) o at o2 r2
+      → Wrote (rawsText (normal rule (readIdentifier (take (e - a) (drop a t))) (valuesAt t vl first count))) o1 r1 o2 r2 → Wrote (propText t pr vl rule p) o at o2 r2
   unfolding propText
   property-wrote s b x y =
-      writing-last y (writing-next x (writing-is (sym (ap₂ (λ (u v : List ℕ). u ++ v) (name-part t pr p ea ee) values-are)) (writing-first (propText t pr vl game p) _ _ s b)))
+      writing-last y (writing-next x (writing-is (sym (ap₂ (λ (u v : List ℕ). u ++ v) (name-part t pr p ea ee) values-are)) (writing-first (propText t pr vl rule p) _ _ s b)))
 
-pub properties-are : (t nd pr vl : List ℕ) (game k : ℕ) {first count : ℕ} → first ≡ firstPropAt nd k → count ≡ propCountAt nd k
-    → texts (λ i. propText t pr vl game (first + i)) count ≡ propsText t nd pr vl game k
+pub properties-are : (t nd pr vl : List ℕ) (rule k : ℕ) {first count : ℕ} → first ≡ firstPropAt nd k → count ≡ propCountAt nd k
+    → texts (λ i. propText t pr vl rule (first + i)) count ≡ propsText t nd pr vl rule k
 unfolding propsText
-properties-are t nd pr vl game k ef ec = ap₂ (λ (f c : ℕ). texts (λ i. propText t pr vl game (f + i)) c) ef ec
+properties-are t nd pr vl rule k ef ec = ap₂ (λ (f c : ℕ). texts (λ i. propText t pr vl rule (f + i)) c) ef ec
 
--- ---- game types
+-- ---- rules
 
 module _ (nd : List ℕ) (k : ℕ) {r : ℕ} (e : r ≡ rootsBelow nd k) where
   pub roots-more : parentAt nd k ≡ none → r + 1 ≡ rootsBelow nd (suc k)
@@ -79,18 +81,49 @@ module _ (nd : List ℕ) (k : ℕ) {r : ℕ} (e : r ≡ rootsBelow nd k) where
 pub roots-next : (nd : List ℕ) (k : ℕ) {r : ℕ} → r ≡ rootsBelow nd (suc k) → r ≡ rootsBelow nd (k + 1)
 roots-next nd k e = e ∙ ap (rootsBelow nd) (sym (add-one k))
 
--- node 0 is a root
-pub roots-some : (nd : List ℕ) (k : ℕ) → Ruled nd (suc k) → 0 < rootsBelow nd (suc k)
-unfolding rootsBelow
-roots-some nd zero x =
-    same-or (parentAt nd 0) none (λ e. rw (eq-eqb (parentAt nd 0) none e) (omega arith)) (λ e. let z = rule-at x 0 (omega arith) e .0 in absurd (omega arith))
-roots-some nd (suc k) x =
-    let r : 0 < rootsBelow nd (suc k) = roots-some nd k (ruled-up x (suc k) (omega arith)) in
-    pick-elim (λ (n : ℕ). 0 < n) (eqb (parentAt nd (suc k)) none) (λ e. omega arith) (λ e. r)
+-- what is asked at a root, and kept for the nodes behind it
+module _ (ask : ℕ → ℕ) (nd : List ℕ) (k : ℕ) where
+  pub rule-asked : (roots rule : ℕ) {r : ℕ} → parentAt nd k ≡ none → r ≡ ask roots → r ≡ pick (eqb (parentAt nd k) none) (ask roots) rule
+  rule-asked roots rule h e = rw (eq-eqb (parentAt nd k) none h) e
 
-module _ (tr : List ℕ) (r : ℕ) (h : 0 < r) where
-  pub type-none : length tr / 2 < r → 0 ≡ gameAt tr (r - 1)
-  type-none l = sym (List·getD-eq-default tr 0 (omega arith))
+  pub rule-stays : (roots rule : ℕ) → (parentAt nd k ≡ none → ⊥) → rule ≡ pick (eqb (parentAt nd k) none) (ask roots) rule
+  rule-stays roots rule h = rw (ne-eqb (parentAt nd k) none h)
+
+  -- node 0 is a root
+  pub rule-kept : {roots rule r : ℕ} → Ruled nd (suc k) → roots ≡ rootsBelow nd k → (0 < k → rule ≡ ask (rootsBelow nd k - 1))
+      → r ≡ pick (eqb (parentAt nd k) none) (ask roots) rule → r ≡ ask (rootsBelow nd (suc k) - 1)
+  rule-kept {roots} {rule} {r} x e before h =
+      same-or (parentAt nd k) none
+      (λ p.
+      let a : r ≡ ask roots = h ∙ rw (eq-eqb (parentAt nd k) none p) in
+      let b : roots ≡ rootsBelow nd (suc k) - 1 = omega (arith, roots-more nd k e p) in
+      a ∙ ap ask b)
+      (λ p.
+      let a : r ≡ rule = h ∙ rw (ne-eqb (parentAt nd k) none p) in
+      let z : 0 < k = rule-at x k (omega arith) p .0 in
+      let b : rootsBelow nd k ≡ rootsBelow nd (suc k) = roots-same nd k refl p in
+      a ∙ before z ∙ ap (λ (n : ℕ). ask (n - 1)) b)
+
+  pub rule-next : {r : ℕ} → r ≡ ask (rootsBelow nd (suc k) - 1) → 0 < k + 1 → r ≡ ask (rootsBelow nd (k + 1) - 1)
+  rule-next e h = e ∙ ap (λ (n : ℕ). ask (rootsBelow nd n - 1)) (sym (add-one k))
+
+module _ (t tr nd pr vl : List ℕ) (r : ℕ) where
+  pub told-asked : {b : Bool} {k : ℕ} → b ≡ true → k ≡ ruleAt t tr nd pr vl r → k ≡ ruleTold b t tr nd pr vl r
+  unfolding ruleTold
+  told-asked h e = rw h e
+
+  pub told-game : {b : Bool} {g k : ℕ} → b ≡ false → g ≡ gameAt tr r → k ≡ ruleBy g Absent → k ≡ ruleTold b t tr nd pr vl r
+  unfolding ruleTold
+  told-game h e f = rw (h, ← e) f
+
+  -- what is written by it, of a node that both rules of Go write the same
+  pub told-writes : (b : Bool) (w : ℕ → List ℕ) → (b ≡ false → w 0 ≡ w 2) → w (ruleTold b t tr nd pr vl r) ≡ w (ruleAt t tr nd pr vl r)
+  unfolding ruleTold ruleAt ruleBy ttPasses
+  told-writes true w h = refl
+  told-writes false w h =
+      same-or (gameAt tr r) 0
+      (λ e. rw (eq-eqb (gameAt tr r) 0 e) (pick-elim (λ (n : ℕ). w 0 ≡ w n) (ttPasses (sizeAt t tr nd pr vl r)) (λ z. refl) (λ z. h refl)))
+      (λ e. rw (ne-eqb (gameAt tr r) 0 e))
 
 -- ---- a node
 
@@ -124,15 +157,17 @@ nodes-up x k h =
 pub nodes-above : {t nd pr : List ℕ} {n : ℕ} → NodesHeld t nd pr n → Above nd n none
 nodes-above x = record { lent = x .lent; ruled = x .ruled; above = λ s z. absurd (z refl) }
 
-pub node-wrote : (t nd pr vl : List ℕ) (game k : ℕ) {o : List ℕ} {at : ℕ} {o1 : List ℕ} {r1 : ℕ} {o2 : List ℕ} {r2 : ℕ} {o3 : List ℕ} {r3 : ℕ} {o4 : List ℕ} {r4 : ℕ} → length o < 2 ^ 64 → at < 2 ^ 64
-    → Wrote (endsBefore nd k (parentAt nd k)) o at o1 r1 → Wrote (startText nd k) o1 r1 o2 r2 → Wrote (0x3b ∷ []) o2 r2 o3 r3 → Wrote (propsText t nd pr vl game k) o3 r3 o4 r4
-    → Wrote (nodeBy t nd pr vl game k) o at o4 r4
+pub node-wrote : (t nd pr vl : List ℕ) (rule k : ℕ) {o : List ℕ} {at : ℕ} {o1 : List ℕ} {r1 : ℕ} {o2 : List ℕ} {r2 : ℕ} {o3 : List ℕ} {r3 : ℕ} {o4 : List ℕ} {r4 : ℕ} → length o < 2 ^ 64 → at < 2 ^ 64
+    → Wrote (endsBefore nd k (parentAt nd k)) o at o1 r1 → Wrote (startText nd k) o1 r1 o2 r2 → Wrote (0x3b ∷ []) o2 r2 o3 r3 → Wrote (propsText t nd pr vl rule k) o3 r3 o4 r4
+    → Wrote (nodeBy t nd pr vl rule k) o at o4 r4
 unfolding nodeBy
-node-wrote t nd pr vl game k s l a b c d = writing-last d (writing-next c (writing-next b (writing-next a (writing-first (nodeBy t nd pr vl game k) _ _ s l))))
+node-wrote t nd pr vl rule k s l a b c d = writing-last d (writing-next c (writing-next b (writing-next a (writing-first (nodeBy t nd pr vl rule k) _ _ s l))))
 
--- its game type was counted
-pub node-typed : (t tr nd pr vl : List ℕ) (k : ℕ) {r game : ℕ} → r ≡ rootsBelow nd (suc k) → game ≡ gameAt tr (r - 1) → nodeBy t nd pr vl game k ≡ nodeText t tr nd pr vl k
-node-typed t tr nd pr vl k e h = ap (λ (z : ℕ). nodeBy t nd pr vl z k) (h ∙ ap (λ (z : ℕ). gameAt tr (z - 1)) e)
+-- its rule is that of its tree
+pub node-ruled : (b : Bool) (t tr nd pr vl : List ℕ) (k : ℕ) {rule : ℕ} → (b ≡ false → nodeBy t nd pr vl 0 k ≡ nodeBy t nd pr vl 2 k)
+    → rule ≡ ruleTold b t tr nd pr vl (rootsBelow nd (suc k) - 1) → nodeBy t nd pr vl rule k ≡ nodeText t tr nd pr vl k
+node-ruled b t tr nd pr vl k calm h =
+    ap (λ (z : ℕ). nodeBy t nd pr vl z k) h ∙ told-writes t tr nd pr vl (rootsBelow nd (suc k) - 1) b (λ z. nodeBy t nd pr vl z k) calm
 
 pub linked-wrote : (t tr nd pr vl : List ℕ) (n : ℕ) {o : List ℕ} {at : ℕ} {o1 : List ℕ} {r1 : ℕ} {o2 : List ℕ} {r2 : ℕ} → length o < 2 ^ 64
     → Wrote (texts (nodeText t tr nd pr vl) n) o at o1 r1 → Wrote (endsBefore nd n none) o1 r1 o2 r2 → Wrote (linksText t tr nd pr vl n) o at o2 r2

@@ -1,29 +1,38 @@
 -- The writer's answer: 19, 15, 14, then the writing. Assumes nothing.
-use Rattle.lists.proofs.Prelude.{ℕ, _+_, _^_, _≤_, _<_, Bool, true, false, not, List, [], _++_, _≡_, refl, sym, ap, ap₂, _∙_, subst, arith, ltb, length, drop, length-take-le, lt-ltb, le-ltb, not-true, not-false}
+use Rattle.lists.proofs.Prelude.{ℕ, _+_, _-_, _^_, _≤_, _<_, Bool, true, false, not, _&&_, List, [], _++_, _≡_, refl, sym, ap, ap₂, _∙_, subst, arith, ltb, eqb, length, getD, slice, ltb-true, drop, length-take-le, lt-ltb, le-ltb, not-true, not-false}
 use Rattle.store_bytes.specs.LocalsWrote.{Wrote}
 use Rattle.store_bytes.proofs.Lists.{sets-out}
 use Rattle.store_bytes.proofs.Written.{wrote-all}
 use Rattle.tables.specs.Record.{Tree, allNodes, allProps}
 use Rattle.tables.specs.declared.Reason.the-variants.{NoRoom, EmptyIdentifier, NotFitting}
-use Rattle.tables.specs.Columns.{firstPropAt, propCountAt}
+use Rattle.tables.specs.Columns.{firstPropAt, propCountAt, valFromAt, valToAt}
 use Rattle.tables.specs.Memory.{Memory}
 use Rattle.fit.specs.Fit.{Fit}
 use Rattle.fit.specs.Record.{textIn, recordIn}
-use Rattle.fit.proofs.Clauses.{Clauses, fit-clauses, name-in}
+use Rattle.fit.proofs.Clauses.{Clauses, fit-clauses, name-in, value-in}
+use Rattle.lists.proofs.Tests.{and-both}
+use Rattle.lexer.specs.Closed.{closed}
+use Rattle.tables.proofs.Each.{each-at}
+use Rattle.fit_spans.specs.Spans.{inBracketsClosed, valueRight}
 use Rattle.fit_spans.proofs.Ranges.{gapless-in}
 use Rattle.fit.proofs.Whole.{fit-lent}
 use Rattle.serialize.specs.Form.{writing, written, WriteIs}
-use Rattle.serialize.specs.Locals.{writeAnswer, NodesHeld}
-use Rattle.serialize.specs.LocalsWalk.{linksText, namesGood}
+use Rattle.serialize.specs.Locals.{writeAnswer, EndHeld, NodesHeld}
+use Rattle.serialize.specs.LocalsWalk.{cornerEnd, nodeBy, linksText, namesGood}
 use Rattle.serialize.specs.Branch.{nameless}
 use Rattle.serialize.specs.declared.Written.the-variants.{Wrote as Done, Refused}
 use Rattle.serialize.proofs.AllNames.{names-are}
+use Rattle.serialize.proofs.Corners.{node-calm}
 use Rattle.serialize.proofs.Linked.{linked-is}
 use Rattle.tables.specs.LocalsNames.{NameHeld}
 
 -- the measure leaves its empty part, and so the bytes lent
 pub measure-kept : {w e : List ℕ} {need : ℕ} (out : List ℕ) → Wrote w [] 0 e need → e ++ out ≡ out
 measure-kept {w} out m = ap (λ (z : List ℕ). z ++ out) (m .bytes ∙ sets-out [] 0 w (omega arith))
+
+-- a value stands behind its bracket
+boxed-after : (t : List ℕ) (a e : ℕ) → inBracketsClosed t a e ≡ true → 0 < a
+boxed-after t a e h = ltb-true 0 a (and-both (ltb 0 a) (eqb (getD t (a - 1) 0) 0x5b && (eqb (getD t e 0) 0x5d && closed (slice a e t))) h .0)
 
 module _ (m : Memory) (out : List ℕ) where
   abbrev trees : List Tree
@@ -58,6 +67,17 @@ module _ (m : Memory) (out : List ℕ) where
           ruled = record { most = clauses .held .below-none; rule = clauses .parents };
           props = λ k h i l. fit-property (firstPropAt (m .nodes) k + i) (omega (arith, g k h));
         }
+
+    -- each value ends behind a byte, at least its bracket
+    pub fit-ends : (v : ℕ) → v < m .counts .values → EndHeld (textIn m) (m .values) v
+    fit-ends v h =
+        let i = value-in clauses v h in
+        let b = boxed-after (textIn m) (valFromAt (m .values) v) (valToAt (m .values) v) (each-at (valueRight (textIn m) (m .values)) (m .counts .values) v (clauses .values) h) in
+        record { row = omega (arith, clauses .held .values); some = omega (arith, i, b); inside = i .1 }
+
+    pub fit-calm : {b : Bool} → (b ≡ false → (v : ℕ) → v < m .counts .values → cornerEnd (textIn m) (m .values) v ≡ false)
+        → b ≡ false → (k : ℕ) → k < m .counts .nodes → nodeBy (textIn m) (m .nodes) (m .properties) (m .values) 0 k ≡ nodeBy (textIn m) (m .nodes) (m .properties) (m .values) 2 k
+    fit-calm f e k h = node-calm clauses (f e) k h
 
     -- the answer, where the names and the room are known
     decided : {b s : Bool} → blank ≡ b → short ≡ s → writeAnswer true b s (writing trees) ≡ written m (length out)

@@ -8,6 +8,7 @@ use Rattle.tables.specs.Memory.{Memory}
 use Rattle.tables.specs.declared.Reason.the-variants.{NoRoom, EmptyIdentifier, NotFitting}
 use Rattle.fit.specs.Fit.{Fit}
 use Rattle.fit.specs.Record.{rawsOf, recordIn}
+use Rattle.fit_rule.specs.Rule.{ruleOf}
 use Rattle.serialize.specs.Branch.{treesText, nameless}
 use Rattle.serialize.specs.declared.Written.{Written}
 use Rattle.serialize.specs.declared.Written.the-variants.{Wrote, Refused}
@@ -16,7 +17,7 @@ use Rattle.serialize.specs.declared.Written.the-variants.{Wrote, Refused
 abbrev pub placelessVal : List ℕ → Val
 placelessVal r = record { from = 0; to = 0; raw = r }
 
--- a property of a tree with game type k: its values in their normal form
+-- a property of a tree with rule k: its values in their normal form
 abbrev pub formProp : (k : ℕ) → Prop → Prop
 formProp k p = record { from = p .from; to = p .to; name = p .name; vals = map placelessVal (normal k (readIdentifier (p .name)) (rawsOf p)) }
 
@@ -24,9 +25,9 @@ formProp k p = record { from = p .from; to = p .to; name = p .name; vals = map p
 abbrev pub formNode : (k : ℕ) → Node → Node
 formNode k n = record { parent = n .parent; props = map (formProp k) (n .props) }
 
--- a tree
+-- a tree: the values of all its nodes by its one rule (SCOPE 242)
 abbrev pub formTree : Tree → Tree
-formTree t = record { root = t .root; game = t .game; nodes = map (formNode (t .game)) (t .nodes) }
+formTree t = record { root = t .root; game = t .game; nodes = map (formNode (ruleOf t)) (t .nodes) }
 
 -- the writing of a record (SCOPE 2, 132, 134)
 abbrev pub writing : List Tree → List ℕ

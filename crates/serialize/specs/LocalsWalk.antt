@@ -1,12 +1,14 @@
 -- The writing as the code walks: node by node along the links, where a tree is a node in brackets without parent.
-use Rattle.lists.specs.Prelude.{ℕ, zero, suc, _+_, _-_, Bool, _||_, not, List, [], _∷_, _++_, ltb, eqb, length, slice, pick}
+use Rattle.lists.specs.Prelude.{ℕ, zero, suc, _+_, _-_, Bool, _||_, not, List, [], _∷_, _++_, ltb, eqb, length, getD, slice, pick}
 use Rattle.values.specs.Read.{readIdentifier}
 use Rattle.go.specs.Normal.{normal}
 use Rattle.parts.specs.Rows.{valuesAt}
 use Rattle.tables.specs.Numbers.{none}
 use Rattle.tables.specs.Each.{each}
+use Rattle.fit_rule.specs.Rule.{ruleBy, ruleAt}
+use Rattle.go_size.specs.declared.RootSize.the-variants.{Absent}
 use Rattle.serialize_values.specs.LocalsForm.{rawsText}
-use Rattle.tables.specs.Columns.{gameAt, parentAt, childAt, siblingAt, firstPropAt, propCountAt, nameFromAt, nameToAt, firstValAt, valCountAt}
+use Rattle.tables.specs.Columns.{gameAt, parentAt, childAt, siblingAt, firstPropAt, propCountAt, nameFromAt, nameToAt, firstValAt, valCountAt, valToAt}
 
 -- the texts of 0, 1, .. below m, one after another
 unfoldable pub texts : (ℕ → List ℕ) → ℕ → List ℕ
@@ -18,25 +20,33 @@ unfoldable pub rootsBelow : List ℕ → ℕ → ℕ
 rootsBelow nd zero = 0
 rootsBelow nd (suc k) = let r = rootsBelow nd k in pick (eqb (parentAt nd k) none) (suc r) r
 
--- the game type of node k's tree
-abbrev pub nodeGame : (tr nd : List ℕ) → ℕ → ℕ
-nodeGame tr nd k = gameAt tr (rootsBelow nd (suc k) - 1)
+-- the last byte of value v is one that a value has which reads as `tt`
+abbrev pub cornerEnd : (t vl : List ℕ) → ℕ → Bool
+cornerEnd t vl v = let b = getD t (valToAt vl v - 1) 0 in eqb b 0x74 || eqb b 0x5c
+
+-- the rule of tree r where one of the values may read as `tt`; else 0 stands for both rules of Go
+unfoldable pub ruleTold : (corners : Bool) (t tr nd pr vl : List ℕ) → ℕ → ℕ
+ruleTold corners t tr nd pr vl r = pick corners (ruleAt t tr nd pr vl r) (ruleBy (gameAt tr r) Absent)
+
+-- the rule of node k's tree
+abbrev pub nodeRule : (t tr nd pr vl : List ℕ) → ℕ → ℕ
+nodeRule t tr nd pr vl k = ruleAt t tr nd pr vl (rootsBelow nd (suc k) - 1)
 
 -- the read identifier of property p
 abbrev pub readNameAt : (t pr : List ℕ) → ℕ → List ℕ
 readNameAt t pr p = readIdentifier (slice (nameFromAt pr p) (nameToAt pr p) t)
 
 -- its values, in their normal form
-unfoldable pub valuesText : (t pr vl : List ℕ) → (game p : ℕ) → List ℕ
-valuesText t pr vl game p = rawsText (normal game (readNameAt t pr p) (valuesAt t vl (firstValAt pr p) (valCountAt pr p)))
+unfoldable pub valuesText : (t pr vl : List ℕ) → (rule p : ℕ) → List ℕ
+valuesText t pr vl rule p = rawsText (normal rule (readNameAt t pr p) (valuesAt t vl (firstValAt pr p) (valCountAt pr p)))
 
 -- property p
-unfoldable pub propText : (t pr vl : List ℕ) → (game p : ℕ) → List ℕ
-propText t pr vl game p = readNameAt t pr p ++ valuesText t pr vl game p
+unfoldable pub propText : (t pr vl : List ℕ) → (rule p : ℕ) → List ℕ
+propText t pr vl rule p = readNameAt t pr p ++ valuesText t pr vl rule p
 
 -- the properties of node k
-unfoldable pub propsText : (t nd pr vl : List ℕ) → (game k : ℕ) → List ℕ
-propsText t nd pr vl game k = texts (λ i. propText t pr vl game (firstPropAt nd k + i)) (propCountAt nd k)
+unfoldable pub propsText : (t nd pr vl : List ℕ) → (rule k : ℕ) → List ℕ
+propsText t nd pr vl rule k = texts (λ i. propText t pr vl rule (firstPropAt nd k + i)) (propCountAt nd k)
 
 -- a node stands in brackets where it is a root, is not the first child, or has a next sibling
 abbrev pub inBrackets : List ℕ → ℕ → Bool
@@ -60,13 +70,13 @@ unfoldable pub endsBefore : List ℕ → (k p : ℕ) → List ℕ
 endsBefore nd zero p = []
 endsBefore nd (suc k) p = pick (eqb k p) [] (climbs nd k k p)
 
--- node k of a tree with this game type
-unfoldable pub nodeBy : (t nd pr vl : List ℕ) → (game k : ℕ) → List ℕ
-nodeBy t nd pr vl game k = endsBefore nd k (parentAt nd k) ++ (startText nd k ++ (0x3b ∷ propsText t nd pr vl game k))
+-- node k of a tree with this rule
+unfoldable pub nodeBy : (t nd pr vl : List ℕ) → (rule k : ℕ) → List ℕ
+nodeBy t nd pr vl rule k = endsBefore nd k (parentAt nd k) ++ (startText nd k ++ (0x3b ∷ propsText t nd pr vl rule k))
 
 -- node k
 abbrev pub nodeText : (t tr nd pr vl : List ℕ) → ℕ → List ℕ
-nodeText t tr nd pr vl k = nodeBy t nd pr vl (nodeGame tr nd k) k
+nodeText t tr nd pr vl k = nodeBy t nd pr vl (nodeRule t tr nd pr vl k) k
 
 -- n nodes
 unfoldable pub linksText : (t tr nd pr vl : List ℕ) → (n : ℕ) → List ℕ

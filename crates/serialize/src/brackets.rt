@@ -14,10 +14,10 @@ fn in_brackets(nodes: &[u32], k: usize) -> bool
     if parent == tables::NONE {
         return true;
     }
-    if lists::wide(nodes[lists::wide(parent) * tables::NODE_STRIDE + 1]) != k {
+    if lists::wide(nodes[lists::wide(parent) * tables::NODE_STRIDE + tables::NODE_CHILD]) != k {
         return true;
     }
-    nodes[k * tables::NODE_STRIDE + 2] != tables::NONE
+    nodes[k * tables::NODE_STRIDE + tables::NODE_SIBLING] != tables::NONE
 }
 
 // The start of node k.

@@ -37,6 +37,7 @@ pub fn write(
         return Written::Refused(Reason::EmptyIdentifier);
     }
     let n = counts.nodes;
+    let corners = walk::any_corner(used_text, values, counts.values);
     let need = walk::put_all(
         &mut out[..0],
         used_text,
@@ -45,10 +46,11 @@ pub fn write(
         n,
         properties,
         values,
+        corners,
     );
     if out.len() < need {
         return Written::Refused(Reason::NoRoom);
     }
-    let length = walk::put_all(out, used_text, trees, nodes, n, properties, values);
+    let length = walk::put_all(out, used_text, trees, nodes, n, properties, values, corners);
     Written::Wrote(length)
 }

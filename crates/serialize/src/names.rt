@@ -48,7 +48,7 @@ pub fn names_good(text: &[u8], properties: &[u32], n: usize) -> bool
     let mut k: usize = 0;
     while k < n {
         let start = lists::wide(properties[k * tables::PROPERTY_STRIDE]);
-        let end = lists::wide(properties[k * tables::PROPERTY_STRIDE + 1]);
+        let end = lists::wide(properties[k * tables::PROPERTY_STRIDE + tables::PROPERTY_END]);
         if !is_named(&text[start..end]) {
             return false;
         }

@@ -1,11 +1,16 @@
 // The writing, node by node along the links: a tree is a node in brackets without parent.
 ghost use mathlib.Core.Path.{_≡_};
-ghost use Prim.Native.Nat.{suc, _-_, _/_, _<_, _≤_};
+ghost use mathlib.Core.Bool.{false};
+ghost use Prim.Native.Nat.{ℕ, suc, _/_, _<_, _≤_};
+ghost use lib.Dec.{eqb};
 ghost use lib.ListN.{length};
 ghost use Rattle.store_bytes.specs.LocalsWrote.{Wrote};
-ghost use Rattle.tables.specs.Columns.{nodeStride, gameAt};
-ghost use Rattle.serialize.specs.Locals.{NodeHeld, NodesHeld};
-ghost use Rattle.serialize.specs.LocalsWalk.{rootsBelow, nodeBy, linksText};
+ghost use Rattle.lists.specs.Pick.{pick};
+ghost use Rattle.tables.specs.Numbers.{none};
+ghost use Rattle.tables.specs.Columns.{nodeStride, parentAt};
+ghost use Rattle.serialize.specs.Locals.{EndHeld, NodeHeld, NodesHeld};
+ghost use Rattle.serialize.specs.LocalsWalk.{rootsBelow, cornerEnd, ruleTold, nodeBy, linksText};
+use go_size::RootSize;
 
 // How many of the first k + 1 nodes have no parent, where `roots` of the first k have none.
 fn roots_with(nodes: &[u32], k: usize, roots: usize) -> usize
@@ -18,18 +23,65 @@ fn roots_with(nodes: &[u32], k: usize, roots: usize) -> usize
     roots
 }
 
-// The game type of the last of `roots` trees; 0 where it has no row.
-fn game_of(trees: &[u32], roots: usize) -> u32
-    requires { ⌜ 0 < roots ⌝ }
-    ensures { λ r. ⌜ r ≡ gameAt (now (trees .entry)) (roots - 1) ⌝ }
+// Whether one of n values may read as `tt`, by its last byte. Where none may, both rules of Go write the same.
+pub fn any_corner(text: &[u8], values: &[u32], n: usize) -> bool
+    requires { ⌜ ((v : ℕ) → v < n → EndHeld (now text) (now values) v) ⌝ }
+    ensures { λ r. ⌜ (r ≡ false → (v : ℕ) → v < n → cornerEnd (now (text .entry)) (now (values .entry)) v ≡ false) ⌝ }
 {
-    if trees.len() / tables::TREE_STRIDE < roots {
-        return 0;
+    let mut v: usize = 0;
+    while v < n {
+        let end = lists::wide(values[v * tables::VALUE_STRIDE + tables::VALUE_END]);
+        let last = text[end - 1];
+        if (last == b't') | (last == b'\\') {
+            return true;
+        }
+        v += 1;
     }
-    trees[(roots - 1) * tables::TREE_STRIDE + 1]
+    false
 }
 
-// Node k of a tree with this game type: the ends before it, its start, `;` and its properties.
+// The rule of tree r, asked where one of the values may read as `tt`.
+fn rule_told(
+    corners: bool,
+    text: &[u8],
+    trees: &[u32],
+    nodes: &[u32],
+    properties: &[u32],
+    values: &[u32],
+    r: usize,
+) -> u32
+    ensures { λ k. ⌜ k ≡ ruleTold corners
+        (now (text .entry)) (now (trees .entry)) (now (nodes .entry)) (now (properties .entry)) (now (values .entry)) r ⌝ }
+{
+    if corners {
+        return fit_rule::rule_at(text, trees, nodes, properties, values, r);
+    }
+    fit_rule::rule_of(fit_rule::game_at(trees, r), RootSize::Absent)
+}
+
+// The rule at node k: asked at a root, which is that of the tree behind `roots` others; else that of the node before.
+fn rule_with(
+    corners: bool,
+    text: &[u8],
+    trees: &[u32],
+    nodes: &[u32],
+    properties: &[u32],
+    values: &[u32],
+    k: usize,
+    roots: usize,
+    rule: u32,
+) -> u32
+    requires { ⌜ k < length (now nodes) / nodeStride ⌝ }
+    ensures { λ r. ⌜ r ≡ pick (eqb (parentAt (now (nodes .entry)) k) none)
+        (ruleTold corners (now (text .entry)) (now (trees .entry)) (now (nodes .entry)) (now (properties .entry)) (now (values .entry)) roots) rule ⌝ }
+{
+    if nodes[k * tables::NODE_STRIDE] == tables::NONE {
+        return rule_told(corners, text, trees, nodes, properties, values, roots);
+    }
+    rule
+}
+
+// Node k of a tree with this rule: the ends before it, its start, `;` and its properties.
 fn put_node(
     out: &mut [u8],
     at: usize,
@@ -37,17 +89,17 @@ fn put_node(
     nodes: &[u32],
     properties: &[u32],
     values: &[u32],
-    game: u32,
+    rule: u32,
     k: usize,
 ) -> usize
     requires { ⌜ NodeHeld (now text) (now nodes) (now properties) k ⌝ }
-    ensures { λ r. ⌜ Wrote (nodeBy (now (text .entry)) (now (nodes .entry)) (now (properties .entry)) (now (values .entry)) game k)
+    ensures { λ r. ⌜ Wrote (nodeBy (now (text .entry)) (now (nodes .entry)) (now (properties .entry)) (now (values .entry)) rule k)
         (now (out .entry)) at (now (out .exit)) r ⌝ }
 {
     let ended = crate::brackets::put_ends(out, at, nodes, k, nodes[k * tables::NODE_STRIDE]);
     let started = crate::brackets::put_start(out, ended, nodes, k);
     let to = store_bytes::put_byte(out, started, b';');
-    crate::property::put_properties(out, to, text, nodes, properties, values, game, k)
+    crate::property::put_properties(out, to, text, nodes, properties, values, rule, k)
 }
 
 // All n nodes.
@@ -59,18 +111,31 @@ pub fn put_all(
     n: usize,
     properties: &[u32],
     values: &[u32],
+    corners: bool,
 ) -> usize
-    requires { ⌜ NodesHeld (now text) (now nodes) (now properties) n ⌝ }
+    requires { ⌜ NodesHeld (now text) (now nodes) (now properties) n × (corners ≡ false → (k : ℕ) → k < n
+        → nodeBy (now text) (now nodes) (now properties) (now values) 0 k ≡ nodeBy (now text) (now nodes) (now properties) (now values) 2 k) ⌝ }
     ensures { λ r. ⌜ Wrote (linksText (now (text .entry)) (now (trees .entry)) (now (nodes .entry)) (now (properties .entry)) (now (values .entry)) n)
         (now (out .entry)) 0 (now (out .exit)) r ⌝ }
 {
     let mut to: usize = 0;
     let mut roots: usize = 0;
+    let mut rule: u32 = 0;
     let mut k: usize = 0;
     while k < n {
+        rule = rule_with(
+            corners,
+            text,
+            trees,
+            nodes,
+            properties,
+            values,
+            k,
+            roots,
+            rule,
+        );
         roots = roots_with(nodes, k, roots);
-        let game = game_of(trees, roots);
-        to = put_node(out, to, text, nodes, properties, values, game, k);
+        to = put_node(out, to, text, nodes, properties, values, rule, k);
         k += 1;
     }
     crate::brackets::put_ends(out, to, nodes, n, tables::NONE)

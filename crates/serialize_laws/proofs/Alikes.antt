@@ -4,6 +4,8 @@ use Rattle.go.specs.declared.value.GoValue.{GoValue}
 use Rattle.lexer.specs.Token.{Prop}
 use Rattle.lists.specs.All.{All}
 use Rattle.serialize_laws.proofs.Kept.{pairs-length, pairs-append, pairs-map}
+use Rattle.fit_rule.specs.Rule.{ruleOf}
+use Rattle.serialize_laws.proofs.SameRule.{alike-rule}
 use Rattle.serialize_laws.proofs.WrittenProps.{letters-same}
 use Rattle.serialize_laws.specs.Alike.{AlikeProp, AlikeNode, Alike}
 use Rattle.serialize_laws.specs.Back.{some, Named}
@@ -32,7 +34,7 @@ same-alike [] [] h = tt
 same-alike [] (u ∷ us) h = h
 same-alike (t ∷ ts) [] h = h
 same-alike (t ∷ ts) (u ∷ us) h =
-    (record { root = h .0 .root; game = h .0 .game; nodes = same-nodes (t .game) (t .nodes) (u .nodes) (h .0 .nodes) }, same-alike ts us (h .1))
+    (record { root = h .0 .root; game = h .0 .game; nodes = same-nodes (ruleOf t) (t .nodes) (u .nodes) (h .0 .nodes) }, same-alike ts us (h .1))
 
 -- ---- Go values by number
 
@@ -56,11 +58,11 @@ alike-go (t ∷ ts) [] h i = absurd h
 alike-go (t ∷ ts) (u ∷ us) h i =
     let T : List Prop = allProps (t .nodes) in
     let U : List Prop = allProps (u .nodes) in
-    let ps : Pairs (AlikeProp (t .game)) T U = props-of (t .game) (t .nodes) (u .nodes) (h .0 .nodes) in
-    ap (λ (k : ℕ). pick (ltb i (length U)) (goOf k (getD U i noProp)) (goAt us (i - length U))) (h .0 .game)
-    ∙ ap (λ (g : GoValue). pick (ltb i (length U)) g (goAt us (i - length U))) (go-in (t .game) T U ps i)
-    ∙ ap (λ (n : ℕ). pick (ltb i n) (goOf (t .game) (getD T i noProp)) (goAt us (i - n))) (pairs-length (AlikeProp (t .game)) T U ps)
-    ∙ ap (λ (g : GoValue). pick (ltb i (length T)) (goOf (t .game) (getD T i noProp)) g) (alike-go ts us (h .1) (i - length T))
+    let ps : Pairs (AlikeProp (ruleOf t)) T U = props-of (ruleOf t) (t .nodes) (u .nodes) (h .0 .nodes) in
+    ap (λ (k : ℕ). pick (ltb i (length U)) (goOf k (getD U i noProp)) (goAt us (i - length U))) (alike-rule t u (h .0))
+    ∙ ap (λ (g : GoValue). pick (ltb i (length U)) g (goAt us (i - length U))) (go-in (ruleOf t) T U ps i)
+    ∙ ap (λ (n : ℕ). pick (ltb i n) (goOf (ruleOf t) (getD T i noProp)) (goAt us (i - n))) (pairs-length (AlikeProp (ruleOf t)) T U ps)
+    ∙ ap (λ (g : GoValue). pick (ltb i (length T)) (goOf (ruleOf t) (getD T i noProp)) g) (alike-go ts us (h .1) (i - length T))
 
 -- ---- names, and how many there are
 
@@ -80,7 +82,7 @@ names-of : (ts us : List Tree) → Alike ts us → Pairs OneName (allProps (allN
 names-of [] [] h = tt
 names-of [] (u ∷ us) h = absurd h
 names-of (t ∷ ts) [] h = absurd h
-names-of (t ∷ ts) (u ∷ us) h = names-more (t .game) (t .nodes) (u .nodes) (allNodes ts) (allNodes us) (h .0 .nodes) (names-of ts us (h .1))
+names-of (t ∷ ts) (u ∷ us) h = names-more (ruleOf t) (t .nodes) (u .nodes) (allNodes ts) (allNodes us) (h .0 .nodes) (names-of ts us (h .1))
 
 pub alike-properties : (ts us : List Tree) → Alike ts us → length (allProps (allNodes us)) ≡ length (allProps (allNodes ts))
 alike-properties ts us h = pairs-length OneName (allProps (allNodes ts)) (allProps (allNodes us)) (names-of ts us h)

@@ -3,6 +3,8 @@ use Rattle.lists.proofs.Prelude.{_≡_, refl, sym, ap, ap₂, _∙_, ℕ, List,
 use Rattle.lexer.specs.Token.{Prop}
 use Rattle.serialize_laws.proofs.FormProps.{form-places, form-twice}
 use Rattle.serialize_laws.proofs.ReadBack.{zero-trees}
+use Rattle.serialize_laws.proofs.SameRule.{form-rule, aside-rule}
+use Rattle.fit_rule.specs.Rule.{ruleOf}
 use Rattle.serialize_laws.specs.Back.{placelessProp, placelessNode, placelessTree}
 use Rattle.serialize.specs.Form.{formProp, formNode, formTree, writing}
 use Rattle.serialize.specs.Branch.{treesText}
@@ -18,7 +20,7 @@ aside-nodes k (n ∷ ns) = ap₂ (λ (x : List Prop) (y : List Node). record { p
 
 aside-trees : (ts : List Tree) → map placelessTree (map formTree ts) ≡ map placelessTree (map formTree (map placelessTree ts))
 aside-trees [] = refl
-aside-trees (t ∷ ts) = ap₂ (λ (x : List Node) (y : List Tree). record { root = t .root; game = t .game; nodes = x } ∷ y) (aside-nodes (t .game) (t .nodes)) (aside-trees ts)
+aside-trees (t ∷ ts) = ap₂ (λ (x : List Node) (y : List Tree). record { root = t .root; game = t .game; nodes = x } ∷ y) (aside-nodes (ruleOf t) (t .nodes) ∙ ap (λ (k : ℕ). map placelessNode (map (formNode k) (map placelessNode (t .nodes)))) (sym (aside-rule t))) (aside-trees ts)
 
 twice-props : (k : ℕ) (ps : List Prop) → map placelessProp (map (formProp k) (map (formProp k) ps)) ≡ map placelessProp (map (formProp k) ps)
 twice-props k [] = refl
@@ -30,7 +32,7 @@ twice-nodes k (n ∷ ns) = ap₂ (λ (x : List Prop) (y : List Node). record { p
 
 twice-trees : (ts : List Tree) → map placelessTree (map formTree (map formTree ts)) ≡ map placelessTree (map formTree ts)
 twice-trees [] = refl
-twice-trees (t ∷ ts) = ap₂ (λ (x : List Node) (y : List Tree). record { root = t .root; game = t .game; nodes = x } ∷ y) (twice-nodes (t .game) (t .nodes)) (twice-trees ts)
+twice-trees (t ∷ ts) = ap₂ (λ (x : List Node) (y : List Tree). record { root = t .root; game = t .game; nodes = x } ∷ y) (ap (λ (k : ℕ). map placelessNode (map (formNode k) (map (formNode (ruleOf t)) (t .nodes)))) (form-rule t) ∙ twice-nodes (ruleOf t) (t .nodes)) (twice-trees ts)
 
 -- trees that differ in nothing but places are written alike
 pub written-alike : (ts us : List Tree) → map placelessTree ts ≡ map placelessTree us → writing ts ≡ writing us

@@ -11,6 +11,8 @@ use Rattle.serialize_laws.proofs.FormProps.{raws-aside, raws-back}
 use Rattle.serialize_laws.specs.Back.{placelessProp, placelessNode, placelessTree}
 use Rattle.serialize_laws.specs.Same.{Pairs, valid, SameProp, SameNode, SameTree}
 use Rattle.fit.specs.Record.{rawsOf, rawOf}
+use Rattle.fit_rule.specs.Rule.{ruleOf}
+use Rattle.serialize_laws.proofs.SameRule.{form-rule, aside-rule}
 use Rattle.serialize.specs.Form.{placelessVal, formProp, formNode, formTree}
 use Rattle.tables.specs.Record.{Node, Tree, allNodes}
 use Rattle.tables.specs.Rows.{parents, nodeRows, tables}
@@ -63,8 +65,9 @@ same-tree t u e =
     record {
       root = ap (λ (z : Tree). z .root) e;
       game = ap (λ (z : Tree). z .game) e;
-      nodes = pairs-from placelessNode (λ n. placelessNode (formNode (t .game) n)) (SameNode (t .game)) (same-node (t .game)) (t .nodes) (u .nodes)
-          (ap (λ (z : Tree). z .nodes) e ∙ map-map placelessNode (formNode (t .game)) (t .nodes));
+      rule = sym (aside-rule u) ∙ ap ruleOf e ∙ aside-rule (formTree t) ∙ form-rule t;
+      nodes = pairs-from placelessNode (λ n. placelessNode (formNode (ruleOf t) n)) (SameNode (ruleOf t)) (same-node (ruleOf t)) (t .nodes) (u .nodes)
+          (ap (λ (z : Tree). z .nodes) e ∙ map-map placelessNode (formNode (ruleOf t)) (t .nodes));
     }
 
 pub same-trees : (ts us : List Tree) → map placelessTree us ≡ map placelessTree (map formTree ts) → Pairs SameTree ts us
@@ -101,7 +104,7 @@ level-trees [] (u ∷ us) h = absurd h
 level-trees (t ∷ ts) [] h = absurd h
 level-trees (t ∷ ts) (u ∷ us) h =
     pairs-append Level (t .nodes) (u .nodes) (allNodes ts) (allNodes us)
-    (pairs-map (SameNode (t .game)) Level (λ n m s. (s .parent, pairs-length (SameProp (t .game)) (n .props) (m .props) (s .props))) (t .nodes) (u .nodes) (h .0 .nodes))
+    (pairs-map (SameNode (ruleOf t)) Level (λ n m s. (s .parent, pairs-length (SameProp (ruleOf t)) (n .props) (m .props) (s .props))) (t .nodes) (u .nodes) (h .0 .nodes))
     (level-trees ts us (h .1))
 
 level-parents : (ns ms : List Node) → Pairs Level ns ms → parents ms ≡ parents ns

@@ -19,6 +19,7 @@ pub mod ReadBack
 pub mod Regrow
 pub mod Resplit
 pub mod RootProps
+pub mod SameRule
 pub mod Sizes
 pub mod Sounded
 pub mod Sounding

@@ -9,6 +9,7 @@ use Rattle.serialize_laws.proofs.Resplit.{Few}
 use Rattle.serialize_laws.proofs.Regrow.{SoundNodes, SoundTrees}
 use Rattle.serialize_laws.proofs.WrittenProps.{Plain}
 use Rattle.serialize_laws.proofs.Written.{PlainNode, PlainTree}
+use Rattle.fit_rule.specs.Rule.{ruleOf}
 use Rattle.serialize.proofs.Branches.{opening, Good}
 use Rattle.serialize.specs.Form.{formProp, formNode, formTree}
 use Rattle.serialize.specs.LocalsWrite.{Open, bracketed, pathLeft}
@@ -40,9 +41,9 @@ good-map : (k : ℕ) (ps : List ℕ) (j : ℕ) (path : List Open) (ns : List Nod
 good-map k ps j path [] h = tt
 good-map k ps j path (n ∷ ns) h = (h .0, good-map k ps (suc j) (opening ps j (n .parent) ∷ pathLeft (n .parent) path) ns (h .1))
 
-sound-map : (r k : ℕ) (ns : List Node) → SoundNodes r k ns → SoundNodes r k (map (formNode k) ns)
-sound-map r k [] h = h
-sound-map r k (n ∷ ns) h = (
+sound-map : (r g k : ℕ) (ns : List Node) → SoundNodes r g ns → SoundNodes r g (map (formNode k) ns)
+sound-map r g k [] h = h
+sound-map r g k (n ∷ ns) h = (
   h .0,
   record {
     plain = (plain-map k (n .props) (h .1 .plain .0), plain-nodes k ns (h .1 .plain .1));
@@ -58,21 +59,21 @@ sound-trees : (base : ℕ) (ts : List Tree) → SoundTrees base ts → SoundTree
 sound-trees base [] h = tt
 sound-trees base (t ∷ ts) h = (
   h .0,
-  sound-map base (t .game) (t .nodes) (h .1),
-  subst (λ (z : ℕ). SoundTrees (base + z) (map formTree ts)) (sym (length-map (t .nodes) (formNode (t .game)))) (sound-trees (base + length (t .nodes)) ts (h .2)),
+  sound-map base (t .game) (ruleOf t) (t .nodes) (h .1),
+  subst (λ (z : ℕ). SoundTrees (base + z) (map formTree ts)) (sym (length-map (t .nodes) (formNode (ruleOf t)))) (sound-trees (base + length (t .nodes)) ts (h .2)),
 )
 
 plain-trees : (ts : List Tree) → All PlainTree ts → All PlainTree (map formTree ts)
 plain-trees [] h = tt
-plain-trees (t ∷ ts) h = (plain-nodes (t .game) (t .nodes) (h .0), plain-trees ts (h .1))
+plain-trees (t ∷ ts) h = (plain-nodes (ruleOf t) (t .nodes) (h .0), plain-trees ts (h .1))
 
 valid-trees : (ts : List Tree) → All ValidTree ts → All ValidTree (map formTree ts)
 valid-trees [] v = tt
-valid-trees (t ∷ ts) v = (valid-nodes (t .game) (t .nodes) (v .0), valid-trees ts (v .1))
+valid-trees (t ∷ ts) v = (valid-nodes (ruleOf t) (t .nodes) (v .0), valid-trees ts (v .1))
 
 few-trees : (ts : List Tree) → Few ts → Few (map formTree ts)
 few-trees [] h = tt
-few-trees (t ∷ ts) h = (subst (λ (z : ℕ). t .root + z ≤ none) (sym (length-map (t .nodes) (formNode (t .game)))) (h .0), few-trees ts (h .1))
+few-trees (t ∷ ts) h = (subst (λ (z : ℕ). t .root + z ≤ none) (sym (length-map (t .nodes) (formNode (ruleOf t)))) (h .0), few-trees ts (h .1))
 
 pub normal-form : (ts : List Tree) → Form ts → Form (map formTree ts)
 normal-form ts w =

@@ -3,7 +3,7 @@ use Rattle.lists.proofs.Prelude.{ℕ, zero, suc, _≡_, refl, sym, ap, ap₂, _
 use Rattle.fit.specs.Record.{rawsOf}
 use Rattle.go.proofs.Shapes.{points-valid}
 use Rattle.go.specs.Marks.{good, inArea, allGood, inSome, marksFrom, marksOf}
-use Rattle.go.specs.Value.{marked, areasOf, valueBy, goValue}
+use Rattle.go.specs.Value.{isGo, marked, areasOf, valueBy, goValue}
 use Rattle.lexer.specs.Token.{Prop}
 use Rattle.lists.proofs.Tests.{never, and-both}
 use Rattle.serialize_laws.specs.Alike.{AlikeProp, OneSet, Among}
@@ -22,20 +22,20 @@ marks-from f g h i zero = refl
 marks-from f g h i (suc n) = ap₂ (λ (b : Bool) (ms : List Bool). b ∷ ms) (h i) (marks-from f g h (suc i) n)
 
 -- the Go value of a set of which each value stands for points
-set-value : (p : Prop) → shapeOf (readIdentifier (p .name)) ≡ ManyPoints → allGood (areasOf (rawsOf p)) ≡ true → goOf 0 p ≡ marked (marksOf (inSome (areasOf (rawsOf p))))
+set-value : (k : ℕ) → isGo k ≡ true → (p : Prop) → shapeOf (readIdentifier (p .name)) ≡ ManyPoints → allGood (areasOf (rawsOf p)) ≡ true → goOf k p ≡ marked (marksOf (inSome (areasOf (rawsOf p))))
 unfolding goValue valueBy
-set-value p s g = ap (λ (z : Shape). valueBy z (rawsOf p)) s ∙ points-valid (rawsOf p) g
+set-value k b p s g = rw b (ap (λ (z : Shape). valueBy k z (rawsOf p)) s ∙ points-valid (rawsOf p) g)
 
 -- two properties of one set are alike in a Go tree
-pub set-alike : (p q : Prop) → OneSet p q → AlikeProp 0 p q
+pub set-alike : (k : ℕ) → isGo k ≡ true → (p q : Prop) → OneSet p q → AlikeProp k p q
 unfolding marksOf
-set-alike p q h =
-    let v : goOf 0 p ≡ marked (marksOf (inSome (areasOf (rawsOf p)))) = set-value p (h .takes) (h .good) in
+set-alike k b p q h =
+    let v : goOf k p ≡ marked (marksOf (inSome (areasOf (rawsOf p)))) = set-value k b p (h .takes) (h .good) in
     record {
       name = h .name;
-      value = set-value q (ap shapeOf (h .name) ∙ h .takes) (h .good′)
+      value = set-value k b q (ap shapeOf (h .name) ∙ h .takes) (h .good′)
           ∙ ap marked (marks-from (inSome (areasOf (rawsOf q))) (inSome (areasOf (rawsOf p))) (h .points) 0 2704) ∙ sym v;
-      raws = λ e. let w : valid (goOf 0 p .value) ≡ true = ap (λ g. valid (g .value)) v in never cc;
+      raws = λ e. let w : valid (goOf k p .value) ≡ true = ap (λ g. valid (g .value)) v in never cc;
     }
 
 -- ---- orders

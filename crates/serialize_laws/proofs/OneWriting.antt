@@ -6,6 +6,8 @@ use Rattle.go.specs.declared.value.GoValue.{GoValue}
 use Rattle.lexer.specs.Token.{Prop}
 use Rattle.go_points.specs.declared.Value.{Value}
 use Rattle.go_points.specs.declared.Value.the-variants.{Other, Invalid, Pass, Move, Handicap, Points}
+use Rattle.fit_rule.specs.Rule.{ruleOf}
+use Rattle.serialize_laws.proofs.SameRule.{alike-rule}
 use Rattle.serialize_laws.specs.Alike.{AlikeProp, AlikeNode, AlikeTree, Alike}
 use Rattle.serialize_laws.specs.Same.{Pairs, valid}
 use Rattle.ask.specs.Ask.{goOf}
@@ -48,8 +50,8 @@ nodes-alike k (n ∷ ns) (m ∷ ms) h = (h .0 .parent, props-alike k (n .props) 
 
 tree-alike : (t u : Tree) → AlikeTree t u → treeText (formTree u) ≡ treeText (formTree t)
 tree-alike t u h =
-    ap₂ (λ (r k : ℕ). treeText (record { root = r; game = k; nodes = map (formNode k) (u .nodes) })) (h .root) (h .game)
-    ∙ alike-tree (t .root) (t .game) (t .game) (map (formNode (t .game)) (u .nodes)) (map (formNode (t .game)) (t .nodes)) (nodes-alike (t .game) (t .nodes) (u .nodes) (h .nodes))
+    ap₂ (λ (r k : ℕ). treeText (record { root = r; game = u .game; nodes = map (formNode k) (u .nodes) })) (h .root) (alike-rule t u h)
+    ∙ alike-tree (t .root) (u .game) (t .game) (map (formNode (ruleOf t)) (u .nodes)) (map (formNode (ruleOf t)) (t .nodes)) (nodes-alike (ruleOf t) (t .nodes) (u .nodes) (h .nodes))
 
 -- THE VIEWER'S QUESTION
 pub same-written : (ts us : List Tree) → Alike ts us → writing ts ≡ writing us

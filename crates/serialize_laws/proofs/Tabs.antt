@@ -11,7 +11,9 @@ use Rattle.go_points.specs.Area.{moveOf, moveTo, letterOf, letter}
 use Rattle.go.specs.Normal as go
 use Rattle.go.specs.Normal.{normal}
 use Rattle.go_shape.specs.Shape.{shapeOf}
-use Rattle.go.specs.Value.{valueBy, goValue}
+use Rattle.go.specs.Value.{moveUnder, valueBy, goValue}
+use Rattle.fit_rule.specs.Rule.{ttPasses, ruleBy, sizeOfTree, ruleOf}
+use Rattle.go_size.specs.Root.{sizeIn}
 use Rattle.tables.specs.Each.{each, sum, tabulate}
 use Rattle.tables.specs.Numbers.{none}
 use Rattle.tables.specs.Record.{Tree}
@@ -68,7 +70,7 @@ wanted [] = []
 wanted (r ∷ rs) = r .says ∷ wanted rs
 
 pub tabs-right : answered table ≡ wanted table
-unfolding white space readFrom readIdentifier decimalOf digitsFrom digitOf normal go.normalBy goValue shapeOf valueBy moveOf moveTo letterOf letter outcomeOf Fit fitText nodesFit rangesFit spansFit trimmed each sum tabulate orphans upward onPath firstUnder spans ascending plainName
+unfolding white space readFrom readIdentifier decimalOf digitsFrom digitOf ruleOf ruleBy ttPasses sizeOfTree sizeIn moveUnder normal go.normalBy goValue shapeOf valueBy moveOf moveTo letterOf letter outcomeOf Fit fitText nodesFit rangesFit spansFit trimmed each sum tabulate orphans upward onPath firstUnder spans ascending plainName
 tabs-right = refl
 
 -- the property's span is 2 to 8, and a node follows
@@ -96,5 +98,5 @@ unfolding white space
 tab-read = refl
 
 pub tab-back : ReadsBack read-as
-unfolding white space readFrom readIdentifier normal go.normalBy goValue shapeOf valueBy moveOf moveTo letterOf letter
+unfolding white space readFrom readIdentifier ruleOf ruleBy ttPasses sizeOfTree sizeIn moveUnder normal go.normalBy goValue shapeOf valueBy moveOf moveTo letterOf letter
 tab-back = reads-back-within (tabbed "(;^B[aa])") read-as tab-read (refl, tt) ((refl, refl), tt) (leb-true _ _ refl) (leb-true _ _ refl)

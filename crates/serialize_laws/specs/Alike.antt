@@ -10,9 +10,10 @@ use Rattle.go_shape.specs.Shape.{shapeOf}
 use Rattle.go_shape.specs.declared.Shape.the-variants.{ManyPoints}
 use Rattle.tables.specs.Record.{Node, Tree}
 use Rattle.fit.specs.Record.{rawsOf}
+use Rattle.fit_rule.specs.Rule.{ruleOf}
 use Rattle.serialize_laws.specs.Same.{Pairs, valid}
 
--- properties of trees with game type k: the same read identifier and Go value, and the same raw values where that is no valid one
+-- properties of trees with rule k: the same read identifier and Go value, and the same raw values where that is no valid one
 pub record AlikeProp (k : ℕ) (p q : Prop) : Type 0 where
   pub name : readIdentifier (q .name) ≡ readIdentifier (p .name)
   pub value : goOf k q ≡ goOf k p
@@ -23,11 +24,11 @@ pub record AlikeNode (k : ℕ) (n m : Node) : Type 0 where
   pub parent : m .parent ≡ n .parent
   pub props : Pairs (AlikeProp k) (n .props) (m .props)
 
--- trees: the same root and game type, and nodes that are alike, one by one
+-- trees: the same root and game type, and nodes that are alike, one by one, under the rule of the first, which is then that of both
 pub record AlikeTree (t u : Tree) : Type 0 where
   pub root : u .root ≡ t .root
   pub game : u .game ≡ t .game
-  pub nodes : Pairs (AlikeNode (t .game)) (t .nodes) (u .nodes)
+  pub nodes : Pairs (AlikeNode (ruleOf t)) (t .nodes) (u .nodes)
 
 -- records
 abbrev pub Alike : List Tree → List Tree → Type 0

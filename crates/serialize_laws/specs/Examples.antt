@@ -9,7 +9,9 @@ use Rattle.values.specs.Decimal.{decimalOf, digitsFrom, digitOf}
 use Rattle.go.specs.Normal as go
 use Rattle.go.specs.Normal.{normal}
 use Rattle.go_shape.specs.Shape.{shapeOf}
-use Rattle.go.specs.Value.{valueBy, goValue}
+use Rattle.go.specs.Value.{moveUnder, valueBy, goValue}
+use Rattle.fit_rule.specs.Rule.{ttPasses, ruleBy, sizeOfTree, ruleOf}
+use Rattle.go_size.specs.Root.{sizeIn}
 use Rattle.tables.specs.Each.{each, sum, tabulate}
 use Rattle.tables.specs.Memory.{Memory, memory}
 use Rattle.tables.specs.Numbers.{none, numberOf}
@@ -148,5 +150,5 @@ wanted (r ∷ rs) = r .says ∷ wanted rs
 
 -- each row is answered as the scope wants
 pub examples : answered paperRows ≡ wanted paperRows
-unfolding white space readFrom readIdentifier decimalOf digitsFrom digitOf normal go.normalBy goValue shapeOf valueBy outcomeOf Fit fitText nodesFit rangesFit spansFit trimmed each sum tabulate orphans upward onPath firstUnder spans ascending plainName
+unfolding white space readFrom readIdentifier decimalOf digitsFrom digitOf ruleOf ruleBy ttPasses sizeOfTree sizeIn moveUnder normal go.normalBy goValue shapeOf valueBy outcomeOf Fit fitText nodesFit rangesFit spansFit trimmed each sum tabulate orphans upward onPath firstUnder spans ascending plainName
 examples = refl

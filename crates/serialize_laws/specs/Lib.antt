@@ -4,3 +4,4 @@ pub mod Depth
 pub mod Examples
 pub mod Needed
 pub mod Same
+pub mod SizeExamples

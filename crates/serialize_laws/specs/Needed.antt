@@ -10,7 +10,9 @@ use Rattle.go_points.specs.Area.{areaOf, cornered, letterOf, letter}
 use Rattle.go.specs.Marks.{marksOf, marksFrom, inRect}
 use Rattle.go.specs.Normal.{normal, normalBy, pointsFrom}
 use Rattle.go_shape.specs.Shape.{shapeOf}
-use Rattle.go.specs.Value.{valueBy, goValue, pointsOf}
+use Rattle.go.specs.Value.{moveUnder, valueBy, goValue, pointsOf}
+use Rattle.fit_rule.specs.Rule.{ttPasses, ruleBy, sizeOfTree, ruleOf}
+use Rattle.go_size.specs.Root.{sizeIn}
 use Rattle.tables.specs.Each.{each, sum, tabulate}
 use Rattle.tables.specs.Numbers.{numberOf}
 use Rattle.tables.specs.Record.{Tree}
@@ -80,7 +82,7 @@ wanted (r ∷ rs) = record { first = r .first; writing = bytes (r .writing); sec
 
 -- each text is read, written and read again as its row says
 pub needed-right : right needed ≡ wanted needed
-unfolding white space readFrom readIdentifier decimalOf digitsFrom digitOf normal normalBy goValue shapeOf valueBy
+unfolding white space readFrom readIdentifier decimalOf digitsFrom digitOf ruleOf ruleBy ttPasses sizeOfTree sizeIn moveUnder normal normalBy goValue shapeOf valueBy
 needed-right = refl
 
 -- the scope's writing program; points by coordinates, not by the byte codes of their letters; one set in another order and spelling; an identifier that reads as empty
@@ -94,5 +96,5 @@ writings =
 
 -- each text is written as its row says
 pub writings-right : paper.answered writings ≡ paper.wanted writings
-unfolding white space readFrom readIdentifier normal normalBy goValue shapeOf valueBy pointsOf pointsFrom marksOf marksFrom inRect areaOf cornered letterOf letter Fit fitText nodesFit rangesFit spansFit trimmed each sum tabulate orphans upward onPath firstUnder spans ascending plainName
+unfolding white space readFrom readIdentifier ruleOf ruleBy ttPasses sizeOfTree sizeIn moveUnder normal normalBy goValue shapeOf valueBy pointsOf pointsFrom marksOf marksFrom inRect areaOf cornered letterOf letter Fit fitText nodesFit rangesFit spansFit trimmed each sum tabulate orphans upward onPath firstUnder spans ascending plainName
 writings-right = refl

@@ -1,4 +1,4 @@
--- What reading back keeps: parents, roots, game types, identifiers, Go values and other raw values.
+-- What reading back keeps: parents, roots, game types, rules, identifiers, Go values and other raw values.
 use Rattle.lists.specs.Prelude.{ℕ, _≡_, Bool, true, false, List, [], _∷_}
 use Rattle.ask.specs.Ask.{goOf}
 use Rattle.lexer.specs.Token.{Prop}
@@ -10,6 +10,7 @@ use Rattle.tables.specs.Record.{Node, Tree}
 use Rattle.tables.specs.Rows.{tables}
 use Rattle.parser.specs.Read.{accepted, readStrict}
 use Rattle.fit.specs.Record.{rawsOf}
+use Rattle.fit_rule.specs.Rule.{ruleOf}
 use Rattle.serialize.specs.Form.{writing}
 
 -- R holds of the elements of two lists one by one, and none is left over
@@ -35,16 +36,17 @@ pub record SameProp (k : ℕ) (p q : Prop) : Type 0 where
   pub value : goOf k q ≡ goOf k p
   pub raws : valid (goOf k p .value) ≡ false → rawsOf q ≡ rawsOf p
 
--- a node of a tree with game type k
+-- a node of a tree with rule k
 pub record SameNode (k : ℕ) (n m : Node) : Type 0 where
   pub parent : m .parent ≡ n .parent
   pub props : Pairs (SameProp k) (n .props) (m .props)
 
--- a tree (SCOPE 121)
+-- a tree: so that it has the rule by which it was written (SCOPE 121, 242)
 pub record SameTree (t u : Tree) : Type 0 where
   pub root : u .root ≡ t .root
   pub game : u .game ≡ t .game
-  pub nodes : Pairs (SameNode (t .game)) (t .nodes) (u .nodes)
+  pub rule : ruleOf u ≡ ruleOf t
+  pub nodes : Pairs (SameNode (ruleOf t)) (t .nodes) (u .nodes)
 
 -- a strict reading of the writing: accepted with the same trees, the same tree and node rows; and writing these gives the same bytes
 pub record ReadsBack (ts : List Tree) : Type 0 where

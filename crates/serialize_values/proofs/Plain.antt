@@ -1,12 +1,12 @@
 -- Values that are written as they are raw: one point, in two letters. Assumes nothing.
-use Rattle.lists.proofs.Prelude.{ℕ, zero, suc, _+_, _*_, _/_, _%_, _-_, _≤_, _<_, _≡_, refl, sym, ap, ap₂, _∙_, subst, Bool, true, false, _&&_, List, [], _∷_, arith, leb, length, getD, drop, set, length-set, replicate, length-replicate, leb-true, drop-cons}
+use Rattle.lists.proofs.Prelude.{ℕ, zero, suc, _+_, _*_, _/_, _%_, _-_, _≤_, _<_, _≡_, refl, sym, ap, ap₂, _∙_, subst, Bool, true, false, _&&_, List, [], _∷_, arith, eqb, leb, length, getD, drop, set, length-set, replicate, length-replicate, leb-true, drop-cons, and-false, eq-eqb, ne-eqb}
 use Rattle.lists.proofs.Pick.{pick-elim}
-use Rattle.lists.proofs.Tests.{and-both}
+use Rattle.lists.proofs.Tests.{and-both, same-or}
 use Rattle.values.specs.Read.{readValue}
 use Rattle.go_points.specs.Area.{letterOf, letter, moveOf}
 use Rattle.go_points.proofs.Letters.{move-back}
 use Rattle.go.specs.Normal.{pointText, pointsFrom, normalBy}
-use Rattle.go.specs.Value.{noMarks, unmarked, marked, pointsOf, valueBy}
+use Rattle.go.specs.Value.{moveUnder, noMarks, unmarked, marked, pointsOf, valueBy}
 use Rattle.go.specs.declared.value.GoValue.{GoValue}
 use Rattle.go.proofs.Listed.{points-back}
 use Rattle.go_shape.specs.declared.Shape.{Shape}
@@ -16,6 +16,7 @@ use Rattle.go_points.specs.declared.Value.the-variants.{Move, Points}
 use Rattle.parts.specs.Rows.{valueAt, valuesAt}
 use Rattle.serialize_values.specs.LocalsForm.{formBy}
 use Rattle.serialize_values.proofs.Boxed.{letter-low, letter-high}
+use Rattle.serialize_values.proofs.Forms.{set-form}
 
 -- the letter of a letter's coordinate
 letter-forth : (b : ℕ) → letterOf b ≤ 51 → letter (letterOf b) ≡ b
@@ -38,6 +39,14 @@ letter-forth b =
     sym (letter-high (b - 0x41 + 26) (omega arith)) ∙ z)
     (λ e h. absurd (omega arith)))
 
+-- the coordinate 19 is the letter `t`
+pub corner-byte : (b : ℕ) → letterOf b ≤ 51 → eqb (letterOf b) 19 ≡ eqb b 0x74
+unfolding letterOf letter
+corner-byte b h =
+    same-or (letterOf b) 19
+    (λ e. let f : b ≡ 0x74 = sym (letter-forth b h) ∙ ap letter e in rw (eq-eqb (letterOf b) 19 e, eq-eqb b 0x74 f))
+    (λ e. rw (ne-eqb (letterOf b) 19 e, ne-eqb b 0x74 (λ f. e (ap letterOf f))))
+
 as-letters : (v : List ℕ) → length v ≡ 2 → letterOf (getD v 0 0) ≤ 51 → letterOf (getD v 1 0) ≤ 51 → letter (letterOf (getD v 0 0)) ∷ letter (letterOf (getD v 1 0)) ∷ [] ≡ v
 as-letters [] l p q = absurd (omega arith)
 as-letters (a ∷ []) l p q = absurd (omega arith)
@@ -57,13 +66,13 @@ one-listed k zero i h = absurd (omega arith)
 one-listed k (suc n) zero h = let e : k ≡ k + 0 = omega arith in ap₂ (λ (a : ℕ) (r : List (List ℕ)). pointText a ∷ r) e (none-listed (suc k) n)
 one-listed k (suc n) (suc i) h = let e : suc k + i ≡ k + suc i = omega arith in one-listed (suc k) n i (omega arith) ∙ ap (λ (a : ℕ). pointText a ∷ []) e
 
-listed-form : (vs : List (List ℕ)) (ms : List Bool) → length ms ≡ 2704 → pointsFrom 0 ms ≡ vs → vs ≡ formBy ManyPoints vs
+listed-form : (vs : List (List ℕ)) (ms : List Bool) → length ms ≡ 2704 → pointsFrom 0 ms ≡ vs → vs ≡ formBy 0 ManyPoints vs
 unfolding formBy valueBy normalBy
 listed-form vs ms l e =
     let g : pointsOf vs ≡ marked ms = ap pointsOf (sym e) ∙ points-back ms l in
     sym e ∙ ap (λ (x : GoValue). normalBy (x .value) (x .marks) vs) (sym g)
 
-one-form : (n i : ℕ) → n ≡ 2704 → i < n → pointText i ∷ [] ≡ formBy ManyPoints (pointText i ∷ [])
+one-form : (n i : ℕ) → n ≡ 2704 → i < n → pointText i ∷ [] ≡ formBy 0 ManyPoints (pointText i ∷ [])
 one-form n i e h =
     let z : 0 + i ≡ i = omega arith in
     listed-form (pointText i ∷ []) (set (replicate n false) i true) (length-set (replicate n false) i true ∙ length-replicate n false ∙ e)
@@ -75,20 +84,32 @@ module _ (v : List ℕ) (l : length v ≡ 2) {x y : ℕ} (ex : x ≡ letterOf (g
   letters : letter x ∷ letter y ∷ [] ≡ v
   letters = ap₂ (λ (m n : ℕ). letter m ∷ letter n ∷ []) ex ey ∙ as-letters v l (subst (λ (z : ℕ). z ≤ 51) ex p) (subst (λ (z : ℕ). z ≤ 51) ey q)
 
-  pub plain-move : {s : Shape} → s ≡ OneMove → v ∷ [] ≡ formBy s (v ∷ [])
+  -- of two letters that are not `tt`
+  pub corner-none : eqb (getD v 0 0) 0x74 && eqb (getD v 1 0) 0x74 ≡ false → eqb x 19 && eqb y 19 ≡ false
+  corner-none h =
+      ap₂ (λ (m n : ℕ). eqb m 19 && eqb n 19) ex ey
+      ∙ ap₂ (λ (a b : Bool). a && b) (corner-byte (getD v 0 0) (subst (λ (z : ℕ). z ≤ 51) ex p)) (corner-byte (getD v 1 0) (subst (λ (z : ℕ). z ≤ 51) ey q))
+      ∙ h
+
+  -- a point that is not `tt` is a point under every rule
+  point-played : eqb x 19 && eqb y 19 ≡ false → (rule : ℕ) → Move x y ≡ moveUnder rule (Move x y)
+  unfolding moveUnder
+  point-played h rule = rw (h, and-false)
+
+  pub plain-move : {s : Shape} → s ≡ OneMove → eqb x 19 && eqb y 19 ≡ false → (rule : ℕ) → v ∷ [] ≡ formBy rule s (v ∷ [])
   unfolding formBy valueBy normalBy
-  plain-move e =
+  plain-move e h rule =
       let m : Move x y ≡ moveOf (readValue v) = sym (move-back x y (omega arith) (omega arith)) ∙ ap (λ (z : List ℕ). moveOf (readValue z)) letters in
       ap (λ (z : List ℕ). z ∷ []) (sym letters)
-      ∙ ap (λ (z : Value). normalBy z noMarks (v ∷ [])) m
-      ∙ ap (λ (z : Shape). formBy z (v ∷ [])) (sym e)
+      ∙ ap (λ (z : Value). normalBy z noMarks (v ∷ [])) (point-played h rule ∙ ap (moveUnder rule) m)
+      ∙ ap (λ (z : Shape). formBy rule z (v ∷ [])) (sym e)
 
-  pub plain-set : {s : Shape} → s ≡ ManyPoints → v ∷ [] ≡ formBy s (v ∷ [])
-  plain-set e =
+  pub plain-set : {s : Shape} → s ≡ ManyPoints → (rule : ℕ) → v ∷ [] ≡ formBy rule s (v ∷ [])
+  plain-set e rule =
       let a : (52 * x + y) / 52 ≡ x = omega arith in
       let b : (52 * x + y) % 52 ≡ y = omega arith in
       let t : pointText (52 * x + y) ≡ v = ap₂ (λ (m n : ℕ). letter m ∷ letter n ∷ []) a b ∙ letters in
-      subst (λ (z : List ℕ). z ∷ [] ≡ formBy ManyPoints (z ∷ [])) t (one-form 2704 (52 * x + y) refl (omega arith)) ∙ ap (λ (z : Shape). formBy z (v ∷ [])) (sym e)
+      subst (λ (z : List ℕ). z ∷ [] ≡ formBy 0 ManyPoints (z ∷ [])) t (one-form 2704 (52 * x + y) refl (omega arith)) ∙ set-form rule (v ∷ []) ∙ ap (λ (z : Shape). formBy rule z (v ∷ [])) (sym e)
 
 -- the only value of a property
 pub one-value : (text vals : List ℕ) (first count : ℕ) {v : List ℕ} → count ≡ 1 → v ≡ valueAt text vals (first + 0) → v ∷ [] ≡ valuesAt text vals first count

@@ -25,13 +25,13 @@ Single (Move x y) = (x ≤ 51) × (y ≤ 51)
 Single (Handicap n) = Unit {0}
 Single Points = ⊥
 
-moved-single : (x : Value) → Moved x → Single x
-moved-single Other m = absurd m
-moved-single Invalid m = tt
-moved-single Pass m = tt
-moved-single (Move a b) m = m
-moved-single (Handicap n) m = absurd m
-moved-single Points m = absurd m
+moved-single : (rule : ℕ) (x : Value) → Moved rule x → Single x
+moved-single rule Other m = absurd m
+moved-single rule Invalid m = tt
+moved-single rule Pass m = tt
+moved-single rule (Move a b) m = (m .0, m .1)
+moved-single rule (Handicap n) m = absurd m
+moved-single rule Points m = absurd m
 
 numbered-single : (x : Value) → Numbered x → Single x
 numbered-single Other m = absurd m
@@ -41,12 +41,12 @@ numbered-single (Move a b) m = absurd m
 numbered-single (Handicap n) m = tt
 numbered-single Points m = absurd m
 
-pub single : (s : Shape) (vs : List (List ℕ)) {x : Value} → (s ≡ ManyPoints → ⊥) → unmarked x ≡ valueBy s vs → Single x
+pub single : (rule : ℕ) (s : Shape) (vs : List (List ℕ)) {x : Value} → (s ≡ ManyPoints → ⊥) → unmarked x ≡ valueBy rule s vs → Single x
 unfolding valueBy
-single OneMove vs h e = subst Single (sym (ap (λ (g : GoValue). g .value) e)) (moved-single (moves vs) (moves-moved vs))
-single OneNumber vs h e = subst Single (sym (ap (λ (g : GoValue). g .value) e)) (numbered-single (numbers vs) (numbers-numbered vs))
-single ManyPoints vs h e = absurd (h refl)
-single Unread vs h e = subst Single (sym (ap (λ (g : GoValue). g .value) e)) tt
+single rule OneMove vs h e = subst Single (sym (ap (λ (g : GoValue). g .value) e)) (moved-single rule (moves rule vs) (moves-moved rule vs))
+single rule OneNumber vs h e = subst Single (sym (ap (λ (g : GoValue). g .value) e)) (numbered-single (numbers vs) (numbers-numbered vs))
+single rule ManyPoints vs h e = absurd (h refl)
+single rule Unread vs h e = subst Single (sym (ap (λ (g : GoValue). g .value) e)) tt
 
 between : (n : ℕ) → OneOf (0 ∷ 1 ∷ 5 ∷ []) n → 2 ≤ n → n ≤ 4 → ⊥
 between n (inl z) p q = omega arith

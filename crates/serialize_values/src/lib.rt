@@ -64,10 +64,10 @@ fn put_pair(out: &mut [u8], at: usize, value: &[u8]) -> usize
     at + 4
 }
 
-// Whether a property has one value, two letters, which as a move or a set is written as it is raw.
+// Whether a property has one value, two letters, which as a move or a set is written as it is raw under every rule.
 fn is_plain(shape: Shape, count: usize, value: &[u8]) -> bool
     ensures { λ r. ⌜ (r ≡ true → (count ≡ 1) × (length (now (value .entry)) ≡ 2)
-        × (now (value .entry) ∷ [] ≡ formBy shape (now (value .entry) ∷ []))) ⌝ }
+        × ((rule : ℕ) → now (value .entry) ∷ [] ≡ formBy rule shape (now (value .entry) ∷ []))) ⌝ }
 {
     if count != 1 {
         return false;
@@ -82,7 +82,7 @@ fn is_plain(shape: Shape, count: usize, value: &[u8]) -> bool
         return false;
     }
     match shape {
-        Shape::OneMove => true,
+        Shape::OneMove => !((value[0] == b't') & (value[1] == b't')),
         Shape::ManyPoints => true,
         _ => false,
     }
@@ -172,7 +172,7 @@ fn put_set(
     first: usize,
     count: usize,
 ) -> usize
-    ensures { λ r. ⌜ Wrote (rawsText (formBy ManyPoints (valuesAt (now (text .entry)) (now (values .entry)) first count)))
+    ensures { λ r. ⌜ Wrote (rawsText (formBy 0 ManyPoints (valuesAt (now (text .entry)) (now (values .entry)) first count)))
         (now (out .entry)) at (now (out .exit)) r ⌝ }
 {
     let set = go::set::read_points(text, values, first, count);
@@ -184,10 +184,11 @@ fn put_set(
     put_points(out, at, &marks)
 }
 
-// A move or a number of handicap stones, or the raw values of what is neither.
+// A move under a rule or a number of handicap stones, or the raw values of what is neither.
 fn put_one(
     out: &mut [u8],
     at: usize,
+    rule: u32,
     shape: Shape,
     text: &[u8],
     values: &[u32],
@@ -195,10 +196,10 @@ fn put_one(
     count: usize,
 ) -> usize
     requires { ⌜ (shape ≡ ManyPoints → ⊥) ⌝ }
-    ensures { λ r. ⌜ Wrote (rawsText (formBy shape (valuesAt (now (text .entry)) (now (values .entry)) first count)))
+    ensures { λ r. ⌜ Wrote (rawsText (formBy rule shape (valuesAt (now (text .entry)) (now (values .entry)) first count)))
         (now (out .entry)) at (now (out .exit)) r ⌝ }
 {
-    match go::value::value_by(shape, text, values, first, count) {
+    match go::value::value_by(rule, shape, text, values, first, count) {
         Value::Pass => put_box(out, at, &text[..0]),
         Value::Move(x, y) => put_point(out, at, x, y),
         Value::Handicap(n) => {
@@ -210,21 +211,21 @@ fn put_one(
     }
 }
 
-// The values of a property: its game type, its raw identifier, and the rows of its values.
+// The values of a property: the rule of its tree, its raw identifier, and the rows of its values.
 pub fn put_values(
     out: &mut [u8],
     at: usize,
-    game: u32,
+    rule: u32,
     identifier: &[u8],
     text: &[u8],
     values: &[u32],
     first: usize,
     count: usize,
 ) -> usize
-    ensures { λ r. ⌜ Wrote (rawsText (normal game (readIdentifier (now (identifier .entry))) (valuesAt (now (text .entry)) (now (values .entry)) first count)))
+    ensures { λ r. ⌜ Wrote (rawsText (normal rule (readIdentifier (now (identifier .entry))) (valuesAt (now (text .entry)) (now (values .entry)) first count)))
         (now (out .entry)) at (now (out .exit)) r ⌝ }
 {
-    if game != 0 {
+    if !((rule == 0) | (rule == 2)) {
         return put_raw(out, at, text, values, first, count);
     }
     let shape = go_shape::shape_of(identifier);
@@ -235,5 +236,5 @@ pub fn put_values(
     if let Shape::ManyPoints = shape {
         return put_set(out, at, text, values, first, count);
     }
-    put_one(out, at, shape, text, values, first, count)
+    put_one(out, at, rule, shape, text, values, first, count)
 }

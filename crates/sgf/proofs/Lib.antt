@@ -1,3 +1,4 @@
 pub mod Asking
 pub mod Reading
 pub mod Shaped
+pub mod UniqueIndex

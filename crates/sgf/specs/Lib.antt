@@ -1,3 +1,4 @@
 pub mod AskInC
 pub mod ChangeInC
+pub mod EscapeInC
 pub mod ReadInC

@@ -1,4 +1,12 @@
 // The exported library: one C function an operation. Each only calls a proved operation and shows its answer as numbers; include/sgf.h says what a caller sees.
+pub mod index; // index.rt: the property index, simple values
+pub mod escape;
+pub mod feeds; // feeds.rt: corrections over the air
+pub mod boards;
+pub mod by_blocks;
+pub mod season;
+pub mod size; // size.rt: the board size of a tree
+
 use ask::Refusal;
 use c_answers::SgfDisplay;
 use c_answers::SgfEdit;
@@ -13,7 +21,6 @@ use go_shape::Shape;
 use tables::Counts;
 use value_display::Kind;
 ghost use mathlib.Core.Path.{_≡_};
-ghost use lib.Dec.{eqb};
 ghost use Rattle.lists.specs.Pick.{pick};
 ghost use Rattle.lexer_scan.specs.Scan.{valueStepAt};
 ghost use Rattle.lexer.specs.Step.{nextAt};
@@ -25,7 +32,7 @@ ghost use Rattle.ask_value.specs.Access.{accessed};
 ghost use Rattle.parts.specs.Rows.{valuesAt};
 ghost use Rattle.go_shape.specs.Shape.{shapeOf};
 ghost use Rattle.go_shape.specs.declared.Shape.the-variants.{Unread};
-ghost use Rattle.go.specs.Value.{goValue};
+ghost use Rattle.go.specs.Value.{isGo, goValue};
 ghost use Rattle.ask.specs.Ask.{refusalNumber, goAnswer};
 ghost use Rattle.values.specs.Read.{readIdentifier};
 ghost use Rattle.c_answers.specs.Structs.{spanInC, goInC};
@@ -229,34 +236,34 @@ pub extern "C" fn sgf_go_value(
     c_answers::go_in_c(refusal_number(refusal), go)
 }
 
-// What a property takes in a tree with this game type: nothing that is read where that is not Go.
-fn shape_in(game_type: u32, identifier: &[u8]) -> Shape
-    ensures { λ r. ⌜ r ≡ pick (eqb «game_type» 0) (shapeOf (readIdentifier (now (identifier .entry)))) Unread ⌝ }
+// What a property takes in a tree with this rule: nothing that is read where that is none of Go's.
+fn shape_in(rule: u32, identifier: &[u8]) -> Shape
+    ensures { λ r. ⌜ r ≡ pick (isGo rule) (shapeOf (readIdentifier (now (identifier .entry)))) Unread ⌝ }
 {
-    if game_type != 0 {
+    if !((rule == 0) | (rule == 2)) {
         return Shape::Unread;
     }
     go_shape::shape_of(identifier)
 }
 
-// The Go value of a property by its parts, for tables that are known to fit: its tree's game type, its identifier, and the rows of its values.
+// The Go value of a property by its parts, for tables that are known to fit: the rule of its tree, its identifier, and the rows of its values.
 #[no_mangle]
-pub extern "C" fn sgf_go_property(
-    game_type: u32,
+pub extern "C" fn sgf_go_by_rule(
+    rule: u32,
     identifier: &[u8],
     text: &[u8],
     values: &[u32],
     first: usize,
     count: usize,
 ) -> SgfGoValue
-    ensures { λ r. ⌜ r ≡ goInC 0 (goValue «game_type» (readIdentifier (now (identifier .entry)))
+    ensures { λ r. ⌜ r ≡ goInC 0 (goValue rule (readIdentifier (now (identifier .entry)))
         (valuesAt (now (text .entry)) (now (values .entry)) first count)) ⌝ }
 {
-    let shape = shape_in(game_type, identifier);
+    let shape = shape_in(rule, identifier);
     if let Shape::ManyPoints = shape {
         return c_answers::go_in_c(0, go::set::read_points(text, values, first, count));
     }
-    c_answers::unmarked_in_c(go::value::value_by(shape, text, values, first, count))
+    c_answers::unmarked_in_c(go::value::value_by(rule, shape, text, values, first, count))
 }
 
 // Writes the record into the output, or changes nothing: 19, 15, 14.

@@ -1,9 +1,11 @@
-// What is in a record: reads standard input and says its counts, its trees with their greatest depths and the moves of each main line, or why it is refused and where. Strictly; by the one word --lenient as far as it can be read.
+// What is in a record: reads standard input and says its counts, its trees with their boards, their greatest depths, the moves of each main line and the sections of their properties, or why it is refused and where. Strictly; by the one word --lenient as far as it can be read.
 mod moves; // moves.rt: the moves of a tree
 mod rows; // rows.rt: cells of the tables
+mod sections; // sections.rt: properties counted by their sections
 mod words; // words.rt: refusals in words
 
 ghost use Prim.Native.Nat.{_<_};
+use go_size::RootSize;
 use tables::Counts;
 use tables::Lenient;
 use tables::Reading;
@@ -15,8 +17,25 @@ pub fn say_count(words: &[u8], n: usize) {
     io::write_all(1, tool::first(&line, k));
 }
 
+// The size of a Go tree's board; 19 by 19 where its root does not say.
+fn say_size(size: RootSize) {
+    match size {
+        RootSize::Absent => {
+            io::write_all(1, b", 19 by 19");
+        }
+        RootSize::Sized(x, y) => {
+            say_count(b", ", x);
+            say_count(b" by ", y);
+        }
+        RootSize::Wrong => {
+            io::write_all(1, b", board unclear");
+        }
+    }
+}
+
 // A Go tree: its nodes from `root` to `end`, its moves, those of its main line.
 fn say_go_tree(
+    rule: u32,
     text: &[u8],
     counts: Counts,
     nodes: &[u32],
@@ -32,15 +51,14 @@ fn say_go_tree(
     }
     say_count(
         b", moves ",
-        moves::count_moves(text, properties, values, from, to),
+        moves::count_moves(rule, text, properties, values, from, to),
     );
     io::write_all(1, b"\n");
-    moves::say_main_line(text, nodes, properties, values, root, end);
+    moves::say_main_line(rule, text, nodes, properties, values, root, end);
 }
 
-// A tree's game, its nodes from `root` to `end` and the greatest of their depths.
-fn say_nodes(game: &[u8], nodes: &[u32], root: usize, end: usize) {
-    io::write_all(1, game);
+// A tree's nodes from `root` to `end` and the greatest of their depths.
+fn say_nodes(nodes: &[u32], root: usize, end: usize) {
     if root <= end {
         say_count(b", nodes ", end - root);
     }
@@ -72,12 +90,41 @@ fn say_tree(
     let end = tree_end(counts, trees, tree);
     say_count(b"tree ", tree + 1);
     if rows::tree_cell(trees, tree, 1) == 0 {
-        say_nodes(b": Go", nodes, root, end);
-        say_go_tree(text, counts, nodes, properties, values, root, end);
+        let size = fit_rule::size_at(text, trees, nodes, properties, values, tree);
+        let rule = fit_rule::rule_at(text, trees, nodes, properties, values, tree);
+        io::write_all(1, b": Go");
+        say_size(size);
+        say_nodes(nodes, root, end);
+        say_go_tree(rule, text, counts, nodes, properties, values, root, end);
     } else {
-        say_nodes(b": another game", nodes, root, end);
+        io::write_all(1, b": another game");
+        say_nodes(nodes, root, end);
         io::write_all(1, b"\n");
     }
+}
+
+// How many properties of a tree are of each section.
+fn say_tree_sections(
+    text: &[u8],
+    counts: Counts,
+    trees: &[u32],
+    nodes: &[u32],
+    properties: &[u32],
+    tree: usize,
+)
+    requires { ⌜ tree < counts .trees ⌝ }
+{
+    let root = rows::tree_cell(trees, tree, 0);
+    let end = tree_end(counts, trees, tree);
+    sections::say_sections(
+        text,
+        nodes,
+        properties,
+        root,
+        end,
+        counts.nodes,
+        counts.properties,
+    );
 }
 
 fn say_counts(counts: Counts) {
@@ -99,6 +146,7 @@ fn say_record(
     say_counts(counts);
     for tree in 0..counts.trees {
         say_tree(text, counts, trees, nodes, properties, values, tree);
+        say_tree_sections(text, counts, trees, nodes, properties, tree);
     }
 }
 

@@ -23,8 +23,15 @@ fn colour(identifier: &[u8]) -> u8 {
     b'W'
 }
 
-fn played_by(identifier: &[u8], text: &[u8], values: &[u32], first: usize, count: usize) -> Play {
-    let value = go::value::go_value(0, identifier, text, values, first, count).value;
+fn played_by(
+    rule: u32,
+    identifier: &[u8],
+    text: &[u8],
+    values: &[u32],
+    first: usize,
+    count: usize,
+) -> Play {
+    let value = go::value::go_value(rule, identifier, text, values, first, count).value;
     match value {
         Value::Pass => Play::Pass(colour(identifier)),
         Value::Move(x, y) => Play::Point(colour(identifier), x, y),
@@ -32,7 +39,7 @@ fn played_by(identifier: &[u8], text: &[u8], values: &[u32], first: usize, count
     }
 }
 
-fn played(text: &[u8], properties: &[u32], values: &[u32], property: usize) -> Play {
+fn played(rule: u32, text: &[u8], properties: &[u32], values: &[u32], property: usize) -> Play {
     let start = property_cell(properties, property, 0);
     let end = property_cell(properties, property, 1);
     let first = property_cell(properties, property, 2);
@@ -43,14 +50,14 @@ fn played(text: &[u8], properties: &[u32], values: &[u32], property: usize) -> P
     if end < start {
         return Play::Nothing;
     }
-    played_by(&text[start..end], text, values, first, count)
+    played_by(rule, &text[start..end], text, values, first, count)
 }
 
 // 1 for a move, else 0.
-fn move_count(text: &[u8], properties: &[u32], values: &[u32], property: usize) -> usize
+fn move_count(rule: u32, text: &[u8], properties: &[u32], values: &[u32], property: usize) -> usize
     ensures { λ r. ⌜ r ≤ 1 ⌝ }
 {
-    match played(text, properties, values, property) {
+    match played(rule, text, properties, values, property) {
         Play::Nothing => 0,
         _ => 1,
     }
@@ -58,6 +65,7 @@ fn move_count(text: &[u8], properties: &[u32], values: &[u32], property: usize) 
 
 // How many properties from one to another are moves.
 pub fn count_moves(
+    rule: u32,
     text: &[u8],
     properties: &[u32],
     values: &[u32],
@@ -67,7 +75,7 @@ pub fn count_moves(
     let mut n = 0;
     let mut property = from;
     while property < to {
-        n += move_count(text, properties, values, property);
+        n += move_count(rule, text, properties, values, property);
         property += 1;
     }
     n
@@ -117,6 +125,7 @@ fn say_played(move_played: Play, column: usize) -> usize {
 }
 
 fn say_node(
+    rule: u32,
     text: &[u8],
     nodes: &[u32],
     properties: &[u32],
@@ -128,13 +137,14 @@ fn say_node(
     let first = node_cell(nodes, node, 3);
     let behind = first + node_cell(nodes, node, 4);
     for property in first..behind {
-        column = say_played(played(text, properties, values, property), column);
+        column = say_played(played(rule, text, properties, values, property), column);
     }
     column
 }
 
 // The moves along the first children, from the root on. A child's number is above its parent's.
 pub fn say_main_line(
+    rule: u32,
     text: &[u8],
     nodes: &[u32],
     properties: &[u32],
@@ -145,7 +155,7 @@ pub fn say_main_line(
     let mut column = 0;
     let mut node = root;
     while node < end {
-        column = say_node(text, nodes, properties, values, node, column);
+        column = say_node(rule, text, nodes, properties, values, node, column);
         let child = node_cell(nodes, node, 1);
         if child <= node {
             break;

@@ -22,6 +22,27 @@ pub const PROPERTY_STRIDE: usize = 4;
 
 pub const VALUE_STRIDE: usize = 2;
 
+// Columns of a row behind its first: of a tree, a node, a property, a value.
+pub const TREE_GAME: usize = 1;
+
+pub const NODE_CHILD: usize = 1;
+
+pub const NODE_SIBLING: usize = 2;
+
+pub const NODE_FIRST: usize = 3;
+
+pub const NODE_COUNT: usize = 4;
+
+pub const NODE_DEPTH: usize = 5;
+
+pub const PROPERTY_END: usize = 1;
+
+pub const PROPERTY_FIRST: usize = 2;
+
+pub const PROPERTY_COUNT: usize = 3;
+
+pub const VALUE_END: usize = 1;
+
 // Used rows of each table; also as a C caller lends them.
 #[repr(C)]
 pub struct Counts {
@@ -122,11 +143,11 @@ pub fn link_nodes(t: &mut [u32], n: usize)
         let at = k * NODE_STRIDE;
         let parent = t[at] as usize;
         if parent < n {
-            let child = parent * NODE_STRIDE + 1;
-            t[at + 2] = t[child];
+            let child = parent * NODE_STRIDE + NODE_CHILD;
+            t[at + NODE_SIBLING] = t[child];
             t[child] = k as u32;
         } else {
-            t[at + 2] = NONE;
+            t[at + NODE_SIBLING] = NONE;
         }
     }
 }
@@ -150,13 +171,13 @@ pub fn level_nodes(t: &mut [u32], n: usize)
         let parent = t[at] as usize;
         if parent + 1 == row {
             last += 1;
-            t[at + 5] = last;
+            t[at + NODE_DEPTH] = last;
         } else if parent < row {
-            last = t[parent * NODE_STRIDE + 5] + 1;
-            t[at + 5] = last;
+            last = t[parent * NODE_STRIDE + NODE_DEPTH] + 1;
+            t[at + NODE_DEPTH] = last;
         } else {
             last = 0;
-            t[at + 5] = 0;
+            t[at + NODE_DEPTH] = 0;
         }
     }
 }

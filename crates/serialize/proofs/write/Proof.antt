@@ -1,7 +1,7 @@
 -- `serialize::write` meets its contract. Assumes nothing.
 use Rattle.lists.proofs.Prelude.{arith, needs, not-true}
 use Rattle.tables.proofs.Cases.{passed, refused}
-use Rattle.serialize.proofs.Whole.{fit-used, fit-property, fit-nodes, write-unfit, write-nameless, write-short, write-done}
+use Rattle.serialize.proofs.Whole.{fit-used, fit-property, fit-nodes, fit-ends, fit-calm, write-unfit, write-nameless, write-short, write-done}
 use Rattle.serialize.proofs.write.Statement.{statement}
 use Rattle.serialize.proofs.write.Tie as tie
 use Rattle.tables.specs.Memory.{memory}
@@ -27,25 +27,32 @@ returns-2 c =
     let args = c .before .before .before .before .before .before .before .before .before .before .before .args in
     write-nameless (memory (args .text .now) (args .used) (args .counts) (args .trees .now) (args .nodes .now) (args .properties .now) (args .values .now)) (args .out .now) (passed (c .before .before .before .before .fits2 .ensures) (c .before .before .before .if1 .left)) (refused (c .before .names-good .ensures) (c .if2 .taken))
 
+any-corner-requires : tie.Need-any-corner-requires
+any-corner-requires c κs =
+    let args = c .before .before .before .before .before .before .before .before .before .before .before .args in
+    fit-ends (memory (args .text .now) (args .used) (args .counts) (args .trees .now) (args .nodes .now) (args .properties .now) (args .values .now)) (args .out .now) (passed (c .before .before .before .before .fits2 .ensures) (c .before .before .before .if1 .left))
+
 put-all-requires : tie.Need-put-all-requires
 put-all-requires c κs =
-    let args = c .before .before .before .before .before .before .before .before .before .before .before .before .args in
-    fit-nodes (memory (args .text .now) (args .used) (args .counts) (args .trees .now) (args .nodes .now) (args .properties .now) (args .values .now)) (args .out .now) (passed (c .before .before .before .before .before .fits2 .ensures) (c .before .before .before .before .if1 .left))
+    let args = c .before .before .before .before .before .before .before .before .before .before .before .before .before .args in
+    let fit = passed (c .before .before .before .before .before .before .fits2 .ensures) (c .before .before .before .before .before .if1 .left) in
+    (fit-nodes (memory (args .text .now) (args .used) (args .counts) (args .trees .now) (args .nodes .now) (args .properties .now) (args .values .now)) (args .out .now) fit, fit-calm (memory (args .text .now) (args .used) (args .counts) (args .trees .now) (args .nodes .now) (args .properties .now) (args .values .now)) (args .out .now) fit (c .before .any-corner .ensures))
 
 returns-3 : tie.Need-returns-3
 returns-3 c =
-    let args = c .before .before .before .before .before .before .before .before .before .before .before .before .before .before .before .before .args in
-    write-short (memory (args .text .now) (args .used) (args .counts) (args .trees .now) (args .nodes .now) (args .properties .now) (args .values .now)) (args .out .now) (passed (c .before .before .before .before .before .before .before .before .before .fits2 .ensures) (c .before .before .before .before .before .before .before .before .if1 .left)) (passed (c .before .before .before .before .before .before .names-good .ensures) (c .before .before .before .before .before .if2 .left)) (omega (arith, c .before .before .before .before .before .before .before .before .before .before .before .before .before .before .before .before .good)) (c .before .before .before .put-all .ensures) (c .if3 .taken)
+    let args = c .before .before .before .before .before .before .before .before .before .before .before .before .before .before .before .before .before .args in
+    write-short (memory (args .text .now) (args .used) (args .counts) (args .trees .now) (args .nodes .now) (args .properties .now) (args .values .now)) (args .out .now) (passed (c .before .before .before .before .before .before .before .before .before .before .fits2 .ensures) (c .before .before .before .before .before .before .before .before .before .if1 .left)) (passed (c .before .before .before .before .before .before .before .names-good .ensures) (c .before .before .before .before .before .before .if2 .left)) (omega (arith, c .before .before .before .before .before .before .before .before .before .before .before .before .before .before .before .before .before .good)) (c .before .before .before .put-all .ensures) (c .if3 .taken)
 
 put-all-requires-2 : tie.Need-put-all-requires-2
 put-all-requires-2 c κs =
-    let args = c .before .before .before .before .before .before .before .before .before .before .before .before .before .before .before .before .before .args in
-    fit-nodes (memory (args .text .now) (args .used) (args .counts) (args .trees .now) (args .nodes .now) (args .properties .now) (args .values .now)) (args .out .now) (passed (c .before .before .before .before .before .before .before .before .before .before .fits2 .ensures) (c .before .before .before .before .before .before .before .before .before .if1 .left))
+    let args = c .before .before .before .before .before .before .before .before .before .before .before .before .before .before .before .before .before .before .args in
+    let fit = passed (c .before .before .before .before .before .before .before .before .before .before .before .fits2 .ensures) (c .before .before .before .before .before .before .before .before .before .before .if1 .left) in
+    (fit-nodes (memory (args .text .now) (args .used) (args .counts) (args .trees .now) (args .nodes .now) (args .properties .now) (args .values .now)) (args .out .now) fit, fit-calm (memory (args .text .now) (args .used) (args .counts) (args .trees .now) (args .nodes .now) (args .properties .now) (args .values .now)) (args .out .now) fit (c .before .before .before .before .before .before .any-corner .ensures))
 
 returns-4 : tie.Need-returns-4
 returns-4 c =
-    let args = c .before .before .before .before .before .before .before .before .before .before .before .before .before .before .before .before .before .before .before .before .args in
-    write-done (memory (args .text .now) (args .used) (args .counts) (args .trees .now) (args .nodes .now) (args .properties .now) (args .values .now)) (args .out .now) (passed (c .before .before .before .before .before .before .before .before .before .before .before .before .before .fits2 .ensures) (c .before .before .before .before .before .before .before .before .before .before .before .before .if1 .left)) (passed (c .before .before .before .before .before .before .before .before .before .before .names-good .ensures) (c .before .before .before .before .before .before .before .before .before .if2 .left)) (omega (arith, c .before .before .before .before .before .before .before .before .before .before .before .before .before .before .before .before .before .before .before .before .good)) (c .before .before .before .before .before .before .before .put-all .ensures) (c .before .before .before .before .if3 .left) (c .before .before .put-all2 .ensures)
+    let args = c .before .before .before .before .before .before .before .before .before .before .before .before .before .before .before .before .before .before .before .before .before .args in
+    write-done (memory (args .text .now) (args .used) (args .counts) (args .trees .now) (args .nodes .now) (args .properties .now) (args .values .now)) (args .out .now) (passed (c .before .before .before .before .before .before .before .before .before .before .before .before .before .before .fits2 .ensures) (c .before .before .before .before .before .before .before .before .before .before .before .before .before .if1 .left)) (passed (c .before .before .before .before .before .before .before .before .before .before .before .names-good .ensures) (c .before .before .before .before .before .before .before .before .before .before .if2 .left)) (omega (arith, c .before .before .before .before .before .before .before .before .before .before .before .before .before .before .before .before .before .before .before .before .before .good)) (c .before .before .before .before .before .before .before .put-all .ensures) (c .before .before .before .before .if3 .left) (c .before .before .put-all2 .ensures)
 
 pub write-spec : {M : Type 1} → statement M
 write-spec =
@@ -56,6 +63,7 @@ write-spec =
     slice-aggregate-used-text
     names-good-requires
     returns-2
+    any-corner-requires
     (λ c. search needs)
     (λ c. search needs)
     put-all-requires

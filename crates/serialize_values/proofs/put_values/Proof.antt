@@ -1,12 +1,12 @@
 -- `serialize_values::put_values` meets its contract. Assumes nothing.
-use Rattle.lists.proofs.Prelude.{refl, sym, ap, _∙_, needs}
+use Rattle.lists.proofs.Prelude.{refl, sym, ap, _∙_, needs, not-true, not-false}
 use Rattle.store_bytes.proofs.Written.{wrote-is}
 use Rattle.values.specs.Read.{readIdentifier}
 use Rattle.go.proofs.Choosing.{not-set}
 use Rattle.go.proofs.ReadBack.{normal-unknown}
 use Rattle.parts.specs.Rows.{valuesAt}
 use Rattle.serialize_values.specs.LocalsForm.{formBy, rawsText}
-use Rattle.serialize_values.proofs.Forms.{normal-shaped}
+use Rattle.serialize_values.proofs.Forms.{normal-shaped, set-form}
 use Rattle.serialize_values.proofs.Plain.{one-value}
 use Rattle.serialize_values.proofs.put_values.Statement.{statement}
 use Rattle.serialize_values.proofs.put_values.Tie as tie
@@ -14,7 +14,7 @@ use Rattle.serialize_values.proofs.put_values.Tie as tie
 returns : tie.Need-returns
 returns c =
     let args = c .before .before .before .before .before .before .before .before .before .args in
-    wrote-is (ap rawsText (sym (normal-unknown (args .game) (readIdentifier (args .identifier .now)) (valuesAt (args .text .now) (args .values .now) (args .first) (args .count)) (c .before .before .before .before .if1 .taken)))) (c .before .before .put-raw .ensures)
+    wrote-is (ap rawsText (sym (normal-unknown (args .rule) (readIdentifier (args .identifier .now)) (valuesAt (args .text .now) (args .values .now) (args .first) (args .count)) (not-true _ (c .before .before .before .before .if1 .taken))))) (c .before .before .put-raw .ensures)
 
 put-pair-requires : tie.Need-put-pair-requires
 put-pair-requires c κs = c .before .before .is-plain .ensures (c .before .if2 .taken) .1
@@ -27,14 +27,14 @@ returns-2 c =
     let s = c .before .before .before .before .before .before .before .shape-of in
     wrote-is
     (ap rawsText
-    (p .2 ∙ ap (formBy (s .result)) v
-    ∙ normal-shaped (args .game) (readIdentifier (args .identifier .now)) (valuesAt (args .text .now) (args .values .now) (args .first) (args .count)) (c .before .before .before .before .before .before .before .before .if1 .left) (s .ensures) refl))
+    (p .2 (args .rule) ∙ ap (formBy (args .rule) (s .result)) v
+    ∙ normal-shaped (args .rule) (readIdentifier (args .identifier .now)) (valuesAt (args .text .now) (args .values .now) (args .first) (args .count)) (not-false _ (c .before .before .before .before .before .before .before .before .if1 .left)) (s .ensures) refl))
     (c .before .before .put-pair .ensures)
 
 returns-3 : tie.Need-returns-3
 returns-3 c =
     let args = c .before .before .before .before .before .before .before .before .before .before .before .before .before .before .before .args in
-    wrote-is (ap rawsText (normal-shaped (args .game) (readIdentifier (args .identifier .now)) (valuesAt (args .text .now) (args .values .now) (args .first) (args .count)) (c .before .before .before .before .before .before .before .before .before .before .if1 .left) (c .before .before .before .before .before .before .before .before .before .shape-of .ensures) (c .before .before .before .before .enum-told .given .1))) (c .before .before .put-set .ensures)
+    wrote-is (ap rawsText (set-form (args .rule) (valuesAt (args .text .now) (args .values .now) (args .first) (args .count)) ∙ normal-shaped (args .rule) (readIdentifier (args .identifier .now)) (valuesAt (args .text .now) (args .values .now) (args .first) (args .count)) (not-false _ (c .before .before .before .before .before .before .before .before .before .before .if1 .left)) (c .before .before .before .before .before .before .before .before .before .shape-of .ensures) (c .before .before .before .before .enum-told .given .1))) (c .before .before .put-set .ensures)
 
 put-one-requires : tie.Need-put-one-requires
 put-one-requires c κs = not-set (c .before .before .before .before .before .shape-of .result) (c .before .match .keys2)
@@ -42,7 +42,7 @@ put-one-requires c κs = not-set (c .before .before .before .before .before .sha
 returns-4 : tie.Need-returns-4
 returns-4 c =
     let args = c .before .before .before .before .before .before .before .before .before .before .before .before .before .before .args in
-    wrote-is (ap rawsText (normal-shaped (args .game) (readIdentifier (args .identifier .now)) (valuesAt (args .text .now) (args .values .now) (args .first) (args .count)) (c .before .before .before .before .before .before .before .before .before .if1 .left) (c .before .before .before .before .before .before .before .before .shape-of .ensures) refl)) (c .before .before .put-one .ensures)
+    wrote-is (ap rawsText (normal-shaped (args .rule) (readIdentifier (args .identifier .now)) (valuesAt (args .text .now) (args .values .now) (args .first) (args .count)) (not-false _ (c .before .before .before .before .before .before .before .before .before .if1 .left)) (c .before .before .before .before .before .before .before .before .shape-of .ensures) refl)) (c .before .before .put-one .ensures)
 
 pub put-values-spec : {M : Type 1} → statement M
 put-values-spec =

@@ -17,7 +17,7 @@ abbrev μ-loop : tie.MeasureT-loop
 loop-holds : tie.Need-loop-holds Inv-loop μ-loop
 loop-holds c =
     let args = c .before .before .before .before .before .before .before .before .before .args in
-    (omega arith, texts-none (λ j. propText (args .text .now) (args .properties .now) (args .values .now) (args .game) (c .before .before .wide .result + j)) (args .out .now) (args .at) (omega (arith, c .before .before .before .before .before .before .before .before .before .good)))
+    (omega arith, texts-none (λ j. propText (args .text .now) (args .properties .now) (args .values .now) (args .rule) (c .before .before .wide .result + j)) (args .out .now) (args .at) (omega (arith, c .before .before .before .before .before .before .before .before .before .good)))
 
 add-put-property : tie.Need-add-put-property Inv-loop μ-loop
 add-put-property c = let h = node-property (c .before .before .before .before .before .before .before .before .before .before .before .before .pre) (c .before .before .before .before .before .wide .ensures) (c .before .before .before .wide2 .ensures) (c .before .before .loop .i) (c .before .loop-test .taken) .row in search needs
@@ -29,7 +29,7 @@ loop-again : tie.Need-loop-again Inv-loop μ-loop
 loop-again c =
     let args = c .before .before .before .before .before .before .before .before .before .before .before .before .before .before .before .args in
     let loop = c .before .before .before .before .before .loop in
-    (omega (arith, c .before .before .before .before .loop-test .taken), texts-more (λ j. propText (args .text .now) (args .properties .now) (args .values .now) (args .game) (c .before .before .before .before .before .before .before .before .wide .result + j)) (loop .i) (omega (arith, c .before .before .before .before .before .before .before .before .before .before .before .before .before .before .before .good)) (loop .inv .1) (c .before .before .put-property .ensures))
+    (omega (arith, c .before .before .before .before .loop-test .taken), texts-more (λ j. propText (args .text .now) (args .properties .now) (args .values .now) (args .rule) (c .before .before .before .before .before .before .before .before .wide .result + j)) (loop .i) (omega (arith, c .before .before .before .before .before .before .before .before .before .before .before .before .before .before .before .good)) (loop .inv .1) (c .before .before .put-property .ensures))
 
 same-length : tie.Need-same-length Inv-loop μ-loop
 same-length c = wrote-length (c .before .loop .inv .1)
@@ -40,7 +40,7 @@ returns c =
     let wide = c .before .before .before .before .wide in
     let wide2 = c .before .before .wide2 in
     let loop = c .before .loop in
-    wrote-is (properties-are (args .text .now) (args .nodes .now) (args .properties .now) (args .values .now) (args .game) (args .k) (wide .ensures) (wide2 .ensures)) (texts-end (λ j. propText (args .text .now) (args .properties .now) (args .values .now) (args .game) (wide .result + j)) (loop .i) (wide2 .result) (loop .inv .0) (c .loop-test .left) (loop .inv .1))
+    wrote-is (properties-are (args .text .now) (args .nodes .now) (args .properties .now) (args .values .now) (args .rule) (args .k) (wide .ensures) (wide2 .ensures)) (texts-end (λ j. propText (args .text .now) (args .properties .now) (args .values .now) (args .rule) (wide .result + j)) (loop .i) (wide2 .result) (loop .inv .0) (c .loop-test .left) (loop .inv .1))
 
 pub put-properties-spec : {M : Type 1} → statement M
 put-properties-spec =

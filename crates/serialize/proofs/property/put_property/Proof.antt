@@ -8,7 +8,7 @@ returns : tie.Need-returns
 returns c =
     let args = c .before .before .before .before .before .before .before .before .before .before .before .before .before .before .before .before .before .before .before .before .before .args in
     let good = c .before .before .before .before .before .before .before .before .before .before .before .before .before .before .before .before .before .before .before .before .before .good in
-    property-wrote (args .text .now) (args .properties .now) (args .values .now) (args .game) (args .p) (c .before .before .before .before .before .before .before .before .before .before .before .before .before .before .before .wide .ensures) (c .before .before .before .before .before .before .before .before .before .before .before .before .before .wide2 .ensures) (c .before .before .before .before .before .before .before .before .before .before .before .wide3 .ensures) (c .before .before .before .before .before .before .before .before .before .wide4 .ensures) (omega (arith, good)) (omega (arith, good)) (c .before .before .before .before .before .before .put-letters .ensures) (c .before .before .put-values .ensures)
+    property-wrote (args .text .now) (args .properties .now) (args .values .now) (args .rule) (args .p) (c .before .before .before .before .before .before .before .before .before .before .before .before .before .before .before .wide .ensures) (c .before .before .before .before .before .before .before .before .before .before .before .before .before .wide2 .ensures) (c .before .before .before .before .before .before .before .before .before .before .before .wide3 .ensures) (c .before .before .before .before .before .before .before .before .before .wide4 .ensures) (omega (arith, good)) (omega (arith, good)) (c .before .before .before .before .before .before .put-letters .ensures) (c .before .before .put-values .ensures)
 
 pub put-property-spec : {M : Type 1} → statement M
 put-property-spec =

@@ -4,10 +4,10 @@ use Rattle.sgf_show.proofs.moves.count_moves.Statement.{statement}
 use Rattle.sgf_show.proofs.moves.count_moves.Tie as tie
 
 abbrev Inv-loop : tie.InvT-loop
-Inv-loop text properties values from to n₀ property₀ n property = n ≤ property
+Inv-loop rule text properties values from to n₀ property₀ n property = n ≤ property
 
 abbrev μ-loop : tie.MeasureT-loop
-μ-loop text properties values from to n₀ property₀ n property = to - property
+μ-loop rule text properties values from to n₀ property₀ n property = to - property
 
 pub count-moves-spec : {M : Type 1} → statement M
 count-moves-spec =

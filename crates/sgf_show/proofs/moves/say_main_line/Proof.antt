@@ -4,10 +4,10 @@ use Rattle.sgf_show.proofs.moves.say_main_line.Statement.{statement}
 use Rattle.sgf_show.proofs.moves.say_main_line.Tie as tie
 
 abbrev Inv-loop : tie.InvT-loop
-Inv-loop text nodes properties values root end column₀ node₀ t10 column node = Unit {0}
+Inv-loop rule text nodes properties values root end column₀ node₀ t10 column node = Unit {0}
 
 abbrev μ-loop : tie.MeasureT-loop
-μ-loop text nodes properties values root end column₀ node₀ t10 column node = end - node
+μ-loop rule text nodes properties values root end column₀ node₀ t10 column node = end - node
 
 pub say-main-line-spec : {M : Type 1} → statement M
 say-main-line-spec =

@@ -4,10 +4,10 @@ use Rattle.sgf_show.proofs.moves.say_node.Statement.{statement}
 use Rattle.sgf_show.proofs.moves.say_node.Tie as tie
 
 abbrev Inv-loop : tie.InvT-loop
-Inv-loop text nodes properties values node before column₀ first behind property₀ column property = Unit {0}
+Inv-loop rule text nodes properties values node before column₀ first behind property₀ column property = Unit {0}
 
 abbrev μ-loop : tie.MeasureT-loop
-μ-loop text nodes properties values node before column₀ first behind property₀ column property = behind - property
+μ-loop rule text nodes properties values node before column₀ first behind property₀ column property = behind - property
 
 pub say-node-spec : {M : Type 1} → statement M
 say-node-spec =

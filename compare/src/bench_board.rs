@@ -1,0 +1,144 @@
+//! How long a replay of 300 moves takes: by the library, and by a hand-written Rust board that looks for captures near the move.
+use crate::ffi;
+use crate::held::{self, Held};
+use crate::library::Mode;
+use crate::plain_board::Board;
+use crate::plain_go::letter;
+use crate::rng::Rng;
+use crate::whole::Whole;
+use std::hint::black_box;
+use std::time::Instant;
+
+const MOVES: usize = 300;
+const ROUNDS: usize = 400;
+
+/// A game of so many moves on empty points, none of them suicide.
+fn game() -> String {
+    let mut rng = Rng::new(1);
+    let mut board = Board::empty(19, 19);
+    let mut text = String::from("(;GM[1]FF[4]SZ[19]");
+    let mut played = 0;
+    while played < MOVES {
+        let (x, y) = (rng.below(19) as u8, rng.below(19) as u8);
+        if board.stones.contains_key(&(x, y)) {
+            continue;
+        }
+        let (name, colour) = if played % 2 == 0 { ("B", 1) } else { ("W", 2) };
+        let point = [letter(x), letter(y)];
+        let mut then = board.clone();
+        then.play(&[(name.to_string(), vec![&point[..]])]);
+        if then.stones.get(&(x, y)) != Some(&colour) {
+            continue;
+        }
+        board = then;
+        text += &format!(";{name}[{}{}]", letter(x) as char, letter(y) as char);
+        played += 1;
+    }
+    text + ")"
+}
+
+/// The hand-written board: stones with a border, a queue, and marks that need no clearing.
+struct ByHand {
+    stones: [u8; 21 * 21],
+    marks: [u32; 21 * 21],
+    mark: u32,
+    on: [u64; 3],
+    off: [u64; 3],
+}
+
+impl ByHand {
+    fn empty() -> Self {
+        let mut stones = [3; 21 * 21];
+        for at in 0..19 * 19 {
+            stones[(at / 19 + 1) * 21 + at % 19 + 1] = 0;
+        }
+        ByHand { stones, marks: [0; 21 * 21], mark: 0, on: [0; 3], off: [0; 3] }
+    }
+
+    fn take(&mut self, at: usize, queue: &mut [u16; 361]) {
+        let colour = self.stones[at];
+        self.mark += 1;
+        let (mut n, mut i) = (1, 0);
+        (queue[0], self.marks[at]) = (at as u16, self.mark);
+        while i < n {
+            let p = queue[i] as usize;
+            i += 1;
+            for q in [p - 21, p + 21, p - 1, p + 1] {
+                if self.stones[q] == 0 {
+                    return;
+                }
+                if self.stones[q] == colour && self.marks[q] != self.mark {
+                    self.marks[q] = self.mark;
+                    queue[n] = q as u16;
+                    n += 1;
+                }
+            }
+        }
+        queue[..n].iter().for_each(|p| self.stones[*p as usize] = 0);
+        self.off[usize::from(colour)] += n as u64;
+    }
+
+    fn play(&mut self, x: usize, y: usize, colour: u8, queue: &mut [u16; 361]) {
+        let at = (x + 1) * 21 + y + 1;
+        self.off[usize::from(self.stones[at])] += 1;
+        self.on[usize::from(colour)] += 1;
+        self.stones[at] = colour;
+        for q in [at - 21, at + 21, at - 1, at + 1] {
+            if self.stones[q] == 3 - colour {
+                self.take(q, queue);
+            }
+        }
+        self.take(at, queue);
+    }
+}
+
+/// Replays the rows of a record, in the order of its nodes.
+fn by_hand(h: &Held) -> ByHand {
+    let mut board = ByHand::empty();
+    let mut queue = [0; 361];
+    for row in h.tables[2].chunks_exact(4).take(h.counts.properties) {
+        let colour = match &h.text[row[0] as usize..row[1] as usize] {
+            b"B" => 1,
+            b"W" => 2,
+            _ => continue,
+        };
+        let value = &h.tables[3][2 * row[2] as usize..][..2];
+        if let [x @ b'a'..=b's', y @ b'a'..=b's'] = h.text[value[0] as usize..value[1] as usize] {
+            board.play(usize::from(x - b'a'), usize::from(y - b'a'), colour, &mut queue);
+        }
+    }
+    board
+}
+
+/// The least time of some rounds, in nanoseconds.
+fn least(mut call: impl FnMut()) -> f64 {
+    (0..ROUNDS).map(|_| { let start = Instant::now(); call(); start.elapsed().as_nanos() as f64 }).fold(f64::MAX, f64::min)
+}
+
+pub fn run() {
+    let text = game();
+    let whole = Whole::read(text.as_bytes(), Mode::Strict, 0).unwrap().unwrap();
+    let h = whole.held();
+    let last = h.counts.nodes - 1;
+    let (ours, theirs) = (ffi::board(&h, last), by_hand(&h));
+    let alike = (0..361).all(|at| ours.stones[52 * (at / 19) + at % 19] == theirs.stones[(at / 19 + 1) * 21 + at % 19 + 1]);
+    assert!(alike && (ours.black_off, ours.white_off) == (theirs.off[1], theirs.off[2]), "the boards differ");
+    let check = least(|| { black_box(held::fits(&h)); });
+    let whole_way = least(|| { black_box(ffi::board(&h, last)); });
+    let node_by_node = least(|| {
+        let mut board = ffi::board(&h, 0);
+        for node in 1..=last {
+            let row = &h.tables[1][6 * node..][..6];
+            board = ffi::board_next(board, h.text, h.tables[2], h.tables[3], row[3] as usize, row[4] as usize);
+        }
+        black_box(board);
+    });
+    let hand = least(|| { black_box(by_hand(&h)); });
+    let a_move = |total: f64| total / MOVES as f64;
+    println!("{MOVES} moves, {} and {} taken off, nanoseconds in all and a move:", ours.black_off, ours.white_off);
+    println!("  sgf_fits alone           {check:9.0}");
+    println!("  sgf_board of the last    {whole_way:9.0} {:7.0}; without the check {:7.0}", a_move(whole_way), a_move(whole_way - check));
+    println!("  sgf_board_next, each     {node_by_node:9.0} {:7.0}", a_move(node_by_node));
+    println!("  a hand-written board     {hand:9.0} {:7.0}", a_move(hand));
+    println!("  the replay beside it     {:9.2}", (whole_way - check) / hand);
+}

@@ -1,0 +1,2 @@
+pub mod AskSimple
+pub mod Locals

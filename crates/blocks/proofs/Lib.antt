@@ -1,0 +1,5 @@
+pub mod Ending
+pub mod Hushes
+pub mod Quiets
+pub mod Runs
+pub mod Taking

@@ -1,0 +1,14 @@
+pub mod Closes
+pub mod Ends
+pub mod Enough
+pub mod Follows
+pub mod Joined
+pub mod Leaves
+pub mod Leans
+pub mod Numbers
+pub mod Owed
+pub mod Stored
+pub mod Theorems
+pub mod Tracked
+pub mod Tracks
+pub mod Utf8

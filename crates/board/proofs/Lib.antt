@@ -1,0 +1,10 @@
+pub mod Answers
+pub mod Below
+pub mod Counted
+pub mod More
+pub mod Next
+pub mod Sizes
+pub mod Trees
+pub mod Unique
+pub mod Walking
+pub mod Ways

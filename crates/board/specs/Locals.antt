@@ -1,0 +1,35 @@
+-- What the steps of a board promise each other.
+use Rattle.lists.specs.Prelude.{ℕ, _/_, _<_, _≤_, true, false, _≡_, List, length}
+use Rattle.tables.specs.Numbers.{none}
+use Rattle.tables.specs.Columns.{nodeStride, parentAt}
+use Rattle.tables.specs.Each.{each}
+use Rattle.fit_nodes.specs.Locals.{Ruled}
+use Rattle.fit_nodes.specs.Nodes.{onPath, childRight, siblingRight}
+use Rattle.parts_props.specs.Props.{Property}
+use Rattle.board_acts.specs.declared.State.{State}
+use Rattle.board.specs.Answer.{wayRight, refusedBoard, PlayedBoard}
+use Rattle.board.specs.declared.SgfBoard.{SgfBoard}
+
+-- nothing put on or taken off, on a board where every stone has a liberty
+abbrev pub startState : State
+startState = record { black = record { on = 0; off = 0 }; white = record { on = 0; off = 0 }; settled = true }
+
+-- no board has more than 52 columns or rows
+pub record SidesRight (w h : ℕ) : Type 0 where
+  pub columns : w < 53
+  pub rows : h < 53
+
+-- the links of n nodes are right, and the root is on the path of k
+pub record WayWalk (nd : List ℕ) (root k n : ℕ) : Type 0 where
+  pub ruled : Ruled nd n
+  pub rows : n ≤ length nd / nodeStride
+  pub children : each n (childRight nd n) ≡ true
+  pub siblings : each n (siblingRight nd n) ≡ true
+  pub inside : k < n
+  pub on : onPath nd k root ≡ true
+  pub orphan : parentAt nd root ≡ none
+
+-- over the nodes of a way: refused, or their acts upon an empty board
+pub record WayAnswer (w h : ℕ) (ws : List (List Property)) (r : SgfBoard) : Type 0 where
+  pub off : wayRight w h ws ≡ false → r ≡ refusedBoard 23
+  pub played : wayRight w h ws ≡ true → PlayedBoard w h ws r

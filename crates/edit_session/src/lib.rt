@@ -1,0 +1,1 @@
+// Sessions of edits, undone and redone: laws, and no code.

@@ -1,0 +1,10 @@
+pub mod Answered
+pub mod Applying
+pub mod Holding
+pub mod Measuring
+pub mod Putting
+pub mod Sizes
+pub mod Sweeping
+pub mod Swept
+pub mod Unique
+pub mod Walking

@@ -1,0 +1,4 @@
+pub mod Lent
+pub mod LocalsAlong
+pub mod LocalsSizes
+pub mod LocalsText

@@ -1,0 +1,11 @@
+pub mod Applied
+pub mod AsEdits
+pub mod Choosing
+pub mod Fits
+pub mod FitsAll
+pub mod Inverse
+pub mod Judged
+pub mod Puts
+pub mod Relaid
+pub mod Swept
+pub mod Taken

@@ -1,0 +1,4 @@
+pub mod Kinds
+pub mod Listed
+pub mod Locals
+pub mod Places

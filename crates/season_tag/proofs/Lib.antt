@@ -1,0 +1,5 @@
+pub mod Digits
+pub mod Halves
+pub mod Putting
+pub mod Tags
+pub mod Unique

@@ -1,0 +1,220 @@
+// The tally of a record in memory: its trees and nodes, its moves of each colour that are points, its passes.
+use go_points::Value;
+use go_shape::Shape;
+use season_totals::Tally;
+use tables::Counts;
+ghost use mathlib.Core.Path.{_≡_};
+ghost use mathlib.Core.Bool.{true};
+ghost use Prim.Native.Nat.{_-_, _^_, _<_, _≤_};
+ghost use Rattle.tables.specs.Memory.{memory};
+ghost use Rattle.go.specs.Value.{isGo};
+ghost use Rattle.fit.specs.Fit.{Fit};
+ghost use Rattle.fit.specs.Record.{recordIn};
+ghost use Rattle.season_tally.specs.Tally.{movedBy, countsAs, tallyOf, tallyAnswer};
+ghost use Rattle.season_tally.specs.Locals.{RootsLent, playedAt, nextFirst, onePlayed, Goes, Counted, BelowAll};
+
+// What a property counts as: a move of a colour to a point, a pass of either, or nothing.
+pub enum Played {
+    Black,
+    White,
+    Passed,
+    Nothing,
+}
+
+// A tally, or that the tables don't fit the text.
+pub enum TallyAnswer {
+    Tallied(Tally),
+    NotFitting,
+}
+
+// Moves of each colour, and passes.
+pub struct Moves {
+    pub black: usize,
+    pub white: usize,
+    pub passes: usize,
+}
+
+// A value of a colour's move: to a point it is that colour's, or a pass.
+fn moved(mine: Played, value: Value) -> Played
+    ensures { λ r. ⌜ r ≡ movedBy mine value ⌝ }
+{
+    match value {
+        Value::Move(_, _) => mine,
+        Value::Pass => Played::Passed,
+        Value::Other => Played::Nothing,
+        Value::Invalid => Played::Nothing,
+        Value::Handicap(_) => Played::Nothing,
+        Value::Points => Played::Nothing,
+    }
+}
+
+// Whether a rule is one of Go's.
+fn is_go(rule: u32) -> bool
+    ensures { λ r. ⌜ r ≡ isGo rule ⌝ }
+{
+    (rule == 0) | (rule == 2)
+}
+
+// What property p counts as in a tree with this rule.
+fn played_at(rule: u32, text: &[u8], properties: &[u32], values: &[u32], p: usize) -> Played
+    ensures { λ r. ⌜ r ≡ playedAt rule (now (text .entry)) (now (properties .entry)) (now (values .entry)) p ⌝ }
+{
+    if !is_go(rule) {
+        return Played::Nothing;
+    }
+    if properties.len() / tables::PROPERTY_STRIDE <= p {
+        return Played::Nothing;
+    }
+    let identifier = parts_props::identifier_at(text, properties, p);
+    let first = lists::wide(properties[p * tables::PROPERTY_STRIDE + tables::PROPERTY_FIRST]);
+    let count = lists::wide(properties[p * tables::PROPERTY_STRIDE + tables::PROPERTY_COUNT]);
+    if parts_props::reads_as(identifier, b"B") {
+        let v = go::value::value_by(rule, Shape::OneMove, text, values, first, count);
+        return moved(Played::Black, v);
+    }
+    if parts_props::reads_as(identifier, b"W") {
+        let v = go::value::value_by(rule, Shape::OneMove, text, values, first, count);
+        return moved(Played::White, v);
+    }
+    Played::Nothing
+}
+
+// One property more.
+fn add(moves: Moves, what: Played) -> Moves
+    requires { ⌜ BelowAll moves (2 ^ 64 - 2) ⌝ }
+    ensures { λ r. ⌜ r ≡ onePlayed moves what ⌝ }
+{
+    match what {
+        Played::Black => Moves {
+            black: moves.black + 1,
+            white: moves.white,
+            passes: moves.passes,
+        },
+        Played::White => Moves {
+            black: moves.black,
+            white: moves.white + 1,
+            passes: moves.passes,
+        },
+        Played::Passed => Moves {
+            black: moves.black,
+            white: moves.white,
+            passes: moves.passes + 1,
+        },
+        Played::Nothing => moves,
+    }
+}
+
+// The properties from `from` up to `to`, of a tree with this rule.
+fn count_range(
+    rule: u32,
+    text: &[u8],
+    properties: &[u32],
+    values: &[u32],
+    from: usize,
+    to: usize,
+    moves: Moves,
+) -> Moves
+    requires { ⌜ (from ≤ to) × BelowAll moves from ⌝ }
+    ensures { λ r. ⌜ Goes (playedAt rule (now (text .entry)) (now (properties .entry)) (now (values .entry))) from moves to r ⌝ }
+{
+    let mut sum = moves;
+    let mut p = from;
+    while p < to {
+        let what = played_at(rule, text, properties, values, p);
+        sum = add(sum, what);
+        p += 1;
+    }
+    sum
+}
+
+// The first property behind tree r: that of the next root, or the count of all.
+fn next_first(trees: &[u32], m: usize, nodes: &[u32], r: usize, n: usize) -> usize
+    requires { ⌜ (r < m) × RootsLent m (now trees) (now nodes) ⌝ }
+    ensures { λ f. ⌜ f ≡ nextFirst (now (trees .entry)) (now (nodes .entry)) m r n ⌝ }
+{
+    if m <= r + 1 {
+        return n;
+    }
+    let root = lists::wide(trees[(r + 1) * tables::TREE_STRIDE]);
+    lists::wide(nodes[root * tables::NODE_STRIDE + tables::NODE_FIRST])
+}
+
+// All properties, tree by tree.
+fn count_moves(
+    text: &[u8],
+    used: usize,
+    counts: Counts,
+    trees: &[u32],
+    nodes: &[u32],
+    properties: &[u32],
+    values: &[u32],
+) -> Moves
+    requires { ⌜ Fit
+        (memory (now text) used counts (now trees) (now nodes) (now properties) (now values)) ≡ true ⌝ }
+    ensures { λ r. ⌜ Counted (countsAs (recordIn
+        (memory (now (text .entry)) used counts (now (trees .entry)) (now (nodes .entry)) (now (properties .entry)) (now (values .entry)))))
+        (counts .properties) r ⌝ }
+{
+    let t = &text[..used];
+    let m = counts.trees;
+    let n = counts.properties;
+    let mut moves = Moves {
+        black: 0,
+        white: 0,
+        passes: 0,
+    };
+    let mut from: usize = 0;
+    let mut r: usize = 0;
+    while r < m {
+        let to = next_first(trees, m, nodes, r, n);
+        let rule = fit_rule::rule_at(t, trees, nodes, properties, values, r);
+        moves = count_range(rule, t, properties, values, from, to, moves);
+        from = to;
+        r += 1;
+    }
+    moves
+}
+
+// The tally of tables that are known to fit.
+fn count(
+    text: &[u8],
+    used: usize,
+    counts: Counts,
+    trees: &[u32],
+    nodes: &[u32],
+    properties: &[u32],
+    values: &[u32],
+) -> Tally
+    requires { ⌜ Fit
+        (memory (now text) used counts (now trees) (now nodes) (now properties) (now values)) ≡ true ⌝ }
+    ensures { λ r. ⌜ r ≡ tallyOf (recordIn
+        (memory (now (text .entry)) used counts (now (trees .entry)) (now (nodes .entry)) (now (properties .entry)) (now (values .entry)))) ⌝ }
+{
+    let moves = count_moves(text, used, counts, trees, nodes, properties, values);
+    Tally {
+        trees: counts.trees,
+        nodes: counts.nodes,
+        black: moves.black,
+        white: moves.white,
+        passes: moves.passes,
+    }
+}
+
+// The tally of a record, or 19.
+pub fn tally(
+    text: &[u8],
+    used: usize,
+    counts: Counts,
+    trees: &[u32],
+    nodes: &[u32],
+    properties: &[u32],
+    values: &[u32],
+) -> TallyAnswer
+    ensures { λ r. ⌜ r ≡ tallyAnswer
+        (memory (now (text .entry)) used counts (now (trees .entry)) (now (nodes .entry)) (now (properties .entry)) (now (values .entry))) ⌝ }
+{
+    if !fit::fits(text, used, counts, trees, nodes, properties, values) {
+        return TallyAnswer::NotFitting;
+    }
+    TallyAnswer::Tallied(count(text, used, counts, trees, nodes, properties, values))
+}

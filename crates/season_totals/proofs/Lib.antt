@@ -1,0 +1,5 @@
+pub mod Chain
+pub mod Sums
+pub mod Texts
+pub mod Theorems
+pub mod Unique

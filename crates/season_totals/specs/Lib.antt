@@ -1,0 +1,4 @@
+pub mod Columns
+pub mod Locals
+pub mod Report
+pub mod Totals

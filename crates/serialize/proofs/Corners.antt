@@ -1,0 +1,150 @@
+-- Where no value ends as one that reads as `tt`, both rules of Go write the same. Assumes nothing.
+use Rattle.lists.proofs.Prelude.{ℕ, zero, suc, _+_, _-_, _/_, _≤_, _<_, Bool, true, false, _&&_, _||_, List, [], _∷_, _++_, _≡_, refl, sym, ap, ap₂, _∙_, arith, leb, eqb, length, getD, take, drop, getD-take, getD-drop, length-drop, length-take-le, lt-ltb, leb-true, eq-eqb, ne-eqb, false≢true, and-false, pick}
+use Rattle.lists.proofs.Pick.{pick-elim}
+use Rattle.lists.proofs.Tests.{and-both, same-or}
+use Rattle.values.specs.Read.{readFrom, readValue, readIdentifier}
+use Rattle.go_points.specs.Area.{letterOf, moveTo, moveOf}
+use Rattle.go_points.specs.declared.Value.{Value}
+use Rattle.go_points.specs.declared.Value.the-variants.{Invalid, Pass, Move}
+use Rattle.go_shape.specs.Shape.{shapeOf}
+use Rattle.go_shape.specs.declared.Shape.{Shape}
+use Rattle.go_shape.specs.declared.Shape.the-variants.{OneMove, OneNumber, ManyPoints, Unread}
+use Rattle.go.specs.Normal.{normalBy, normal}
+use Rattle.go.specs.Value.{moveUnder, oneBy, unmarked, valueBy, goValue}
+use Rattle.go.specs.declared.value.GoValue.{GoValue}
+use Rattle.parts.specs.Rows.{cut, valueAt, valuesAt}
+use Rattle.tables.proofs.Cases.{below-or}
+use Rattle.tables.specs.Columns.{parentAt, firstPropAt, propCountAt, firstValAt, valCountAt, valFromAt, valToAt}
+use Rattle.tables.specs.declared.Counts.{Counts}
+use Rattle.fit.proofs.Clauses.{Clauses, value-in}
+use Rattle.fit_spans.proofs.Ranges.{gapless-in}
+use Rattle.serialize_values.specs.LocalsForm.{rawsText}
+use Rattle.serialize_values.proofs.Plain.{corner-byte}
+use Rattle.serialize.specs.LocalsWalk.{texts, cornerEnd, readNameAt, valuesText, propText, propsText, startText, endsBefore, nodeBy}
+
+-- a byte that a value ends with which reads as `tt`
+abbrev cornerByte : ℕ → Bool
+cornerByte b = eqb b 0x74 || eqb b 0x5c
+
+-- of the last byte, or d where there is none: it is such a byte; it is a `t`
+abbrev endsFrom : Bool → List ℕ → Bool
+endsFrom d [] = d
+endsFrom d (b ∷ bs) = endsFrom (cornerByte b) bs
+
+abbrev lastFrom : Bool → List ℕ → Bool
+lastFrom d [] = d
+lastFrom d (b ∷ bs) = lastFrom (eqb b 0x74) bs
+
+or-first : (x y : Bool) → x || y ≡ false → x ≡ false
+or-first true y h = h
+or-first false y h = refl
+
+ends-last : (s : List ℕ) (esc d e : Bool) → (e ≡ false → d ≡ false) → endsFrom e s ≡ false → lastFrom d (readFrom esc s) ≡ false
+unfolding readFrom
+ends-last [] true d e f h = f h
+ends-last [] false d e f h = f h
+ends-last (b ∷ bs) true d e f h = ends-last bs false (eqb b 0x74) (cornerByte b) (or-first (eqb b 0x74) (eqb b 0x5c)) h
+ends-last (b ∷ bs) false d e f h =
+    pick-elim (λ (w : List ℕ). lastFrom d w ≡ false) (eqb b 0x5c)
+    (λ q. ends-last bs true d (cornerByte b) (λ z. absurd (false≢true (sym z ∙ ap (λ (y : Bool). eqb b 0x74 || y) q ∙ or-true (eqb b 0x74)))) h)
+    (λ q. ends-last bs false (eqb b 0x74) (cornerByte b) (or-first (eqb b 0x74) (eqb b 0x5c)) h)
+  where
+    or-true : (x : Bool) → x || true ≡ true
+    or-true true = refl
+    or-true false = refl
+
+ends-at : (s : List ℕ) (e : Bool) (n : ℕ) → length s ≡ suc n → endsFrom e s ≡ cornerByte (getD s n 0)
+ends-at [] e n l = absurd (omega arith)
+ends-at (b ∷ []) e zero l = refl
+ends-at (b ∷ []) e (suc n) l = absurd (omega arith)
+ends-at (b ∷ c ∷ r) e zero l = absurd (omega arith)
+ends-at (b ∷ c ∷ r) e (suc n) l = ends-at (c ∷ r) (cornerByte b) n (omega arith)
+
+-- a point under both rules of Go, where its second letter is no `t`
+point-calm : (a b : ℕ) → eqb b 0x74 ≡ false → moveUnder 0 (moveTo (letterOf a) (letterOf b)) ≡ moveUnder 2 (moveTo (letterOf a) (letterOf b))
+unfolding moveTo moveUnder
+point-calm a b h =
+    pick-elim (λ (v : Value). moveUnder 0 v ≡ moveUnder 2 v) (leb (letterOf a) 51 && leb (letterOf b) 51)
+    (λ q.
+    let e : eqb (letterOf b) 19 ≡ false = corner-byte b (leb-true (letterOf b) 51 (and-both (leb (letterOf a) 51) (leb (letterOf b) 51) q .1)) ∙ h in
+    rw (e, and-false))
+    (λ q. refl)
+
+move-calm : (w : List ℕ) → lastFrom false w ≡ false → moveUnder 0 (moveOf w) ≡ moveUnder 2 (moveOf w)
+unfolding moveOf moveUnder
+move-calm [] h = refl
+move-calm (a ∷ []) h = refl
+move-calm (a ∷ b ∷ []) h = point-calm a b h
+move-calm (a ∷ b ∷ c ∷ r) h = refl
+
+value-calm : (s : List ℕ) → endsFrom false s ≡ false → moveUnder 0 (moveOf (readValue s)) ≡ moveUnder 2 (moveOf (readValue s))
+value-calm s h = move-calm (readValue s) (ends-last s false false false (λ e. e) h)
+
+-- values whose move is the same under both rules
+abbrev Calm : List (List ℕ) → Type 0
+Calm vs = oneBy (λ v. moveUnder 0 (moveOf (readValue v))) vs ≡ oneBy (λ v. moveUnder 2 (moveOf (readValue v))) vs
+
+shape-calm : (s : Shape) (vs : List (List ℕ)) → Calm vs → valueBy 0 s vs ≡ valueBy 2 s vs
+unfolding valueBy
+shape-calm OneMove vs h = ap unmarked h
+shape-calm OneNumber vs h = refl
+shape-calm ManyPoints vs h = refl
+shape-calm Unread vs h = refl
+
+normal-calm : (w : List ℕ) (vs : List (List ℕ)) → Calm vs → normal 0 w vs ≡ normal 2 w vs
+unfolding normal goValue
+normal-calm w vs h = ap (λ (g : GoValue). normalBy (g .value) (g .marks) vs) (shape-calm (shapeOf w) vs h)
+
+texts-calm : (f g : ℕ → List ℕ) (m : ℕ) → ((i : ℕ) → i < m → f i ≡ g i) → texts f m ≡ texts g m
+unfolding texts
+texts-calm f g zero h = refl
+texts-calm f g (suc m) h = ap₂ (λ (x y : List ℕ). x ++ y) (texts-calm f g m (λ i l. h i (omega arith))) (h m (omega arith))
+
+-- ---- tables that fit
+
+module _ {t : List ℕ} {c : Counts} {tr nd pr vl : List ℕ} (f : Clauses t c tr nd pr vl) (calm : (v : ℕ) → v < c .values → cornerEnd t vl v ≡ false) where
+  row-calm : (v : ℕ) → v < c .values → endsFrom false (valueAt t vl v) ≡ false
+  unfolding valueAt
+  row-calm v h =
+      let i = value-in f v h in
+      let a : ℕ = valFromAt vl v in
+      let e : ℕ = valToAt vl v in
+      rw (lt-ltb v (length vl / 2) (omega (arith, f .held .values)))
+      (below-or a e
+      (λ l.
+      let d : length (drop a t) ≡ length t - a = length-drop a t in
+      let n : length (cut t a e) ≡ suc (e - a - 1) = length-take-le (e - a) (drop a t) (omega (arith, i)) ∙ omega arith in
+      let o : a + (e - a - 1) ≡ e - 1 = omega arith in
+      ends-at (cut t a e) false (e - a - 1) n
+      ∙ ap cornerByte (getD-take (e - a) (drop a t) (e - a - 1) 0 (omega arith) ∙ getD-drop a t (e - a - 1) 0 ∙ ap (λ (z : ℕ). getD t z 0) o)
+      ∙ calm v h)
+      (λ l. let z : e - a ≡ 0 = omega arith in rw z))
+
+  values-calm : (first count : ℕ) → first + count ≤ c .values → Calm (valuesAt t vl first count)
+  unfolding valuesAt
+  values-calm first zero h = refl
+  values-calm first (suc zero) h = value-calm (valueAt t vl first) (row-calm first (omega arith))
+  values-calm first (suc (suc n)) h = refl
+
+  prop-calm : (p : ℕ) → p < c .properties → propText t pr vl 0 p ≡ propText t pr vl 2 p
+  unfolding propText valuesText
+  prop-calm p h =
+      ap (λ (z : List (List ℕ)). readNameAt t pr p ++ rawsText z)
+      (normal-calm (readNameAt t pr p) (valuesAt t vl (firstValAt pr p) (valCountAt pr p))
+      (values-calm (firstValAt pr p) (valCountAt pr p) (gapless-in (firstValAt pr) (valCountAt pr) (c .properties) (c .values) (f .prop-ranges) p h)))
+
+  pub node-calm : (k : ℕ) → k < c .nodes → nodeBy t nd pr vl 0 k ≡ nodeBy t nd pr vl 2 k
+  unfolding nodeBy propsText
+  node-calm k h =
+      let r : firstPropAt nd k + propCountAt nd k ≤ c .properties = gapless-in (firstPropAt nd) (propCountAt nd) (c .nodes) (c .properties) (f .node-ranges) k h in
+      ap (λ (z : List ℕ). endsBefore nd k (parentAt nd k) ++ (startText nd k ++ (0x3b ∷ z)))
+      (texts-calm (λ i. propText t pr vl 0 (firstPropAt nd k + i)) (λ i. propText t pr vl 2 (firstPropAt nd k + i)) (propCountAt nd k) (λ i l. prop-calm (firstPropAt nd k + i) (omega arith)))
+
+-- ---- the search
+
+module _ (t vl : List ℕ) (v : ℕ) where
+  pub corner-seen : {e : ℕ} → e ≡ valToAt vl v → cornerByte (getD t (e - 1) 0) ≡ false → cornerEnd t vl v ≡ false
+  corner-seen q h = ap (λ (z : ℕ). cornerByte (getD t (z - 1) 0)) (sym q) ∙ h
+
+  pub corners-more : ((i : ℕ) → i < v → cornerEnd t vl i ≡ false) → cornerEnd t vl v ≡ false → (i : ℕ) → i < v + 1 → cornerEnd t vl i ≡ false
+  corners-more f h i l = same-or i v (λ e. ap (cornerEnd t vl) e ∙ h) (λ e. f i (omega arith))
