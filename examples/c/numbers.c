@@ -5,13 +5,16 @@
 #include <stdio.h>
 #include <string.h>
 
-enum { READ, FITS, VALUE, DISPLAY, GO_VALUE, WRITE, EDIT, TRIM, TOKEN, DISPLAY_VALUE, CALLS };
+enum { READ, FITS, VALUE, DISPLAY, GO_VALUE, WRITE, EDIT, CORRECT, CORRECTED, CHECK, SIZE, BOARD, TRIM, TOKEN, DISPLAY_VALUE, CALLS };
 enum { LENIENT = 1, SHORT = 4 };
 enum { FIT, DAMAGED, DEEPER }; /* the tables of a reading; with a game type that there is not; with a root of depth 1 */
 enum { ROOM = 64, ROWS = 1100, LONG = SGF_TEXT_LIMIT };
 
 /* Texts at a limit and one more: a comment of so many bytes, trees in trees, and a value. */
 static char longest[LONG + 1], too_long[LONG + 2], deepest[3 * 1024 + 1], too_deep[3 * 1025 + 1], long_value[LONG + 1];
+
+/* A feed that makes value 1 as long as a text may be. */
+static char longer_feed[LONG + 16];
 
 typedef struct {
     uint32_t number;
@@ -21,8 +24,8 @@ typedef struct {
     uint32_t how; /* of the reading: LENIENT; with SHORT a row too few is lent */
     int state;
     size_t k;
-    const char *given; /* the new value of an edit */
-    size_t room;       /* bytes lent to write to, or behind the text of an edit */
+    const char *given; /* the new value of an edit, or a feed */
+    size_t room;       /* bytes lent to write to, or behind the text of an edit or a feed */
 } Row;
 
 static const Row rows[] = {
@@ -81,6 +84,34 @@ static const Row rows[] = {
     {16, 0, EDIT, "(;GM[1])", 0, FIT, 1, "\xFF", 0},
     {19, 0, EDIT, "(;GM[1])", 0, DAMAGED, 1, "\xFF", 0},
     {19, 0, EDIT, "(;C[ab])", 0, DEEPER, 0, "abcd", 2},
+    {0, 0, CORRECT, "(;C[ab][cd])", 0, FIT, 0, "\001\001\003xyz", 1},
+    {19, 0, CORRECT, "(;C[ab][cd])", 0, DAMAGED, 0, "\001", 1},
+    {24, 0, CORRECT, "(;C[ab][cd])", 0, FIT, 0, "\001\011", 1},
+    {16, 0, CORRECT, "(;C[ab][cd])", 0, FIT, 0, "\001\011\001x", 1},
+    {17, 0, CORRECT, "(;C[ab]GM[1])", 0, FIT, 0, "\001\001\001\377", 1},
+    {2, 3, CORRECT, "(;C[ab][cd])", 0, FIT, 0, "\001\001\001\377", 1},
+    {18, 0, CORRECT, "(;C[ab][cd])", 0, FIT, 0, "\001\001\001]", 1},
+    {1, 0, CORRECT, "(;C[ab][cd])", 0, FIT, 0, longer_feed, 1},
+    {14, 0, CORRECT, "(;C[ab][cd])", 0, FIT, 0, "\001\001\003xyz", 0},
+    {0, 0, CORRECTED, "(;C[ab][cd])", 0, FIT, 1, "\001\001\001x", 0},
+    {19, 0, CORRECTED, "(;C[ab][cd])", 0, DAMAGED, 9, "\001", 0},
+    {24, 0, CORRECTED, "(;C[ab][cd])", 0, FIT, 9, "\001", 0},
+    {2, 3, CORRECTED, "(;C[ab][cd])", 0, FIT, 9, "\001\001\001\377", 0},
+    {16, 0, CORRECTED, "(;C[ab][cd])", 0, FIT, 2, "\001\001\001x", 0},
+    {0, 0, CHECK, "(;C[ab][cd])", 0, FIT, 0, "\001\001\003xyz", 0},
+    {19, 0, CHECK, "(;C[ab][cd])", 0, DAMAGED, 0, "\001", 0},
+    {24, 0, CHECK, "(;C[ab][cd])", 0, FIT, 0, "\001\001\001xx", 0},
+    {17, 0, CHECK, "(;C[ab]GM[1])", 0, FIT, 0, "\001\001\001]", 0},
+    {18, 0, CHECK, "(;C[ab][cd])", 0, FIT, 0, "\001\001\001]", 0},
+    {0, 0, SIZE, "(;SZ[9])", 0, FIT, 0, "", 0},
+    {16, 0, SIZE, "(;SZ[9])", 0, FIT, 1, "", 0},
+    {19, 0, SIZE, "(;SZ[9])", 0, DAMAGED, 1, "", 0},
+    {0, 0, BOARD, "(;SZ[9];B[aa])", 0, FIT, 1, "", 0},
+    {19, 0, BOARD, "(;SZ[9];B[aa])", 0, DAMAGED, 2, "", 0},
+    {21, 0, BOARD, "(;SZ[9];B[aa])", 0, FIT, 2, "", 0},
+    {21, 0, BOARD, "(;GM[2]SZ[x];B[aa])", 0, FIT, 1, "", 0},
+    {22, 0, BOARD, "(;SZ[9]SZ[9];B[zz])", 0, FIT, 1, "", 0},
+    {23, 0, BOARD, "(;SZ[9];B[jj])", 0, FIT, 1, "", 0},
     {0, 0, TRIM, " (;) ", 0, FIT, 0, "", 0},
     {2, 1, TRIM, "(\xC3(;)", 0, FIT, 0, "", 0},
     {0, 0, TOKEN, "(;B[aa])", 0, FIT, 2, "", 0},
@@ -160,6 +191,33 @@ static uint32_t answer(const Row *r, uint32_t how, size_t *place, bool *is_zero)
         *is_zero = a.used == 0 && none(a.counts);
         return a.number;
     }
+    case CORRECT: {
+        SgfEdit a = sgf_correct(RECORD, (const uint8_t *)r->given, strlen(r->given));
+        *place = a.place;
+        *is_zero = a.used == 0 && none(a.counts);
+        return a.number;
+    }
+    case CORRECTED: {
+        SgfPart a = sgf_corrected(RECORD, (const uint8_t *)r->given, strlen(r->given), r->k);
+        *place = a.place;
+        *is_zero = (a.source | a.from | a.to) == 0;
+        return a.number;
+    }
+    case CHECK: {
+        SgfCheck a = sgf_feed_check(RECORD, (const uint8_t *)r->given, strlen(r->given));
+        *place = a.place;
+        return a.number;
+    }
+    case SIZE: {
+        SgfSize a = sgf_size(RECORD, r->k);
+        *is_zero = (a.kind | a.columns | a.rows | a.rule) == 0;
+        return a.number;
+    }
+    case BOARD: {
+        SgfBoard a = sgf_board(RECORD, r->k);
+        *is_zero = (a.columns | a.rows | a.black_on | a.black_off | a.white_on | a.white_off) == 0 && memchr(a.stones, 1, sizeof a.stones) == NULL;
+        return a.number;
+    }
     case TRIM: {
         SgfTrim a = sgf_trim(lent.text, length);
         *place = a.place;
@@ -200,6 +258,8 @@ static void make_texts(void) {
     memcpy(longest + LONG - 2, "])", 2);
     memcpy(too_long + LONG - 1, "])", 2);
     memset(long_value, 'x', LONG);
+    memset(longer_feed, 'x', LONG + 5);
+    memcpy(longer_feed, "\001\001\200\200\100", 5);
     memset(too_deep, ')', 3 * 1025);
     memset(deepest, ')', 3 * 1024);
     for (int i = 0; i < 1025; i++) {
@@ -223,8 +283,8 @@ int main(void) {
         seen |= 1u << r->number;
     }
     for (int n = 0; n <= SGF_MALFORMED_FEED; n++) {
-        /* 13 is given no more, and 20 to 24 not by the functions called here. */
-        bool is_given = n <= SGF_NOT_FITTING && n != SGF_INVALID_FF4_PROPERTY;
+        /* 13 is given no more, and 20 not by the functions called here: by sgf_block and sgf_close, in blocks.c. */
+        bool is_given = n != SGF_INVALID_FF4_PROPERTY && n != SGF_AFTER_CLOSE;
         if ((seen >> n & 1) != is_given) {
             printf("%s row gives %d\n", is_given ? "no" : "a", n);
             failures++;
