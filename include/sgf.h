@@ -16,17 +16,17 @@
  * text + values[2 * k] up to text + values[2 * k + 1]. An identifier's span is raw too, any ASCII before the `[`: the
  * property's name is the uppercase letters of it, `WB` of `White;B`.
  *
- * Every answer but SgfValue, SgfEntry and the version has a number: SGF_ACCEPTED, or why the call is refused. A refusal leaves
+ * Every answer but SgfValue, SgfEntry, the tag and the version has a number: SGF_ACCEPTED, or why the call is refused. A refusal leaves
  * every lent byte and number as it was, and its counts, lengths and spans are 0 (SgfToken's are its token's start); so
  * is its place, but for numbers 2 to 5. After acceptance, what lies behind the counts given back stays as well,
- * except for the bytes that sgf_edit sets to 0. Fields called `reserved` are always 0.
+ * except for the bytes that sgf_edit and sgf_correct set to 0. Fields called `reserved` are always 0.
  *
  * One exception: rows lent to sgf_block and sgf_close are working room until the close. After a close that is accepted
  * the rows behind its count are 0, after one that is refused all rows; only number 20 leaves them as they were.
  *
- * Stack: sgf_board 25 KB, sgf_board_next 22 KB, sgf_go_value 11.4 KB, sgf_write 8.8 KB, sgf_go_by_rule 5.7 KB,
- * sgf_read_strict and sgf_read_lenient 5 KB, sgf_simple_value, sgf_simple_property and sgf_entry 2 KB, the others at
- * most 1 KB.
+ * Stack, in bytes, on aarch64 (x86-64 up to 3 KB more): sgf_board 25,600, sgf_board_next 22,400, sgf_go_value 11,392,
+ * sgf_write 8,832, sgf_go_by_rule 5,696, sgf_read_strict and sgf_read_lenient 5,440, sgf_simple_value,
+ * sgf_simple_property and sgf_entry 1,900 at most, the others about 1,050 at most.
  */
 #ifndef SGF_H
 #define SGF_H
@@ -67,9 +67,9 @@ enum {
     SGF_INVALID_FF4_PROPERTY = 13,                  /* retired: no longer given */
     SGF_NO_ROOM = 14,                               /* needed rows or bytes exceed those lent */
     SGF_EMPTY_IDENTIFIER = 15,                      /* writing: an identifier has no uppercase letter */
-    SGF_NO_SUCH_NUMBER = 16,                        /* value or property number not below the count */
-    SGF_GAME_TYPE_FIXED = 17,                       /* edit: the value of a GM */
-    SGF_NOT_CLOSED = 18,                            /* edit: an unescaped `]` in the new value, or a `\` left open */
+    SGF_NO_SUCH_NUMBER = 16,                        /* value, property or tree number not below the count */
+    SGF_GAME_TYPE_FIXED = 17,                       /* edit, corrections: the value of a GM */
+    SGF_NOT_CLOSED = 18,                            /* edit, corrections: an unescaped `]`, or a `\` left open */
     SGF_NOT_FITTING = 19,                           /* the tables do not fit the text */
     SGF_AFTER_CLOSE = 20,                           /* blocks: a block or a close after the close */
     SGF_NO_GO_NODE = 21,                            /* board: no such node, or not one of a Go tree */
@@ -268,6 +268,11 @@ SgfEdit sgf_edit(uint8_t *text, size_t text_len, size_t used, SgfCounts counts,
                  uint32_t *properties, size_t properties_len, uint32_t *values, size_t values_len,
                  size_t k, const uint8_t *replacement, size_t replacement_len);
 
+/* Plain text as a raw value for sgf_edit, in `out`: a `\` before each `\` and each `]`. Read back it is the text; it is
+ * closed, and UTF-8 where the text is; it has at most twice the text's bytes. The number is 0, or 14 where it exceeds
+ * out_len. */
+SgfDisplay sgf_escape(const uint8_t *text, size_t text_len, uint8_t *out, size_t out_len);
+
 /* ---- The board on screen ---------------------------------------------------------------------------------- */
 
 /* What stands at a point. */
@@ -298,10 +303,6 @@ SgfBoard sgf_board(SGF_RECORD, size_t node);
  * neither stone nor liberty. Rows that are not there are no properties. */
 SgfBoard sgf_board_next(SgfBoard board, const uint8_t *text, size_t text_len, const uint32_t *properties,
                         size_t properties_len, const uint32_t *values, size_t values_len, size_t first, size_t count);
-/* Plain text as a raw value for sgf_edit, in `out`: a `\` before each `\` and each `]`. Read back it is the text; it is
- * closed, and UTF-8 where the text is; it has at most twice the text's bytes. The number is 0, or 14 where it exceeds
- * out_len. */
-SgfDisplay sgf_escape(const uint8_t *text, size_t text_len, uint8_t *out, size_t out_len);
 
 /* ---- Board sizes ------------------------------------------------------------------------------------------- */
 
@@ -508,8 +509,9 @@ SgfEdit sgf_correct(uint8_t *text, size_t text_len, size_t used, SgfCounts count
                     const uint8_t *feed, size_t feed_len);
 
 /* Making a feed: its count, then each correction in the order of value numbers, each call behind the bytes of the one
- * before. Number 0 and how many bytes were put in front of the output; or a refusal, and nothing changes: 24 (a number
- * or a length of 2^28 or more), 14 (no room). */
+ * before. Lend 4 bytes for the count and 8 beside each value's bytes, which are raw (sgf_escape). Number 0 and how many
+ * bytes were put in front of the output; or a refusal, and nothing changes: 24 (a number or a length of 2^28 or more),
+ * 14 (no room). Order, count and bytes are not looked at here: sgf_feed_check does that. */
 SgfWriting sgf_feed_begin(size_t count, uint8_t *out, size_t out_len);
 SgfWriting sgf_feed_add(size_t value, const uint8_t *bytes, size_t bytes_len, uint8_t *out, size_t out_len);
 
@@ -558,7 +560,7 @@ SgfClose sgf_close(SgfBlocks state, uint32_t *rows, size_t rows_len);
 /* ---- A season in numbers ----------------------------------------------------------------------------------- */
 
 /* The tag of bytes: FNV-1a, 64 bits. That of a record is the tag of what sgf_write gives, so that records which are
- * written alike have one tag. It is shown as 16 hex digits, highest first (`%016llx`). */
+ * written alike have one tag. It is shown as 16 hex digits, highest first (`"%016" PRIx64` of <inttypes.h>). */
 uint64_t sgf_tag(const uint8_t *bytes, size_t bytes_len);
 
 #ifdef __cplusplus

@@ -86,6 +86,16 @@ static inline SgfEdit sgf_record_edit(SgfRecord *record, size_t k, const uint8_t
     return edit;
 }
 
+/* sgf_correct by a feed; used length and counts are the record's then, and stay where it is refused. */
+static inline SgfEdit sgf_record_correct(SgfRecord *record, const uint8_t *feed, size_t feed_len) {
+    SgfEdit edit = sgf_correct(SGF_OF(*record), feed, feed_len);
+    if (edit.number == SGF_ACCEPTED) {
+        record->used = edit.used;
+        record->counts = edit.counts;
+    }
+    return edit;
+}
+
 /* A sentence for a number given back, 0 to 24; of any other that it is none. */
 static inline const char *sgf_message(uint32_t number) {
     switch (number) {
