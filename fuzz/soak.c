@@ -41,7 +41,7 @@ enum { NUMBERS_END = 25 };
 static unsigned long operations, accepted, refusals[NUMBERS_END];
 
 /* What a fuzzer is told beside the code that was reached: which call gave which number, and sizes by their bits. */
-enum { READ, WALK, FITS, VALUE, DISPLAY, DISPLAY_VALUE, GO_VALUE, GO_BY_RULE, SIZE, ENTRY, SIMPLE_VALUE, SIMPLE_PROPERTY, WRITE, EDIT, SESSION, LOOKUP, CORRECT, CALLS };
+enum { READ, WALK, FITS, VALUE, DISPLAY, DISPLAY_VALUE, GO_VALUE, GO_BY_RULE, SIZE, ENTRY, SIMPLE_VALUE, SIMPLE_PROPERTY, WRITE, BLOCKS, EDIT, SESSION, LOOKUP, CORRECT, CALLS };
 #ifdef FUZZER
 __attribute__((section("__libfuzzer_extra_counters")))
 #endif
@@ -584,6 +584,58 @@ static void simple_property(size_t first) {
     is_simple(v);
 }
 
+/* The text in two ways of cutting it, of the same answer and rows; now and then from a state that no call gave. Rows stand
+ * before a fence. */
+static uint32_t block_rows[2][SGF_TOKEN_STRIDE * TEXT + 4];
+static SgfClose take_blocks(uint32_t *rows, size_t rows_len, SgfBlocks state, uint32_t most) {
+    size_t all = used < lent[TEXTS].length ? used : lent[TEXTS].length;
+    int empty = 0;
+    for (size_t at = 0; at < all;) {
+        size_t length = draw(most);
+        if (length == 0 && ++empty > 4) {
+            length = 1;
+        }
+        length = length < all - at ? length : all - at;
+        SgfBlock block = sgf_block(state, lent[TEXTS].at + at, length, rows, rows_len);
+        REQUIRE(block.number == 0);
+        state = block.state;
+        at += length;
+    }
+    SgfClose close = sgf_close(state, rows, rows_len);
+    REQUIRE(close.state.closed == 1 && sgf_block(close.state, lent[TEXTS].at, all, rows, rows_len).number == 20);
+    REQUIRE(sgf_close(close.state, rows, rows_len).number == 20);
+    for (size_t i = rows_len; i < rows_len + 4; i++) {
+        REQUIRE(rows[i] == 7);
+    }
+    for (size_t i = close.number == 0 ? close.tokens * SGF_TOKEN_STRIDE : 0; i < rows_len / 3 * 3; i++) {
+        REQUIRE(rows[i] == 0);
+    }
+    return close;
+}
+
+static void blocks(void) {
+    SgfBlocks state = {0};
+    size_t rows_len = draw(4) == 3 ? SGF_TOKEN_STRIDE * TEXT : draw(200);
+    if (draw(8) == 7) {
+        uint32_t numbers[12];
+        for (int i = 0; i < 12; i++) {
+            numbers[i] = i == 11 ? 0 : draw(3) == 2 ? draw(0xFFFFFFFFu) : draw(9);
+        }
+        memcpy(&state, numbers, sizeof state);
+    }
+    for (int way = 0; way < 2; way++) {
+        for (size_t i = 0; i < sizeof block_rows[0] / 4; i++) {
+            block_rows[way][i] = 7;
+        }
+    }
+    SgfClose one = take_blocks(block_rows[0], rows_len, state, 1 + draw(200));
+    SgfClose other = take_blocks(block_rows[1], rows_len, state, TEXT);
+    REQUIRE(one.number == other.number && one.place == other.place && one.tokens == other.tokens);
+    REQUIRE(memcmp(block_rows[0], block_rows[1], rows_len * 4) == 0);
+    answered(BLOCKS, one.number, MAY(1) | MAY(2) | MAY(3) | MAY(4) | MAY(5) | MAY(14), 0);
+    tell(BLOCKS, 0, one.tokens);
+}
+
 static void call(int what) {
     size_t k = draw(30) == 29 ? (size_t)-1 : draw((uint32_t)(counts.values % TEXT) + 2);
     lend(&lent[OUTS], draw(OUT), draw(4) == 3);
@@ -604,6 +656,7 @@ static void call(int what) {
     case SESSION: session(); break;
     case LOOKUP: lookup(k); break;
     case CORRECT: correct(k); break;
+    case BLOCKS: blocks(); break;
     default: edit(k); break;
     }
 }
