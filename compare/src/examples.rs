@@ -101,7 +101,7 @@ const WRITTEN: &[(&str, Result<&str, u32>)] = &[
     ("(;GM[01])", Ok("(;GM[01])")),
     ("(;B[AA])", Ok("(;B[AA])")),
     ("(;AB[Aa][aA][aa])", Ok("(;AB[aa][aA][Aa])")),
-    ("(;HA[+009]B[]Black[\\tt]KM[6.50])", Ok("(;HA[9]B[]B[tt]KM[6.50])")),
+    ("(;HA[+009]B[]Black[\\tt]KM[6.50])", Ok("(;HA[9]B[]B[]KM[6.50])")),
     ("(;\x0BB[aa]\x0BC[\x0B]\x0B[x]\x0B)", Ok("(;B[aa]C[\x0B][x])")),
 ];
 
