@@ -1,0 +1,4 @@
+pub mod MendedNodes
+pub mod MendedProps
+pub mod Order
+pub mod Theorem
