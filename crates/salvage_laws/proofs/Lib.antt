@@ -1,4 +1,5 @@
 pub mod MendedNodes
 pub mod MendedProps
 pub mod Order
+pub mod StrictLenient
 pub mod Theorem
