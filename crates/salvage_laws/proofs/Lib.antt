@@ -1,5 +1,6 @@
 pub mod MendedNodes
 pub mod MendedProps
 pub mod Order
+pub mod Own
 pub mod StrictLenient
 pub mod Theorem

@@ -44,7 +44,7 @@ like-split : (ts : List Tok) (x : Splitting) → Wrong (split false x ts) ⊎ (s
 like-split [] x = inr refl
 like-split (t ∷ ts) x =
     elim (like-splits x t) [
-      inl w ↦ inl (wrong-stays (splits false x t) ts w)
+      | inl w ↦ inl (wrong-stays (splits false x t) ts w)
       | inr e ↦ elim (like-split ts (splits false x t)) [ inl w ↦ inl w | inr q ↦ inr (ap (λ (z : Splitting). split true z ts) e ∙ q) ]
     ]
 
@@ -67,7 +67,7 @@ wrong-sliced (wrong r) ss w h = no-slices r ss h
 like-slices : (ts : List Tok) (ss : List (List Tok)) → splitByGametree false ts ≡ slices ss → splitByGametree true ts ≡ slices ss
 like-slices ts ss h =
     elim (like-split ts (splitting 0 0 [] [])) [
-      inl w ↦ wrong-sliced (split false (splitting 0 0 [] []) ts) ss w h
+      | inl w ↦ wrong-sliced (split false (splitting 0 0 [] []) ts) ss w h
       | inr e ↦ ap (sliced true) e ∙ like-sliced (split false (splitting 0 0 [] []) ts) ss h
     ]
 
@@ -114,7 +114,7 @@ module _ (base : ℕ) where
   like-walked [] w = inr refl
   like-walked (t ∷ ts) w =
       elim (like-walks w t) [
-        inl s ↦ inl (stop-stays (walks false base w t) ts s)
+        | inl s ↦ inl (stop-stays (walks false base w t) ts s)
         | inr e ↦ elim (like-walked ts (walks false base w t)) [ inl s ↦ inl s | inr q ↦ inr (ap (λ (z : Walk). walked true base z ts) e ∙ q) ]
       ]
 
@@ -141,7 +141,7 @@ module _ (base : ℕ) (us : List Tree) (n : ℕ) (vs : List Tree) where
   like-game (is k) s h =
       let W : Walk = walked false base (walk none [] false []) s in
       elim (like-walked base s (walk none [] false [])) [
-        inl z ↦ stopped-tree k (walked false base (walk none [] false []) s) z h
+        | inl z ↦ stopped-tree k (walked false base (walk none [] false []) s) z h
         | inr e ↦ ap (λ (w : Walk). treeOfWalk true base k w us) e ∙ like-tree k (walked false base (walk none [] false []) s) h
       ]
 

@@ -21,11 +21,11 @@ use Rattle.tables.specs.Record.{Node, Tree, allNodes, allProps}
 use Rattle.tables.specs.declared.Reason.{Reason}
 use Rattle.tables.specs.declared.Reason.the-variants.{TooDeep}
 
-named-nodes : (ns : List Node) → All Named (allProps ns) → All (OfNode Named) ns
+pub named-nodes : (ns : List Node) → All Named (allProps ns) → All (OfNode Named) ns
 named-nodes [] h = tt
 named-nodes (n ∷ ns) h = (all-left Named (n .props) (allProps ns) h, named-nodes ns (all-right Named (n .props) (allProps ns) h))
 
-named-trees : (ts : List Tree) → All (OfNode Named) (allNodes ts) → All (OfTree Named) ts
+pub named-trees : (ts : List Tree) → All (OfNode Named) (allNodes ts) → All (OfTree Named) ts
 named-trees [] h = tt
 named-trees (t ∷ ts) h = (all-left (OfNode Named) (t .nodes) (allNodes ts) h, named-trees ts (all-right (OfNode Named) (t .nodes) (allNodes ts) h))
 
