@@ -2,5 +2,4 @@ pub mod MendedNodes
 pub mod MendedProps
 pub mod Order
 pub mod Own
-pub mod StrictLenient
 pub mod Theorem

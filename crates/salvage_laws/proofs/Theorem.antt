@@ -31,14 +31,8 @@ use Rattle.salvage_mend.specs.Mend.{mendTree, mended}
 use Rattle.salvage_laws.proofs.MendedNodes.{Roots, InOrder, pre-trees, plain-trees, valid-trees}
 use Rattle.salvage_laws.proofs.Order.{Ordered, slice-ordered}
 use Rattle.salvage_laws.proofs.Own.{OwnTree, own-mended, sound-own, own-aside}
-use Rattle.salvage_laws.proofs.StrictLenient.{strict-lenient}
-
--- a text whose lenient reading has nothing to mend and which is its own writing
-pub record Again (w : List ℕ) : Type 0 where
-  pub trees : List Tree
-  pub reads : readLenient w ≡ accepted trees
-  pub stays : mended trees ≡ trees
-  pub bytes : writing trees ≡ w
+use Rattle.parser.proofs.More.{lenient-accepts-more}
+use Rattle.salvage_laws.specs.Again.{Again}
 
 -- ---- what a reading has
 
@@ -102,7 +96,7 @@ module _ (t : List ℕ) (ts : List Tree) (h : readLenient t ≡ accepted ts) (s 
     mended-twice =
         record {
           trees = back .again;
-          reads = strict-lenient (back .again) (writing (mended ts)) (back .accepts);
+          reads = lenient-accepts-more (writing (mended ts)) (back .again) (back .accepts);
           stays = own-mended (back .again) own;
           bytes = written-alike (back .again) (map formTree (mended ts)) (back .alike) ∙ written-twice (mended ts);
         }
@@ -112,4 +106,4 @@ module _ (t : List ℕ) (ts : List Tree) (h : readStrict t ≡ accepted ts) (b :
   pub mended-own : (readLenient t ≡ accepted ts) × (mended ts ≡ ts)
   mended-own =
       let f : Form ts = writable t ts h b (named-trees ts (named-nodes (allNodes ts) nm)) in
-      (strict-lenient ts t h, own-mended ts (sound-own 0 ts (f .sound) (f .plain)))
+      (lenient-accepts-more t ts h, own-mended ts (sound-own 0 ts (f .sound) (f .plain)))
