@@ -11,7 +11,8 @@ use Rattle.serialize_laws.proofs.Nested.{OnN, leftN, pathR, GoodR}
 use Rattle.serialize_laws.proofs.Sounded.{PreNodes, PreTrees, pre-nodes}
 use Rattle.serialize_laws.proofs.Written.{PlainNode, PlainTree}
 use Rattle.salvage_mend.specs.Mend.{rootGame, keptGame, gmsBad, mendNode, mendNodes, mendTree}
-use Rattle.salvage_laws.proofs.MendedProps.{plain-props, valid-props, game-kept}
+use Rattle.salvage_mend.proofs.Games.{game-kept}
+use Rattle.salvage_laws.proofs.MendedProps.{plain-props, valid-props}
 
 -- ---- order goes by parents alone
 

@@ -17,14 +17,14 @@ use Rattle.parser.specs.Read.{Answer, refused, accepted, readLenient}
 use Rattle.serialize.specs.Form.{writing}
 use Rattle.salvage_mend.specs.Mend.{mended}
 
--- a text and its salvage
+-- a text and its salvage (SCOPE 284)
 pub record Salvaged : Type 0 where
   pub text : String
   pub result : String
 
 -- a row of the table
-abbrev row : String → String → Salvaged
-row t w = record { text = t; result = w }
+abbrev damaged : String → String → Salvaged
+damaged t w = record { text = t; result = w }
 
 -- the writing of the mended record of a lenient reading
 abbrev pub salvageOf : Answer → List ℕ
@@ -34,34 +34,34 @@ salvageOf (accepted ts) = writing (mended ts)
 -- the game type of the kept GM; GM spelled otherwise; two GMs, and one that is no number, removed; GM below the root kept; cut, tail and empty roots
 abbrev pub salvaged : List Salvaged
 salvaged =
-    row "(;GaM[2]B[aa])" "(;GM[2]B[aa])"
-    ∷ row ";;GM[2](;)" "(;;GM[2];)"
-    ∷ row "(A[]GM[2])" "(;)"
-    ∷ row "(;GM[1]GaM[2])" "(;)"
-    ∷ row "(;GaM[x])" "(;)"
-    ∷ row "(;GM[\\1])" "(;GM[\\1])"
-    ∷ row "(;;GM[x])" "(;;GM[x])"
-    ∷ row "(;" "(;)"
-    ∷ row "(;[x]b[aa](;A[y" "(;;)"
-    ∷ row "(;);)" "(;)"
-    ∷ row "(;(;)A[x];)" "(;;)"
-    ∷ row "(;Bl[a]" "(;B[a])"
-    ∷ row ";" "(;)"
-    ∷ row "x" "(;)"
-    ∷ row "" "(;)"
+    damaged "(;GaM[2]B[aa])" "(;GM[2]B[aa])"
+    ∷ damaged ";;GM[2](;)" "(;;GM[2];)"
+    ∷ damaged "(A[]GM[2])" "(;)"
+    ∷ damaged "(;GM[1]GaM[2])" "(;)"
+    ∷ damaged "(;GaM[x])" "(;)"
+    ∷ damaged "(;GM[\\1])" "(;GM[\\1])"
+    ∷ damaged "(;;GM[x])" "(;;GM[x])"
+    ∷ damaged "(;" "(;)"
+    ∷ damaged "(;[x]b[aa](;A[y" "(;;)"
+    ∷ damaged "(;);)" "(;)"
+    ∷ damaged "(;(;)A[x];)" "(;;)"
+    ∷ damaged "(;Bl[a]" "(;B[a])"
+    ∷ damaged ";" "(;)"
+    ∷ damaged "x" "(;)"
+    ∷ damaged "" "(;)"
     ∷ []
 
 -- what salvage gives, row by row
-abbrev given : List Salvaged → List (List ℕ)
-given [] = []
-given (r ∷ rs) = salvageOf (readLenient (bytes (r .text))) ∷ given rs
+abbrev salvagedTexts : List Salvaged → List (List ℕ)
+salvagedTexts [] = []
+salvagedTexts (r ∷ rs) = salvageOf (readLenient (bytes (r .text))) ∷ salvagedTexts rs
 
 -- what is wanted
-abbrev wanted : List Salvaged → List (List ℕ)
-wanted [] = []
-wanted (r ∷ rs) = bytes (r .result) ∷ wanted rs
+abbrev salvagedResults : List Salvaged → List (List ℕ)
+salvagedResults [] = []
+salvagedResults (r ∷ rs) = bytes (r .result) ∷ salvagedResults rs
 
 -- each text is salvaged as its row says
-pub salvaged-right : given salvaged ≡ wanted salvaged
+pub salvaged-right : salvagedTexts salvaged ≡ salvagedResults salvaged
 unfolding white space readFrom readIdentifier decimalOf digitsFrom digitOf ruleOf ruleBy ttPasses sizeOfTree sizeIn moveUnder normal normalBy goValue shapeOf valueBy pointsOf pointsFrom marksOf marksFrom inRect areaOf cornered letterOf letter moveOf
 salvaged-right = refl

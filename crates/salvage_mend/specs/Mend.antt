@@ -20,21 +20,21 @@ abbrev pub rootGame : List Node → Game
 rootGame [] = is 0
 rootGame (n ∷ ns) = gameProps (gmsAmong (n .props))
 
--- the game type of the mended tree: that of the GM it keeps; Go without one
+-- the game type of the mended tree: that of the GM it keeps; Go without one (SCOPE 281)
 abbrev pub keptGame : Game → ℕ
 keptGame (is k) = k
 keptGame (noGame r) = 0
 
--- the root's GMs give no game type, and are removed
+-- the root's GMs give no game type, and are removed (SCOPE 280)
 abbrev pub gmsBad : Game → Bool
 gmsBad (is k) = false
 gmsBad (noGame r) = true
 
--- the property stays: its identifier does not read as empty, and it is no GM that is removed
+-- the property stays: its identifier does not read as empty, and it is no GM that is removed (SCOPE 280)
 abbrev pub propStays : (bad : Bool) → Prop → Bool
 propStays bad p = not (leb (length (readIdentifier (p .name))) 0) && not (bad && readsGM p)
 
--- under its read identifier
+-- under its read identifier (SCOPE 280)
 abbrev pub respelled : Prop → Prop
 respelled p = record { from = p .from; to = p .to; name = readIdentifier (p .name); vals = p .vals }
 
@@ -56,6 +56,6 @@ mendNodes bad (n ∷ ns) = mendNode bad n ∷ map (mendNode false) ns
 abbrev pub mendTree : Tree → Tree
 mendTree t = let g = rootGame (t .nodes) in record { root = t .root; game = keptGame g; nodes = mendNodes (gmsBad g) (t .nodes) }
 
--- the mended record
+-- the mended record (SCOPE 282)
 abbrev pub mended : List Tree → List Tree
 mended ts = map mendTree ts
