@@ -26,7 +26,7 @@ lex-spaced : (t : List ℕ) (k : Ink) → Spaced false (tokenize k t .toks)
 lex-spaced t blank = tt
 lex-spaced t (inked f l) = tokens-spaced f l (drop f (take l t))
 
-grew-some : (len : Bool) (base k : ℕ) (us : List Tok) (ts : List Tree) → Grew len base k us ts → 0 < length (firstSlices k us) → 0 < length ts
+pub grew-some : (len : Bool) (base k : ℕ) (us : List Tok) (ts : List Tree) → Grew len base k us ts → 0 < length (firstSlices k us) → 0 < length ts
 unfolding firstSlices
 grew-some len base zero us [] g l = absurd (omega arith)
 grew-some len base (suc k) us [] g l = absurd g

@@ -40,8 +40,11 @@ counts base n =
       without = omega arith;
     }
 
+pub walk-few : (len : Bool) (base : ℕ) (s : List Tok) → length (walkOf len base s) ≤ length s
+walk-few len base s = keep-walk (counts base (length s)) len none [] false [] s (omega arith)
+
 pub few-nodes : (len : Bool) (base : ℕ) (s : List Tok) → length (inOrder (walkOf len base s)) ≤ suc (length s)
-few-nodes len base s = go (walkOf len base s) (keep-walk (counts base (length s)) len none [] false [] s (omega arith))
+few-nodes len base s = go (walkOf len base s) (walk-few len base s)
   where
     go : (ns : List Node) → length ns ≤ length s → length (inOrder ns) ≤ suc (length s)
     go [] h = omega arith

@@ -52,7 +52,7 @@ on-less k e [] d o = absurd o
 on-less k e (x ∷ xs) d (inl q) = omega (arith, d .0)
 on-less k e (x ∷ xs) d (inr o) = let h = on-less x e xs (d .1) (o .1) in omega (arith, d .0)
 
-on-left : (k e c : ℕ) (P : List ℕ) → DescP k P → OnN e P → OnN c P → e ≤ c → OnN e (leftN c P)
+pub on-left : (k e c : ℕ) (P : List ℕ) → DescP k P → OnN e P → OnN c P → e ≤ c → OnN e (leftN c P)
 on-left k e c [] d oe oc l = absurd oe
 on-left k e c (x ∷ xs) d oe (inl q) l = rw (eq-eqb x c q) oe
 on-left k e c (x ∷ xs) d (inl p) (inr oc) l = absurd (let h = on-less x c xs (d .1) (oc .1) in omega arith)

@@ -53,10 +53,9 @@ root-last n [] ds = refl
 root-last n (m ∷ ns) ds = root-last m ns (n ∷ ds)
 
 -- the nodes in order, from the nodes last first
-pre-nodes : (base k : ℕ) (xs : List Node) (qs : List Prop) → GoodR base (reverseAux xs []) → base + length xs ≤ none → rootProps (reverseAux xs []) ≡ qs
-    → gameProps (propsNamed GM qs) ≡ is k → PreNodes base k xs
-pre-nodes base k [] qs h l r e = h
-pre-nodes base k (x ∷ xs) qs h l r e =
+pub pre-nodes : (base k : ℕ) (x : Node) (xs : List Node) → GoodR base (reverseAux (x ∷ xs) []) → base + length (x ∷ xs) ≤ none
+    → gameProps (propsNamed GM (x .props)) ≡ is k → PreNodes base k (x ∷ xs)
+pre-nodes base k x xs h l e =
     let ps : List ℕ = none ∷ parents xs in
     let z = no-none base xs x [] h (omega arith, tt) (omega arith) in
     let one : base + suc zero ≡ suc base = omega arith in (
@@ -66,9 +65,14 @@ pre-nodes base k (x ∷ xs) qs h l r e =
         good = subst (λ (j : ℕ). Good ps j (opening ps base none ∷ []) xs) one
             (good-nodes base ps (opening ps base none ∷ []) xs x [] h (ap (λ (j : ℕ). j ∷ []) (omega arith)));
         few = omega arith;
-        game-is = ap (λ (q : List Prop). gameProps (propsNamed GM q)) (sym (root-last x xs []) ∙ r) ∙ e;
+        game-is = e;
       },
     )
+
+pre-root : (base k : ℕ) (xs : List Node) (qs : List Prop) → GoodR base (reverseAux xs []) → base + length xs ≤ none → rootProps (reverseAux xs []) ≡ qs
+    → gameProps (propsNamed GM qs) ≡ is k → PreNodes base k xs
+pre-root base k [] qs h l r e = h
+pre-root base k (x ∷ xs) qs h l r e = pre-nodes base k x xs h l (ap (λ (q : List Prop). gameProps (propsNamed GM q)) (sym (root-last x xs []) ∙ r) ∙ e)
 
 -- ---- a slice, and all slices
 
@@ -104,7 +108,7 @@ module _ (base o : ℕ) (ts : List Tok) (us : List Tree) (n : ℕ) (vs : List Tr
         vs-is = sym e2;
         n-is = omega (arith, e1, lr);
         root-is = refl;
-        pre = pre-nodes base k (reverse (d ∷ ds)) (props (drop 2 s)) (subst (GoodR base) b g) (omega (arith, lr)) (ap rootProps (sym b) ∙ r) e;
+        pre = pre-root base k (reverse (d ∷ ds)) (props (drop 2 s)) (subst (GoodR base) b g) (omega (arith, lr)) (ap rootProps (sym b) ∙ r) e;
         small = omega (arith, lr);
       }
 

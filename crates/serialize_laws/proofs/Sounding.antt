@@ -25,7 +25,7 @@ use Rattle.serialize_laws.specs.Back.{Named, BeginsAll, Each, toksOf}
 use Rattle.serialize_laws.proofs.Sounded.{PreNodes, PreTrees, back-again, all-trees}
 use Rattle.parser.proofs.Answers.{not-both}
 
-abbrev Some : Slices → Type 0
+abbrev pub Some : Slices → Type 0
 Some (no n) = Unit {0}
 Some (slices ss) = 0 < length ss
 
@@ -33,15 +33,18 @@ some-deep : (b : Bool) (ss : List (List Tok)) → 0 < length ss → Some (pick b
 some-deep true ss h = tt
 some-deep false ss h = h
 
-some-filled : (m : ℕ) (ss : List (List Tok)) → Some (filled false m ss)
-some-filled m [] = tt
-some-filled m (s ∷ ss) = some-deep (ltb depthLimit m) (reverse (s ∷ ss)) (omega (arith, length-reverse (s ∷ ss)))
+some-filled : (len : Bool) (m : ℕ) (ss : List (List Tok)) → Some (filled len m ss)
+some-filled true m [] = omega arith
+some-filled false m [] = tt
+some-filled len m (s ∷ ss) = some-deep (ltb depthLimit m) (reverse (s ∷ ss)) (omega (arith, length-reverse (s ∷ ss)))
 
-some-sliced : (x : Splitting) → Some (sliced false x)
-some-sliced (splitting zero m cur ss) = some-filled m ss
-some-sliced (splitting (suc d) m cur ss) = tt
-some-sliced (over m ss) = some-filled m ss
-some-sliced (wrong n) = tt
+-- splitting that is not refused gives a slice
+pub some-sliced : (len : Bool) (x : Splitting) → Some (sliced len x)
+some-sliced len (splitting zero m cur ss) = some-filled len m ss
+some-sliced true (splitting (suc d) m cur ss) = some-deep (ltb depthLimit m) (reverse (reverse cur ∷ ss)) (omega (arith, length-reverse (reverse cur ∷ ss)))
+some-sliced false (splitting (suc d) m cur ss) = tt
+some-sliced len (over m ss) = some-filled len m ss
+some-sliced len (wrong n) = tt
 
 pre-answer : (ss : List (List Tok)) (r : Trees) (ts : List Tree) → parseGametrees false (treesSoFar 0 []) ss ≡ r → answer r ≡ accepted ts
     → All Leads ss → All SliceOk ss → total ss ≤ none → PreTrees 0 ts × (length ts ≡ length ss)
@@ -91,7 +94,7 @@ sound-nodes r k [] p h = p
 sound-nodes r k (n ∷ ns) p h =
     (p .0, record { plain = (h .0, h .1); single = p .1 .single; good = p .1 .good; few = p .1 .few; game-is = p .1 .game-is })
 
-sound-trees : (base : ℕ) (ts : List Tree) → PreTrees base ts → All PlainTree ts → SoundTrees base ts
+pub sound-trees : (base : ℕ) (ts : List Tree) → PreTrees base ts → All PlainTree ts → SoundTrees base ts
 sound-trees base [] p h = tt
 sound-trees base (t ∷ ts) p h = (p .0, sound-nodes base (t .game) (t .nodes) (p .1) (h .0), sound-trees (base + length (t .nodes)) ts (p .2) (h .1))
 
@@ -99,7 +102,7 @@ few-nodes : (r k : ℕ) (ns : List Node) → PreNodes r k ns → r + length ns �
 few-nodes r k [] p = absurd p
 few-nodes r k (n ∷ ns) p = omega (arith, p .1 .few)
 
-few-trees : (base : ℕ) (ts : List Tree) → PreTrees base ts → Few ts
+pub few-trees : (base : ℕ) (ts : List Tree) → PreTrees base ts → Few ts
 few-trees base [] p = tt
 few-trees base (t ∷ ts) p = (omega (arith, p .0, few-nodes base (t .game) (t .nodes) (p .1)), few-trees (base + length (t .nodes)) ts (p .2))
 
@@ -130,7 +133,7 @@ writable t ts h b nm = go (accepted-is t ts h)
         let wi : Within none (sliced false (split false (splitting 0 0 [] []) xs)) =
         within-up (length xs) none (sliced false (split false (splitting 0 0 [] []) xs))
         (omega (arith, long, few-tokens (A .f0) (A .l) bs, length-drop (A .f0) (take (A .l) t), length-take (A .l) t)) (few-slices xs) in
-        let pr = pre-planted (sliced false (split false (splitting 0 0 [] []) xs)) ts (A .trees) bg (ok-tokens xs) wi (some-sliced (split false (splitting 0 0 [] []) xs)) in
+        let pr = pre-planted (sliced false (split false (splitting 0 0 [] []) xs)) ts (A .trees) bg (ok-tokens xs) wi (some-sliced false (split false (splitting 0 0 [] []) xs)) in
         let hp : All (OfTree HasProper) ts =
         subst (OfAnswer HasProper) (A .trees) (of-tokens HasProper false xs (proper-tokens t (inked (A .f0) (A .l)) (A .valid) (A .f0) (A .l))) in
         let pl = plain-trees ts hp nm in

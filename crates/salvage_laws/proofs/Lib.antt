@@ -1,0 +1,5 @@
+pub mod MendedNodes
+pub mod MendedProps
+pub mod Order
+pub mod Own
+pub mod Theorem

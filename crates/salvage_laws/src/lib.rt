@@ -1,0 +1,1 @@
+// What holds of the mended record of a lenient reading (proofs/). No code.
