@@ -1,1 +1,2 @@
 pub mod Games
+pub mod Told
