@@ -493,6 +493,7 @@ declare! {
 
 unsafe extern "C" {
     fn sgf_entry(identifier: *const u8, identifier_len: usize) -> Entry;
+    fn sgf_is_named(identifier: *const u8, identifier_len: usize, name: *const u8, name_len: usize) -> u32;
     fn sgf_simple_property(
         rule: u32,
         identifier: *const u8,
@@ -504,6 +505,11 @@ unsafe extern "C" {
         first: usize,
         count: usize,
     ) -> Simple;
+}
+
+/// 1 where a raw identifier reads as a name, else 0.
+pub fn is_named(identifier: &[u8], name: &[u8]) -> u32 {
+    unsafe { sgf_is_named(identifier.as_ptr(), identifier.len(), name.as_ptr(), name.len()) }
 }
 
 pub fn entry(identifier: &[u8]) -> Entry {

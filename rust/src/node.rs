@@ -176,7 +176,7 @@ impl<'r> Node<'r> {
 
     /// Its first property with this identifier.
     pub fn get_property(self, identifier: &str) -> Option<Property<'r>> {
-        self.properties().find(|property| property.identifier() == identifier)
+        self.properties().find(|property| property.is_named(identifier))
     }
 
     /// Its first valid move of a Go game, and whose it is.
