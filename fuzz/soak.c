@@ -110,8 +110,8 @@ static bool answered(int call, uint32_t number, uint32_t may_give, unsigned may_
 /* Words of a text; the first are those of a text that is accepted. */
 static const char *const words[] = {
     ";", "B[aa]", "W[]", "AB[aa:cc][dd]", "HA[2]", "C[x\\]y]", "(;W[bb])", " ", "\n", "\v", "a[b]", "TB[ZZ][aA]", ";C[\xE3\x80\x80]",
-    "N[a\\\r\nb]", "LB[aa:1]", "(", ")", "(;", ")(", "C[", "]", "\\", "[", "GM[1]", "GM[2]", "GM[x]", "((;", "\xC3\xA9", "\xFF", "X", "()"};
-enum { GOOD = 15, WORDS = sizeof words / sizeof *words };
+    "N[a\\\r\nb]", "LB[aa:1]", "SZ[9]", "B[tt]", "TE[1]", "MN[-7]", "(", ")", "(;", ")(", "C[", "]", "\\", "[", "GM[1]", "GM[2]", "GM[x]", "((;", "\xC3\xA9", "\xFF", "X", "()"};
+enum { GOOD = 19, WORDS = sizeof words / sizeof *words };
 
 static size_t make(uint8_t *to, size_t room, uint32_t most, uint32_t kinds) {
     size_t length = 0;

@@ -239,6 +239,7 @@ unsafe extern "C" {
     fn sgf_feed_begin(count: usize, out: *mut u8, out_len: usize) -> Length;
     fn sgf_feed_add(value: usize, bytes: *const u8, bytes_len: usize, out: *mut u8, out_len: usize) -> Length;
     fn sgf_display_value(kind: u32, raw: *const u8, raw_len: usize, out: *mut u8, out_len: usize) -> Length;
+    fn sgf_escape(text: *const u8, text_len: usize, out: *mut u8, out_len: usize) -> Length;
     fn sgf_trim(text: *const u8, text_len: usize) -> Trimmed;
     fn sgf_token(text: *const u8, text_len: usize, at: usize) -> Token;
     fn sgf_next_value(text: *const u8, text_len: usize, at: usize) -> Value;
@@ -375,6 +376,11 @@ pub fn display(h: &Held, k: usize, kind: u32, out: &mut [u8]) -> Length {
 
 pub fn display_value(kind: u32, raw: &[u8], out: &mut [u8]) -> Length {
     unsafe { sgf_display_value(kind, raw.as_ptr(), raw.len(), out.as_mut_ptr(), out.len()) }
+}
+
+/// Plain text as a raw value, in front of the output.
+pub fn escape(text: &[u8], out: &mut [u8]) -> Length {
+    unsafe { sgf_escape(text.as_ptr(), text.len(), out.as_mut_ptr(), out.len()) }
 }
 
 pub fn go_value(h: &Held, p: usize) -> GoValue {

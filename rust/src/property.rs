@@ -182,7 +182,12 @@ fn part<'r>(record: &'r Record<'r>, from: u32, to: u32) -> &'r str {
 ///
 /// ```
 /// assert_eq!(ekimorepa::escape(r"[\]"), r"[\\\]");
+/// assert_eq!(ekimorepa::escape("\u{e9}"), "\u{e9}");
 /// ```
 pub fn escape(text: &str) -> String {
-    text.replace('\\', "\\\\").replace(']', "\\]")
+    let mut out = vec![0; 2 * text.len()];
+    let made = ffi::escape(text.as_bytes(), &mut out);
+    assert_eq!(made.number, 0, "a text is escaped in at most twice its bytes");
+    out.truncate(made.length);
+    String::from_utf8(out).expect("an escaped text is UTF-8")
 }
