@@ -41,7 +41,7 @@ enum { NUMBERS_END = 25 };
 static unsigned long operations, accepted, refusals[NUMBERS_END];
 
 /* What a fuzzer is told beside the code that was reached: which call gave which number, and sizes by their bits. */
-enum { READ, WALK, FITS, VALUE, DISPLAY, DISPLAY_VALUE, GO_VALUE, GO_BY_RULE, SIZE, ENTRY, SIMPLE_VALUE, SIMPLE_PROPERTY, WRITE, BLOCKS, EDIT, SESSION, LOOKUP, CORRECT, CALLS };
+enum { READ, WALK, FITS, VALUE, DISPLAY, DISPLAY_VALUE, GO_VALUE, GO_BY_RULE, SIZE, ENTRY, SIMPLE_VALUE, SIMPLE_PROPERTY, WRITE, BLOCKS, ESCAPE, TAG, NAMED, EDIT, SESSION, LOOKUP, CORRECT, CALLS };
 #ifdef FUZZER
 __attribute__((section("__libfuzzer_extra_counters")))
 #endif
@@ -110,8 +110,8 @@ static bool answered(int call, uint32_t number, uint32_t may_give, unsigned may_
 /* Words of a text; the first are those of a text that is accepted. */
 static const char *const words[] = {
     ";", "B[aa]", "W[]", "AB[aa:cc][dd]", "HA[2]", "C[x\\]y]", "(;W[bb])", " ", "\n", "\v", "a[b]", "TB[ZZ][aA]", ";C[\xE3\x80\x80]",
-    "N[a\\\r\nb]", "LB[aa:1]", "(", ")", "(;", ")(", "C[", "]", "\\", "[", "GM[1]", "GM[2]", "GM[x]", "((;", "\xC3\xA9", "\xFF", "X", "()"};
-enum { GOOD = 15, WORDS = sizeof words / sizeof *words };
+    "N[a\\\r\nb]", "LB[aa:1]", "SZ[9]", "B[tt]", "TE[1]", "MN[-7]", "(", ")", "(;", ")(", "C[", "]", "\\", "[", "GM[1]", "GM[2]", "GM[x]", "((;", "\xC3\xA9", "\xFF", "X", "()"};
+enum { GOOD = 19, WORDS = sizeof words / sizeof *words };
 
 static size_t make(uint8_t *to, size_t room, uint32_t most, uint32_t kinds) {
     size_t length = 0;
@@ -636,6 +636,68 @@ static void blocks(void) {
     tell(BLOCKS, 0, one.tokens);
 }
 
+/* A part of the text, now and then all of it. */
+static size_t part_of_text(size_t *from) {
+    size_t length = lent[TEXTS].length;
+    *from = draw(4) == 3 ? 0 : draw((uint32_t)length + 1);
+    return draw(4) == 3 ? length - *from : draw((uint32_t)(length - *from) + 1);
+}
+
+/* Any part of the text as plain text: at most twice as long, never refused where there is room for that, read back it is
+ * the part, and where that is UTF-8 an edit takes it. */
+static void escape(void) {
+    size_t from, length = part_of_text(&from);
+    const uint8_t *plain = lent[TEXTS].at + from, *raw = lent[OUTS].at;
+    SgfDisplay d = sgf_escape(plain, length, BYTES(OUTS));
+    bool given = answered(ESCAPE, d.number, lent[OUTS].length < 2 * length ? MAY(14) : 0, MAY(OUTS));
+    stays_but(OUTS, 0, d.length);
+    REQUIRE(d.reserved == 0 && d.length <= 2 * length && d.length <= lent[OUTS].length && (given || d.length == 0));
+    tell(ESCAPE, 0, d.length - (given ? length : 0));
+    size_t at = 0;
+    for (size_t i = 0; given && i < length; i++) {
+        at += raw[at] == '\\';
+        REQUIRE(at < d.length && raw[at++] == plain[i] && (plain[i] != ']' || raw[at - 2] == '\\'));
+    }
+    REQUIRE(at == d.length);
+    if (given && counts.values > 0 && d.length < TEXT / 2 && sgf_trim(plain, length).number == 0) {
+        remember_all();
+        SgfEdit e = sgf_edit(RECORD, counts.values - 1, raw, d.length);
+        REQUIRE(e.number == 0 || e.number == 19 || e.number == 17 || e.number == 14);
+        answered(ESCAPE, e.number, MAY(19) | MAY(17) | MAY(14), MAY(TEXTS) | MAY(PROPERTIES) | MAY(VALUES));
+        used = e.number == 0 ? e.used : used;
+    }
+}
+
+/* The tag of any part of the text, as FNV-1a has it. */
+static void tag(void) {
+    size_t from, length = part_of_text(&from);
+    uint64_t sum = UINT64_C(14695981039346656037);
+    for (size_t i = 0; i < length; i++) {
+        sum = (sum ^ lent[TEXTS].at[from + i]) * UINT64_C(1099511628211);
+    }
+    REQUIRE(sgf_tag(lent[TEXTS].at + from, length) == sum && sgf_version() == SGF_VERSION);
+    answered(TAG, 0, 0, 0);
+}
+
+/* Any part of the text beside a name of up to three letters, and beside its own uppercase letters. */
+static void named(void) {
+    uint8_t letters[TEXT + ROOM], name[3];
+    size_t from, length = part_of_text(&from), count = 0, asked = draw(4);
+    const uint8_t *identifier = lent[TEXTS].at + from;
+    for (size_t i = 0; i < length; i++) {
+        if (identifier[i] >= 'A' && identifier[i] <= 'Z') {
+            letters[count++] = identifier[i];
+        }
+    }
+    for (size_t i = 0; i < asked; i++) {
+        name[i] = (uint8_t)(draw(8) == 7 ? 'a' : count > 0 ? letters[draw((uint32_t)count)] : 'B');
+    }
+    bool same = asked == count && memcmp(name, letters, asked) == 0;
+    REQUIRE(sgf_is_named(identifier, length, name, asked) == same && sgf_is_named(identifier, length, letters, count) == 1);
+    answered(NAMED, 0, 0, 0);
+    tell(NAMED, 0, same);
+}
+
 static void call(int what) {
     size_t k = draw(30) == 29 ? (size_t)-1 : draw((uint32_t)(counts.values % TEXT) + 2);
     lend(&lent[OUTS], draw(OUT), draw(4) == 3);
@@ -657,6 +719,9 @@ static void call(int what) {
     case LOOKUP: lookup(k); break;
     case CORRECT: correct(k); break;
     case BLOCKS: blocks(); break;
+    case ESCAPE: escape(); break;
+    case TAG: tag(); break;
+    case NAMED: named(); break;
     default: edit(k); break;
     }
 }

@@ -16,18 +16,18 @@
  * text + values[2 * k] up to text + values[2 * k + 1]. An identifier's span is raw too, any ASCII before the `[`: the
  * property's name is the uppercase letters of it, `WB` of `White;B`.
  *
- * Every answer but SgfValue, SgfEntry, the tag and the version has a number: SGF_ACCEPTED, or why the call is refused. A refusal leaves
- * every lent byte and number as it was, and its counts, lengths and spans are 0 (SgfToken's are its token's start); so
- * is its place, but for numbers 2 to 5. After acceptance, what lies behind the counts given back stays as well,
- * except for the bytes that sgf_edit and sgf_correct set to 0. Fields called `reserved` are always 0.
+ * Every answer but SgfValue, SgfEntry, sgf_is_named, the tag and the version has a number: SGF_ACCEPTED, or why the call
+ * is refused. A refusal leaves every lent byte and number as it was, and its counts, lengths and spans are 0 (SgfToken's
+ * are its token's start); so is its place, but for numbers 2 to 5. After acceptance, what lies behind the counts given
+ * back stays as well, except for the bytes that sgf_edit and sgf_correct set to 0. Fields called `reserved` are always 0.
  *
  * One exception: rows lent to sgf_block and sgf_close are working room until the close. After a close that is accepted
  * the rows behind its count are 0, after one that is refused all rows; only number 20 leaves them as they were.
  *
  * Stack, in bytes, on aarch64 (x86-64 within 130 bytes of it): sgf_board 25,600, sgf_board_next 22,400, sgf_go_value 11,392,
  * sgf_write 8,832, sgf_go_by_rule 5,696, sgf_read_strict and sgf_read_lenient 5,440, sgf_simple_value,
- * sgf_simple_property and sgf_entry 1,900 at most, the others 512 at most; those of feeds and blocks, sgf_escape and
- * sgf_tag are not measured by the gate yet (sgf_correct took about 1,050 once, sgf_block 940).
+ * sgf_simple_property and sgf_entry 1,900 at most; of the others sgf_correct 1,088, sgf_corrected and sgf_feed_check 832,
+ * measured on x86-64, the rest 512 at most. docs/MEMORY.md has each function's bound, which examples/c/stack.c tests.
  */
 #ifndef SGF_H
 #define SGF_H
@@ -422,6 +422,10 @@ enum {
 typedef struct {
     uint32_t kind, type, section, reserved;
 } SgfEntry;
+
+/* Whether a raw identifier, as a property's row or sgf_token gives it, reads as a name: 1 where its uppercase letters are
+ * exactly those bytes, else 0. `Comment` and `C ` read as `C`; nothing reads as a name with another byte than those letters. */
+uint32_t sgf_is_named(const uint8_t *identifier, size_t identifier_len, const uint8_t *name, size_t name_len);
 
 /* What FF[4] lists of the property with this raw identifier: its 63 general properties, and HA, KM, TB and TW of Go. By
  * the uppercase letters, so `Comment` is C; an identifier without a letter or with more than two is not listed. */

@@ -12,9 +12,9 @@ use crate::whole::Whole;
 use sgf_parse::{go, unknown_game, Color, Double, GameTree, PropertyType, SgfProp};
 
 #[cfg(not(stand_in))]
-use crate::ffi::{entry, simple_property, simple_value};
+use crate::ffi::{entry, is_named, simple_property, simple_value};
 #[cfg(stand_in)]
-use stand_in::{entry, simple_property, simple_value};
+use stand_in::{entry, is_named, simple_property, simple_value};
 
 /// The plain list in the library's place.
 #[cfg(stand_in)]
@@ -24,6 +24,10 @@ mod stand_in {
 
     pub fn entry(identifier: &[u8]) -> Entry {
         plain_index::entry(&plain_index::read_identifier(identifier))
+    }
+
+    pub fn is_named(identifier: &[u8], name: &[u8]) -> u32 {
+        u32::from(plain_index::read_identifier(identifier).as_bytes() == name)
     }
 
     pub fn simple_property(rule: u32, identifier: &[u8], text: &[u8], values: &[u32], first: usize, count: usize) -> Simple {
@@ -105,6 +109,12 @@ pub fn compare_entry(raw: &[u8]) -> Result<(), String> {
     let ours = entry(raw);
     same("entry", ours, plain_index::entry(&identifier))?;
     count(1);
+    // its letters, less, more, others, and the raw identifier itself, which is a name only where it is letters alone
+    let letters = identifier.as_bytes();
+    for name in [letters, &letters[..letters.len() / 2], &[letters, b"B"].concat()[..], b"", b"C", b"gm", raw] {
+        same("named", is_named(raw, name), u32::from(letters == name))?;
+        count(1);
+    }
     let read = |value: &&str| go::Prop::new(identifier.clone(), vec![value.to_string()]);
     let theirs = PROBES.iter().map(read).find(|property| !matches!(property, go::Prop::Invalid(..))).ok_or("no value is valid")?;
     same("type", ours.property_type, type_of(&theirs))?;

@@ -5,6 +5,7 @@ mod bench;
 #[cfg(not(stand_in))]
 mod bench_blocks;
 mod bench_board;
+#[cfg(not(stand_in))]
 mod bench_feeds;
 mod bench_records;
 mod bench_values;
@@ -76,6 +77,7 @@ fn run() -> bool {
             bench_feeds::run();
             true
         }
+        #[cfg(not(stand_in))]
         Some("bench-blocks") => {
             bench_blocks::run();
             true

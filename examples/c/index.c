@@ -23,6 +23,19 @@ static bool is(SgfEntry e, uint32_t kind, uint32_t type, uint32_t section) {
     return e.kind == kind && e.type == type && e.section == section && e.reserved == 0;
 }
 
+static uint32_t named(const char *identifier, const char *name) {
+    return sgf_is_named((const uint8_t *)identifier, strlen(identifier), (const uint8_t *)name, strlen(name));
+}
+
+/* An identifier is its uppercase letters: those, all of them, in their order. */
+static void check_names(void) {
+    CHECK(named("GM", "GM") == 1 && named("GaMe", "GM") == 1 && named("C ", "C") == 1 && named("cB;o", "B") == 1);
+    CHECK(named("G", "GM") == 0 && named("GMx", "G") == 0 && named("MG", "GM") == 0 && named("gm", "GM") == 0);
+    CHECK(named("", "") == 1 && named("gm", "") == 1 && named("C", "") == 0 && named("", "C") == 0);
+    CHECK(named("Gm", "Gm") == 0 && named("gm", "gm") == 0 && named("A\xC3\x81", "A") == 1 && named("[", "[") == 0);
+    CHECK(sgf_is_named(NULL, 0, NULL, 0) == 1);
+}
+
 /* 67 identifiers are listed, 63 of them outside Go's section; what is not listed has no part. */
 static void check_entries(void) {
     int listed = 0, go = 0;
@@ -125,6 +138,7 @@ static void check_record(void) {
 }
 
 int main(void) {
+    check_names();
     check_entries();
     check_values();
     check_record();

@@ -76,12 +76,8 @@ static char letter(uint32_t coordinate) {
  * and `Comment[x]` are comments too. */
 static bool is_named(const Record *r, size_t p, const char *name) {
     const uint32_t *row = r->properties + p * SGF_PROPERTY_STRIDE;
-    for (size_t i = row[SGF_PROPERTY_IDENTIFIER_START]; i < row[SGF_PROPERTY_IDENTIFIER_END]; i++) {
-        if (r->text[i] >= 'A' && r->text[i] <= 'Z' && (char)r->text[i] != *name++) {
-            return false;
-        }
-    }
-    return *name == '\0';
+    size_t from = row[SGF_PROPERTY_IDENTIFIER_START], to = row[SGF_PROPERTY_IDENTIFIER_END];
+    return sgf_is_named(r->text + from, to - from, (const uint8_t *)name, strlen(name)) == 1;
 }
 
 /* The moves of one node of a tree with this rule. The tables come from a reading, so they fit. */

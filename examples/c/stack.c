@@ -35,7 +35,18 @@ static SgfTrim trim;
 static SgfToken token;
 static SgfValue value;
 static uint32_t number;
+static uint64_t tag;
 static SgfBoard board;
+static SgfPart part;
+static SgfCheck check;
+static SgfBlock block;
+static SgfClose closing;
+
+/* A feed that corrects the value asked for, or is damaged; the text taken in blocks up to its half, and to its end. */
+static uint8_t feed[ROOM];
+static size_t feed_len;
+static uint32_t rows[SGF_TOKEN_STRIDE * ROWS];
+static SgfBlocks half, all;
 
 static unsigned char stack[STACK];
 static volatile uintptr_t begin;
@@ -71,6 +82,17 @@ NOTE(SgfEdit, note_edit, uint8_t *t, size_t n, size_t m, SgfCounts k, const uint
 NOTE(SgfTrim, note_trim, const uint8_t *t, size_t n)
 NOTE(SgfToken, note_token, const uint8_t *t, size_t n, size_t at)
 NOTE(SgfValue, note_next_value, const uint8_t *t, size_t n, size_t at)
+NOTE(SgfDisplay, note_escape, const uint8_t *t, size_t n, uint8_t *to, size_t to_len)
+NOTE(SgfPart, note_corrected, SGF_RECORD, const uint8_t *f, size_t n, size_t k)
+NOTE(SgfCheck, note_feed_check, SGF_RECORD, const uint8_t *f, size_t n)
+NOTE(SgfPart, note_feed_find, const uint8_t *f, size_t n, size_t k)
+NOTE(SgfEdit, note_correct, uint8_t *t, size_t n, size_t m, SgfCounts k, const uint32_t *a, size_t b, const uint32_t *c, size_t d, uint32_t *e, size_t f, uint32_t *g, size_t h, const uint8_t *r, size_t l)
+NOTE(SgfWriting, note_feed_begin, size_t count, uint8_t *to, size_t to_len)
+NOTE(SgfWriting, note_feed_add, size_t k, const uint8_t *b, size_t n, uint8_t *to, size_t to_len)
+NOTE(SgfBlock, note_block, SgfBlocks state, const uint8_t *b, size_t n, uint32_t *r, size_t l)
+NOTE(SgfClose, note_close, SgfBlocks state, uint32_t *r, size_t l)
+NOTE(uint32_t, note_is_named, const uint8_t *i, size_t n, const uint8_t *w, size_t m)
+NOTE(uint64_t, note_tag, const uint8_t *b, size_t n)
 
 static int noting;
 #define EITHER(name) (noting ? note_##name : sgf_##name)
@@ -109,6 +131,17 @@ static void call_edit(void) { edit = EITHER(edit)(RECORD, asked, (const uint8_t 
 static void call_trim(void) { trim = EITHER(trim)(text, used); }
 static void call_token(void) { token = EITHER(token)(text, used, asked); }
 static void call_next_value(void) { value = EITHER(next_value)(text, used, asked); }
+static void call_escape(void) { display = EITHER(escape)(text, used, out, room); }
+static void call_corrected(void) { part = EITHER(corrected)(RECORD, feed, feed_len, asked); }
+static void call_feed_check(void) { check = EITHER(feed_check)(RECORD, feed, feed_len); }
+static void call_feed_find(void) { part = EITHER(feed_find)(feed, feed_len, asked); }
+static void call_correct(void) { edit = EITHER(correct)(RECORD, feed, feed_len); }
+static void call_feed_begin(void) { writing = EITHER(feed_begin)(asked << (options * 8), out, room); }
+static void call_feed_add(void) { writing = EITHER(feed_add)(asked << (options * 8), text, used, out, room); }
+static void call_block(void) { block = EITHER(block)(half, text + used / 2, used - used / 2, rows, options == 3 ? asked : sizeof rows / 4); }
+static void call_close(void) { closing = EITHER(close)(options == 0 ? half : all, rows, options == 3 ? asked : sizeof rows / 4); }
+static void call_is_named(void) { number = EITHER(is_named)(text, used, out, asked); }
+static void call_tag(void) { tag = EITHER(tag)(text, used); }
 
 static struct function {
     const char *name;
@@ -136,6 +169,17 @@ static struct function {
     {"sgf_trim", call_trim, 0, 512},
     {"sgf_token", call_token, 0, 512},
     {"sgf_next_value", call_next_value, 0, 512},
+    {"sgf_escape", call_escape, 0, 512},
+    {"sgf_corrected", call_corrected, 0, 1536},
+    {"sgf_feed_check", call_feed_check, 0, 1536},
+    {"sgf_feed_find", call_feed_find, 0, 512},
+    {"sgf_correct", call_correct, 0, 1536},
+    {"sgf_feed_begin", call_feed_begin, 0, 512},
+    {"sgf_feed_add", call_feed_add, 0, 512},
+    {"sgf_block", call_block, 0, 1536},
+    {"sgf_close", call_close, 0, 1024},
+    {"sgf_is_named", call_is_named, 0, 512},
+    {"sgf_tag", call_tag, 0, 512},
 };
 enum { COUNT = sizeof functions / sizeof *functions };
 
@@ -179,19 +223,37 @@ static void load(const char *source) {
     counts = reading.counts;
 }
 
+/* Takes the text in blocks, and makes a feed: a correction of the value asked for, of two with the next, or damaged. */
+static void prepare(void) {
+    SgfBlocks none = {0};
+    half = sgf_block(none, text, used / 2, rows, sizeof rows / 4).state;
+    all = sgf_block(half, text + used / 2, used - used / 2, rows, sizeof rows / 4).state;
+    memset(rows, 0, sizeof rows);
+    size_t corrections = 1 + options % 2;
+    feed_len = sgf_feed_begin(corrections, feed, sizeof feed).length;
+    for (size_t i = 0; i < corrections; i++) {
+        feed_len += sgf_feed_add(asked + i, (const uint8_t *)replacement, strlen(replacement), feed + feed_len, sizeof feed - feed_len).length;
+    }
+    feed_len -= options == 3;
+}
+
 int main(void) {
-    static char deep[2 * 600 + 600 + 1];
+    static char deep[2 * 600 + 600 + 1], wide[700 + 1];
     static const char *texts[] = {
         "(;FF[4]GM[1]SZ[19]HA[2]AB[aa:cc][dd]AW[ZZ]TB[ba][aa]C[a\\]b\\\nc\r\n\td];B[ee]C [x];W[](;B[tt])(;Black[zz]N[\xC3\xA9]))(;GM[2];B[e4])",
         "\xC2\xA0(;HA[+012]HA[-1]AB[aa:ZZ];AB[x]TW[])\xE3\x80\x80",
         "(;SZ[19]AB[aa][ab][ba]AW[cc];W[bb];B[ac];W[ca];AE[aa]B[cd];W[bc];B[tt])", "(;SZ[2];B[aa];W[ba];W[ab];B[bb])", "(;AB[aa]AB[aa])",
-        "(;[x])", "(;a[])", "", "(;B)", "(;\xC3)", "(;B\xC3\xA9[])", "(;A[x][y", ")", "(;", "((;))", "(B[aa])", "(;GM[x])", "(;GM[1]GM[2])", "(;())(", deep,
+        "(;[x])", "(;a[])", "", "(;B)", "(;\xC3)", "(;B\xC3\xA9[])", "(;A[x][y", ")", "(;", "((;))", "(B[aa])", "(;GM[x])", "(;GM[1]GM[2])", "(;())(", deep, wide,
     };
     static const char *const news[] = {"", "a longer value than it was", "]", "\\", "\xFF", "a\\]b"};
     for (int i = 0; i < 600; i++) {
         memcpy(deep + 2 * i, "(;", 2);
         deep[1200 + i] = ')';
     }
+    memset(wide, 'x', 700);
+    memcpy(wide, "(;C[", 4);
+    memcpy(wide + 300, " \xC3\xA9\n\\]", 6);
+    memcpy(wide + 698, "])", 2);
     for (size_t t = 0; t < sizeof texts / sizeof *texts; t++) {
         for (size_t i = 0; i < COUNT; i++) {
             for (asked = 0; asked < 24; asked++) {
@@ -199,6 +261,7 @@ int main(void) {
                     load(texts[t]);
                     replacement = news[(asked + options) % 6];
                     room = options == 3 ? 3 : sizeof out;
+                    prepare();
                     measure(i);
                 }
             }
@@ -213,5 +276,6 @@ int main(void) {
         }
     }
     (void)span, (void)entry, (void)simple, (void)display, (void)go, (void)writing, (void)edit, (void)trim, (void)token, (void)value, (void)number, (void)board;
+    (void)part, (void)check, (void)block, (void)closing, (void)tag;
     return failed;
 }

@@ -239,6 +239,7 @@ unsafe extern "C" {
     fn sgf_feed_begin(count: usize, out: *mut u8, out_len: usize) -> Length;
     fn sgf_feed_add(value: usize, bytes: *const u8, bytes_len: usize, out: *mut u8, out_len: usize) -> Length;
     fn sgf_display_value(kind: u32, raw: *const u8, raw_len: usize, out: *mut u8, out_len: usize) -> Length;
+    fn sgf_escape(text: *const u8, text_len: usize, out: *mut u8, out_len: usize) -> Length;
     fn sgf_trim(text: *const u8, text_len: usize) -> Trimmed;
     fn sgf_token(text: *const u8, text_len: usize, at: usize) -> Token;
     fn sgf_next_value(text: *const u8, text_len: usize, at: usize) -> Value;
@@ -377,6 +378,11 @@ pub fn display_value(kind: u32, raw: &[u8], out: &mut [u8]) -> Length {
     unsafe { sgf_display_value(kind, raw.as_ptr(), raw.len(), out.as_mut_ptr(), out.len()) }
 }
 
+/// Plain text as a raw value, in front of the output.
+pub fn escape(text: &[u8], out: &mut [u8]) -> Length {
+    unsafe { sgf_escape(text.as_ptr(), text.len(), out.as_mut_ptr(), out.len()) }
+}
+
 pub fn go_value(h: &Held, p: usize) -> GoValue {
     over!(sgf_go_value, h, p)
 }
@@ -493,6 +499,7 @@ declare! {
 
 unsafe extern "C" {
     fn sgf_entry(identifier: *const u8, identifier_len: usize) -> Entry;
+    fn sgf_is_named(identifier: *const u8, identifier_len: usize, name: *const u8, name_len: usize) -> u32;
     fn sgf_simple_property(
         rule: u32,
         identifier: *const u8,
@@ -504,6 +511,11 @@ unsafe extern "C" {
         first: usize,
         count: usize,
     ) -> Simple;
+}
+
+/// 1 where a raw identifier reads as a name, else 0.
+pub fn is_named(identifier: &[u8], name: &[u8]) -> u32 {
+    unsafe { sgf_is_named(identifier.as_ptr(), identifier.len(), name.as_ptr(), name.len()) }
 }
 
 pub fn entry(identifier: &[u8]) -> Entry {

@@ -62,6 +62,7 @@
 
 mod board;
 mod blocks;
+mod counted;
 mod error;
 mod feed;
 #[allow(unsafe_code, dead_code)]

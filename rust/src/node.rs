@@ -1,6 +1,7 @@
 //! Trees and nodes.
 #![forbid(unsafe_code)]
 use crate::tables::NONE;
+use crate::counted::AtMost;
 use crate::size::Ruled;
 use crate::{Color, GoValue, Move, Property, Record};
 use std::iter::FusedIterator;
@@ -43,9 +44,13 @@ impl<'r> Tree<'r> {
 
     /// Its nodes, in the order of the text: each before its children.
     pub fn nodes(self) -> impl DoubleEndedIterator<Item = Node<'r>> + ExactSizeIterator + FusedIterator {
+        (self.row()[0] as usize..self.end()).map(move |number| self.node(number as u32))
+    }
+
+    /// The number behind that of its last node.
+    fn end(self) -> usize {
         let tables = &self.record.tables;
-        let end = tables.trees.get(self.number + 1).map_or(tables.nodes.len() as u32, |next| next[0]);
-        (self.row()[0] as usize..end as usize).map(move |number| self.node(number as u32))
+        tables.trees.get(self.number + 1).map_or(tables.nodes.len(), |next| next[0] as usize)
     }
 
     fn row(self) -> [u32; 2] {
@@ -160,12 +165,17 @@ impl<'r> Node<'r> {
     /// # Ok::<(), ekimorepa::Error>(())
     /// ```
     pub fn children(self) -> impl FusedIterator<Item = Node<'r>> {
-        std::iter::successors(self.first_child(), |child| child.next_sibling())
+        AtMost { iter: std::iter::successors(self.first_child(), |child| child.next_sibling()), most: self.at_most() - 1 }
     }
 
     /// The node, its first child, that one's first child, and so on.
     pub fn main_variation(self) -> impl FusedIterator<Item = Node<'r>> {
-        std::iter::successors(Some(self), |node| node.first_child())
+        AtMost { iter: std::iter::successors(Some(self), |node| node.first_child()), most: self.at_most() }
+    }
+
+    /// How many nodes it and those below it are at most: those of its tree from it on.
+    pub(crate) fn at_most(self) -> usize {
+        self.tree.end() - self.number
     }
 
     /// Its properties, in the order of the text.
@@ -176,7 +186,7 @@ impl<'r> Node<'r> {
 
     /// Its first property with this identifier.
     pub fn get_property(self, identifier: &str) -> Option<Property<'r>> {
-        self.properties().find(|property| property.identifier() == identifier)
+        self.properties().find(|property| property.is_named(identifier))
     }
 
     /// Its first valid move of a Go game, and whose it is.

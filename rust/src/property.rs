@@ -44,6 +44,18 @@ impl<'r> Property<'r> {
         Cow::Owned(raw.matches(|c: char| c.is_ascii_uppercase()).collect())
     }
 
+    /// Whether its identifier reads as this name: the uppercase letters of what stands before its `[`, and nothing else.
+    ///
+    /// ```
+    /// let record = ekimorepa::parse("(;Comment[a]C [b]CoPyright[c])")?;
+    /// let named: Vec<bool> = record.properties().map(|property| property.is_named("C")).collect();
+    /// assert_eq!(named, [true, true, false]);
+    /// # Ok::<(), ekimorepa::Error>(())
+    /// ```
+    pub fn is_named(self, name: &str) -> bool {
+        ffi::is_named(self.raw_identifier().as_bytes(), name.as_bytes()) == 1
+    }
+
     /// Its values, in the order of the text: at least one.
     pub fn values(self) -> impl DoubleEndedIterator<Item = Value<'r>> + ExactSizeIterator + FusedIterator {
         let [first, count] = [self.row()[2] as usize, self.row()[3] as usize];
@@ -170,7 +182,12 @@ fn part<'r>(record: &'r Record<'r>, from: u32, to: u32) -> &'r str {
 ///
 /// ```
 /// assert_eq!(ekimorepa::escape(r"[\]"), r"[\\\]");
+/// assert_eq!(ekimorepa::escape("\u{e9}"), "\u{e9}");
 /// ```
 pub fn escape(text: &str) -> String {
-    text.replace('\\', "\\\\").replace(']', "\\]")
+    let mut out = vec![0; 2 * text.len()];
+    let made = ffi::escape(text.as_bytes(), &mut out);
+    assert_eq!(made.number, 0, "a text is escaped in at most twice its bytes");
+    out.truncate(made.length);
+    String::from_utf8(out).expect("an escaped text is UTF-8")
 }

@@ -1,5 +1,6 @@
 //! A record: a text and its tables.
 #![forbid(unsafe_code)]
+use crate::counted::Counted;
 use crate::size::ruled;
 use crate::{Error, Node, Property, TEXT_LIMIT, Tables, Tree, Value, ffi};
 use std::borrow::Cow;
@@ -205,13 +206,13 @@ impl<'t> Record<'t> {
     }
 
     /// The nodes of all trees, in the order of the text.
-    pub fn nodes(&self) -> impl Iterator<Item = Node<'_>> {
-        self.trees().flat_map(Tree::nodes)
+    pub fn nodes(&self) -> impl DoubleEndedIterator<Item = Node<'_>> + ExactSizeIterator + FusedIterator {
+        Counted { iter: self.trees().flat_map(Tree::nodes), left: self.tables.nodes.len() }
     }
 
     /// The properties of all nodes, in the order of the text.
-    pub fn properties(&self) -> impl Iterator<Item = Property<'_>> {
-        self.nodes().flat_map(Node::properties)
+    pub fn properties(&self) -> impl DoubleEndedIterator<Item = Property<'_>> + ExactSizeIterator + FusedIterator {
+        Counted { iter: self.nodes().flat_map(Node::properties), left: self.tables.properties.len() }
     }
 
     /// The value of this number, if there is one.

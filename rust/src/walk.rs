@@ -28,6 +28,8 @@ impl<'r> Step<'r> {
 pub struct Walk<'r> {
     from: Node<'r>,
     next: Option<Step<'r>>,
+    /// How many steps are left at most; exactly so many where it began at a root.
+    most: usize,
 }
 
 impl<'r> Iterator for Walk<'r> {
@@ -35,12 +37,21 @@ impl<'r> Iterator for Walk<'r> {
 
     fn next(&mut self) -> Option<Step<'r>> {
         let step = self.next?;
+        self.most -= 1;
         self.next = match step {
             Step::Enter(node) => Some(node.first_child().map_or(Step::Leave(node), Step::Enter)),
             Step::Leave(node) if node == self.from => None,
             Step::Leave(node) => node.next_sibling().map(Step::Enter).or_else(|| node.parent().map(Step::Leave)),
         };
         Some(step)
+    }
+
+    fn size_hint(&self) -> (usize, Option<usize>) {
+        match self.next {
+            None => (0, Some(0)),
+            Some(_) if self.from.parent().is_none() => (self.most, Some(self.most)),
+            Some(_) => (1, Some(self.most)),
+        }
     }
 }
 
@@ -63,7 +74,7 @@ impl<'r> Node<'r> {
     /// # Ok::<(), ekimorepa::Error>(())
     /// ```
     pub fn walk(self) -> Walk<'r> {
-        Walk { from: self, next: Some(Step::Enter(self)) }
+        Walk { from: self, next: Some(Step::Enter(self)), most: 2 * self.at_most() }
     }
 }
 

@@ -72,3 +72,42 @@ fn a_refusal_says_its_sentence_from_main() {
     let error = parse("(;B)").unwrap_err();
     assert_eq!(format!("{error:?}"), error.to_string());
 }
+
+/// What an iterator says of how many are left holds before every step; `exact` where it must say exactly that.
+fn hints<I: Iterator + Clone>(mut iter: I, exact: bool) {
+    loop {
+        let left = iter.clone().count();
+        let (least, most) = iter.size_hint();
+        assert!(least <= left && left <= most.expect("a bound"), "{least} {left} {most:?}");
+        assert!(!exact || (least, most) == (left, Some(left)));
+        if iter.next().is_none() {
+            return;
+        }
+    }
+}
+
+#[test]
+fn iterators_say_how_many_are_left() {
+    for text in ["(;)", "(;B[aa](;W[bb]C[x];B[cc](;)(;AB[aa][bb]))(;W[dd]))", "(;(;(;)(;;))(;(;);))(;GM[2](;)(;(;)(;)))"] {
+        let record = parse(text).unwrap();
+        let tables = record.tables();
+        assert_eq!((record.nodes().len(), record.properties().len()), (tables.nodes.len(), tables.properties.len()));
+        assert_eq!(record.properties().rev().map(|property| property.number()).sum::<usize>(), (0..tables.properties.len()).sum());
+        let mut nodes = record.nodes();
+        nodes.next();
+        nodes.next_back();
+        assert_eq!(nodes.len(), tables.nodes.len().saturating_sub(2));
+        for tree in record.trees() {
+            hints(tree.walk(), true);
+        }
+        for node in record.nodes() {
+            hints(node.walk(), false);
+            for (least, most, count) in [
+                (node.children().size_hint().0, node.children().size_hint().1, node.children().count()),
+                (node.main_variation().size_hint().0, node.main_variation().size_hint().1, node.main_variation().count()),
+            ] {
+                assert!(least <= count && count <= most.unwrap());
+            }
+        }
+    }
+}

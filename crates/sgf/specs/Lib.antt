@@ -1,4 +1,5 @@
 pub mod AskInC
 pub mod ChangeInC
 pub mod EscapeInC
+pub mod NamedInC
 pub mod ReadInC

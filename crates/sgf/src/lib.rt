@@ -4,6 +4,7 @@ pub mod escape;
 pub mod feeds; // feeds.rt: corrections over the air
 pub mod boards;
 pub mod by_blocks;
+pub mod names; // names.rt: an identifier by its read letters
 pub mod season;
 pub mod size; // size.rt: the board size of a tree
 
