@@ -80,13 +80,23 @@ fn alike(what: &str, ours: Shown, expected: Shown) -> Result<(), String> {
     same(&format!("{what}: the first point that differs"), differs, None)
 }
 
-/// Compares the boards of every node of a reading, and of one behind the last.
+/// Compares the boards of a reading, and of one node behind the last: each upon that of its parent, and of long records one
+/// in so many by a replay, since a replay of every node is quadratic.
 pub fn compare(text: &[u8]) -> Result<(), String> {
+    compare_replayed(text, 200)
+}
+
+/// The same, with a replay of every node.
+pub fn compare_every(text: &[u8]) -> Result<(), String> {
+    compare_replayed(text, usize::MAX)
+}
+
+/// The same, with a replay of so many nodes at least, if there are so many.
+fn compare_replayed(text: &[u8], replayed: usize) -> Result<(), String> {
     let Some(whole) = Whole::read(text, Mode::Lenient, 3)? else { return Ok(()) };
     let h = whole.held();
     let mut boards: Vec<Result<Board, u32>> = vec![];
-    // A replay of every node is quadratic: of long records one node in so many is replayed.
-    let step = 1 + h.counts.nodes / 200;
+    let step = 1 + h.counts.nodes / replayed;
     for node in 0..h.counts.nodes {
         let parent = h.tables[1][6 * node];
         let board = if parent == NONE { upon(&h, node, start(&h, node)) } else { upon(&h, node, boards[parent as usize].clone()) };
