@@ -720,8 +720,8 @@ static void board_next(size_t first) {
     }
     size_t count = draw(30) == 29 ? (size_t)-1 : draw(6);
     SgfBoard next = sgf_board_next(any, BYTES(TEXTS), NUMBERS(PROPERTIES), NUMBERS(VALUES), first, count);
-    answered(NEXT, next.number, any.number == 0 ? MAY(23) : MAY(any.number), 0);
     REQUIRE(next.reserved == 0);
+    answered(NEXT, any.number == 0 ? next.number : 0, MAY(23), 0);
     if (any.number != 0) {
         any.reserved = 0;
         REQUIRE(same_board(next, any));

@@ -144,6 +144,21 @@ pub fn sequences(columns: usize, rows: usize, moves: usize, visit: &mut dyn FnMu
     }
 }
 
+/// Every kind of fault at every place of a line, and off the way; other numbers with it.
+pub fn faults(visit: &mut dyn FnMut(&[u8])) {
+    let kinds = ["B[zz]", "W[fa]", "AB[zz]", "AE[af]", "AW[aa:af]", "AB[aa]AB[aa]", "AB[aa]AE[aa]", "AW[ab]AB[aa:bb]", "AE[aa]AE[bb]AE[aa]", "AB[tt]"];
+    for (length, kind) in (1..7).flat_map(|length| kinds.map(|kind| (length, kind))) {
+        for place in 0..length {
+            let node = |at: usize| if at == place { kind.to_string() } else { format!("{}[a{}]", ["B", "W"][at % 2], letter((at % 5) as u8) as char) };
+            let line: Vec<String> = (0..length).map(node).collect();
+            visit(format!("(;SZ[5]{})", line.join(";")).as_bytes());
+            visit(format!("(;SZ[5]SZ[5]{})", line.join(";")).as_bytes());
+            visit(format!("(;SZ[5](;B[cc](;{})(;W[dd]))(;W[ee]))(;SZ[26]{})", line.join(";"), line.join(";")).as_bytes());
+            visit(format!("(;GM[2]SZ[5]{})(;{})", line.join(";"), line.join(";")).as_bytes());
+        }
+    }
+}
+
 /// A made record: setup, overwriting, suicide, points off the board and in two properties, values that are no points.
 pub fn made(rng: &mut Rng) -> Vec<u8> {
     let side = |rng: &mut Rng| match rng.below(4) {

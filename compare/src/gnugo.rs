@@ -13,12 +13,10 @@ use std::time::{Duration, Instant};
 const NONE: u32 = u32::MAX;
 
 /// What GNU Go is known to do otherwise; records with it may differ, and are counted.
-const EXCEPTIONS: [&str; 5] = [
+const EXCEPTIONS: [&str; 3] = [
     "AE behind the first node, which GNU Go ignores",
     "a move onto a stone, where GNU Go stops",
     "white space in a move, which GNU Go trims",
-    "AB or AW behind the first node, where GNU Go's captures count on",
-    "several moves in a node",
 ];
 
 /// A process that answers commands.
@@ -107,20 +105,18 @@ fn point((name, values): &Property) -> Option<(u8, u8)> {
 
 /// Which exceptions a main line has.
 fn exceptions(h: &Held, line: &[usize]) -> Vec<&'static str> {
-    let mut found = [false; 5];
+    let mut found = [false; 3];
     let mut before: Option<Board> = None;
     for (at, node) in line.iter().enumerate() {
         let all = properties(h, *node);
         let moves: Vec<_> = all.iter().filter(|(name, _)| matches!(name.as_str(), "B" | "W")).collect();
         found[0] |= at > 0 && all.iter().any(|(name, _)| name == "AE");
-        found[3] |= at > 0 && all.iter().any(|(name, _)| matches!(name.as_str(), "AB" | "AW"));
         found[2] |= moves.iter().any(|(_, values)| values.iter().any(|v| v.iter().any(u8::is_ascii_whitespace)));
-        found[4] |= moves.len() > 1 || moves.iter().any(|(_, values)| values.len() > 1);
         let stands = |(x, y): (u8, u8)| before.is_some_and(|b| b.stones[52 * usize::from(x) + usize::from(y)] != 0);
         found[1] |= moves.iter().filter_map(|p| point(p)).any(stands);
         before = Some(ffi::board(h, *node));
     }
-    (0..5).filter(|i| found[*i]).map(|i| EXCEPTIONS[i]).collect()
+    (0..3).filter(|i| found[*i]).map(|i| EXCEPTIONS[i]).collect()
 }
 
 /// Compares every real record that both take; true where no record differs for an unknown reason.

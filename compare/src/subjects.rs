@@ -178,6 +178,8 @@ fn compare_board(scale: &Scale) -> bool {
         board::sequences(columns, rows, moves, &mut |text| report.text(text));
     }
     report.group("every sequence of moves on small boards");
+    board::faults(&mut |text| report.text(text));
+    report.group("faults at every place");
     let mut rng = Rng::new(8);
     for _ in 0..scale.tree_records {
         report.text(&board::made(&mut rng));
