@@ -58,7 +58,7 @@ abbrev pub toldOf : List ℕ → ℕ → Answer → Told
 toldOf t k (refused r p) = number (numberOf r)
 toldOf t k (accepted ts) = toldIn (held t (tables ts)) k
 
--- the decisions, one a row: 0 empties, 1 is black, 2 white; the point (x, y) is the place 52 * x + y (SCOPE 210 to 215)
+-- the decisions, one a row: 0 empties, 1 is black, 2 white; the point (x, y) is the place 52 * x + y
 abbrev pub decisions : List Decision
 decisions =
     decision "(;SZ[3]AB[aa]AW[ab][ba];W[cc])" 1 (acts 3 3 (sets 1 0 ∷ sets 2 1 ∷ sets 2 52 ∷ plays 2 106 ∷ []))
