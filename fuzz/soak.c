@@ -6,7 +6,8 @@
  *
  * Every lent array stands between fences (lent.h). After each call what it may not write is as it was, a refusal has
  * written nothing and its number is one that the call may give; tables of a reading fit; after an accepted edit of a
- * strict reading the tables are those of a fresh one; a session of edits is undone and redone, step by step, to the same
+ * strict reading the tables are those of a fresh one, and so is the board at a node; the board at a node is the one along
+ * its line, node by node, and its sums are right; a session of edits is undone and redone, step by step, to the same
  * used bytes and the same tables; a writing reads back, and is written again as the same bytes.
  * The process holds no more memory at the end than after a tenth of them. */
 #define _GNU_SOURCE
@@ -41,7 +42,7 @@ enum { NUMBERS_END = 25 };
 static unsigned long operations, accepted, refusals[NUMBERS_END];
 
 /* What a fuzzer is told beside the code that was reached: which call gave which number, and sizes by their bits. */
-enum { READ, WALK, FITS, VALUE, DISPLAY, DISPLAY_VALUE, GO_VALUE, GO_BY_RULE, SIZE, ENTRY, SIMPLE_VALUE, SIMPLE_PROPERTY, WRITE, BLOCKS, ESCAPE, TAG, NAMED, EDIT, SESSION, LOOKUP, CORRECT, CALLS };
+enum { READ, WALK, FITS, VALUE, DISPLAY, DISPLAY_VALUE, GO_VALUE, GO_BY_RULE, SIZE, ENTRY, SIMPLE_VALUE, SIMPLE_PROPERTY, WRITE, BLOCKS, ESCAPE, BOARD, TAG, NAMED, NEXT, EDIT, SESSION, LOOKUP, CORRECT, CALLS };
 #ifdef FUZZER
 __attribute__((section("__libfuzzer_extra_counters")))
 #endif
@@ -110,8 +111,8 @@ static bool answered(int call, uint32_t number, uint32_t may_give, unsigned may_
 /* Words of a text; the first are those of a text that is accepted. */
 static const char *const words[] = {
     ";", "B[aa]", "W[]", "AB[aa:cc][dd]", "HA[2]", "C[x\\]y]", "(;W[bb])", " ", "\n", "\v", "a[b]", "TB[ZZ][aA]", ";C[\xE3\x80\x80]",
-    "N[a\\\r\nb]", "LB[aa:1]", "SZ[9]", "B[tt]", "TE[1]", "MN[-7]", "(", ")", "(;", ")(", "C[", "]", "\\", "[", "GM[1]", "GM[2]", "GM[x]", "((;", "\xC3\xA9", "\xFF", "X", "()"};
-enum { GOOD = 19, WORDS = sizeof words / sizeof *words };
+    "N[a\\\r\nb]", "LB[aa:1]", "SZ[9]", ";B[ba]", "B[tt]", ";W[ab]", "TE[1]", ";W[aa]", "MN[-7]", ";B[bb]W[ca]", ";AE[aa][bb]AW[ba]", ";B[tt]", "SZ[3]", "SZ[2:20]", "(", ")", "(;", ")(", "C[", "]", "\\", "[", "GM[1]", "GM[2]", "GM[x]", "((;", "\xC3\xA9", "\xFF", "X", "()"};
+enum { GOOD = 27, WORDS = sizeof words / sizeof *words };
 
 static size_t make(uint8_t *to, size_t room, uint32_t most, uint32_t kinds) {
     size_t length = 0;
@@ -270,6 +271,19 @@ static void check_fresh(void) {
     }
 }
 
+/* Boards: those compared, along lines and after edits, and edits that changed one. */
+static unsigned long boards, steps_along, boards_fresh, boards_changed;
+
+static bool same_board(SgfBoard a, SgfBoard b) { return memcmp(&a, &b, sizeof a) == 0; }
+
+/* Behind check_fresh: the board at a node is that of the fresh reading, and now and then another than it was. */
+static void check_board(size_t node, SgfBoard before) {
+    SgfBoard now = sgf_board(RECORD, node);
+    REQUIRE(same_board(now, sgf_board(lent[TEXTS].at, used, used, counts, FRESH, node)));
+    boards_fresh++;
+    boards_changed += !same_board(now, before);
+}
+
 /* A strict reading of a writing has the same trees and nodes, and is written again as the same bytes. */
 static void check_again(size_t length) {
     static uint8_t again[OUT];
@@ -281,9 +295,17 @@ static void check_again(size_t length) {
     REQUIRE(w.number == 0 && w.length == length && memcmp(again, lent[OUTS].at, length) == 0);
 }
 
-/* A new value: of words, or a longer one of one part over and over, which is closed. */
+/* A new value: a point, or of words, or a longer one of one part over and over, which is closed. */
 static size_t make_value(uint8_t *to) {
     static const char *const parts[] = {"x", "\xC3\xA9", "\\]", "a\\\\", "\xE3\x80\x80 "};
+    if (draw(3) == 0) {
+        static const char letters[] = "aabbcdtAZ:5";
+        size_t length = 2 + (draw(8) == 0);
+        for (size_t i = 0; i < length; i++) {
+            to[i] = (uint8_t)letters[draw(sizeof letters - 1)];
+        }
+        return length;
+    }
     if (draw(4) != 3) {
         return make(to, NEW, 4, WORDS);
     }
@@ -301,6 +323,8 @@ static void edit(size_t k) {
     lend(&lent[NEWS], length, draw(4) == 3);
     memcpy(lent[NEWS].at, made, length);
     size_t from = sgf_value(RECORD, k).from;
+    size_t node = is_strict ? counts.nodes - 1 - draw((uint32_t)counts.nodes) / 2 : 0;
+    SgfBoard before = is_strict ? sgf_board(RECORD, node) : (SgfBoard){0};
     remember_all();
     SgfEdit e = sgf_edit(RECORD, k, BYTES(NEWS));
     uint32_t may = MAY(19) | MAY(16) | MAY(17) | MAY(2) | MAY(18) | MAY(14);
@@ -324,6 +348,7 @@ static void edit(size_t k) {
     tell(EDIT, 2, old_used > used ? old_used - used : 0);
     if (is_strict) {
         check_fresh();
+        check_board(node, before);
     }
 }
 
@@ -698,6 +723,81 @@ static void named(void) {
     tell(NAMED, 0, same);
 }
 
+/* A board that was played from an empty one: stones on it alone, and put on is what stands and what was taken off. */
+static void is_board(const SgfBoard *b) {
+    uint64_t standing[3] = {0, 0, 0};
+    REQUIRE(b->reserved == 0 && b->columns <= 52 && b->rows <= 52);
+    REQUIRE((b->columns > 0) == (b->number == 0) && (b->rows > 0) == (b->number == 0));
+    for (uint32_t at = 0; at < SGF_POINT_PLACES; at++) {
+        REQUIRE(b->stones[at] <= SGF_WHITE && (b->stones[at] == 0 || (at / 52 < b->columns && at % 52 < b->rows)));
+        standing[b->stones[at]]++;
+    }
+    REQUIRE(b->black_on == standing[SGF_BLACK] + b->black_off && b->white_on == standing[SGF_WHITE] + b->white_off);
+}
+
+/* The board at a node; and along its line, each node upon the board of its parent, which is the board there. */
+static void board(size_t node) {
+    static uint32_t way[TEXT + ROOM];
+    SgfBoard at_node = sgf_board(RECORD, node);
+    answered(BOARD, at_node.number, MAY(19) | MAY(21) | MAY(22) | MAY(23), 0);
+    is_board(&at_node);
+    tell(BOARD, 0, at_node.black_on + at_node.white_on);
+    tell(BOARD, 1, at_node.black_off + at_node.white_off);
+    if (at_node.number == 19 || at_node.number == 21) {
+        return;
+    }
+    size_t length = 0;
+    for (uint32_t at = (uint32_t)node; at != SGF_NONE; at = TABLE(NODES)[SGF_NODE_STRIDE * at + SGF_NODE_PARENT]) {
+        way[length++] = at;
+    }
+    SgfBoard along = sgf_board(RECORD, way[length - 1]);
+    for (size_t i = length - 1; i > 0; i--) {
+        const uint32_t *row = TABLE(NODES) + SGF_NODE_STRIDE * way[i - 1];
+        along.reserved = draw(3);
+        along = sgf_board_next(along, lent[TEXTS].at, used, NUMBERS(PROPERTIES), NUMBERS(VALUES), row[SGF_NODE_FIRST_PROPERTY],
+                               row[SGF_NODE_PROPERTY_COUNT]);
+        /* Of a long line some nodes are played from the root. */
+        if (length < 40 || i % (length / 8) == 0) {
+            REQUIRE(same_board(along, sgf_board(RECORD, way[i - 1])));
+        }
+        steps_along++;
+    }
+    REQUIRE(same_board(along, at_node));
+    boards++;
+    answered(BOARD, 0, 0, 0);
+}
+
+/* Any rows upon any board. */
+static void board_next(size_t first) {
+    static SgfBoard any;
+    memset(&any, 0, sizeof any);
+    any.number = draw(8) == 7 ? draw(NUMBERS_END) : 0;
+    any.columns = draw(60);
+    any.rows = draw(60);
+    any.reserved = draw(3);
+    any.black_on = draw(2) ? draw(9) : UINT64_MAX - draw(3);
+    any.white_off = draw(2) ? draw(9) : UINT64_MAX - draw(3);
+    for (uint32_t stones = draw(60); stones > 0; stones--) {
+        any.stones[52 * draw(draw(2) ? 5 : 52) + draw(5)] = (uint8_t)draw(4);
+    }
+    size_t count = draw(30) == 29 ? (size_t)-1 : draw(6);
+    SgfBoard next = sgf_board_next(any, BYTES(TEXTS), NUMBERS(PROPERTIES), NUMBERS(VALUES), first, count);
+    REQUIRE(next.reserved == 0);
+    answered(NEXT, any.number == 0 ? next.number : 0, MAY(23), 0);
+    if (any.number != 0) {
+        any.reserved = 0;
+        REQUIRE(same_board(next, any));
+    } else if (next.number == 0) {
+        REQUIRE(next.columns == any.columns && next.rows == any.rows && next.black_on >= any.black_on && next.white_off >= any.white_off);
+        for (uint32_t at = 0; at < SGF_POINT_PLACES; at++) {
+            REQUIRE((at / 52 < any.columns && at % 52 < any.rows) || next.stones[at] == any.stones[at]);
+        }
+    } else {
+        is_board(&next);
+    }
+    tell(NEXT, 0, next.black_on);
+}
+
 static void call(int what) {
     size_t k = draw(30) == 29 ? (size_t)-1 : draw((uint32_t)(counts.values % TEXT) + 2);
     lend(&lent[OUTS], draw(OUT), draw(4) == 3);
@@ -722,6 +822,8 @@ static void call(int what) {
     case ESCAPE: escape(); break;
     case TAG: tag(); break;
     case NAMED: named(); break;
+    case BOARD: board(draw(30) == 29 ? (size_t)-1 : draw((uint32_t)(counts.nodes % TEXT) + 2)); break;
+    case NEXT: board_next(draw(30) == 29 ? (size_t)-1 : draw((uint32_t)(counts.properties % TEXT) + 2)); break;
     default: edit(k); break;
     }
 }
@@ -797,6 +899,7 @@ int main(int argc, char **argv) {
     for (int n = 1; n < NUMBERS_END; n++) {
         printf(" %d:%lu", n, refusals[n]);
     }
+    printf("\nboards: %lu, %lu nodes along their lines; %lu after edits, of which %lu had changed", boards, steps_along, boards_fresh, boards_changed);
     printf("\nsessions: %lu, of %lu edits, undone and redone", sessions, undone);
     printf("\nmemory: %ld KB after a tenth of them, %ld KB at the end\n", before, after);
     return after > before;

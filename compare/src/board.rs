@@ -80,13 +80,23 @@ fn alike(what: &str, ours: Shown, expected: Shown) -> Result<(), String> {
     same(&format!("{what}: the first point that differs"), differs, None)
 }
 
-/// Compares the boards of every node of a reading, and of one behind the last.
+/// Compares the boards of a reading, and of one node behind the last: each upon that of its parent, and of long records one
+/// in so many by a replay, since a replay of every node is quadratic.
 pub fn compare(text: &[u8]) -> Result<(), String> {
+    compare_replayed(text, 200)
+}
+
+/// The same, with a replay of every node.
+pub fn compare_every(text: &[u8]) -> Result<(), String> {
+    compare_replayed(text, usize::MAX)
+}
+
+/// The same, with a replay of so many nodes at least, if there are so many.
+fn compare_replayed(text: &[u8], replayed: usize) -> Result<(), String> {
     let Some(whole) = Whole::read(text, Mode::Lenient, 3)? else { return Ok(()) };
     let h = whole.held();
     let mut boards: Vec<Result<Board, u32>> = vec![];
-    // A replay of every node is quadratic: of long records one node in so many is replayed.
-    let step = 1 + h.counts.nodes / 200;
+    let step = 1 + h.counts.nodes / replayed;
     for node in 0..h.counts.nodes {
         let parent = h.tables[1][6 * node];
         let board = if parent == NONE { upon(&h, node, start(&h, node)) } else { upon(&h, node, boards[parent as usize].clone()) };
@@ -131,6 +141,21 @@ pub fn sequences(columns: usize, rows: usize, moves: usize, visit: &mut dyn FnMu
             left /= words.len();
         }
         visit((text + ")").as_bytes());
+    }
+}
+
+/// Every kind of fault at every place of a line, and off the way; other numbers with it.
+pub fn faults(visit: &mut dyn FnMut(&[u8])) {
+    let kinds = ["B[zz]", "W[fa]", "AB[zz]", "AE[af]", "AW[aa:af]", "AB[aa]AB[aa]", "AB[aa]AE[aa]", "AW[ab]AB[aa:bb]", "AE[aa]AE[bb]AE[aa]", "AB[tt]"];
+    for (length, kind) in (1..7).flat_map(|length| kinds.map(|kind| (length, kind))) {
+        for place in 0..length {
+            let node = |at: usize| if at == place { kind.to_string() } else { format!("{}[a{}]", ["B", "W"][at % 2], letter((at % 5) as u8) as char) };
+            let line: Vec<String> = (0..length).map(node).collect();
+            visit(format!("(;SZ[5]{})", line.join(";")).as_bytes());
+            visit(format!("(;SZ[5]SZ[5]{})", line.join(";")).as_bytes());
+            visit(format!("(;SZ[5](;B[cc](;{})(;W[dd]))(;W[ee]))(;SZ[26]{})", line.join(";"), line.join(";")).as_bytes());
+            visit(format!("(;GM[2]SZ[5]{})(;{})", line.join(";"), line.join(";")).as_bytes());
+        }
     }
 }
 

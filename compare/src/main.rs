@@ -22,6 +22,8 @@ mod feeds;
 #[path = "../../rust/src/ffi.rs"]
 mod ffi;
 mod fitting;
+#[cfg(not(stand_in))]
+mod gnugo;
 mod go_values;
 mod heap;
 mod held;
@@ -91,13 +93,15 @@ fn run() -> bool {
             bench_board::run();
             true
         }
+        #[cfg(not(stand_in))]
+        Some("gnugo") => gnugo::run(),
         Some("bench") => {
             bench::run();
             bench_records::run();
             true
         }
         _ => {
-            eprintln!("usage: compare short [SUBJECT] | long [SUBJECT] | store-tokens [DIR] | bench | bench-values | bench-board | bench-feeds | bench-blocks");
+            eprintln!("usage: compare short [SUBJECT] | long [SUBJECT] | gnugo | store-tokens [DIR] | bench | bench-values | bench-board | bench-feeds | bench-blocks");
             false
         }
     }

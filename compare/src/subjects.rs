@@ -28,6 +28,8 @@ pub struct Scale {
     block_bytes: usize,
     block_step: usize,
     block_records: usize,
+    board_moves: usize,
+    board_step: usize,
 }
 
 pub const SHORT: Scale = Scale {
@@ -54,6 +56,8 @@ pub const SHORT: Scale = Scale {
     block_bytes: 4,
     block_step: 41,
     block_records: 300,
+    board_moves: 4,
+    board_step: 1,
 };
 
 pub const LONG: Scale = Scale {
@@ -80,6 +84,8 @@ pub const LONG: Scale = Scale {
     block_bytes: 6,
     block_step: 1,
     block_records: 20_000,
+    board_moves: 6,
+    board_step: 1,
 };
 
 /// Compares the families of texts that tokens and readings share; of the edges of UTF-8 one in so many.
@@ -167,18 +173,22 @@ fn compare_go_values(scale: &Scale) -> bool {
 
 fn compare_board(scale: &Scale) -> bool {
     let mut report = Report::new("board", board::compare);
-    let longest = scale.words - 1;
+    let longest = scale.board_moves;
     for (columns, rows, moves) in [(1, 1, longest + 2), (2, 1, longest + 1), (1, 2, longest), (2, 2, longest)] {
         board::sequences(columns, rows, moves, &mut |text| report.text(text));
     }
     report.group("every sequence of moves on small boards");
+    board::faults(&mut |text| report.text(text));
+    report.group("faults at every place");
     let mut rng = Rng::new(8);
     for _ in 0..scale.tree_records {
         report.text(&board::made(&mut rng));
     }
     report.group("made records");
-    texts::corpus().iter().for_each(|text| report.text(text));
-    report.close()
+    let good = report.close();
+    let mut real = Report::new("board at every node", board::compare_every);
+    texts::corpus().iter().step_by(scale.board_step).for_each(|text| real.text(text));
+    good & real.close()
 }
 
 fn compare_display(scale: &Scale) -> bool {

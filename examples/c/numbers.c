@@ -5,7 +5,7 @@
 #include <stdio.h>
 #include <string.h>
 
-enum { READ, FITS, VALUE, DISPLAY, GO_VALUE, WRITE, EDIT, CORRECT, CORRECTED, CHECK, SIZE, BOARD, TRIM, TOKEN, DISPLAY_VALUE, CALLS };
+enum { READ, FITS, VALUE, DISPLAY, GO_VALUE, WRITE, EDIT, CORRECT, CORRECTED, CHECK, SIZE, BOARD, NEXT, TRIM, TOKEN, DISPLAY_VALUE, CALLS };
 enum { LENIENT = 1, SHORT = 4 };
 enum { FIT, DAMAGED, DEEPER }; /* the tables of a reading; with a game type that there is not; with a root of depth 1 */
 enum { ROOM = 64, ROWS = 1100, LONG = SGF_TEXT_LIMIT };
@@ -112,6 +112,13 @@ static const Row rows[] = {
     {21, 0, BOARD, "(;GM[2]SZ[x];B[aa])", 0, FIT, 1, "", 0},
     {22, 0, BOARD, "(;SZ[9]SZ[9];B[zz])", 0, FIT, 1, "", 0},
     {23, 0, BOARD, "(;SZ[9];B[jj])", 0, FIT, 1, "", 0},
+    {0, 0, NEXT, "(;SZ[9];B[aa])", 0, FIT, 1, "", 0},
+    {23, 0, NEXT, "(;SZ[9];B[jj])", 0, FIT, 1, "", 0},
+    {23, 0, NEXT, "(;SZ[9];AB[aa]AW[aa])", 0, FIT, 1, "", 0},
+    {23, 0, NEXT, "(;SZ[9]AB[aa]AB[aa];B[bb])", 0, FIT, 1, "", 0},
+    {22, 0, NEXT, "(;SZ[0];B[jj])", 0, FIT, 1, "", 0},
+    {21, 0, NEXT, "(;GM[2];B[jj])", 0, FIT, 1, "", 0},
+    {19, 0, NEXT, "(;SZ[9];B[jj])", 0, DAMAGED, 1, "", 0},
     {0, 0, TRIM, " (;) ", 0, FIT, 0, "", 0},
     {2, 1, TRIM, "(\xC3(;)", 0, FIT, 0, "", 0},
     {0, 0, TOKEN, "(;B[aa])", 0, FIT, 2, "", 0},
@@ -215,6 +222,14 @@ static uint32_t answer(const Row *r, uint32_t how, size_t *place, bool *is_zero)
     }
     case BOARD: {
         SgfBoard a = sgf_board(RECORD, r->k);
+        *is_zero = (a.columns | a.rows | a.black_on | a.black_off | a.white_on | a.white_off) == 0 && memchr(a.stones, 1, sizeof a.stones) == NULL;
+        return a.number;
+    }
+    case NEXT: {
+        /* Upon the board of the root, whose number comes back. */
+        const uint32_t *row = lent.nodes + SGF_NODE_STRIDE * r->k;
+        SgfBoard a = sgf_board_next(sgf_board(RECORD, 0), lent.text, length, lent.properties, 4 * ROWS, lent.values, 2 * ROWS,
+                                    row[SGF_NODE_FIRST_PROPERTY], row[SGF_NODE_PROPERTY_COUNT]);
         *is_zero = (a.columns | a.rows | a.black_on | a.black_off | a.white_on | a.white_off) == 0 && memchr(a.stones, 1, sizeof a.stones) == NULL;
         return a.number;
     }
