@@ -301,7 +301,8 @@ SgfBoard sgf_board(SGF_RECORD, size_t node);
 /* One node more: its properties, `count` rows from row `first` on, played upon a board, without the check, for callers
  * whose tables are known to fit. Upon the board of its parent it gives the board of the node. Numbers: 23, or that of the
  * board given, which then comes back as it is. `reserved` comes back 0, whatever was given. A byte of `stones` above 2 is
- * neither stone nor liberty. Rows that are not there are no properties. */
+ * neither stone nor liberty. Rows that are not there are no properties. A board of number 0 with no columns or no rows has
+ * no point: a node that sets or plays one gives 23, any other the board as it is. Sides above 52 count as 52. */
 SgfBoard sgf_board_next(SgfBoard board, const uint8_t *text, size_t text_len, const uint32_t *properties,
                         size_t properties_len, const uint32_t *values, size_t values_len, size_t first, size_t count);
 

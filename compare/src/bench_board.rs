@@ -110,6 +110,50 @@ fn by_hand(h: &Held) -> ByHand {
     board
 }
 
+/// A text of at most 1 MiB where a setup is before every move, so that each move has the whole board to look at; `first` is set at the root.
+fn worst(first: &str) -> String {
+    let (begun, step) = (format!("(;{first}"), ";AB[aa]B[aa]");
+    let times = (1_048_576 - begun.len() - 1) / step.len();
+    begun + &step.repeat(times) + ")"
+}
+
+/// Points of a board of 52 by 52 by a colour: black, white, or none.
+fn setup(colour: impl Fn(u8, u8) -> u8) -> String {
+    let mut text = String::from("SZ[52]");
+    for (name, c) in [("AB", 1), ("AW", 2)] {
+        let points: String = (0..2704u16)
+            .map(|at| ((at / 52) as u8, (at % 52) as u8))
+            .filter(|&(x, y)| colour(x, y) == c)
+            .map(|(x, y)| format!("[{}{}]", letter(x) as char, letter(y) as char))
+            .collect();
+        if !points.is_empty() {
+            text += &(String::from(name) + &points);
+        }
+    }
+    text
+}
+
+/// The board at the last node of such texts, in seconds.
+fn run_worst() {
+    let stairs = |x: u8, y: u8| if (x % 13, (x + y) % 2) == (6, 1) { 0 } else { 1 + (x + y) / 2 % 2 };
+    let full = |x: u8, y: u8| u8::from((x, y) != (51, 51));
+    for (name, first) in [
+        ("19 by 19, nothing else", String::new()),
+        ("52 by 52, nothing else", String::from("SZ[52]")),
+        ("52 by 52, stairs", setup(stairs)),
+        ("52 by 52, full but for one point", setup(full)),
+    ] {
+        let text = worst(&first);
+        let whole = Whole::read(text.as_bytes(), Mode::Strict, 0).unwrap().unwrap();
+        let h = whole.held();
+        let start = Instant::now();
+        let board = ffi::board(&h, h.counts.nodes - 1);
+        let took = start.elapsed().as_secs_f64();
+        assert_eq!(board.number, 0);
+        println!("  {:7} nodes, {} bytes, {name:34} {took:7.2} s", h.counts.nodes, text.len());
+    }
+}
+
 /// The least time of some rounds, in nanoseconds.
 fn least(mut call: impl FnMut()) -> f64 {
     (0..ROUNDS).map(|_| { let start = Instant::now(); call(); start.elapsed().as_nanos() as f64 }).fold(f64::MAX, f64::min)
@@ -141,4 +185,6 @@ pub fn run() {
     println!("  sgf_board_next, each     {node_by_node:9.0} {:7.0}", a_move(node_by_node));
     println!("  a hand-written board     {hand:9.0} {:7.0}", a_move(hand));
     println!("  the replay beside it     {:9.2}", (whole_way - check) / hand);
+    println!("texts of 1 MiB, a setup before every move:");
+    run_worst();
 }

@@ -123,7 +123,8 @@ static void call_board(void) { board = EITHER(board)(RECORD, asked); }
 static void call_board_next(void) {
     const uint32_t *row = nodes + asked * SGF_NODE_STRIDE;
     memset(&board, 0, sizeof board);
-    board.columns = 19, board.rows = 19, board.stones[1] = SGF_WHITE;
+    board.columns = 19, board.rows = 19, board.stones[1] = board.stones[SGF_POINT_PLACE(1, 0)] = SGF_WHITE;
+    board.stones[0] = options & 1 ? SGF_EMPTY : SGF_BLACK; /* a stone without liberty: the whole board is swept */
     board = EITHER(board_next)(board, text, used, properties, sizeof properties / 4, values, sizeof values / 4, row[3], row[4]);
 }
 static void call_write(void) { writing = EITHER(write)(RECORD, out, room); }
@@ -242,7 +243,7 @@ int main(void) {
     static const char *texts[] = {
         "(;FF[4]GM[1]SZ[19]HA[2]AB[aa:cc][dd]AW[ZZ]TB[ba][aa]C[a\\]b\\\nc\r\n\td];B[ee]C [x];W[](;B[tt])(;Black[zz]N[\xC3\xA9]))(;GM[2];B[e4])",
         "\xC2\xA0(;HA[+012]HA[-1]AB[aa:ZZ];AB[x]TW[])\xE3\x80\x80",
-        "(;SZ[19]AB[aa][ab][ba]AW[cc];W[bb];B[ac];W[ca];AE[aa]B[cd];W[bc];B[tt])", "(;SZ[2];B[aa];W[ba];W[ab];B[bb])", "(;AB[aa]AB[aa])",
+        "(;SZ[19]AB[aa][ab][ba]AW[cc];W[bb];B[ac];W[ca];AE[aa]B[cd];W[bc];B[tt])", "(;SZ[2];B[aa];W[ba];W[ab];B[bb])", "(;AB[aa]AB[aa])", "(;SZ[3]AB[aa]AW[ab][ba];W[cc])",
         "(;[x])", "(;a[])", "", "(;B)", "(;\xC3)", "(;B\xC3\xA9[])", "(;A[x][y", ")", "(;", "((;))", "(B[aa])", "(;GM[x])", "(;GM[1]GM[2])", "(;())(", deep, wide,
     };
     static const char *const news[] = {"", "a longer value than it was", "]", "\\", "\xFF", "a\\]b"};

@@ -65,7 +65,7 @@ module _ (w h : ℕ) where
       let player = playable-player w h c p on in
       let sides = both-mine w h (s .stones) c player (known refl) in
       let z : Plays w h c p (s .stones) b′ n k =
-      near-acts w h c p (s .stones) b′ n k player long (playable-board w h c p on) (sides .0) (sides .1) (record { between = m; first = x; second = y }) in
+      near-acts w h c p (s .stones) b′ n k player (playable-board w h c p on) (sides .0) (sides .1) (record { between = m; first = x; second = y }) in
       record {
         step = play-step on (z .first) (z .second);
         long = y .as-long ∙ (x .as-long ∙ (length-set (s .stones) p c ∙ long));

@@ -1,11 +1,14 @@
 -- What a move plays, by its value. Assumes nothing.
-use Rattle.lists.proofs.Prelude.{ℕ, _+_, _*_, _<_, _≤_, Bool, true, false, _≡_, refl, sym, ap, _∙_, List, [], _∷_, pick, ltb, lt-ltb, le-ltb, arith}
+use Rattle.lists.proofs.Prelude.{ℕ, _+_, _*_, _<_, _≤_, Bool, true, false, true≢false, _≡_, refl, sym, ap, _∙_, List, [], _∷_, pick, eqb, eqb-true, ltb, lt-ltb, le-ltb, arith}
+use Rattle.lists.proofs.Tests.{and-both}
 use types.Run.{OneOf, miss}
 use denote.Enum.Declared.{tagOf}
 use Rattle.go_points.proofs.Value as value-type
 use Rattle.go_points.specs.declared.Value.{Value}
 use Rattle.go_points.specs.declared.Value.the-variants.{Other, Invalid, Pass, Move, Handicap, Points}
-use Rattle.go.specs.Value.{goValue}
+use Rattle.go_shape.specs.Shape.{shapeOf}
+use Rattle.go_shape.specs.declared.Shape.the-variants.{OneMove}
+use Rattle.go.specs.Value.{valueBy, goValue}
 use Rattle.parts_props.specs.Props.{Property}
 use Rattle.board_play.specs.Play.{Player}
 use Rattle.board_play.specs.Steps.{Act, sets, plays}
@@ -47,6 +50,25 @@ module _ (w h : ℕ) (p : Property) where
   pub moves-are : {c : ℕ} → c ≡ moveColour (p .name) → 1 ≤ c → {v : Value} → v ≡ goValue 2 (p .name) (p .raws) .value → moveActs w h c v ≡ movesOf w h p
   unfolding movesOf
   moves-are e l f = let k : 0 < moveColour (p .name) = omega arith in rw (lt-ltb 0 (moveColour (p .name)) k, e, f)
+
+one-letter : (id : List ℕ) (a : ℕ) → same id (a ∷ []) ≡ true → id ≡ a ∷ []
+one-letter [] a e = absurd (true≢false (sym e))
+one-letter (x ∷ []) a e = ap (λ (z : ℕ). z ∷ []) (eqb-true x a (and-both (eqb x a) true e .0))
+one-letter (x ∷ y ∷ r) a e = absurd (true≢false (sym (and-both (eqb x a) false e .1)))
+
+-- the Go value of B and of W is that of one move
+pub move-value : (id : List ℕ) (vs : List (List ℕ)) → 1 ≤ moveColour id → valueBy 2 OneMove vs .value ≡ goValue 2 id vs .value
+unfolding moveColour goValue shapeOf
+move-value id vs l = go (same id (0x42 ∷ [])) (same id (0x57 ∷ [])) refl refl l
+  where
+    go : (s t : Bool) → same id (0x42 ∷ []) ≡ s → same id (0x57 ∷ []) ≡ t → 1 ≤ pick s 1 (pick t 2 0) → valueBy 2 OneMove vs .value ≡ goValue 2 id vs .value
+    go true t e f k = let n : id ≡ 0x42 ∷ [] = one-letter id 0x42 e in rw n
+    go false true e f k = let n : id ≡ 0x57 ∷ [] = one-letter id 0x57 f in rw n
+    go false false e f k = absurd (omega arith)
+
+module _ (w h : ℕ) (p : Property) where
+  pub moves-by : {c : ℕ} → c ≡ moveColour (p .name) → 1 ≤ c → {v : Value} → v ≡ valueBy 2 OneMove (p .raws) .value → moveActs w h c v ≡ movesOf w h p
+  moves-by e l f = moves-are w h p e l (f ∙ move-value (p .name) (p .raws) (omega arith))
 
 move-small : (id : List ℕ) → moveColour id < 3
 unfolding moveColour

@@ -3,7 +3,9 @@ use Rattle.lists.proofs.Prelude.{ℕ, zero, suc, _+_, _-_, _<_, _≤_, Bool, tr
 use Rattle.tables.specs.Each.{tabulate}
 use Rattle.parts_props.specs.Props.{Property}
 use Rattle.board_play.specs.Steps.{Act, sets}
-use Rattle.board_node.specs.Node.{setsFrom, setupsOf, movesOf, allSetups, allMoves}
+use Rattle.board_node.specs.Node.{setupColour, setsFrom, setupsOf, movesOf, allSetups, allMoves}
+use Rattle.board_node.specs.LocalsTurn.{SetupsFrom}
+use Rattle.board_node.proofs.Moves.{setups-none}
 
 module _ (c : ℕ) (marks : List Bool) (p : ℕ) where
   pub sets-end : length marks ≤ p → setsFrom c p (drop p marks) ≡ []
@@ -41,3 +43,19 @@ module _ (f : ℕ → Property) (p to : ℕ) where
 
   pub moves-end : (w h : ℕ) → to ≤ p → allMoves w h (tabulate f p (to - p)) ≡ []
   moves-end w h l = ap (allMoves w h) (rows-end l)
+
+-- rows that set nothing are passed by
+module _ (f : ℕ → Property) (first to : ℕ) where
+  pub from-first : SetupsFrom f first to first
+  from-first = record { behind = omega arith; same = refl }
+
+  pub from-next : (p : ℕ) → SetupsFrom f first to p → p < to → 2 < setupColour (f p .name) → SetupsFrom f first to (p + 1)
+  from-next p x l c =
+      let b = x .behind in
+      record {
+        behind = omega arith;
+        same = x .same ∙ (setups-next f p to l ∙ ap (λ (z : List Act). z ++ allSetups (tabulate f (p + 1) (to - (p + 1)))) (sym (setups-none 0 0 (f p) c)));
+      }
+
+  pub from-end : (p : ℕ) → SetupsFrom f first to p → to ≤ p → [] ≡ allSetups (tabulate f first (to - first))
+  from-end p x l = sym (x .same ∙ setups-end f p to l)

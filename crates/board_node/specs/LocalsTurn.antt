@@ -1,10 +1,13 @@
 -- What a step of a node promises, for the contracts of private functions.
 use lib.ListN.{set}
-use Rattle.lists.specs.Prelude.{ℕ, Bool, true, false, _&&_, not, _≡_, List, [], _∷_, _++_, getD}
+use Rattle.lists.specs.Prelude.{ℕ, _-_, _≤_, Bool, true, false, _&&_, not, _≡_, List, [], _∷_, _++_, getD, replicate}
+use Rattle.tables.specs.Each.{tabulate}
+use Rattle.parts_props.specs.Props.{Property}
 use Rattle.board_groups.specs.Board.{onBoard}
 use Rattle.board_play.specs.Steps.{Pos, Act, sets, plays}
 use Rattle.board_acts.specs.Acts.{posOf, StepsBy}
 use Rattle.board_acts.specs.declared.State.{State}
+use Rattle.board_node.specs.Node.{allSetups}
 
 -- as `rightActs`, with marks at the places that were set before
 abbrev pub rightBy : (w h : ℕ) → List Bool → List Act → Bool
@@ -29,3 +32,13 @@ pub record TurnIs (w h : ℕ) (mine : List Act) (m : List Bool) (b : List ℕ) (
 -- the same of moves, which set no mark
 abbrev pub MovesIs : (w h : ℕ) (mine : List Act) (b : List ℕ) (s : State) (b′ : List ℕ) (s′ : State) (refused : Bool) → Type 0
 MovesIs w h mine b s b′ s′ refused = (m : List Bool) → TurnIs w h mine m b s m b′ s′ refused
+
+-- the properties from row r on up to row `to` set what those from row `first` on set
+pub record SetupsFrom (f : ℕ → Property) (first to r : ℕ) : Type 0 where
+  pub behind : first ≤ r
+  pub same : allSetups (tabulate f first (to - first)) ≡ allSetups (tabulate f r (to - r))
+
+-- these acts are done upon a board where none was done before, or one of them is refused; with the marks that they leave
+pub record SetupIs (w h : ℕ) (mine : List Act) (b : List ℕ) (s : State) (b′ : List ℕ) (s′ : State) (off : Bool) : Type 0 where
+  pub marks : List Bool
+  pub turn : TurnIs w h mine (replicate 2704 false) b s marks b′ s′ off

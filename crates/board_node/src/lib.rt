@@ -1,7 +1,7 @@
 // The acts of one node upon a position: what its setup sets, then what its moves play.
 ghost use mathlib.Core.Path.{_≡_};
-ghost use mathlib.Core.List.{[], _∷_};
-ghost use Prim.Native.Nat.{_-_, _/_, _<_, _≤_};
+ghost use mathlib.Core.List.{List, [], _∷_};
+ghost use Prim.Native.Nat.{ℕ, _-_, _/_, _<_, _≤_};
 ghost use lib.ListN.{length};
 ghost use Rattle.values.specs.Read.{readIdentifier};
 ghost use Rattle.tables.specs.Columns.{propertyStride};
@@ -13,10 +13,11 @@ ghost use Rattle.board_play.specs.Play.{Player};
 ghost use Rattle.board_play.specs.Steps.{sets};
 ghost use Rattle.board_node.specs.Node.{setupColour, moveColour, setsFrom, moveActs, setupsOf, movesOf, allSetups, allMoves};
 ghost use Rattle.board_node.specs.Answer.{noState, positionOf, answerOf, refusedNode, NodeIs};
-ghost use Rattle.board_node.specs.LocalsTurn.{TurnIs, MovesIs};
+ghost use Rattle.board_node.specs.LocalsTurn.{TurnIs, MovesIs, SetupsFrom, SetupIs};
 use board_acts::State;
 use board_acts::Sums;
 use go_points::Value;
+use go_shape::Shape;
 
 // What stands at each place, and the sums.
 pub struct Position {
@@ -223,6 +224,60 @@ fn set_rows(
     }
 }
 
+// The first row from `first` on up to `to` that sets something, or the last one.
+fn setup_from(text: &[u8], properties: &[u32], first: usize, to: usize) -> usize
+    ensures { λ r. ⌜ ((vl : List ℕ) → SetupsFrom (propertyAt (now (text .entry)) (now (properties .entry)) vl) first to r) ⌝ }
+{
+    let mut p = first;
+    while p < to {
+        let identifier = parts_props::identifier_at(text, properties, p);
+        if setup_colour(identifier) < 3 {
+            return p;
+        }
+        p += 1;
+    }
+    p
+}
+
+// Does the setup of the properties from row `first` up to row `to`, where nothing was set before.
+fn set_all(
+    stones: &mut [u8; 2704],
+    state: State,
+    columns: usize,
+    rows: usize,
+    text: &[u8],
+    properties: &[u32],
+    values: &[u32],
+    first: usize,
+    to: usize,
+) -> Turn
+    requires { ⌜ (first < to → to ≤ length (now properties) / propertyStride) ⌝ }
+    ensures { λ r. ⌜ SetupIs columns rows
+        (allSetups (tabulate (propertyAt (now (text .entry)) (now (properties .entry)) (now (values .entry))) first (to - first)))
+        (now (stones .entry)) state (now (stones .exit)) (r .state) (r .refused) ⌝ }
+{
+    let from = setup_from(text, properties, first, to);
+    if to <= from {
+        return Turn {
+            refused: false,
+            state: state,
+        };
+    }
+    let mut seen = [false; 2704];
+    set_rows(
+        stones,
+        &mut seen,
+        state,
+        columns,
+        rows,
+        text,
+        properties,
+        values,
+        from,
+        to,
+    )
+}
+
 // Plays the move to (x, y): a pass where it is `tt` on a board up to 19 by 19.
 fn play_move(
     stones: &mut [u8; 2704],
@@ -281,8 +336,7 @@ fn play_row(
     }
     let start = lists::wide(properties[p * tables::PROPERTY_STRIDE + tables::PROPERTY_FIRST]);
     let many = lists::wide(properties[p * tables::PROPERTY_STRIDE + tables::PROPERTY_COUNT]);
-    let go = go::value::go_value(2, identifier, text, values, start, many);
-    let value = go.value;
+    let value = go::value::value_by(2, Shape::OneMove, text, values, start, many);
     let Value::Move(x, y) = value else {
         return Turn {
             refused: false,
@@ -366,10 +420,8 @@ pub fn play_upon(
         (positionOf (now (stones .entry)) state) (answerOf (r .refused) (now (stones .exit)) (r .state)) ⌝ }
 {
     let to = first + parts_props::row_count(properties, first, count);
-    let mut seen = [false; 2704];
-    let set = set_rows(
+    let set = set_all(
         stones,
-        &mut seen,
         state,
         columns,
         rows,

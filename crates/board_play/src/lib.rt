@@ -28,7 +28,7 @@ fn can_play(columns: usize, rows: usize, p: usize, colour: u8) -> bool
     ((colour == 1) | (colour == 2)) & (((p / 52 < columns) & (p % 52 < rows)) & (p < 2704))
 }
 
-// Plays a stone, and looks for captures on the whole board.
+// Plays a stone, and looks for captures on the whole board; near the move where every stone is seen to have a liberty, since that is all then.
 pub fn play_stone(
     stones: &mut [u8; 2704],
     columns: usize,
@@ -39,6 +39,9 @@ pub fn play_stone(
     ensures { λ r. ⌜ PlayIs (Plays columns rows colour p (now (stones .entry)) (now (stones .exit)) (r .taken) (r .lost)) columns rows colour p
         (now (stones .entry)) (now (stones .exit)) (r .stood) (r .taken) (r .lost) ⌝ }
 {
+    if board_take::settled(stones, columns, rows) {
+        return play_near(stones, columns, rows, p, colour);
+    }
     if !can_play(columns, rows, p, colour) {
         return Played {
             stood: 0,

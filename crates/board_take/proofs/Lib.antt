@@ -2,6 +2,8 @@ pub mod Besides
 pub mod Empties
 pub mod Growing
 pub mod Queue
+pub mod Settling
+pub mod Short
 pub mod Sides
 pub mod Sweeping
 pub mod Taking

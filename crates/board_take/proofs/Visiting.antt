@@ -24,7 +24,7 @@ module _ (w h : ℕ) (b : List ℕ) (c : ℕ) where
   here-stone q r s e =
       (e, subst (λ (z : ℕ). z < 2704) e (board-on w h r (s .on) .place), subst (λ (z : ℕ). at b z ≡ c) e (s .is))
 
-  side-around : (p q r : ℕ) → Side w h p q → Here b c q r → Around w h b c p r
+  pub side-around : (p q r : ℕ) → Side w h p q → Here b c q r → Around w h b c p r
   side-around p q r s x =
       subst (λ (z : ℕ). Around w h b c p z) (sym (x .0)) (s .near (x .1), record { on = s .on (x .1); is = x .2 })
 

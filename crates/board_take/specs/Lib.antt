@@ -1,3 +1,4 @@
 pub mod LocalsFlood
+pub mod LocalsShort
 pub mod LocalsSides
 pub mod Take

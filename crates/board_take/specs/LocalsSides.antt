@@ -1,5 +1,5 @@
 -- The places beside a place, for the contracts of private functions: 2704 where the board ends.
-use Rattle.lists.specs.Prelude.{ℕ, _+_, _-_, _/_, _%_, Bool, true, false, _&&_, _≡_, List, ltb, leb, eqb, pick}
+use Rattle.lists.specs.Prelude.{ℕ, _+_, _-_, _/_, _%_, Bool, true, false, _&&_, _||_, _≡_, List, ltb, leb, eqb, pick}
 use Rattle.board_groups.specs.Board.{at, onBoard, beside}
 use Rattle.board_groups.specs.Groups.{Stone}
 
@@ -39,6 +39,10 @@ pub record FreeAsked (w h : ℕ) (b : List ℕ) (p : ℕ) (stop r : Bool) : Type
 -- the place is one, and empty
 unfoldable pub emptyAt : (b : List ℕ) (q : ℕ) → Bool
 emptyAt b q = ltb q 2704 && eqb (at b q) 0
+
+-- the place is one, and empty or of colour c
+unfoldable pub heldAt : (b : List ℕ) (c q : ℕ) → Bool
+heldAt b c q = ltb q 2704 && (eqb (at b q) 0 || eqb (at b q) c)
 
 -- c stands at p, a point of the board
 unfoldable pub standsAt : (w h : ℕ) (b : List ℕ) (c p : ℕ) → Bool

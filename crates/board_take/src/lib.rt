@@ -1,13 +1,14 @@
 // Stones taken off: all groups of a colour that have no liberty, or one group. A flood marks places; specs/LocalsFlood is for private functions alone.
 ghost use mathlib.Core.Path.{_≡_};
 ghost use mathlib.Core.Bool.{true, false, not, _&&_};
-ghost use Prim.Native.Nat.{ℕ, _≤_, _<_};
+ghost use Prim.Native.Nat.{ℕ, _+_, _≤_, _<_};
 ghost use lib.ListN.{length, getD};
 ghost use Rattle.board_groups.specs.Board.{at, onBoard};
-ghost use Rattle.board_groups.specs.Groups.{Stone};
-ghost use Rattle.board_take.specs.LocalsSides.{rightOf, leftOf, downOf, upOf, emptyAt, standsAt, FreeIs, FreeAsked};
+ghost use Rattle.board_groups.specs.Groups.{Stone, Liberty};
+ghost use Rattle.board_take.specs.LocalsSides.{rightOf, leftOf, downOf, upOf, emptyAt, heldAt, standsAt, FreeIs, FreeAsked};
+ghost use Rattle.board_take.specs.LocalsShort.{ShortGrew, SettledTo};
 ghost use Rattle.board_take.specs.LocalsFlood.{Marked, Found, Queued, Went, Here, Around, Seed, SeedAt, Unmarked, Coloured, GrowIs, Swept};
-ghost use Rattle.board_take.specs.Take.{TakesAll, TakesOne, TakesNear};
+ghost use Rattle.board_take.specs.Take.{TakesAll, TakesOne, TakesNear, SettledSeen};
 
 // The place in the next column, or 2704.
 fn right(p: usize, columns: usize) -> usize
@@ -283,6 +284,76 @@ fn clear(stones: &mut [u8; 2704], queue: &[u16; 2704], n: usize, colour: u8) -> 
     taken
 }
 
+// Puts a place on a short queue where a stone of the colour stands there, its mark is free and there is room; two places may share a mark.
+fn push_short(
+    stones: &[u8; 2704],
+    marks: &mut [bool; 64],
+    queue: &mut [u16; 32],
+    n: usize,
+    q: usize,
+    colour: u8,
+) -> usize
+    requires { ⌜ (length (now queue) ≡ 32) × (n ≤ 32) ⌝ }
+    ensures { λ r. ⌜ ShortGrew (Here (now (stones .entry)) colour q) (now (queue .entry)) n (now (queue .exit)) r ⌝ }
+{
+    if 2704 <= q {
+        return n;
+    }
+    if stones[q] != colour {
+        return n;
+    }
+    let mark = q % 64;
+    if marks[mark] {
+        return n;
+    }
+    if 32 <= n {
+        return n;
+    }
+    marks[mark] = true;
+    queue[n] = q as u16;
+    n + 1
+}
+
+// Puts the stones of the colour beside p on a short queue, as long as there is room.
+fn visit_short(
+    stones: &[u8; 2704],
+    marks: &mut [bool; 64],
+    queue: &mut [u16; 32],
+    n: usize,
+    p: usize,
+    columns: usize,
+    rows: usize,
+    colour: u8,
+) -> usize
+    requires { ⌜ (length (now queue) ≡ 32) × (n ≤ 32) × (onBoard columns rows p ≡ true) ⌝ }
+    ensures { λ r. ⌜ ShortGrew (Around columns rows (now (stones .entry)) colour p) (now (queue .entry)) n (now (queue .exit)) r ⌝ }
+{
+    let a = push_short(stones, marks, queue, n, right(p, columns), colour);
+    let b = push_short(stones, marks, queue, a, left(p), colour);
+    let c = push_short(stones, marks, queue, b, down(p, rows), colour);
+    push_short(stones, marks, queue, c, up(p), colour)
+}
+
+// Whether a short search finds a liberty of the group of p.
+fn lives(stones: &[u8; 2704], p: usize, columns: usize, rows: usize, colour: u8) -> bool
+    requires { ⌜ Stone columns rows (now stones) colour p ⌝ }
+    ensures { λ r. ⌜ (r ≡ true → Liberty columns rows (now (stones .entry)) colour p) ⌝ }
+{
+    let mut marks = [false; 64];
+    let mut queue = [0u16; 32];
+    let mut n = push_short(stones, &mut marks, &mut queue, 0, p, colour);
+    let mut i: usize = 0;
+    while i < n {
+        let q = queue[i] as usize;
+        if free(stones, q, columns, rows) {
+            return true;
+        }
+        i += 1;
+        n = visit_short(stones, &mut marks, &mut queue, n, q, columns, rows, colour);
+    }
+    false
+}
+
 // Takes off all stones of the colour whose groups have no liberty, and gives their number.
 pub fn take_all(stones: &mut [u8; 2704], columns: usize, rows: usize, colour: u8) -> usize
     ensures { λ r. ⌜ TakesAll columns rows colour (now (stones .entry)) (now (stones .exit)) r ⌝ }
@@ -325,6 +396,9 @@ pub fn take_group(
     if free(stones, p, columns, rows) {
         return 0;
     }
+    if lives(stones, p, columns, rows, colour) {
+        return 0;
+    }
     let mut marks = [false; 2704];
     let mut queue = [0u16; 2704];
     let n = push(stones, &mut marks, &mut queue, 0, p, colour);
@@ -365,4 +439,67 @@ pub fn take_beside(
     let c = take_group(stones, columns, rows, down(p, rows), colour);
     let d = take_group(stones, columns, rows, up(p), colour);
     a + b + c + d
+}
+
+// The place is one, and empty or of the colour.
+fn held_at(stones: &[u8; 2704], q: usize, colour: u8) -> bool
+    ensures { λ r. ⌜ r ≡ heldAt (now (stones .entry)) colour q ⌝ }
+{
+    if q < 2704 {
+        let c = stones[q];
+        return (c == 0) | (c == colour);
+    }
+    false
+}
+
+// Whether p is empty, or beside an empty point, or beside a stone of its colour before it, where every stone before it has a liberty.
+fn seen_at(stones: &[u8; 2704], p: usize, columns: usize, rows: usize) -> bool
+    requires { ⌜ (onBoard columns rows p ≡ true) × SettledTo columns rows (now stones) p ⌝ }
+    ensures { λ r. ⌜ (r ≡ true → SettledTo columns rows (now (stones .entry)) (p + 1)) ⌝ }
+{
+    let colour = stones[p];
+    if colour == 0 {
+        return true;
+    }
+    if held_at(stones, up(p), colour) {
+        return true;
+    }
+    if held_at(stones, left(p), colour) {
+        return true;
+    }
+    if empty_at(stones, down(p, rows)) {
+        return true;
+    }
+    empty_at(stones, right(p, columns))
+}
+
+// Whether every stone is seen to have a liberty, in one pass and at most 32 short searches; false says nothing.
+pub fn settled(stones: &[u8; 2704], columns: usize, rows: usize) -> bool
+    ensures { λ r. ⌜ SettledSeen columns rows (now (stones .entry)) r ⌝ }
+{
+    let mut left: usize = 32;
+    let mut p: usize = 0;
+    while p < 2704 {
+        if columns <= p / 52 {
+            return true;
+        }
+        let y = p % 52;
+        if rows <= y {
+            p += 52 - y;
+            continue;
+        }
+        if seen_at(stones, p, columns, rows) {
+            p += 1;
+            continue;
+        }
+        if left == 0 {
+            return false;
+        }
+        left -= 1;
+        if !lives(stones, p, columns, rows, stones[p]) {
+            return false;
+        }
+        p += 1;
+    }
+    true
 }

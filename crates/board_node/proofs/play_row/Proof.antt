@@ -1,11 +1,11 @@
 -- `board_node::play_row` meets its contract. Assumes nothing.
-use Rattle.board_node.proofs.Moves.{move-none, moves-none, moves-are, move-player}
+use Rattle.board_node.proofs.Moves.{move-none, moves-none, moves-by, move-player}
 use Rattle.board_node.proofs.Turning.{turn-none, turn-same}
 use Rattle.board_node.specs.Node.{moveColour}
 use Rattle.parts_props.specs.Props.{propertyAt}
 use Rattle.parts.specs.Rows.{valuesAt}
-use Rattle.go.specs.declared.value.GoValue.{GoValue}
-use Rattle.go.specs.Value.{goValue}
+use Rattle.go_shape.specs.declared.Shape.the-variants.{OneMove}
+use Rattle.go.specs.Value.{valueBy}
 use Rattle.values.specs.Read.{readIdentifier}
 use Rattle.lists.proofs.Prelude.{ℕ, List, sym, ap, ap₂, _∙_, arith}
 use borrow.Author.Needs.{needs}
@@ -20,8 +20,7 @@ returns c =
 returns-2 : tie.Need-returns-2
 returns-2 c =
     let a = c .before .before .before .before .before .before .before .before .before .before .before .before .args in
-    let i = c .before .before .before .before .before .before .before .before .identifier-at in
-    λ m. turn-same (a .columns) (a .rows) (move-none (a .columns) (a .rows) (c .before .before .before .before .before .before .before .move-colour .result) _ (c .match .keys2) ∙ moves-are (a .columns) (a .rows) (propertyAt (a .text .now) (a .properties .now) (a .values .now) (a .p)) (c .before .before .before .before .before .before .before .move-colour .ensures ∙ ap (λ (z : List ℕ). moveColour (readIdentifier z)) (i .ensures)) (c .before .before .before .before .before .before .if1 .left) (ap (λ (g : GoValue). g .value) (c .before .go-value .ensures ∙ (ap (λ (z : List ℕ). goValue 2 (readIdentifier z) (valuesAt (a .text .now) (a .values .now) (c .before .before .before .before .wide .result) (c .before .before .wide2 .result))) (i .ensures) ∙ ap₂ (λ (y z : ℕ). goValue 2 ((propertyAt (a .text .now) (a .properties .now) (a .values .now) (a .p)) .name) (valuesAt (a .text .now) (a .values .now) y z)) (c .before .before .before .before .wide .ensures) (c .before .before .wide2 .ensures))))) (turn-none (a .columns) (a .rows) m (a .stones .now) (a .state))
+    λ m. turn-same (a .columns) (a .rows) (move-none (a .columns) (a .rows) (c .before .before .before .before .before .before .before .move-colour .result) _ (c .match .keys2) ∙ moves-by (a .columns) (a .rows) (propertyAt (a .text .now) (a .properties .now) (a .values .now) (a .p)) (c .before .before .before .before .before .before .before .move-colour .ensures ∙ ap (λ (z : List ℕ). moveColour (readIdentifier z)) (c .before .before .before .before .before .before .before .before .identifier-at .ensures)) (c .before .before .before .before .before .before .if1 .left) (c .before .value-by .ensures ∙ ap₂ (λ (y z : ℕ). valueBy 2 OneMove (valuesAt (a .text .now) (a .values .now) y z) .value) (c .before .before .before .before .wide .ensures) (c .before .before .wide2 .ensures))) (turn-none (a .columns) (a .rows) m (a .stones .now) (a .state))
 
 play-move-requires : tie.Need-play-move-requires
 play-move-requires c κs = move-player (readIdentifier (c .before .before .before .before .before .before .before .before .before .before .before .identifier-at .result .now)) (c .before .before .before .before .before .before .before .before .before .before .move-colour .ensures) (c .before .before .before .before .before .before .before .before .before .if1 .left)
@@ -29,8 +28,7 @@ play-move-requires c κs = move-player (readIdentifier (c .before .before .befor
 returns-3 : tie.Need-returns-3
 returns-3 c =
     let a = c .before .before .before .before .before .before .before .before .before .before .before .before .before .before .before .before .args in
-    let i = c .before .before .before .before .before .before .before .before .before .before .before .before .identifier-at in
-    λ m. turn-same (a .columns) (a .rows) (moves-are (a .columns) (a .rows) (propertyAt (a .text .now) (a .properties .now) (a .values .now) (a .p)) (c .before .before .before .before .before .before .before .before .before .before .before .move-colour .ensures ∙ ap (λ (z : List ℕ). moveColour (readIdentifier z)) (i .ensures)) (c .before .before .before .before .before .before .before .before .before .before .if1 .left) (sym (c .before .before .before .value .given .1) ∙ (ap (λ (g : GoValue). g .value) (c .before .before .before .before .before .go-value .ensures ∙ (ap (λ (z : List ℕ). goValue 2 (readIdentifier z) (valuesAt (a .text .now) (a .values .now) (c .before .before .before .before .before .before .before .before .wide .result) (c .before .before .before .before .before .before .wide2 .result))) (i .ensures) ∙ ap₂ (λ (y z : ℕ). goValue 2 ((propertyAt (a .text .now) (a .properties .now) (a .values .now) (a .p)) .name) (valuesAt (a .text .now) (a .values .now) y z)) (c .before .before .before .before .before .before .before .before .wide .ensures) (c .before .before .before .before .before .before .wide2 .ensures)))))) (c .play-move .ensures m)
+    λ m. turn-same (a .columns) (a .rows) (moves-by (a .columns) (a .rows) (propertyAt (a .text .now) (a .properties .now) (a .values .now) (a .p)) (c .before .before .before .before .before .before .before .before .before .before .before .move-colour .ensures ∙ ap (λ (z : List ℕ). moveColour (readIdentifier z)) (c .before .before .before .before .before .before .before .before .before .before .before .before .identifier-at .ensures)) (c .before .before .before .before .before .before .before .before .before .before .if1 .left) (sym (c .before .before .before .value .given .1) ∙ (c .before .before .before .before .before .value-by .ensures ∙ ap₂ (λ (y z : ℕ). valueBy 2 OneMove (valuesAt (a .text .now) (a .values .now) y z) .value) (c .before .before .before .before .before .before .before .before .wide .ensures) (c .before .before .before .before .before .before .wide2 .ensures)))) (c .play-move .ensures m)
 
 pub play-row-spec : {M : Type 1} → statement M
 play-row-spec =
