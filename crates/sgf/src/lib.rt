@@ -4,6 +4,7 @@ pub mod escape;
 pub mod feeds; // feeds.rt: corrections over the air
 pub mod boards;
 pub mod by_blocks;
+pub mod length; // length.rt: the length of a writing
 pub mod season;
 pub mod size; // size.rt: the board size of a tree
 
