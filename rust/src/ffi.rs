@@ -407,7 +407,7 @@ pub fn write(h: &Held, out: &mut [u8]) -> Length {
 }
 
 pub fn write_length(h: &Held) -> Length {
-    over!(sgf_write_length, h)
+    over!(sgf_write_length, h,)
 }
 
 pub fn size(h: &Held, tree: usize) -> Size {
