@@ -500,8 +500,16 @@ static void correct(size_t k) {
     }
 }
 
+/* The length that a writing needs, beside what it answered. */
+static void check_length(SgfWriting w) {
+    SgfWriting n = sgf_write_length(RECORD);
+    REQUIRE(n.number == (w.number == 14 ? 0 : w.number) && n.reserved == 0);
+    REQUIRE(w.number == 14 ? lent[OUTS].length < n.length : n.length == w.length);
+}
+
 static void write_text(void) {
     SgfWriting w = sgf_write(RECORD, BYTES(OUTS));
+    check_length(w);
     if (answered(WRITE, w.number, MAY(19) | MAY(15) | MAY(14), MAY(OUTS))) {
         tell(WRITE, 0, w.length);
         stays_but(OUTS, 0, w.length);

@@ -25,9 +25,10 @@
  * the rows behind its count are 0, after one that is refused all rows; only number 20 leaves them as they were.
  *
  * Stack, in bytes, on aarch64 (x86-64 within 130 bytes of it): sgf_board 25,600, sgf_board_next 22,400, sgf_go_value 11,392,
- * sgf_write 8,832, sgf_go_by_rule 5,696, sgf_read_strict and sgf_read_lenient 5,440, sgf_simple_value,
- * sgf_simple_property and sgf_entry 1,900 at most; of the others sgf_correct 1,088, sgf_corrected and sgf_feed_check 832,
- * measured on x86-64, the rest 512 at most. docs/MEMORY.md has each function's bound, which examples/c/stack.c tests.
+ * sgf_write 8,832, sgf_write_length 10,240 at most, sgf_go_by_rule 5,696, sgf_read_strict and sgf_read_lenient 5,440,
+ * sgf_simple_value, sgf_simple_property and sgf_entry 1,900 at most; of the others sgf_correct 1,088, sgf_corrected and
+ * sgf_feed_check 832, measured on x86-64, the rest 512 at most. docs/MEMORY.md has each function's bound, which
+ * examples/c/stack.c tests.
  */
 #ifndef SGF_H
 #define SGF_H
@@ -247,8 +248,13 @@ typedef struct {
 
 /* Writes the record to `out`: identifiers as their uppercase letters, moves, handicaps and point sets in one fixed
  * form, everything else by its raw bytes. Numbers: 19, 15, 14. A writing can be longer than its text (the rectangle
- * in `(;AB[aa:ZZ])` is 2,704 points): after 14 double out_len until it is accepted. */
+ * in `(;AB[aa:ZZ])` is 2,704 points): ask sgf_write_length for out_len, or after 14 double it until it is accepted. */
 SgfWriting sgf_write(SGF_RECORD, uint8_t *out, size_t out_len);
+
+/* The length of that writing, without an output: with an out_len of it or more sgf_write is accepted and writes so many
+ * bytes, with less it is 14. Numbers, those that sgf_write gives whatever it is lent: 19, 15 (and 14 for a writing of
+ * 2^64 - 1 bytes or more, which no memory holds). It does all that sgf_write does before its first byte. */
+SgfWriting sgf_write_length(SGF_RECORD);
 
 /* A number and a place, and the used bytes and rows from now on. */
 typedef struct {

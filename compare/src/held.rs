@@ -26,6 +26,6 @@ pub const TEXT: u32 = 0;
 pub const SIMPLE_TEXT: u32 = 1;
 
 #[cfg(not(stand_in))]
-pub use crate::ffi::{display, display_value, edit, fits, go_by_rule, go_value, size, tree_size, value, write};
+pub use crate::ffi::{display, display_value, edit, fits, go_by_rule, go_value, size, tree_size, value, write, write_length};
 #[cfg(stand_in)]
-pub use crate::stand_in_held::{display, display_value, edit, fits, go_by_rule, go_value, size, tree_size, value, write};
+pub use crate::stand_in_held::{display, display_value, edit, fits, go_by_rule, go_value, size, tree_size, value, write, write_length};

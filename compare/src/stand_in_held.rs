@@ -89,6 +89,13 @@ pub fn write(h: &Held, out: &mut [u8]) -> Length {
     }
 }
 
+pub fn write_length(h: &Held) -> Length {
+    match plain_write::write(h) {
+        Ok(bytes) => Length { number: 0, reserved: 0, length: bytes.len() },
+        Err(number) => Length { number, reserved: 0, length: 0 },
+    }
+}
+
 pub fn edit(e: &mut Edited, k: usize, new: &[u8]) -> Edit {
     let h = Held { text: e.text, used: e.used, counts: e.counts, tables: [e.trees, e.nodes, e.properties, e.values] };
     let answer = |number, place, used, counts| Edit { number, reserved: 0, place, used, counts };

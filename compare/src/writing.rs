@@ -39,6 +39,8 @@ fn compare_plain(whole: &Whole) -> Result<(), String> {
     let h = whole.held();
     let expected = plain_write::write(&h);
     let need = expected.as_ref().map_or(0, Vec::len);
+    let number = expected.as_ref().err().copied().unwrap_or(0);
+    same("length of a writing", held::write_length(&h), Length { number, reserved: 0, length: need })?;
     for room in [need, need + 1 + whole.used % 7, need.saturating_sub(1), 0] {
         let mut out = Fenced::new(&[], room);
         let answer = held::write(&h, out.lent_mut());

@@ -221,8 +221,13 @@ static void check_writing(void) {
     SgfWriting writing = sgf_write(RECORD, out, sizeof out);
     CHECK(writing.number == 0 && writing.reserved == 0 && writing.length == 13 && memcmp(out, "(;AB[aa][ba])", 13) == 0);
     CHECK(sgf_write(RECORD, out, 12).number == SGF_NO_ROOM && sgf_write(RECORD, out, 12).length == 0);
+    writing = sgf_write_length(RECORD);
+    CHECK(writing.number == 0 && writing.reserved == 0 && writing.length == 13);
     read_text("(;[x])", sgf_read_strict, 0);
     CHECK(sgf_write(RECORD, out, sizeof out).number == SGF_EMPTY_IDENTIFIER);
+    CHECK(sgf_write_length(RECORD).number == SGF_EMPTY_IDENTIFIER && sgf_write_length(RECORD).length == 0);
+    counts.nodes--;
+    CHECK(sgf_write_length(RECORD).number == SGF_NOT_FITTING && sgf_write_length(RECORD).length == 0);
 }
 
 static void check_edit(void) {

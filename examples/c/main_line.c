@@ -156,21 +156,16 @@ static void correct_comment(Record *r, size_t p) {
     free(corrected);
 }
 
-/* Writes the record, lending more as long as it asks for more. */
+/* Writes the record into just as many bytes as it needs. */
 static void write_record(const Record *r) {
-    for (size_t room = r->used + 2;; room *= 4) {
-        uint8_t *out = lend(room);
-        SgfWriting writing = sgf_write(LENT(r), out, room);
-        if (writing.number == SGF_ACCEPTED) {
-            printf("%.*s\n", (int)writing.length, (const char *)out);
-        } else if (writing.number != SGF_NO_ROOM) {
-            fail("writing", writing.number, 0);
-        }
-        free(out);
-        if (writing.number == SGF_ACCEPTED) {
-            return;
-        }
+    size_t room = sgf_write_length(LENT(r)).length;
+    uint8_t *out = lend(room);
+    SgfWriting writing = sgf_write(LENT(r), out, room);
+    if (writing.number != SGF_ACCEPTED) {
+        fail("writing", writing.number, 0);
     }
+    printf("%.*s\n", (int)writing.length, (const char *)out);
+    free(out);
 }
 
 int main(int argc, char **argv) {

@@ -78,6 +78,7 @@ NOTE(SgfSize, note_tree_size, const uint8_t *t, size_t n, const uint32_t *a, siz
 NOTE(SgfBoard, note_board, SGF_RECORD, size_t k)
 NOTE(SgfBoard, note_board_next, SgfBoard on, const uint8_t *t, size_t n, const uint32_t *p, size_t m, const uint32_t *v, size_t l, size_t first, size_t count)
 NOTE(SgfWriting, note_write, SGF_RECORD, uint8_t *to, size_t to_len)
+NOTE(SgfWriting, note_write_length, SGF_RECORD)
 NOTE(SgfEdit, note_edit, uint8_t *t, size_t n, size_t m, SgfCounts k, const uint32_t *a, size_t b, const uint32_t *c, size_t d, uint32_t *e, size_t f, uint32_t *g, size_t h, size_t i, const uint8_t *r, size_t l)
 NOTE(SgfTrim, note_trim, const uint8_t *t, size_t n)
 NOTE(SgfToken, note_token, const uint8_t *t, size_t n, size_t at)
@@ -128,6 +129,7 @@ static void call_board_next(void) {
     board = EITHER(board_next)(board, text, used, properties, sizeof properties / 4, values, sizeof values / 4, row[3], row[4]);
 }
 static void call_write(void) { writing = EITHER(write)(RECORD, out, room); }
+static void call_write_length(void) { writing = EITHER(write_length)(RECORD); }
 static void call_edit(void) { edit = EITHER(edit)(RECORD, asked, (const uint8_t *)replacement, strlen(replacement)); }
 static void call_trim(void) { trim = EITHER(trim)(text, used); }
 static void call_token(void) { token = EITHER(token)(text, used, asked); }
@@ -166,6 +168,7 @@ static struct function {
     {"sgf_board", call_board, 0, 28672},
     {"sgf_board_next", call_board_next, 0, 25600},
     {"sgf_write", call_write, 0, 10240},
+    {"sgf_write_length", call_write_length, 0, 10240},
     {"sgf_edit", call_edit, 0, 1024},
     {"sgf_trim", call_trim, 0, 512},
     {"sgf_token", call_token, 0, 512},

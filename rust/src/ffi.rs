@@ -216,6 +216,7 @@ declare! {
     const sgf_size(tree: usize) -> Size;
     const sgf_board(node: usize) -> Board;
     const sgf_write(out: *mut u8, out_len: usize) -> Length;
+    const sgf_write_length() -> Length;
     mut sgf_edit(k: usize, new: *const u8, new_len: usize) -> Edit;
     const sgf_corrected(feed: *const u8, feed_len: usize, k: usize) -> Part;
     const sgf_feed_check(feed: *const u8, feed_len: usize) -> Check;
@@ -409,6 +410,10 @@ pub fn board_next(board: Board, text: &[u8], properties: &[u32], values: &[u32],
 
 pub fn write(h: &Held, out: &mut [u8]) -> Length {
     over!(sgf_write, h, out.as_mut_ptr(), out.len())
+}
+
+pub fn write_length(h: &Held) -> Length {
+    over!(sgf_write_length, h,)
 }
 
 pub fn size(h: &Held, tree: usize) -> Size {

@@ -279,9 +279,20 @@ impl<'t> Record<'t> {
                     out.truncate(writing.length);
                     return Ok(String::from_utf8(out).expect("a writing is UTF-8"));
                 }
-                14 => out = vec![0; out.len() * 4],
+                14 => out = vec![0; self.written_len()?],
                 number => return Err(Error::new(number, 0)),
             }
         }
+    }
+
+    /// How many bytes [`Record::to_sgf`] gives, without writing them.
+    ///
+    /// Refused is only what `to_sgf` refuses.
+    pub fn written_len(&self) -> Result<usize, Error> {
+        let writing = ffi::write_length(&self.tables.held(&self.text));
+        if writing.number != 0 {
+            return Err(Error::new(writing.number, 0));
+        }
+        Ok(writing.length)
     }
 }

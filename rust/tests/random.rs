@@ -74,6 +74,7 @@ fn a_writing_reads_back() {
         let text = text(&mut rng);
         let Ok(record) = parse(&text) else { continue };
         let written = record.to_sgf().unwrap();
+        assert_eq!(record.written_len().unwrap(), written.len());
         let again = parse(&written).unwrap();
         assert_eq!(content(&again), content(&record));
         assert_eq!(again.to_sgf().unwrap(), written);

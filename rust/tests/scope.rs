@@ -95,3 +95,13 @@ fn the_text_may_be_kept_or_borrowed() {
     let record = parse(&text).unwrap();
     assert_eq!(record.value(0).unwrap().as_bytes().as_ptr(), text.as_bytes()[4..].as_ptr());
 }
+
+#[test]
+fn the_length_of_a_writing() {
+    let len = |text: &str| parse(text).unwrap().written_len().map_err(|error| error.number());
+    assert_eq!(len("(;AB[ba][aa])"), Ok(13));
+    assert_eq!(len("(;AB[aa:ZZ])"), Ok(5 + 4 * 2704));
+    assert_eq!(len("(;SZ[9]B[tt])"), Ok(11));
+    assert_eq!(len("(;[x])"), Err(15));
+    assert_eq!(parse("(;AB[aa:ZZ])").unwrap().to_sgf().unwrap().len(), 5 + 4 * 2704);
+}

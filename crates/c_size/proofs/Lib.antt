@@ -1,3 +1,4 @@
+pub mod Lent
 pub mod Sides
 pub mod Trees
 pub mod Unique

@@ -58,10 +58,10 @@ unasked-listed (beyond f b) = one-of accessNumbers 16 refl
 
 -- an answer by such a number
 module _ (m : Memory) (count k n : ℕ) (zero-if : Answered m count k → n ≡ 0) (each-if : (x : Reason) → Unanswered m count k x → n ≡ numberOf x) where
-  asked-exactly : Exactly n (Answered m count k) (Unanswered m count k)
+  pub asked-exactly : Exactly n (Answered m count k) (Unanswered m count k)
   asked-exactly = exactly n (Answered m count k) (Unanswered m count k) (asked-decided m count k) zero-if each-if
 
-  asked-listed : OneOf accessNumbers n
+  pub asked-listed : OneOf accessNumbers n
   asked-listed =
       ⊎-elim (λ a. subst⁻¹ (OneOf accessNumbers) (zero-if a) (one-of accessNumbers 0 refl))
       (λ u. subst⁻¹ (OneOf accessNumbers) (each-if (u .0) (u .1)) (unasked-listed (u .1))) (asked-decided m count k)

@@ -56,6 +56,8 @@ pub use Rattle.reader.proofs.Theorems.{no-thirteen}
 pub use Rattle.demands.proofs.Accepts.{strict-0, lenient-0, upto-12, never-room}
 -- sgf_read_lenient
 pub use Rattle.demands.proofs.Demand1Lenient.{lenient-exactly, lenient-stays, lenient-zeros, lenient-ignored, lenient-numbers, lenient-case}
+-- sgf_write_length: what it says about sgf_write; sgf_size
+pub use Rattle.demands.proofs.Demand1Trees.{length-exactly, length-suffices, length-needed, length-refused, size-exactly, size-numbers, size-given}
 -- sgf_trim, sgf_token, sgf_display_value
 pub use Rattle.demands.proofs.Demand1Texts.{trim-kept, trim-keeps, trim-numbers, token-exactly, raw-exactly, raw-stays, raw-numbers, escape-exactly, escape-stays, escape-numbers}
 

@@ -7,6 +7,7 @@ pub mod Demand1
 pub mod Demand1Blocks
 pub mod Demand1Lenient
 pub mod Demand1Texts
+pub mod Demand1Trees
 pub mod Demand2
 pub mod Demand2Exported
 pub mod Demand3
@@ -17,6 +18,7 @@ pub mod Editing
 pub mod Exported
 pub mod ExportedAgain
 pub mod ExportedRoom
+pub mod Lengths
 pub mod Listed
 pub mod Numbers
 pub mod Readings

@@ -9,6 +9,8 @@ use Rattle.value_display.specs.declared.Kind.{Kind}
 use Rattle.sgf.specs.AskInC.{fitsInC, DisplayInC, RawInC}
 use Rattle.sgf.specs.EscapeInC.{EscapeInC}
 use Rattle.sgf.specs.ChangeInC.{WriteInC, EditInC}
+use Rattle.serialize.specs.Form.{writtenLength}
+use Rattle.c_answers.specs.Structs.{writingInC}
 use Rattle.c_version.specs.Version.{version}
 use Rattle.c_answers.specs.declared.SgfDisplay.{SgfDisplay}
 use Rattle.c_answers.specs.declared.SgfEdit.{SgfEdit}
@@ -44,6 +46,10 @@ escape-once text out x y r s p q = (p .is ∙ sym (q .is), p .bytes ∙ sym (q .
 
 pub write-once : (m : Memory) (out x y : List ℕ) (r s : SgfWriting) → WriteInC m out x r → WriteInC m out y s → (r ≡ s) × (x ≡ y)
 write-once m out x y r s p q = (p .is ∙ sym (q .is), p .bytes ∙ sym (q .bytes))
+
+-- of sgf_write_length
+pub write-length-once : (m : Memory) → Once (λ (r : SgfWriting). r ≡ writingInC (writtenLength m))
+write-length-once m = once-is (writingInC (writtenLength m))
 
 -- the answer, and all lent memory
 pub edit-once : (m x y : Memory) (k : ℕ) (new : List ℕ) (r s : SgfEdit) → EditInC m x k new r → EditInC m y k new s → (r ≡ s) × (x ≡ y)

@@ -14,7 +14,7 @@ use Rattle.ask.specs.Ask.{DisplayIs, goAnswer}
 use Rattle.ask.specs.declared.DisplayAnswer.{DisplayAnswer}
 use Rattle.ask.specs.declared.GoAnswer.{GoAnswer}
 use Rattle.fit.specs.Record.{recordIn}
-use Rattle.serialize.specs.Form.{writing, output, WriteIs}
+use Rattle.serialize.specs.Form.{writing, output, WriteIs, writtenLength}
 use Rattle.serialize.specs.declared.Written.{Written}
 use Rattle.edit_splice.specs.Splice.{replaced}
 use Rattle.edit_answer.specs.Answer.{outcomeOf, editedFor}
@@ -67,6 +67,9 @@ pub write-once : (m : Memory) (out : List ℕ) (r s : Written) (x y : List ℕ)
 write-once m out r s x y p q =
     let e : r ≡ s = p .is ∙ sym (q .is) in
     (e, p .bytes ∙ ap (λ (a : Written). output a (writing (recordIn m)) out) e ∙ sym (q .bytes))
+
+pub length-once : (m : Memory) → Once (λ (r : Written). r ≡ writtenLength m)
+length-once m = once-is (writtenLength m)
 
 -- edit_splice
 

@@ -28,7 +28,7 @@ module _ (m : Memory) (room : ℕ) where
   abbrev N : Bool
   N = nameless (allProps (allNodes (recordIn m)))
 
-  written-decided : Writes m room ⊎ ((x : Reason) × Unwritten m room x)
+  pub written-decided : Writes m room ⊎ ((x : Reason) × Unwritten m room x)
   written-decided =
       either-bool (Fit m)
       (λ f.
@@ -36,13 +36,13 @@ module _ (m : Memory) (room : ℕ) where
       (λ n. below-or room (length W) (λ l. inr (NoRoom, narrow f n l)) (λ l. inl (record { fits = f; named = n; long = l }))))
       (λ f. inr (NotFitting, unfit f))
 
-  writes-answer : Writes m room → written m room ≡ Wrote (length W)
+  pub writes-answer : Writes m room → written m room ≡ Wrote (length W)
   writes-answer x =
       ap (λ (b : Bool). writeAnswer b N (ltb room (length W)) W) (x .fits)
       ∙ ap (λ (b : Bool). writeAnswer true b (ltb room (length W)) W) (x .named)
       ∙ ap (λ (b : Bool). writeAnswer true false b W) (le-ltb room (length W) (x .long))
 
-  unwritten-answer : {x : Reason} → Unwritten m room x → written m room ≡ Refused x
+  pub unwritten-answer : {x : Reason} → Unwritten m room x → written m room ≡ Refused x
   unwritten-answer (unfit f) = ap (λ (b : Bool). writeAnswer b N (ltb room (length W)) W) f
   unwritten-answer (unnamed f n) = ap (λ (b : Bool). writeAnswer b N (ltb room (length W)) W) f ∙ ap (λ (b : Bool). writeAnswer true b (ltb room (length W)) W) n
   unwritten-answer (narrow f n l) =

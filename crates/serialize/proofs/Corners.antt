@@ -1,5 +1,5 @@
 -- Where no value ends as one that reads as `tt`, both rules of Go write the same. Assumes nothing.
-use Rattle.lists.proofs.Prelude.{ℕ, zero, suc, _+_, _-_, _/_, _≤_, _<_, Bool, true, false, _&&_, _||_, List, [], _∷_, _++_, _≡_, refl, sym, ap, ap₂, _∙_, arith, leb, eqb, length, getD, take, drop, getD-take, getD-drop, length-drop, length-take-le, lt-ltb, leb-true, eq-eqb, ne-eqb, false≢true, and-false, pick}
+use Rattle.lists.proofs.Prelude.{ℕ, zero, suc, _+_, _-_, _/_, _≤_, _<_, Bool, true, false, _&&_, _||_, List, [], _∷_, _++_, _≡_, refl, sym, ap, ap₂, _∙_, arith, leb, eqb, length, getD, take, drop, getD-take, getD-drop, length-drop, length-take-le, lt-ltb, lt-leb, le-leb, leb-true, eq-eqb, ne-eqb, false≢true, and-false, pick}
 use Rattle.lists.proofs.Pick.{pick-elim}
 use Rattle.lists.proofs.Tests.{and-both, same-or}
 use Rattle.values.specs.Read.{readFrom, readValue, readIdentifier}
@@ -100,30 +100,58 @@ unfolding texts
 texts-calm f g zero h = refl
 texts-calm f g (suc m) h = ap₂ (λ (x y : List ℕ). x ++ y) (texts-calm f g m (λ i l. h i (omega arith))) (h m (omega arith))
 
+-- a value of more than five bytes reads as more than two
+read-short : (s : List ℕ) (esc : Bool) → length s ≤ length (readFrom esc s) + length (readFrom esc s) + 1
+unfolding readFrom
+read-short [] true = omega arith
+read-short [] false = omega arith
+read-short (b ∷ bs) true = let h = read-short bs false in omega arith
+read-short (b ∷ []) false = pick-elim (λ (w : List ℕ). 1 ≤ length w + length w + 1) (eqb b 0x5c) (λ q. omega arith) (λ q. omega arith)
+read-short (b ∷ c ∷ r) false =
+    pick-elim (λ (w : List ℕ). suc (suc (length r)) ≤ length w + length w + 1) (eqb b 0x5c)
+    (λ q. let h = read-short r false in omega arith)
+    (λ q. let h = read-short (c ∷ r) false in omega arith)
+
+move-long : (w : List ℕ) → 2 < length w → moveUnder 0 (moveOf w) ≡ moveUnder 2 (moveOf w)
+unfolding moveOf moveUnder
+move-long [] h = absurd (omega arith)
+move-long (a ∷ []) h = absurd (omega arith)
+move-long (a ∷ b ∷ []) h = absurd (omega arith)
+move-long (a ∷ b ∷ c ∷ r) h = refl
+
+-- by its length, or by its last byte
+seen-calm : (s : List ℕ) → leb (length s) 5 && endsFrom false s ≡ false → moveUnder 0 (moveOf (readValue s)) ≡ moveUnder 2 (moveOf (readValue s))
+seen-calm s h =
+    below-or 5 (length s)
+    (λ l. move-long (readValue s) (let r = read-short s false in omega arith))
+    (λ l. value-calm s (ap (λ (x : Bool). x && endsFrom false s) (sym (le-leb (length s) 5 l)) ∙ h))
+
 -- ---- tables that fit
 
 module _ {t : List ℕ} {c : Counts} {tr nd pr vl : List ℕ} (f : Clauses t c tr nd pr vl) (calm : (v : ℕ) → v < c .values → cornerEnd t vl v ≡ false) where
-  row-calm : (v : ℕ) → v < c .values → endsFrom false (valueAt t vl v) ≡ false
+  row-calm : (v : ℕ) → v < c .values → leb (length (valueAt t vl v)) 5 && endsFrom false (valueAt t vl v) ≡ false
   unfolding valueAt
   row-calm v h =
       let i = value-in f v h in
       let a : ℕ = valFromAt vl v in
       let e : ℕ = valToAt vl v in
+      let d : length (drop a t) ≡ length t - a = length-drop a t in
+      let m : length (cut t a e) ≡ e - a = length-take-le (e - a) (drop a t) (omega (arith, i)) in
       rw (lt-ltb v (length vl / 2) (omega (arith, f .held .values)))
       (below-or a e
       (λ l.
-      let d : length (drop a t) ≡ length t - a = length-drop a t in
-      let n : length (cut t a e) ≡ suc (e - a - 1) = length-take-le (e - a) (drop a t) (omega (arith, i)) ∙ omega arith in
+      let n : length (cut t a e) ≡ suc (e - a - 1) = omega arith in
       let o : a + (e - a - 1) ≡ e - 1 = omega arith in
-      ends-at (cut t a e) false (e - a - 1) n
-      ∙ ap cornerByte (getD-take (e - a) (drop a t) (e - a - 1) 0 (omega arith) ∙ getD-drop a t (e - a - 1) 0 ∙ ap (λ (z : ℕ). getD t z 0) o)
+      ap₂ (λ (k : ℕ) (x : Bool). leb k 5 && x) m
+      (ends-at (cut t a e) false (e - a - 1) n
+      ∙ ap cornerByte (getD-take (e - a) (drop a t) (e - a - 1) 0 (omega arith) ∙ getD-drop a t (e - a - 1) 0 ∙ ap (λ (z : ℕ). getD t z 0) o))
       ∙ calm v h)
       (λ l. let z : e - a ≡ 0 = omega arith in rw z))
 
   values-calm : (first count : ℕ) → first + count ≤ c .values → Calm (valuesAt t vl first count)
   unfolding valuesAt
   values-calm first zero h = refl
-  values-calm first (suc zero) h = value-calm (valueAt t vl first) (row-calm first (omega arith))
+  values-calm first (suc zero) h = seen-calm (valueAt t vl first) (row-calm first (omega arith))
   values-calm first (suc (suc n)) h = refl
 
   prop-calm : (p : ℕ) → p < c .properties → propText t pr vl 0 p ≡ propText t pr vl 2 p
@@ -143,8 +171,11 @@ module _ {t : List ℕ} {c : Counts} {tr nd pr vl : List ℕ} (f : Clauses t c t
 -- ---- the search
 
 module _ (t vl : List ℕ) (v : ℕ) where
-  pub corner-seen : {e : ℕ} → e ≡ valToAt vl v → cornerByte (getD t (e - 1) 0) ≡ false → cornerEnd t vl v ≡ false
-  corner-seen q h = ap (λ (z : ℕ). cornerByte (getD t (z - 1) 0)) (sym q) ∙ h
+  pub corner-long : {a e : ℕ} → a ≡ valFromAt vl v → e ≡ valToAt vl v → 5 < e - a → false ≡ cornerEnd t vl v
+  corner-long p q h = rw (lt-leb (valToAt vl v - valFromAt vl v) 5 (omega arith))
+
+  pub corner-seen : {a e : ℕ} → a ≡ valFromAt vl v → e ≡ valToAt vl v → e - a ≤ 5 → cornerByte (getD t (e - 1) 0) ≡ cornerEnd t vl v
+  corner-seen p q h = rw (le-leb (valToAt vl v - valFromAt vl v) 5 (omega arith)) (ap (λ (z : ℕ). cornerByte (getD t (z - 1) 0)) q)
 
   pub corners-more : ((i : ℕ) → i < v → cornerEnd t vl i ≡ false) → cornerEnd t vl v ≡ false → (i : ℕ) → i < v + 1 → cornerEnd t vl i ≡ false
   corners-more f h i l = same-or i v (λ e. ap (cornerEnd t vl) e ∙ h) (λ e. f i (omega arith))

@@ -4,6 +4,7 @@ pub mod Climbs
 pub mod Corners
 pub mod Joined
 pub mod Linked
+pub mod Measured
 pub mod OpenPath
 pub mod PropTexts
 pub mod Room

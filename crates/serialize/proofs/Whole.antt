@@ -73,7 +73,7 @@ module _ (m : Memory) (out : List ℕ) where
     fit-ends v h =
         let i = value-in clauses v h in
         let b = boxed-after (textIn m) (valFromAt (m .values) v) (valToAt (m .values) v) (each-at (valueRight (textIn m) (m .values)) (m .counts .values) v (clauses .values) h) in
-        record { row = omega (arith, clauses .held .values); some = omega (arith, i, b); inside = i .1 }
+        record { row = omega (arith, clauses .held .values); some = omega (arith, i, b); rises = i .0; inside = i .1 }
 
     pub fit-calm : {b : Bool} → (b ≡ false → (v : ℕ) → v < m .counts .values → cornerEnd (textIn m) (m .values) v ≡ false)
         → b ≡ false → (k : ℕ) → k < m .counts .nodes → nodeBy (textIn m) (m .nodes) (m .properties) (m .values) 0 k ≡ nodeBy (textIn m) (m .nodes) (m .properties) (m .values) 2 k

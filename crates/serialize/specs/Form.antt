@@ -1,5 +1,5 @@
 -- What is written: the form of the values, the writing of a record, and the writer's answer.
-use Rattle.lists.specs.Prelude.{ℕ, _≡_, not, List, _++_, map, ltb, length, drop, pick}
+use Rattle.lists.specs.Prelude.{ℕ, _-_, _^_, _≡_, not, List, _++_, map, ltb, length, drop, pick}
 use Rattle.lexer.specs.Token.{Val, Prop}
 use Rattle.values.specs.Read.{readIdentifier}
 use Rattle.go.specs.Normal.{normal}
@@ -40,6 +40,14 @@ written m room =
     (pick (nameless (allProps (allNodes (recordIn m)))) (Refused EmptyIdentifier)
     (pick (ltb room (length (writing (recordIn m)))) (Refused NoRoom)
     (Wrote (length (writing (recordIn m))))))
+
+-- more bytes than any output has
+abbrev pub amplest : ℕ
+amplest = 2 ^ 64 - 2
+
+-- the length of a writing without an output: the writer's answer where there is room for anything
+abbrev pub writtenLength : Memory → Written
+writtenLength m = written m amplest
 
 -- the lent bytes then: the writing and what was behind it; a refusal changes none (SCOPE 57, 58)
 abbrev pub output : Written → (w out : List ℕ) → List ℕ

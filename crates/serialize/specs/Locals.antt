@@ -1,7 +1,7 @@
 -- What the writer's own functions promise and ask of each other.
 use Rattle.lists.specs.Prelude.{ℕ, suc, _+_, _/_, _<_, _≤_, _-_, Bool, true, not, List, _≡_, length, pick}
 use Rattle.tables.specs.Numbers.{none}
-use Rattle.tables.specs.Columns.{nodeStride, valueStride, parentAt, firstPropAt, propCountAt, valToAt}
+use Rattle.tables.specs.Columns.{nodeStride, valueStride, parentAt, firstPropAt, propCountAt, valFromAt, valToAt}
 use Rattle.fit_nodes.specs.Locals.{Ruled}
 use Rattle.fit_nodes.specs.Nodes.{onPath}
 use Rattle.tables.specs.declared.Reason.the-variants.{NoRoom, EmptyIdentifier, NotFitting}
@@ -30,6 +30,7 @@ pub record NodesHeld (t nd pr : List ℕ) (n : ℕ) : Type 0 where
 pub record EndHeld (t vl : List ℕ) (v : ℕ) : Type 0 where
   pub row : v < length vl / valueStride
   pub some : 0 < valToAt vl v
+  pub rises : valFromAt vl v ≤ valToAt vl v
   pub inside : valToAt vl v ≤ length t
 
 -- the nodes up to node k

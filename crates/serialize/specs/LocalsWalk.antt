@@ -1,5 +1,5 @@
 -- The writing as the code walks: node by node along the links, where a tree is a node in brackets without parent.
-use Rattle.lists.specs.Prelude.{ℕ, zero, suc, _+_, _-_, Bool, _||_, not, List, [], _∷_, _++_, ltb, eqb, length, getD, slice, pick}
+use Rattle.lists.specs.Prelude.{ℕ, zero, suc, _+_, _-_, Bool, _&&_, _||_, not, List, [], _∷_, _++_, leb, ltb, eqb, length, getD, slice, pick}
 use Rattle.values.specs.Read.{readIdentifier}
 use Rattle.go.specs.Normal.{normal}
 use Rattle.parts.specs.Rows.{valuesAt}
@@ -8,7 +8,7 @@ use Rattle.tables.specs.Each.{each}
 use Rattle.fit_rule.specs.Rule.{ruleBy, ruleAt}
 use Rattle.go_size.specs.declared.RootSize.the-variants.{Absent}
 use Rattle.serialize_values.specs.LocalsForm.{rawsText}
-use Rattle.tables.specs.Columns.{gameAt, parentAt, childAt, siblingAt, firstPropAt, propCountAt, nameFromAt, nameToAt, firstValAt, valCountAt, valToAt}
+use Rattle.tables.specs.Columns.{gameAt, parentAt, childAt, siblingAt, firstPropAt, propCountAt, nameFromAt, nameToAt, firstValAt, valCountAt, valFromAt, valToAt}
 
 -- the texts of 0, 1, .. below m, one after another
 unfoldable pub texts : (ℕ → List ℕ) → ℕ → List ℕ
@@ -20,9 +20,9 @@ unfoldable pub rootsBelow : List ℕ → ℕ → ℕ
 rootsBelow nd zero = 0
 rootsBelow nd (suc k) = let r = rootsBelow nd k in pick (eqb (parentAt nd k) none) (suc r) r
 
--- the last byte of value v is one that a value has which reads as `tt`
+-- value v is as short, and ends, as one that reads as `tt`: two letters, each perhaps behind a backslash, and perhaps one at the end
 abbrev pub cornerEnd : (t vl : List ℕ) → ℕ → Bool
-cornerEnd t vl v = let b = getD t (valToAt vl v - 1) 0 in eqb b 0x74 || eqb b 0x5c
+cornerEnd t vl v = let b = getD t (valToAt vl v - 1) 0 in leb (valToAt vl v - valFromAt vl v) 5 && (eqb b 0x74 || eqb b 0x5c)
 
 -- the rule of tree r where one of the values may read as `tt`; else 0 stands for both rules of Go
 unfoldable pub ruleTold : (corners : Bool) (t tr nd pr vl : List ℕ) → ℕ → ℕ

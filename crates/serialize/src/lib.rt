@@ -4,7 +4,8 @@ mod names; // names.rt: identifiers
 mod property; // property.rt: the properties of a node
 mod walk; // walk.rt: node by node along the links
 
-ghost use Rattle.serialize.specs.Form.{WriteIs};
+ghost use mathlib.Core.Path.{_≡_};
+ghost use Rattle.serialize.specs.Form.{writtenLength, WriteIs};
 ghost use Rattle.tables.specs.Memory.{memory};
 use tables::Reason;
 
@@ -53,4 +54,42 @@ pub fn write(
     }
     let length = walk::put_all(out, used_text, trees, nodes, n, properties, values, corners);
     Written::Wrote(length)
+}
+
+// The length of the writing without an output: what `write` answers where there is room for anything.
+pub fn write_length(
+    text: &[u8],
+    used: usize,
+    counts: tables::Counts,
+    trees: &[u32],
+    nodes: &[u32],
+    properties: &[u32],
+    values: &[u32],
+) -> Written
+    ensures { λ r. ⌜ r ≡ writtenLength
+        (memory (now (text .entry)) used counts (now (trees .entry)) (now (nodes .entry)) (now (properties .entry)) (now (values .entry))) ⌝ }
+{
+    if !fit::fits(text, used, counts, trees, nodes, properties, values) {
+        return Written::Refused(Reason::NotFitting);
+    }
+    let used_text = &text[..used];
+    if !names::names_good(used_text, properties, counts.properties) {
+        return Written::Refused(Reason::EmptyIdentifier);
+    }
+    let corners = walk::any_corner(used_text, values, counts.values);
+    let mut none = [0u8; 1];
+    let need = walk::put_all(
+        &mut none[..0],
+        used_text,
+        trees,
+        nodes,
+        counts.nodes,
+        properties,
+        values,
+        corners,
+    );
+    if need == 0xffff_ffff_ffff_ffff {
+        return Written::Refused(Reason::NoRoom);
+    }
+    Written::Wrote(need)
 }

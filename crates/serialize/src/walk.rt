@@ -23,16 +23,28 @@ fn roots_with(nodes: &[u32], k: usize, roots: usize) -> usize
     roots
 }
 
-// Whether one of n values may read as `tt`, by its last byte. Where none may, both rules of Go write the same.
+// Whether value v may read as `tt`, by its length and its last byte.
+fn may_corner(text: &[u8], values: &[u32], v: usize) -> bool
+    requires { ⌜ EndHeld (now text) (now values) v ⌝ }
+    ensures { λ r. ⌜ r ≡ cornerEnd (now (text .entry)) (now (values .entry)) v ⌝ }
+{
+    let start = lists::wide(values[v * tables::VALUE_STRIDE]);
+    let end = lists::wide(values[v * tables::VALUE_STRIDE + tables::VALUE_END]);
+    if 5 < end - start {
+        return false;
+    }
+    let last = text[end - 1];
+    (last == b't') | (last == b'\\')
+}
+
+// Whether one of n values may. Where none may, both rules of Go write the same.
 pub fn any_corner(text: &[u8], values: &[u32], n: usize) -> bool
     requires { ⌜ ((v : ℕ) → v < n → EndHeld (now text) (now values) v) ⌝ }
     ensures { λ r. ⌜ (r ≡ false → (v : ℕ) → v < n → cornerEnd (now (text .entry)) (now (values .entry)) v ≡ false) ⌝ }
 {
     let mut v: usize = 0;
     while v < n {
-        let end = lists::wide(values[v * tables::VALUE_STRIDE + tables::VALUE_END]);
-        let last = text[end - 1];
-        if (last == b't') | (last == b'\\') {
+        if may_corner(text, values, v) {
             return true;
         }
         v += 1;

@@ -5,6 +5,7 @@ pub mod feeds; // feeds.rt: corrections over the air
 pub mod boards;
 pub mod by_blocks;
 pub mod names; // names.rt: an identifier by its read letters
+pub mod length; // length.rt: the length of a writing
 pub mod season;
 pub mod size; // size.rt: the board size of a tree
 
