@@ -1,0 +1,129 @@
+-- A line by what the calls of its code answer. Assumes nothing.
+use Rattle.lists.proofs.Prelude.{ℕ, _≤_, Bool, true, false, List, _++_, _≡_, refl, sym, ap, ap₂, _∙_, subst, length, take, drop, ltb, take-length, take-at, pick}
+use Rattle.lists.proofs.Tests.{never}
+use Rattle.tables.specs.Record.{Tree, allNodes, allProps}
+use Rattle.tables.specs.Rows.{tables, countsOf}
+use Rattle.tables.specs.Memory.{Memory, memory}
+use Rattle.tables.specs.Numbers.{numberOf}
+use Rattle.tables.specs.declared.Counts.{Counts}
+use Rattle.tables.specs.declared.Reading.{Reading}
+use Rattle.tables.specs.declared.Reading.the-variants.{Accepted, Refused as NotRead}
+use Rattle.tables.specs.declared.Reason.{Reason}
+use Rattle.tables.specs.declared.Reason.the-variants.{NoRoom, NotFitting as Unfit}
+use Rattle.fit.specs.Fit.{Fit}
+use Rattle.fit.specs.Record.{recordOf, rowsOf, recordIn}
+use Rattle.parser.specs.Read.{Answer, refused, accepted, read, readStrict}
+use Rattle.reader.specs.Lent.{Lent, roomy, stored, answers, leaves, ReadIs}
+use Rattle.reader_laws.proofs.Lent.{read-rows, read-fits}
+use Rattle.serialize.specs.Branch.{nameless}
+use Rattle.serialize.specs.Form.{writing, written, output, WriteIs}
+use Rattle.serialize.specs.declared.Written.{Written}
+use Rattle.serialize.specs.declared.Written.the-variants.{Wrote, Refused as NotWritten}
+use Rattle.serialize.proofs.Room.{answer-length}
+use Rattle.season_tag.specs.Tag.{tagOf}
+use Rattle.season_tally.specs.Tally.{tallyOf, tallyAnswer}
+use Rattle.season_tally.specs.declared.TallyAnswer.{TallyAnswer}
+use Rattle.season_tally.specs.declared.TallyAnswer.the-variants.{Tallied, NotFitting}
+use Rattle.season_totals.specs.declared.Line.{Line}
+use Rattle.season_totals.specs.declared.Line.the-variants.{Refused, Counted}
+use Rattle.season_totals.specs.declared.Tally.{Tally}
+use Rattle.season.specs.Season.{writtenWith, lineBy, lineOf, lineLeaves, LineIs, RecordLineIs}
+
+-- what the tally says of the tables
+pub tally-not : (m : Memory) {a : TallyAnswer} → a ≡ tallyAnswer m → a ≡ NotFitting → Fit m ≡ false
+unfolding tallyAnswer
+tally-not m e h = go (Fit m) refl (sym h ∙ e)
+  where
+    go : (f : Bool) → Fit m ≡ f → NotFitting ≡ pick f (Tallied (tallyOf (recordIn m))) NotFitting → Fit m ≡ false
+    go true p q = never cc
+    go false p q = p
+
+pub tally-is : (m : Memory) {a : TallyAnswer} {t : Tally} → a ≡ tallyAnswer m → a ≡ Tallied t → t ≡ tallyOf (recordIn m)
+unfolding tallyAnswer
+tally-is m {a} {t} e h = go (Fit m) (sym h ∙ e)
+  where
+    go : (f : Bool) → Tallied t ≡ pick f (Tallied (tallyOf (recordIn m))) NotFitting → t ≡ tallyOf (recordIn m)
+    go true q = cc
+    go false q = never cc
+
+module _ (m : Memory) (out : List ℕ) where
+  pub line-unfit : Fit m ≡ false → {n : ℕ} → n ≡ numberOf Unfit → RecordLineIs m out out (Refused n)
+  line-unfit h e = record { line = rw h (ap Refused e); bytes = rw h refl }
+
+  module _ (out′ : List ℕ) {w : Written} (x : WriteIs m out out′ w) where
+    left-bytes : out′ ≡ output (written m (length out)) (writing (recordIn m)) out
+    left-bytes = x .bytes ∙ ap (λ (z : Written). output z (writing (recordIn m)) out) (x .is)
+
+    by-writer : lineBy w (recordIn m) ≡ lineBy (written m (length out)) (recordIn m)
+    by-writer = ap (λ (z : Written). lineBy z (recordIn m)) (x .is)
+
+    pub line-refused : {r : Reason} → w ≡ NotWritten r → {n : ℕ} → n ≡ numberOf r → RecordLineIs m out out′ (Refused n)
+    line-refused h e = record { line = ap Refused e ∙ ap (λ (z : Written). lineBy z (recordIn m)) (sym h) ∙ by-writer; bytes = left-bytes }
+
+    module _ {n : ℕ} (h : w ≡ Wrote n) where
+      long : n ≡ length (writing (recordIn m))
+      long = let ts = recordIn m in answer-length (Fit m) (nameless (allProps (allNodes ts))) (ltb (length out) (length (writing ts))) n (writing ts) (sym h ∙ x .is)
+
+      -- the first bytes are the writing
+      pub wrote-first : take n out′ ≡ writing (recordIn m)
+      wrote-first =
+          let ts = recordIn m in
+          ap₂ (λ (k : ℕ) (z : List ℕ). take k z) long (x .bytes ∙ ap (λ (z : Written). output z (writing ts) out) h) ∙ take-at (writing ts) (drop n out) (length (writing ts)) refl
+
+      pub line-counted : {t : Tally} {g : ℕ} → t ≡ tallyOf (recordIn m) → g ≡ tagOf (take n out′) → RecordLineIs m out out′ (Counted t g)
+      line-counted a b =
+          record {
+            line = ap₂ (λ (t : Tally) (g : ℕ). Counted t g) a (b ∙ ap tagOf wrote-first) ∙ ap (λ (z : Written). lineBy z (recordIn m)) (sym h) ∙ by-writer;
+            bytes = left-bytes;
+          }
+
+-- a reading that is refused
+turned : (a : Answer) (before after : Lent) (x : Reason) (p : ℕ) → ReadIs a before after (NotRead x p) → (out : List ℕ) → LineIs a before after out out (Refused (numberOf x))
+unfolding lineOf lineLeaves
+turned (refused r q) before after x p z out = let e = z .answer in let h : x ≡ r = cc in record { line = ap (λ (y : Reason). Refused (numberOf y)) h; tables = z .tables; bytes = refl }
+turned (accepted ts) before after x p z out = go (roomy (tables ts) before) refl (z .answer)
+  where
+    go : (f : Bool) → roomy (tables ts) before ≡ f → NotRead x p ≡ pick f (Accepted (countsOf (tables ts))) (NotRead NoRoom 0) → LineIs (accepted ts) before after out out (Refused (numberOf x))
+    go true q e = never cc
+    go false q e = let h : x ≡ NoRoom = cc in record { line = rw q (ap (λ (y : Reason). Refused (numberOf y)) h); tables = z .tables; bytes = rw q refl }
+
+pub line-unread : (a : Answer) (before after : Lent) {y : Reading} → ReadIs a before after y → {x : Reason} {p : ℕ} → y ≡ NotRead x p → (out : List ℕ) {n : ℕ} → n ≡ numberOf x
+    → LineIs a before after out out (Refused n)
+line-unread a before after z {x} {p} h out e =
+    subst (λ (k : ℕ). LineIs a before after out out (Refused k)) (sym e) (turned a before after x p (subst (ReadIs a before after) h z) out)
+
+-- one that is accepted had room
+room-was : (a : Answer) (ts : List Tree) (before : Lent) (c : Counts) → a ≡ accepted ts → Accepted c ≡ answers a before → roomy (tables ts) before ≡ true
+room-was a ts before c e h = go (roomy (tables ts) before) refl (h ∙ ap (λ (z : Answer). answers z before) e)
+  where
+    go : (f : Bool) → roomy (tables ts) before ≡ f → Accepted c ≡ pick f (Accepted (countsOf (tables ts))) (NotRead NoRoom 0) → roomy (tables ts) before ≡ true
+    go true q w = q
+    go false q w = never cc
+
+-- a record that was read: its line is that of its text
+module _ (t : List ℕ) (before after : Lent) (c : Counts) (x : ReadIs (readStrict t) before after (Accepted c)) (out out′ : List ℕ) (r : Line) where
+  abbrev m : Memory
+  m = memory t (length t) c (after .trees) (after .nodes) (after .props) (after .vals)
+
+  pub line-read : RecordLineIs m out out′ r → LineIs (readStrict t) before after out out′ r
+  unfolding lineOf lineLeaves
+  line-read y = go (read-rows false t before after c x)
+    where
+      go : (ts : List Tree) × (read false t ≡ accepted ts) × (rowsOf c (after .trees) (after .nodes) (after .props) (after .vals) ≡ tables ts)
+          × (recordOf t (rowsOf c (after .trees) (after .nodes) (after .props) (after .vals)) ≡ ts) → LineIs (readStrict t) before after out out′ r
+      go (ts, q, z, d) =
+          let f : Fit m ≡ true = read-fits false t before after c x in
+          let u : recordIn m ≡ ts = ap (λ (s : List ℕ). recordOf s (rowsOf c (after .trees) (after .nodes) (after .props) (after .vals))) (take-length t) ∙ d in
+          let w : written m (length out) ≡ writtenWith ts (length out) = rw (f, u) refl in
+          let k : roomy (tables ts) before ≡ true = room-was (readStrict t) ts before c q (x .answer) in
+          let a : r ≡ lineOf (accepted ts) before (length out) = y .line ∙ ap₂ lineBy w u ∙ rw k refl in
+          let b : out′ ≡ lineLeaves (accepted ts) before out = y .bytes ∙ ap₂ (λ (o : Written) (s : List ℕ). output o s out) w (ap writing u) ∙ rw k refl in
+          record {
+            line = a ∙ ap (λ (o : Answer). lineOf o before (length out)) (sym q);
+            tables = x .tables;
+            bytes = b ∙ ap (λ (o : Answer). lineLeaves o before out) (sym q);
+          }
+
+pub line-of-read : (t : List ℕ) (before after : Lent) {y : Reading} → ReadIs (readStrict t) before after y → {c : Counts} → y ≡ Accepted c → (out out′ : List ℕ) (r : Line)
+    → RecordLineIs (memory t (length t) c (after .trees) (after .nodes) (after .props) (after .vals)) out out′ r → LineIs (readStrict t) before after out out′ r
+line-of-read t before after x {c} h out out′ r y = line-read t before after c (subst (ReadIs (readStrict t) before after) h x) out out′ r y

@@ -1,0 +1,1 @@
+// Tags of records with one writing, and of records that differ only in places (proofs/Same). No code.

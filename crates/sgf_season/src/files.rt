@@ -1,0 +1,80 @@
+// The line of a file.
+use season_totals::Line;
+
+// Rows enough for any text of 8,192 bytes: of trees, properties and values.
+fn few_rows() -> [u32; 16384] {
+    [0u32; 16384]
+}
+
+// Of nodes, six numbers each.
+fn few_node_rows() -> [u32; 49152] {
+    [0u32; 49152]
+}
+
+// Of a text of at most 8,192 bytes, in a tenth of the rows.
+fn small_line(text: &[u8]) -> Line {
+    let mut trees = few_rows();
+    let mut nodes = few_node_rows();
+    let mut properties = few_rows();
+    let mut values = few_rows();
+    let mut out = tool::out_room();
+    season::line(
+        text,
+        &mut trees,
+        &mut nodes,
+        &mut properties,
+        &mut values,
+        &mut out,
+    )
+}
+
+// Of a text of at most 65,536 bytes.
+fn large_line(text: &[u8]) -> Line {
+    let mut trees = tool::pair_rows();
+    let mut nodes = tool::node_rows();
+    let mut properties = tool::property_rows();
+    let mut values = tool::pair_rows();
+    let mut out = tool::out_room();
+    season::line(
+        text,
+        &mut trees,
+        &mut nodes,
+        &mut properties,
+        &mut values,
+        &mut out,
+    )
+}
+
+// Of an open file; one above 65,536 bytes is refused before it is read.
+fn open_line(file: i32, text: &mut [u8]) -> Line {
+    let n = io::read_full(file, text);
+    if 65536 < n {
+        return Line::Refused(1);
+    }
+    if 8192 < n {
+        return large_line(tool::first(text, n));
+    }
+    small_line(tool::first(text, n))
+}
+
+// A folder opens, and the first read of it fails.
+pub fn is_folder(file: i32) -> bool {
+    let mut none = io::buffer();
+    libc::read(file, &mut none[..0]) < 0
+}
+
+// Of a file by its name.
+pub fn file_line(name: &[u8]) -> Line {
+    let file = os::open_read(name);
+    if file < 0 {
+        return Line::Unread;
+    }
+    if is_folder(file) {
+        libc::close(file);
+        return Line::Unread;
+    }
+    let mut text = tool::text_room();
+    let line = open_line(file, &mut text);
+    libc::close(file);
+    line
+}
