@@ -1,0 +1,5 @@
+pub mod Cuts
+pub mod Ended
+pub mod Found
+pub mod Games
+pub mod Scans

@@ -1,0 +1,5 @@
+pub mod Blame
+pub mod Cuts
+pub mod Games
+pub mod LocalsCuts
+pub mod LocalsGames
