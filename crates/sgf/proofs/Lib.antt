@@ -2,3 +2,4 @@ pub mod Asking
 pub mod Reading
 pub mod Shaped
 pub mod UniqueIndex
+pub mod UniqueWhy

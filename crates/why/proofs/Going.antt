@@ -8,20 +8,21 @@ use Rattle.tables.specs.declared.Reason.{Reason}
 use Rattle.tables.specs.declared.Reason.the-variants.{UnexpectedGameTreeStart}
 use Rattle.parser.specs.Walk.{Walk, walk, stopped, walks, walked, opens, refuse, closes}
 use Rattle.parser.specs.LocalsSlice.{sliceFrom, Shallow}
-use Rattle.parser_step.specs.LocalsActs.{stackOf, hasChild, mayOpen}
+use Rattle.parser_step.specs.LocalsActs.{stackOf, mayOpen}
+use Rattle.parser_tree.specs.LocalsTurns.{BehindIs}
 use Rattle.parser_step.proofs.Stacks.{stack-none, stack-pop}
 use Rattle.parser_tree.proofs.Stacks.{stack-push}
 use Rattle.parser_tree.proofs.Lines.{Line, line-first, line-open, line-shut, line-prop, line-node, line-may}
 use Rattle.parser_tree.proofs.Behind.{Skipping, skipping-first, skipping-start, skipping-end, skipping-last, skipping-node, skipping-prop, skipping-over, slice-last, slice-end, shallow-end}
 use Rattle.why_blame.specs.Blame.{Blame, nowhere, found, blame, isStopped}
-use Rattle.why_blame.specs.declared.Fact.the-variants.{EmptyList, Stray}
+use Rattle.why_blame.specs.declared.Fact.the-variants.{EmptyList, EndBeyond}
 use Rattle.why_blame.specs.declared.Blamed.the-variants.{No, By}
 use Rattle.why_blame.proofs.Found.{blame-on, blame-here}
 use Rattle.why.specs.Trees.{topNode, stopBlame, treeBlame, nodesOf, nodesIn}
-use Rattle.why.specs.LocalsTrees.{sliceAt, SliceReady, Sound}
+use Rattle.why.specs.LocalsTrees.{sliceAt, SliceReady, SoundSlice}
 
 -- before the first token
-abbrev unwalked : Walk
+abbrev pub unwalked : Walk
 unwalked = walk none [] false []
 
 -- ns are the nodes so far; the walk from the start is the walk from here
@@ -60,24 +61,24 @@ going-first {u} {from} {base} a x h =
     }
 
 module _ {u : List ℕ} {from base : ℕ} {a : List ℕ} {at d cur n : ℕ} {g : Bool} (x : Going u from base a at d cur n g) where
-  abbrev here : Walk
+  abbrev pub here : Walk
   here = walk cur (stackOf a d) g (x .ns)
 
   -- ---- one token
 
   module _ (t : Tok) (ts : List Tok) (q : sliceFrom d (lexAt u at .toks) ≡ t ∷ ts) where
-    blames-on : {w : Walk} → walks false base here t ≡ w → isStopped w ≡ false → blame (walks false base) isStopped unwalked [] (sliceAt u from) ≡ blame (walks false base) isStopped w (x .pre ++ (t ∷ [])) ts
+    pub blames-on : {w : Walk} → walks false base here t ≡ w → isStopped w ≡ false → blame (walks false base) isStopped unwalked [] (sliceAt u from) ≡ blame (walks false base) isStopped w (x .pre ++ (t ∷ [])) ts
     blames-on {w} e h = x .blames ∙ ap (blame (walks false base) isStopped here (x .pre)) q ∙ blame-on (walks false base) isStopped here w (x .pre) ts t e h
 
-    walkeds-on : {w : Walk} → walks false base here t ≡ w → walked false base unwalked (sliceAt u from) ≡ walked false base w ts
+    pub walkeds-on : {w : Walk} → walks false base here t ≡ w → walked false base unwalked (sliceAt u from) ≡ walked false base w ts
     walkeds-on e = x .walkeds ∙ ap (walked false base here) q ∙ ap (λ (z : Walk). walked false base z ts) e
 
-    stops-here : {r : Reason} → walks false base here t ≡ stopped r → treeBlame base (sliceAt u from) ≡ stopBlame (found here (x .pre) t)
+    pub stops-here : {r : Reason} → walks false base here t ≡ stopped r → treeBlame base (sliceAt u from) ≡ stopBlame (found here (x .pre) t)
     stops-here {r} e = ap stopBlame (x .blames ∙ ap (blame (walks false base) isStopped here (x .pre)) q ∙ blame-here (walks false base) isStopped here (stopped r) (x .pre) ts t e refl)
 
   -- the slice is at its end
-  module _ (ns : List Node) {w : Walk} (eb : blame (walks false base) isStopped unwalked [] (sliceAt u from) ≡ nowhere) (ew : walked false base unwalked (sliceAt u from) ≡ w) (en : nodesOf w ≡ x .ns) where
-    sound-by : {next : ℕ} → at ≤ next → Rattle.parser_tree.specs.LocalsTurns.BehindIs true u from 0 next → Sound u from base next n
+  module _ {w : Walk} (eb : blame (walks false base) isStopped unwalked [] (sliceAt u from) ≡ nowhere) (ew : walked false base unwalked (sliceAt u from) ≡ w) (en : nodesOf w ≡ x .ns) where
+    pub sound-by : {next : ℕ} → at ≤ next → BehindIs true u from 0 next → SoundSlice u from base next n
     sound-by h b =
         let f = x .few in
         record {
@@ -143,16 +144,16 @@ module _ {u : List ℕ} {from base : ℕ} {a : List ℕ} {at d cur n : ℕ} {g :
       last-slice : d ≤ 1 → sliceFrom d (lexAt u at .toks) ≡ end i ∷ []
       last-slice h = ap (λ (z : Lexed). sliceFrom d (z .toks)) q ∙ slice-last d i (lexAt u (i + 1) .toks) h
 
-      pub end-stops : d ≡ 0 → treeBlame base (sliceAt u from) ≡ By Stray i
+      pub end-stops : d ≡ 0 → treeBlame base (sliceAt u from) ≡ By EndBeyond i
       end-stops z = stops-here (end i) [] (last-slice (omega arith)) (ap (λ (st : List ℕ). closes false cur st (x .ns)) (stack-none a d z))
 
       popped : (d ≡ 0 → ⊥) → walks false base here (end i) ≡ walk (getD a (d - 1) 0) (stackOf a (d - 1)) false (x .ns)
       popped h = ap (λ (st : List ℕ). closes false cur st (x .ns)) (stack-pop a d h)
 
-      pub end-tree : d ≡ 1 → Sound u from base (i + 1) n
+      pub end-tree : d ≡ 1 → SoundSlice u from base (i + 1) n
       end-tree z =
           let h : d ≡ 0 → ⊥ = λ y. omega arith in
-          sound-by (x .ns) (blames-on (end i) [] (last-slice (omega arith)) (popped h) refl) (walkeds-on (end i) [] (last-slice (omega arith)) (popped h)) refl (omega arith)
+          sound-by (blames-on (end i) [] (last-slice (omega arith)) (popped h) refl) (walkeds-on (end i) [] (last-slice (omega arith)) (popped h)) refl (omega arith)
           (skipping-last (x .skip) lo hi q (omega arith))
 
       pub going-end : (d ≡ 0 → ⊥) → (d ≡ 1 → ⊥) → {c : ℕ} → c ≡ getD a (d - 1) 0 → Going u from base a (i + 1) (d - 1) c n false
@@ -182,30 +183,3 @@ module _ {u : List ℕ} {from base : ℕ} {a : List ℕ} {at d cur n : ℕ} {g :
           above zero a b = absurd (a refl)
           above (suc zero) a b = absurd (b refl)
           above (suc (suc k)) a b = omega arith
-
-    -- ---- a node
-
-    pub going-node : lexAt u at ≡ lexed (node i ∷ []) (lexAt u (i + 1)) → {c : ℕ} → c ≡ n → Going u from base a (i + 1) d c (n + 1) true
-    unfolding sliceFrom Shallow
-    going-node q {c} ec =
-        let fe = x .few in
-        let sh = x .short in
-        let co = x .count in
-        let k : sliceFrom d (lexAt u at .toks) ≡ node i ∷ sliceFrom d (lexAt u (i + 1) .toks) = ap (λ (z : Lexed). sliceFrom d (z .toks)) q in
-        let w : walks false base here (node i) ≡ walk c (stackOf a d) true (record { parent = cur; props = [] } ∷ x .ns) =
-        ap (λ (z : ℕ). walk z (stackOf a d) true (record { parent = cur; props = [] } ∷ x .ns)) (sym (ec ∙ co)) in
-        record {
-          short = x .short;
-          ns = record { parent = cur; props = [] } ∷ x .ns;
-          pre = x .pre ++ (node i ∷ []);
-          count = omega arith;
-          array = x .array;
-          deep = x .deep;
-          few = omega arith;
-          skip = skipping-node (x .skip) lo hi q;
-          blames = blames-on (node i) (sliceFrom d (lexAt u (i + 1) .toks)) k w refl;
-          walkeds = walkeds-on (node i) (sliceFrom d (lexAt u (i + 1) .toks)) k w;
-          shallow = subst (Shallow d) k (x .shallow);
-          line = subst⁻¹ (λ (z : ℕ). Line base (record { parent = cur; props = [] } ∷ x .ns) z (stackOf a d)) (ec ∙ co) (line-node (omega arith) (x .line));
-          some = λ z. omega arith;
-        }

@@ -7,6 +7,9 @@ use Rattle.tables.specs.Record.{Node}
 use Rattle.parser.specs.Walk.{Walk, walk, walks, walked}
 use Rattle.parser.specs.LocalsSlice.{sliceFrom, restFrom, firstSlices, Shallow}
 use Rattle.parser_tree.specs.LocalsTurns.{BehindIs}
+use Rattle.why_blame.specs.declared.Cutting.{Cutting}
+use Rattle.why_blame.specs.declared.Cutting.the-variants.{Wrong, Slices}
+use Rattle.why_blame.specs.declared.Blamed.{Blamed}
 use Rattle.why_blame.specs.declared.Blamed.the-variants.{No, By}
 use Rattle.why.specs.Trees.{treeBlame, nodesIn, slicesBlame}
 use Rattle.why.specs.declared.Ending.{Ending}
@@ -18,6 +21,11 @@ use Rattle.why.specs.declared.tree.Walked.the-variants.{Stopped, Tree}
 abbrev pub endingOf : End → Ending
 endingOf done = Whole
 endingOf (broken f s) = Broken f s
+
+-- splitting that is refused
+abbrev pub wrongOf : Cutting → Blamed
+wrongOf (Wrong f p) = By f p
+wrongOf (Slices k q) = No
 
 -- the slice from a place on
 abbrev pub sliceAt : List ℕ → ℕ → List Tok
@@ -31,7 +39,7 @@ pub record SliceReady (u : List ℕ) (from base : ℕ) : Type 0 where
   pub shallow : Shallow 0 (sliceAt u from)
 
 -- a tree: nothing stops it, it has so many nodes, and the next slice starts there
-pub record Sound (u : List ℕ) (from base next n : ℕ) : Type 0 where
+pub record SoundSlice (u : List ℕ) (from base next n : ℕ) : Type 0 where
   pub none-stops : treeBlame base (sliceAt u from) ≡ No
   pub count : n ≡ base + nodesIn base (sliceAt u from)
   pub behind : BehindIs true u from 0 next
@@ -40,7 +48,7 @@ pub record Sound (u : List ℕ) (from base next n : ℕ) : Type 0 where
 -- what the walk finds
 abbrev pub FoundIn : (u : List ℕ) (from base : ℕ) → Walked → Type 0
 FoundIn u from base (Stopped f p) = treeBlame base (sliceAt u from) ≡ By f p
-FoundIn u from base (Tree next n) = Sound u from base next n
+FoundIn u from base (Tree next n) = SoundSlice u from base next n
 
 -- k slices are sound, the next starts at `at` and its nodes are numbered from base on
 pub record Searching (u : List ℕ) (from count at base k : ℕ) : Type 0 where

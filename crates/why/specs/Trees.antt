@@ -8,7 +8,7 @@ use Rattle.parser.specs.Walk.{Walk, walk, halted, stopped, walks, walked}
 use Rattle.why_blame.specs.Blame.{Blame, nowhere, found, blame, isStopped}
 use Rattle.why_blame.specs.Cuts.{firstPlace}
 use Rattle.why_blame.specs.Games.{gameBlame}
-use Rattle.why_blame.specs.declared.Fact.the-variants.{NoNode, EmptyList, Stray}
+use Rattle.why_blame.specs.declared.Fact.the-variants.{EndBeyond, NoNode, EmptyList, Stray}
 use Rattle.why_blame.specs.declared.Blamed.{Blamed}
 use Rattle.why_blame.specs.declared.Blamed.the-variants.{No, By}
 
@@ -28,11 +28,11 @@ topOf (walk cur st g ns) = topNode st
 topOf (halted ns) = none
 topOf (stopped r) = none
 
--- a start where the list on top of the stack is empty, or a property that is not directly behind a node (SCOPE 267, 269)
+-- a start where the list on top of the stack is empty, or a property that is not directly behind a node; splitting has matched an end with a start (SCOPE 267, 269)
 abbrev pub stopBlame : Blame Walk → Blamed
 stopBlame nowhere = No
 stopBlame (found w pre (start o)) = By (EmptyList (topOf w)) o
-stopBlame (found w pre (end o)) = By Stray o
+stopBlame (found w pre (end o)) = By EndBeyond o
 stopBlame (found w pre (node o)) = By Stray o
 stopBlame (found w pre (prop p e)) = By Stray (p .from)
 

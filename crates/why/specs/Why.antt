@@ -10,7 +10,7 @@ use Rattle.tables.specs.declared.Reading.the-variants.{Accepted as counted, Ref
 use Rattle.parser.specs.Split.{Slices as Sliced, no, slices, splitByGametree}
 use Rattle.parser.specs.Read.{read}
 use Rattle.reader.specs.Lent.{rowsCounted}
-use Rattle.why_blame.specs.Cuts.{faultFact, cut}
+use Rattle.why_blame.specs.Cuts.{faultFact, cutTokens}
 use Rattle.why_blame.specs.declared.Fact.the-variants.{Length, BadSequence, NoEnd}
 use Rattle.why_blame.specs.declared.Blamed.{Blamed}
 use Rattle.why_blame.specs.declared.Blamed.the-variants.{No, By}
@@ -23,20 +23,20 @@ use Rattle.why.specs.declared.Why.the-variants.{Accepted, Refused}
 -- ---- the whole, in the order of the numbers
 
 -- the slices, or none
-abbrev pub slicesIn : Sliced → List (List Tok)
-slicesIn (no r) = []
-slicesIn (slices ss) = ss
+abbrev pub acceptedSlices : Sliced → List (List Tok)
+acceptedSlices (no r) = []
+acceptedSlices (slices ss) = ss
 
 -- lenient reading blames no tree
 abbrev pub cutBlame : Bool → List Tok → Cutting → Blamed
 cutBlame len ts (Wrong f p) = By f p
 cutBlame true ts (Slices k q) = No
-cutBlame false ts (Slices k q) = slicesBlame 0 0 (slicesIn (splitByGametree false ts))
+cutBlame false ts (Slices k q) = slicesBlame 0 0 (acceptedSlices (splitByGametree false ts))
 
 -- tokens of u, in a text of n bytes: strict reading blames the first fault before anything else
 abbrev pub tokensBlame : Bool → (n : ℕ) → List ℕ → Lexed → End → Blamed
-tokensBlame true n u l e = cutBlame true (l .toks) (cut true n l)
-tokensBlame false n u l done = cutBlame false (l .toks) (cut false n l)
+tokensBlame true n u l e = cutBlame true (l .toks) (cutTokens true n l)
+tokensBlame false n u l done = cutBlame false (l .toks) (cutTokens false n l)
 tokensBlame false n u l (broken f s) = By (faultFact u f s) s
 
 -- the tokens from f on of the text's first l bytes
@@ -62,7 +62,7 @@ cutLoose n (Slices k q) = q
 abbrev pub trimLoose : Bool → List ℕ → Trimmed → ℕ
 trimLoose len t (NotUtf8 p) = length t
 trimLoose len t Blank = length t
-trimLoose len t (Kept f l) = cutLoose (length t) (cut len (length t) (lexAt (take l t) f))
+trimLoose len t (Kept f l) = cutLoose (length t) (cutTokens len (length t) (lexAt (take l t) f))
 
 -- refused; that nothing is to blame does not arise, by `why_grounds`
 abbrev pub refusedBy : Blamed → Why

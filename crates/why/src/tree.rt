@@ -70,7 +70,7 @@ pub fn walk_slice(s: &[u8], from: usize, base: usize) -> Walked
             }
             Step::End(i) => {
                 if depth == 0 {
-                    return Walked::Stopped(Fact::Stray, i);
+                    return Walked::Stopped(Fact::EndBeyond, i);
                 }
                 if depth == 1 {
                     return Walked::Tree(i + 1, n);

@@ -5,7 +5,7 @@ use Rattle.lexer.specs.Token.{Prop, Tok, start, end, node, prop, Lexed, lexed, 
 use Rattle.tables.specs.Numbers.{depthLimit}
 use Rattle.parser.specs.Split.{Splitting, splitting, splits, split}
 use Rattle.parser.proofs.Cuts.{shift}
-use Rattle.why_blame.specs.Blame.{blame, isWrong, isDeep, tokenPlace, blamePlace}
+use Rattle.why_blame.specs.Blame.{blame, splitWrong, isDeep, tokenPlace, blamePlace}
 use Rattle.why_blame.specs.Cuts.{deepAt, slicedTokens}
 use Rattle.why_blame.specs.LocalsCuts.{unsplit, Seen}
 use Rattle.why_blame.proofs.Found.{blame-on, blame-here}
@@ -44,7 +44,7 @@ module _ {u : List ℕ} {from at d m n behind deep : ℕ} (x : Seen u from at d 
   abbrev here : Splitting
   here = splitting d m (x .cur) (x .ss)
 
-  module _ (t : Tok) {at′ : ℕ} (q : lexAt u at ≡ lexed (t ∷ []) (lexAt u at′)) {d′ m′ n′ behind′ deep′ : ℕ} {cur′ : List Tok} {ss′ : List (List Tok)}
+  module _ (t : Tok) (at′ n′ behind′ : ℕ) (q : lexAt u at ≡ lexed (t ∷ []) (lexAt u at′)) {d′ m′ deep′ : ℕ} {cur′ : List Tok} {ss′ : List (List Tok)}
       (e : (len : Bool) → splits len here t ≡ splitting d′ m′ cur′ ss′)
       (low : m ≤ m′) (kept : ltb depthLimit m ≡ true → deep′ ≡ deep) (new : ltb depthLimit m ≡ false → ltb depthLimit m′ ≡ true → deep′ ≡ tokenPlace t) where
     abbrev then : Splitting
@@ -77,15 +77,15 @@ module _ {u : List ℕ} {from at d m n behind deep : ℕ} (x : Seen u from at d 
           ends = x .ends ∙ ap (λ (z : Lexed). z .end) q;
           opens = p;
           parts = s;
-          wrongs = x .wrongs ∙ ap (λ (z : Lexed). blame (splits false) isWrong here (x .pre) (z .toks)) q ∙ blame-on (splits false) isWrong here then (x .pre) (lexAt u at′ .toks) t (e false) refl;
+          wrongs = x .wrongs ∙ ap (λ (z : Lexed). blame (splits false) splitWrong here (x .pre) (z .toks)) q ∙ blame-on (splits false) splitWrong here then (x .pre) (lexAt u at′ .toks) t (e false) refl;
           deeps = λ len h.
               x .deeps len (shallow h) ∙ ap (λ (z : Lexed). blame (splits len) isDeep here (x .pre) (z .toks)) q ∙ blame-on (splits len) isDeep here then (x .pre) (lexAt u at′ .toks) t (e len) h;
           deep-is = deep-then;
         }
 
   -- a token that joins the open slice
-  opens-on : (t : Tok) {at′ : ℕ} → lexAt u at ≡ lexed (t ∷ []) (lexAt u at′) → lexAt u behind ≡ lexed (reverse (t ∷ x .cur)) (lexAt u at′)
-  opens-on t {at′} q = x .opens ∙ ap (lexed (reverse (x .cur))) q ∙ lexed-shift t (x .cur) (lexAt u at′)
+  opens-on : (t : Tok) (at′ : ℕ) → lexAt u at ≡ lexed (t ∷ []) (lexAt u at′) → lexAt u behind ≡ lexed (reverse (t ∷ x .cur)) (lexAt u at′)
+  opens-on t at′ q = x .opens ∙ ap (lexed (reverse (x .cur))) q ∙ lexed-shift t (x .cur) (lexAt u at′)
 
   module _ (i : ℕ) (a : at ≤ i) (b : i < length u) where
     pub seen-start : lexAt u at ≡ lexed (start i ∷ []) (lexAt u (i + 1)) → {k p : ℕ} → k ≡ max m (d + 1) → p ≡ pick (ltb depthLimit m) deep (pick (ltb depthLimit (d + 1)) i deep)
@@ -94,12 +94,12 @@ module _ {u : List ℕ} {from at d m n behind deep : ℕ} (x : Seen u from at d 
         let g = x .begun in
         let o = x .bound in
         let r = x .room in
-        seen-on (start i) q
+        seen-on (start i) (i + 1) n behind q
         (λ len. ap (λ (z : ℕ). splitting z (max m z) (start i ∷ x .cur) (x .ss)) (sym (add-one d)) ∙ ap (λ (z : ℕ). splitting (d + 1) z (start i ∷ x .cur) (x .ss)) (sym ek))
         (omega arith)
         (λ h. ep ∙ ap (λ (z : Bool). pick z deep (pick (ltb depthLimit (d + 1)) i deep)) h)
         (λ h f. let z = ltb-false depthLimit m h in let w = ltb-true depthLimit k f in ep ∙ ap (λ (z : Bool). pick z deep (pick (ltb depthLimit (d + 1)) i deep)) h ∙ ap (λ (z : Bool). pick z i deep) (lt-ltb depthLimit (d + 1) (omega arith)))
-        (x .count) (omega arith) (omega arith) (omega arith) (opens-on (start i) q) (x .parts)
+        (x .count) (omega arith) (omega arith) (omega arith) (opens-on (start i) (i + 1) q) (x .parts)
 
     same-deep : {A : Type 0} → ltb depthLimit m ≡ false → ltb depthLimit m ≡ true → A
     same-deep f g = never (let z : false ≡ true = sym f ∙ g in cc)
@@ -108,13 +108,13 @@ module _ {u : List ℕ} {from at d m n behind deep : ℕ} (x : Seen u from at d 
     seen-node q =
         let g = x .begun in
         let o = x .bound in
-        seen-on (node i) q (λ len. refl) (omega arith) (λ h. refl) same-deep (x .count) (omega arith) (x .room) (omega arith) (opens-on (node i) q) (x .parts)
+        seen-on (node i) (i + 1) n behind q (λ len. refl) (omega arith) (λ h. refl) same-deep (x .count) (omega arith) (x .room) (omega arith) (opens-on (node i) (i + 1) q) (x .parts)
 
     pub seen-prop : {P : Prop} {e : ℕ} → lexAt u at ≡ lexed (prop P e ∷ []) (lexAt u e) → i ≤ e → Seen u from e d m n behind deep
     seen-prop {P} {e} q h =
         let g = x .begun in
         let o = x .bound in
-        seen-on (prop P e) q (λ len. refl) (omega arith) (λ h. refl) same-deep (x .count) (omega arith) (x .room) (omega arith) (opens-on (prop P e) q) (x .parts)
+        seen-on (prop P e) e n behind q (λ len. refl) (omega arith) (λ h. refl) same-deep (x .count) (omega arith) (x .room) (omega arith) (opens-on (prop P e) e q) (x .parts)
 
     module _ (q : lexAt u at ≡ lexed (end i ∷ []) (lexAt u (i + 1))) where
       more : (k : ℕ) → d ≡ k → (k - 1 ≡ 0 → ⊥) → (len : Bool) → splits len (splitting k m (x .cur) (x .ss)) (end i) ≡ splitting (k - 1) m (end i ∷ x .cur) (x .ss)
@@ -127,7 +127,7 @@ module _ {u : List ℕ} {from at d m n behind deep : ℕ} (x : Seen u from at d 
           let g = x .begun in
           let o = x .bound in
           let r = x .room in
-          seen-on (end i) q (more d refl h) (omega arith) (λ h. refl) same-deep (x .count) (omega arith) (omega arith) (omega arith) (opens-on (end i) q) (x .parts)
+          seen-on (end i) (i + 1) n behind q (more d refl h) (omega arith) (λ h. refl) same-deep (x .count) (omega arith) (omega arith) (omega arith) (opens-on (end i) (i + 1) q) (x .parts)
 
       last : (k : ℕ) → (k ≡ 0 → ⊥) → k - 1 ≡ 0 → (len : Bool) → splits len (splitting k m (x .cur) (x .ss)) (end i) ≡ splitting (k - 1) m [] (reverse (end i ∷ x .cur) ∷ x .ss)
       last zero h e len = absurd (h refl)
@@ -139,8 +139,8 @@ module _ {u : List ℕ} {from at d m n behind deep : ℕ} (x : Seen u from at d 
           let o = x .bound in
           let r = x .room in
           let c = x .count in
-          seen-on (end i) q (last d h e) (omega arith) (λ h. refl) same-deep (omega arith) (omega arith) (omega arith) (omega arith) refl
+          seen-on (end i) (i + 1) (n + 1) (i + 1) q (last d h e) (omega arith) (λ h. refl) same-deep (omega arith) (omega arith) (omega arith) (omega arith) refl
           (x .parts
-          ∙ ap (λ (z : Lexed). slicedTokens (reverse (x .ss)) ++ z .toks) (opens-on (end i) q)
+          ∙ ap (λ (z : Lexed). slicedTokens (reverse (x .ss)) ++ z .toks) (opens-on (end i) (i + 1) q)
           ∙ sym (append-assoc (slicedTokens (reverse (x .ss))) (reverse (end i ∷ x .cur)) (lexAt u (i + 1) .toks))
           ∙ ap (λ (z : List Tok). z ++ lexAt u (i + 1) .toks) (sym (ap slicedTokens (reverse-cons (reverse (end i ∷ x .cur)) (x .ss)) ∙ sliced-snoc (reverse (x .ss)) (reverse (end i ∷ x .cur)))))

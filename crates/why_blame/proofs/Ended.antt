@@ -1,12 +1,12 @@
 -- Splitting where the pass stops, against the definition. Assumes nothing.
-use Rattle.lists.proofs.Prelude.{ℕ, zero, suc, _+_, _≤_, _<_, _≡_, refl, sym, ap, _∙_, Bool, true, false, List, [], _∷_, _++_, append-assoc, append-nil, reverse, reverse-cons, arith, length, length-reverse, drop, drop-append-add, ltb, pick}
+use Rattle.lists.proofs.Prelude.{ℕ, zero, suc, _+_, _≤_, _<_, _≡_, refl, sym, ap, _∙_, Bool, true, false, false≢true, List, [], _∷_, _++_, append-assoc, append-nil, reverse, reverse-cons, arith, length, length-reverse, drop, drop-append-add, ltb, pick}
 use Rattle.lexer.specs.Token.{Tok, start, end, End, done, Lexed, lexed, lexAt}
 use Rattle.tables.specs.Numbers.{depthLimit}
 use Rattle.tables.specs.declared.Reason.the-variants.{UnexpectedGameTreeEnd}
 use Rattle.parser.specs.Split.{Splitting, splitting, over, wrong, splits, split}
 use Rattle.parser.proofs.Surveys.{wrong-stays, over-stays}
-use Rattle.why_blame.specs.Blame.{blame, isWrong, blamePlace}
-use Rattle.why_blame.specs.Cuts.{wrongAt, deepAt, slicedTokens, firstPlace, loose, cutDeep, cutSlices, cutting, cut}
+use Rattle.why_blame.specs.Blame.{blame, splitWrong, blamePlace}
+use Rattle.why_blame.specs.Cuts.{wrongAt, deepAt, slicedTokens, firstPlace, loose, cutDeep, cutSlices, cutting, cutTokens}
 use Rattle.why_blame.specs.LocalsCuts.{unsplit, Seen, StopsBy}
 use Rattle.why_blame.specs.declared.Fact.the-variants.{EndBeyond, StaysOpen, NoEnd, TooDeep}
 use Rattle.why_blame.specs.declared.Cutting.{Cutting}
@@ -82,17 +82,17 @@ module _ {u : List ℕ} {from at d m n behind deep : ℕ} (x : Seen u from at d 
   -- ---- no token is left
 
   module _ (h : lexAt u at .toks ≡ []) where
-    ended-as : (len : Bool) → cut len size L ≡ cutting len size L (splitting d m (x .cur) (x .ss))
+    ended-as : (len : Bool) → cutTokens len size L ≡ cutting len size L (splitting d m (x .cur) (x .ss))
     ended-as len = ap (cutting len size L) (x .same len ∙ ap (split len (splitting d m (x .cur) (x .ss))) h)
 
-    ended-shut : (len : Bool) → d ≡ 0 → cut len size L ≡ cutSlices len size L m (x .ss)
+    ended-shut : (len : Bool) → d ≡ 0 → cutTokens len size L ≡ cutSlices len size L m (x .ss)
     ended-shut len z = ended-as len ∙ ap (λ (k : ℕ). cutting len size L (splitting k m (x .cur) (x .ss))) z
 
     open-lenient : (k : ℕ) → (k ≡ 0 → ⊥) → cutDeep true size L m (reverse (reverse (x .cur) ∷ x .ss)) ≡ cutting true size L (splitting k m (x .cur) (x .ss))
     open-lenient zero g = absurd (g refl)
     open-lenient (suc k) g = refl
 
-    pub cut-open-lenient : (d ≡ 0 → ⊥) → pick (ltb depthLimit m) (Wrong TooDeep deep) (Slices (n + 1) Here) ≡ cut true size L
+    pub cut-open-lenient : (d ≡ 0 → ⊥) → pick (ltb depthLimit m) (Wrong TooDeep deep) (Slices (n + 1) Here) ≡ cutTokens true size L
     cut-open-lenient g =
         let c = x .count in
         let r = length-reverse (reverse (x .cur) ∷ x .ss) in
@@ -102,7 +102,7 @@ module _ {u : List ℕ} {from at d m n behind deep : ℕ} (x : Seen u from at d 
     open-strict zero q g e = absurd (g refl)
     open-strict (suc k) q g e = ap (Wrong (StaysOpen (suc k))) e
 
-    pub cut-open-strict : (d ≡ 0 → ⊥) → Wrong (StaysOpen d) (firstPlace 0 (lexAt u behind .toks) (lexAt u behind .end)) ≡ cut false size L
+    pub cut-open-strict : (d ≡ 0 → ⊥) → Wrong (StaysOpen d) (firstPlace 0 (lexAt u behind .toks) (lexAt u behind .end)) ≡ cutTokens false size L
     cut-open-strict g =
         let b = x .begun in
         let r = length-reverse (x .cur) in
@@ -123,41 +123,38 @@ module _ {u : List ℕ} {from at d m n behind deep : ℕ} (x : Seen u from at d 
         x .same len ∙ ap (λ (l : Lexed). split len (splitting d m (x .cur) (x .ss)) (l .toks)) q
         ∙ ap (λ (k : ℕ). split len (splitting k m (x .cur) (x .ss)) (end i ∷ lexAt u (i + 1) .toks)) z
 
-    over-as : cut true size L ≡ cutSlices true size L m (x .ss)
+    over-as : cutTokens true size L ≡ cutSlices true size L m (x .ss)
     over-as = ap (cutting true size L) (beyond-as true ∙ over-stays true m (x .ss) (lexAt u (i + 1) .toks))
 
     wrong-place : wrongAt (L .toks) ≡ i
     wrong-place =
-        ap blamePlace (x .wrongs ∙ ap (λ (l : Lexed). blame (splits false) isWrong (splitting d m (x .cur) (x .ss)) (x .pre) (l .toks)) q
-        ∙ ap (λ (k : ℕ). blame (splits false) isWrong (splitting k m (x .cur) (x .ss)) (x .pre) (end i ∷ lexAt u (i + 1) .toks)) z)
+        ap blamePlace (x .wrongs ∙ ap (λ (l : Lexed). blame (splits false) splitWrong (splitting d m (x .cur) (x .ss)) (x .pre) (l .toks)) q
+        ∙ ap (λ (k : ℕ). blame (splits false) splitWrong (splitting k m (x .cur) (x .ss)) (x .pre) (end i ∷ lexAt u (i + 1) .toks)) z)
         ∙ ap (λ (k : ℕ). i) z
 
-    pub cut-beyond : Wrong EndBeyond (firstPlace 0 (lexAt u at .toks) (lexAt u at .end)) ≡ cut false size L
+    pub cut-beyond : Wrong EndBeyond (firstPlace 0 (lexAt u at .toks) (lexAt u at .end)) ≡ cutTokens false size L
     cut-beyond =
         ap (Wrong EndBeyond) (ap (λ (l : Lexed). firstPlace 0 (l .toks) (l .end)) q ∙ sym wrong-place)
         ∙ sym (ap (cutting false size L) (beyond-as false ∙ wrong-stays false UnexpectedGameTreeEnd (lexAt u (i + 1) .toks)))
 
   -- ---- by where the pass stops
 
-  shut-by : (b len : Bool) → StopsBy b u at d → d ≡ 0 → (b ≡ true → len ≡ true) → cut len size L ≡ cutSlices len size L m (x .ss)
+  shut-by : (b len : Bool) → StopsBy b u at d → d ≡ 0 → (b ≡ true → len ≡ true) → cutTokens len size L ≡ cutSlices len size L m (x .ss)
   shut-by true true s z h = over-as (s .0) (s .1 .1)
-  shut-by true false s z h = absurd (let e : false ≡ true = h refl in no-way e)
-    where
-      no-way : false ≡ true → ⊥
-      no-way e = cc
+  shut-by true false s z h = absurd (false≢true (h refl))
   shut-by false len s z h = ended-shut s len z
 
   module _ {b len : Bool} (s : StopsBy b u at d) (h : b ≡ true → len ≡ true) (z : d ≡ 0) where
-    pub cut-shut : (n ≡ 0 → ⊥) → pick (ltb depthLimit m) (Wrong TooDeep deep) (Slices n Behind) ≡ cut len size L
+    pub cut-shut : (n ≡ 0 → ⊥) → pick (ltb depthLimit m) (Wrong TooDeep deep) (Slices n Behind) ≡ cutTokens len size L
     cut-shut g = slices-by len g ∙ sym (shut-by b len s z h)
 
-    pub cut-none-lenient : n ≡ 0 → len ≡ true → Slices 0 Behind ≡ cut len size L
+    pub cut-none-lenient : n ≡ 0 → len ≡ true → Slices 0 Behind ≡ cutTokens len size L
     cut-none-lenient g e = lenient-none g ∙ sym (ap (λ (l : Bool). cutSlices l size L m (x .ss)) e) ∙ sym (shut-by b len s z h)
 
-    pub cut-none-strict : n ≡ 0 → len ≡ false → Wrong NoEnd 0 ≡ cut len size L
+    pub cut-none-strict : n ≡ 0 → len ≡ false → Wrong NoEnd 0 ≡ cutTokens len size L
     cut-none-strict g e = strict-none g ∙ sym (ap (λ (l : Bool). cutSlices l size L m (x .ss)) e) ∙ sym (shut-by b len s z h)
 
 -- an open slice is not stopped by an end
-pub stops-open : (b : Bool) {u : List ℕ} {at d : ℕ} → StopsBy b u at d → (d ≡ 0 → ⊥) → lexAt u at .toks ≡ []
-stops-open true s h = absurd (h (s .0))
-stops-open false s h = s
+pub stops-open : (b : Bool) (u : List ℕ) (at d : ℕ) → StopsBy b u at d → (d ≡ 0 → ⊥) → lexAt u at .toks ≡ []
+stops-open true u at d s h = absurd (h (s .0))
+stops-open false u at d s h = s

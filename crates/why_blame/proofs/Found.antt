@@ -3,7 +3,7 @@ use Rattle.lists.proofs.Prelude.{_≡_, refl, sym, ap, _∙_, subst, Bool, true
 use Rattle.lexer.specs.Token.{Tok, start, end, node, prop}
 use Rattle.parser.specs.Split.{Splitting, splitting, over, wrong, splits, split}
 use Rattle.parser.specs.Walk.{Walk, walk, halted, stopped, walks, walked}
-use Rattle.why_blame.specs.Blame.{Blame, nowhere, found, blame, isWrong, isStopped}
+use Rattle.why_blame.specs.Blame.{Blame, nowhere, found, blame, splitWrong, isStopped}
 
 module _ {S : Type 0} (f : S → Tok → S) (bad : S → Bool) where
   -- all tokens
@@ -74,7 +74,7 @@ pub walk-folds : (len : Bool) (base : _) (bad : Walk → Bool) (w : Walk) (ts : 
 walk-folds len base bad w [] = refl
 walk-folds len base bad w (t ∷ ts) = walk-folds len base bad (walks len base w t) ts
 
-pub wrong-stays : (len : Bool) (s : Splitting) (t : Tok) → isWrong s ≡ true → isWrong (splits len s t) ≡ true
+pub wrong-stays : (len : Bool) (s : Splitting) (t : Tok) → splitWrong s ≡ true → splitWrong (splits len s t) ≡ true
 wrong-stays len (splitting d m cur ss) t h = absurd (false≢true h)
 wrong-stays len (over m ss) t h = absurd (false≢true h)
 wrong-stays len (wrong r) t h = refl

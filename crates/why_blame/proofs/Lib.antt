@@ -3,3 +3,4 @@ pub mod Ended
 pub mod Found
 pub mod Games
 pub mod Scans
+pub mod Unique

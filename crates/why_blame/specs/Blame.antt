@@ -16,10 +16,10 @@ blame f bad s pre [] = nowhere
 blame f bad s pre (t ∷ ts) = let r = blame f bad (f s t) (pre ++ (t ∷ [])) ts in pick (bad (f s t)) (found s pre t) r
 
 -- splitting is refused (6)
-abbrev pub isWrong : Splitting → Bool
-isWrong (splitting d m cur ss) = false
-isWrong (over m ss) = false
-isWrong (wrong r) = true
+abbrev pub splitWrong : Splitting → Bool
+splitWrong (splitting d m cur ss) = false
+splitWrong (over m ss) = false
+splitWrong (wrong r) = true
 
 -- the depth is above the limit (9)
 abbrev pub isDeep : Splitting → Bool

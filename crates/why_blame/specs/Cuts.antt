@@ -5,7 +5,7 @@ use Rattle.lexer.specs.declared.Fault.{Fault}
 use Rattle.lexer.specs.declared.Fault.the-variants.{MissingPropertyIdentifier, UnexpectedEndOfPropertyIdentifier, UnexpectedEndOfPropertyValue}
 use Rattle.tables.specs.Numbers.{depthLimit}
 use Rattle.parser.specs.Split.{Splitting, splitting, over, wrong, splits, split}
-use Rattle.why_blame.specs.Blame.{blame, isWrong, isDeep, tokenPlace, blamePlace}
+use Rattle.why_blame.specs.Blame.{blame, splitWrong, isDeep, tokenPlace, blamePlace}
 use Rattle.why_blame.specs.declared.Fact.{Fact}
 use Rattle.why_blame.specs.declared.Fact.the-variants.{NoBracket, Foreign, NotClosed, EndBeyond, StaysOpen, NoEnd, TooDeep}
 use Rattle.why_blame.specs.declared.Cutting.{Cutting}
@@ -28,7 +28,7 @@ faultFact u UnexpectedEndOfPropertyValue s = NotClosed (length u)
 
 -- where splitting is refused
 abbrev pub wrongAt : List Tok → ℕ
-wrongAt ts = blamePlace (blame (splits false) isWrong (splitting 0 0 [] []) [] ts)
+wrongAt ts = blamePlace (blame (splits false) splitWrong (splitting 0 0 [] []) [] ts)
 
 -- where it comes above the limit of depth
 abbrev pub deepAt : Bool → List Tok → ℕ
@@ -68,5 +68,5 @@ cutting len n l (over m ss) = cutSlices len n l m ss
 cutting len n l (wrong r) = Wrong EndBeyond (wrongAt (l .toks))
 
 -- of all tokens
-abbrev pub cut : Bool → (n : ℕ) → Lexed → Cutting
-cut len n l = cutting len n l (split len (splitting 0 0 [] []) (l .toks))
+abbrev pub cutTokens : Bool → (n : ℕ) → Lexed → Cutting
+cutTokens len n l = cutting len n l (split len (splitting 0 0 [] []) (l .toks))

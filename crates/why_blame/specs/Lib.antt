@@ -3,3 +3,4 @@ pub mod Cuts
 pub mod Games
 pub mod LocalsCuts
 pub mod LocalsGames
+pub mod Numbered

@@ -3,7 +3,7 @@ use Rattle.lists.specs.Prelude.{ℕ, _+_, _≤_, _<_, _≡_, Bool, true, false,
 use Rattle.lexer.specs.Token.{Tok, end, Lexed, lexed, lexAt}
 use Rattle.tables.specs.Numbers.{depthLimit}
 use Rattle.parser.specs.Split.{Splitting, splitting, splits, split}
-use Rattle.why_blame.specs.Blame.{blame, isWrong, isDeep}
+use Rattle.why_blame.specs.Blame.{blame, splitWrong, isDeep}
 use Rattle.why_blame.specs.Cuts.{deepAt, slicedTokens}
 
 -- before the first token
@@ -23,7 +23,7 @@ pub record Seen (u : List ℕ) (from at d m n behind deep : ℕ) : Type 0 where
   pub ends : lexAt u from .end ≡ lexAt u at .end
   pub opens : lexAt u behind ≡ lexed (reverse cur) (lexAt u at)
   pub parts : lexAt u from .toks ≡ slicedTokens (reverse ss) ++ lexAt u behind .toks
-  pub wrongs : blame (splits false) isWrong unsplit [] (lexAt u from .toks) ≡ blame (splits false) isWrong (splitting d m cur ss) pre (lexAt u at .toks)
+  pub wrongs : blame (splits false) splitWrong unsplit [] (lexAt u from .toks) ≡ blame (splits false) splitWrong (splitting d m cur ss) pre (lexAt u at .toks)
   pub deeps : (len : Bool) → ltb depthLimit m ≡ false
       → blame (splits len) isDeep unsplit [] (lexAt u from .toks) ≡ blame (splits len) isDeep (splitting d m cur ss) pre (lexAt u at .toks)
   pub deep-is : (len : Bool) → ltb depthLimit m ≡ true → deepAt len (lexAt u from .toks) ≡ deep

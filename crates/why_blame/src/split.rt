@@ -1,5 +1,6 @@
 // Splitting, explained.
 ghost use mathlib.Core.Path.{_≡_};
+ghost use mathlib.Core.Bool.{true, false};
 ghost use Prim.Native.Nat.{max};
 ghost use lib.Dec.{ltb};
 ghost use Rattle.lists.specs.Pick.{pick};
@@ -7,7 +8,7 @@ ghost use Rattle.lexer.specs.Token.{lexAt};
 ghost use Rattle.tables.specs.Numbers.{depthLimit};
 ghost use Rattle.why_blame.specs.declared.Fact.the-variants.{TooDeep};
 ghost use Rattle.why_blame.specs.declared.Cutting.the-variants.{Wrong, Slices};
-ghost use Rattle.why_blame.specs.Cuts.{firstPlace, cut};
+ghost use Rattle.why_blame.specs.Cuts.{firstPlace, cutTokens};
 ghost use Rattle.why_blame.specs.LocalsCuts.{Seen, StopsBy};
 use crate::Cutting;
 use crate::Fact;
@@ -44,7 +45,8 @@ fn first_deep(deepest: usize, depth: usize, deep: usize, here: usize) -> usize
 
 // The tokens from a place on, split as far as an end at depth 0.
 fn split_tokens(s: &[u8], from: usize) -> Split
-    ensures { λ r. ⌜ Seen (now (s .entry)) from (r .at) (r .depth) (r .deepest) (r .slices) (r .behind) (r .deep) × StopsBy (r .beyond) (now (s .entry)) (r .at) (r .depth) ⌝ }
+    ensures { λ r. ⌜ Seen (now (s .entry)) from (r .at) (r .depth) (r .deepest) (r .slices) (r .behind) (r .deep)
+        × StopsBy (r .beyond) (now (s .entry)) (r .at) (r .depth) ⌝ }
 {
     let mut at = from;
     let mut depth: usize = 0;
@@ -131,25 +133,43 @@ fn unless_deep(deepest: usize, deep: usize, count: usize, place: usize) -> Cutti
     Cutting::Slices(count, place)
 }
 
-// The tokens from a place on, in a text of `size` bytes, split strictly or leniently.
-pub fn in_split(s: &[u8], from: usize, size: usize, lenient: bool) -> Cutting
-    ensures { λ r. ⌜ r ≡ cut lenient size (lexAt (now (s .entry)) from) ⌝ }
+// The tokens from a place on, in a text of `size` bytes, split strictly.
+fn split_strict(s: &[u8], from: usize, size: usize) -> Cutting
+    ensures { λ r. ⌜ r ≡ cutTokens false size (lexAt (now (s .entry)) from) ⌝ }
 {
     let x = split_tokens(s, from);
-    if x.beyond & !lenient {
+    if x.beyond {
         return Cutting::Wrong(Fact::EndBeyond, first_place(s, x.at, 0));
     }
     if x.depth != 0 {
-        if lenient {
-            return unless_deep(x.deepest, x.deep, x.slices + 1, first_place(s, x.at, size));
-        }
         return Cutting::Wrong(Fact::StaysOpen(x.depth), first_place(s, x.behind, 0));
     }
     if x.slices == 0 {
-        if lenient {
-            return Cutting::Slices(0, first_place(s, x.behind, size));
-        }
         return Cutting::Wrong(Fact::NoEnd, 0);
     }
     unless_deep(x.deepest, x.deep, x.slices, first_place(s, x.behind, size))
+}
+
+// The same, split leniently.
+fn split_lenient(s: &[u8], from: usize, size: usize) -> Cutting
+    ensures { λ r. ⌜ r ≡ cutTokens true size (lexAt (now (s .entry)) from) ⌝ }
+{
+    let x = split_tokens(s, from);
+    if x.depth != 0 {
+        return unless_deep(x.deepest, x.deep, x.slices + 1, first_place(s, x.at, size));
+    }
+    if x.slices == 0 {
+        return Cutting::Slices(0, first_place(s, x.behind, size));
+    }
+    unless_deep(x.deepest, x.deep, x.slices, first_place(s, x.behind, size))
+}
+
+// The tokens from a place on, in a text of `size` bytes, split strictly or leniently.
+pub fn in_split(s: &[u8], from: usize, size: usize, lenient: bool) -> Cutting
+    ensures { λ r. ⌜ r ≡ cutTokens lenient size (lexAt (now (s .entry)) from) ⌝ }
+{
+    if lenient {
+        return split_lenient(s, from, size);
+    }
+    split_strict(s, from, size)
 }
