@@ -49,14 +49,14 @@ module _ {u : List ℕ} {from base : ℕ} {a : List ℕ} {at d cur n : ℕ} {g :
 
   -- ---- a property
 
-  module _ {i k e : ℕ} (q : lexAt u at ≡ lexed (prop (propAt u i k) e ∷ []) (lexAt u e)) where
+  module _ (i k e : ℕ) (q : lexAt u at ≡ lexed (prop (propAt u i k) e ∷ []) (lexAt u e)) where
     prop-slice : sliceFrom d (lexAt u at .toks) ≡ prop (propAt u i k) e ∷ sliceFrom d (lexAt u e .toks)
     unfolding sliceFrom
     prop-slice = ap (λ (z : Lexed). sliceFrom d (z .toks)) q
 
     pub prop-stops : g ≡ false → treeBlame base (sliceAt u from) ≡ By Stray i
     unfolding propAt
-    prop-stops f = stops-here x (prop (propAt u i k) e) (sliceFrom d (lexAt u e .toks)) prop-slice {UnexpectedProperty} (ap (λ (z : Bool). gated false z (propAt u i k) cur (stackOf a d) (x .ns)) f)
+    prop-stops f = stops-here x (prop (propAt u i k) e) (sliceFrom d (lexAt u e .toks)) prop-slice {r = UnexpectedProperty} (ap (λ (z : Bool). gated false z (propAt u i k) cur (stackOf a d) (x .ns)) f)
 
     pub going-prop : at ≤ e → e ≤ length u → g ≡ true → Going u from base a e d cur n g
     unfolding Shallow

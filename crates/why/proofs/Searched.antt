@@ -18,15 +18,16 @@ use Rattle.why.specs.declared.tree.Walked.{Walked}
 use Rattle.why.specs.declared.tree.Walked.the-variants.{Stopped, Tree}
 
 pub searching-first : {u : List ℕ} {from count : ℕ} → SlicesReady false u from count → Searching u from count from 0 0
-searching-first x =
+searching-first {u} {from} {count} x =
+    let e : count ≡ count - 0 = omega arith in
     record {
       short = x .short;
       inside = x .inside;
       nodes = omega arith;
       below = omega arith;
-      shallow = x .shallow;
+      shallow = subst (λ (z : ℕ). All (Shallow 0) (firstSlices z (lexAt u from .toks))) e (x .shallow);
       calm = x .faultless refl;
-      same = refl;
+      same = ap (λ (z : ℕ). slicesBlame 0 0 (firstSlices z (lexAt u from .toks))) e;
     }
 
 less : (count k : ℕ) → k < count → count - k ≡ suc (count - (k + 1))

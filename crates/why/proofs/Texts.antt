@@ -5,7 +5,8 @@ use Rattle.lists.proofs.Tests.{never}
 use Rattle.text_utf8.specs.Trim.{trimmed}
 use Rattle.text_utf8.specs.declared.Trimmed.{Trimmed}
 use Rattle.text_utf8.specs.declared.Trimmed.the-variants.{NotUtf8, Blank, Kept}
-use Rattle.lexer.specs.Token.{Tok, End, done, Lexed, lexAt}
+use Rattle.lexer.specs.Token.{Tok, End, done, broken, Lexed, lexAt}
+use Rattle.lexer.specs.declared.Fault.{Fault}
 use Rattle.tables.specs.Numbers.{textLimit, depthLimit}
 use Rattle.tables.specs.declared.Reason.the-variants.{TooDeep as tooDeep}
 use Rattle.parser.specs.Split.{Splitting, splitting, over, wrong, split, no, slices, deep, filled, sliced, splitByGametree}
@@ -19,7 +20,10 @@ use Rattle.why_blame.specs.declared.Blamed.{Blamed}
 use Rattle.why_blame.specs.declared.Blamed.the-variants.{By}
 use Rattle.why_blame.specs.declared.Cutting.{Cutting}
 use Rattle.why_blame.specs.declared.Cutting.the-variants.{Wrong, Slices}
-use Rattle.why.specs.Why.{acceptedSlices, trimBlame, textBlame}
+use Rattle.why.specs.Why.{acceptedSlices, cutBlame, trimBlame, textBlame}
+use Rattle.why.specs.LocalsTrees.{endingOf, wrongOf}
+use Rattle.why.specs.declared.Ending.{Ending}
+use Rattle.why.specs.declared.Ending.the-variants.{Whole, Broken}
 
 -- ---- the slices
 
@@ -82,3 +86,21 @@ module _ (len : Bool) (t : List ℕ) where
 
   pub text-short : length t ≤ textLimit → {x y : Trimmed} → x ≡ trimmed t → x ≡ y → trimBlame len t y ≡ textBlame len t
   text-short h e q = ap (trimBlame len t) (sym q ∙ e) ∙ sym (ap (λ (b : Bool). pick b (By (Length (length t)) 0) (trimBlame len t (trimmed t))) (le-ltb textLimit (length t) h))
+
+-- ---- what the code was told
+
+pub wrong-cut : (ts : List Tok) (c : Cutting) → wrongOf c ≡ cutBlame true ts c
+wrong-cut ts (Wrong f p) = refl
+wrong-cut ts (Slices k q) = refl
+
+pub ending-whole : (e : End) {x : Ending} → x ≡ endingOf e → x ≡ Whole → e ≡ done
+ending-whole done p q = refl
+ending-whole (broken f s) p q = never (let z : Broken f s ≡ Whole = sym p ∙ q in cc)
+
+pub ending-broken : (e : End) {x : Ending} → x ≡ endingOf e → {f : Fault} {s : ℕ} → x ≡ Broken f s → e ≡ broken f s
+ending-broken done p q = never (let z : Whole ≡ Broken _ _ = sym p ∙ q in cc)
+ending-broken (broken g o) p {f} {s} q =
+    let z : Broken g o ≡ Broken f s = sym p ∙ q in
+    let a : g ≡ f = cc in
+    let b : o ≡ s = cc in
+    ap (λ (y : Fault). broken y o) a ∙ ap (broken f) b
