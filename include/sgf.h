@@ -162,6 +162,45 @@ SgfReading sgf_read_lenient(const uint8_t *text, size_t text_len, uint32_t setti
                             uint32_t *trees, size_t trees_len, uint32_t *nodes, size_t nodes_len,
                             uint32_t *properties, size_t properties_len, uint32_t *values, size_t values_len);
 
+/* How many rows such a reading needs, without lent tables: what sgf_read_strict and sgf_read_lenient answer where enough
+ * rows are lent, so that the counts are the rows to lend, times the stride. Numbers as theirs, but 14; `ignored` is 0. */
+SgfReading sgf_count_strict(const uint8_t *text, size_t text_len);
+SgfReading sgf_count_lenient(const uint8_t *text, size_t text_len);
+
+/* Why a text is refused: a fact of the text, in the order in which a reading looks for them; in `detail` what stands
+ * behind the colon, else 0. Slices are the trees of a text, numbered from 0, and nodes are numbered as in the table. */
+enum {
+    SGF_WHY_ACCEPTED = 0,
+    SGF_WHY_LENGTH = 1,       /* 1; the text's bytes */
+    SGF_WHY_BAD_SEQUENCE = 2, /* 2 */
+    SGF_WHY_NO_BRACKET = 3,   /* 3; where the scan of the identifier stops: the end of what trimming keeps */
+    SGF_WHY_FOREIGN = 4,      /* 4; where it stops: the first byte that is not ASCII */
+    SGF_WHY_NOT_CLOSED = 5,   /* 5; where the scan of the value stops: the end of what trimming keeps */
+    SGF_WHY_END_BEYOND = 6,   /* 6: the `)` at the place closes nothing */
+    SGF_WHY_STAYS_OPEN = 7,   /* 7; how many trees stay open, of the slice whose first token is at the place */
+    SGF_WHY_NO_NODE = 8,      /* 7; the slice, which starts at the place and has no node */
+    SGF_WHY_NO_END = 9,       /* 8 */
+    SGF_WHY_TOO_DEEP = 10,    /* 9: the first `(` beyond SGF_DEPTH_LIMIT */
+    SGF_WHY_EMPTY_LIST = 11,  /* 10; the node in whose list no node stands yet, SGF_NONE for the tree's own */
+    SGF_WHY_SECOND_GM = 12,   /* 11; the slice; the place is the second GM's */
+    SGF_WHY_STRAY = 13,       /* 11: the property at the place is not directly behind a node or its properties */
+    SGF_WHY_GM_VALUES = 14,   /* 12; how many values the GM at the place has */
+    SGF_WHY_GM_NUMBER = 15    /* 12: the one value of the GM at the place is no signed 32-bit number */
+};
+
+/* Number 0, the used rows, and the place of the first token, failing or not, that stands in no slice, or text_len; or the
+ * number of a refusal, its fact, the place of the token to blame, and the number in the fact. Other than a reading's
+ * place it is told for every number but 1 and 8. */
+typedef struct {
+    uint32_t number, fact;
+    size_t place, detail;
+    SgfCounts counts;
+} SgfWhy;
+
+/* Why a reading of the text is refused, or where it ended. No tables are lent; 14 is not explained. */
+SgfWhy sgf_why_strict(const uint8_t *text, size_t text_len);
+SgfWhy sgf_why_lenient(const uint8_t *text, size_t text_len);
+
 /* ---- Over a record in memory ------------------------------------------------------------------------------ */
 
 /* Each function below takes a text of which the first `used` bytes are the record's, the counts of used rows and

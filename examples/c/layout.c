@@ -268,6 +268,70 @@ static void check_feed(void) {
     CHECK(memcmp(text, "(;C[xyz];B[])\0", 14) == 0 && values[0] == 4 && values[1] == 7 && values[2] == 11 && values[3] == 11);
 }
 
+/* The explanation of a text, strict or lenient. */
+typedef struct {
+    bool lenient;
+    const char *source;
+    uint32_t number, fact;
+    size_t place, detail;
+} Told;
+
+static const Told told[] = {
+    {false, "(a[])", 11, SGF_WHY_STRAY, 1, 0},
+    {false, "(;B\xE3\x80\x80", 3, SGF_WHY_NO_BRACKET, 2, 3},
+    {false, "(;B\xE3\x80\x80x", 4, SGF_WHY_FOREIGN, 2, 3},
+    {false, "(;A[x][y", 5, SGF_WHY_NOT_CLOSED, 2, 8},
+    {false, ";(;", 7, SGF_WHY_STAYS_OPEN, 0, 1},
+    {false, "(;)(((;)", 7, SGF_WHY_STAYS_OPEN, 3, 2},
+    {false, "()", 7, SGF_WHY_NO_NODE, 0, 0},
+    {false, "(;)()", 7, SGF_WHY_NO_NODE, 3, 1},
+    {false, "((;))", 10, SGF_WHY_EMPTY_LIST, 1, SGF_NONE},
+    {false, "(;((;)))", 10, SGF_WHY_EMPTY_LIST, 3, 0},
+    {false, "(;)(;((;)))", 10, SGF_WHY_EMPTY_LIST, 6, 1},
+    {false, "(;GM[1]GM[x])", 11, SGF_WHY_SECOND_GM, 7, 0},
+    {false, "(;GM[1][2])", 12, SGF_WHY_GM_VALUES, 2, 2},
+    {false, "(;GM[x])", 12, SGF_WHY_GM_NUMBER, 2, 0},
+    {false, "(;GM[2147483648])", 12, SGF_WHY_GM_NUMBER, 2, 0},
+    {false, "((GM[x]))", 12, SGF_WHY_GM_NUMBER, 2, 0},
+    {false, "", 8, SGF_WHY_NO_END, 0, 0},
+    {false, " ;", 8, SGF_WHY_NO_END, 0, 0},
+    {false, "(;))", 6, SGF_WHY_END_BEYOND, 3, 0},
+    {false, "(\xFF", 2, SGF_WHY_BAD_SEQUENCE, 1, 0},
+    {false, "(;AbC[])", 0, SGF_WHY_ACCEPTED, 8, 0},
+    {false, " (;) ", 0, SGF_WHY_ACCEPTED, 5, 0},
+    {false, "(;);", 0, SGF_WHY_ACCEPTED, 3, 0},
+    {true, "", 0, SGF_WHY_ACCEPTED, 0, 0},
+    {true, ";", 0, SGF_WHY_ACCEPTED, 0, 0},
+    {true, "(;);)", 0, SGF_WHY_ACCEPTED, 3, 0},
+    {true, "(;)x", 0, SGF_WHY_ACCEPTED, 3, 0},
+    {true, "(;B[", 0, SGF_WHY_ACCEPTED, 2, 0},
+    {true, "(;)\xFF", 2, SGF_WHY_BAD_SEQUENCE, 3, 0},
+};
+
+static void check_why(void) {
+    for (size_t i = 0; i < sizeof told / sizeof *told; i++) {
+        const Told *t = told + i;
+        const uint8_t *source = (const uint8_t *)t->source;
+        size_t length = strlen(t->source);
+        SgfWhy w = (t->lenient ? sgf_why_lenient : sgf_why_strict)(source, length);
+        SgfReading r = read_text(t->source, t->lenient ? sgf_read_lenient : sgf_read_strict, 0);
+        SgfReading c = (t->lenient ? sgf_count_lenient : sgf_count_strict)(source, length);
+        CHECK(w.number == t->number && w.fact == t->fact && w.place == t->place && w.detail == t->detail);
+        CHECK(w.number == r.number && memcmp(&w.counts, &r.counts, sizeof r.counts) == 0);
+        CHECK(memcmp(&c, &r, sizeof r) == 0);
+    }
+    for (size_t i = 0; i < 1025; i++) {
+        memcpy(text + 2 * i, "(;", 2);
+        text[2050 + i] = ')';
+    }
+    SgfWhy w = sgf_why_strict(text, 3075);
+    CHECK(w.number == 9 && w.fact == SGF_WHY_TOO_DEEP && w.place == 2048 && w.detail == 0);
+    w = sgf_why_lenient(text, 2050);
+    CHECK(w.number == 9 && w.fact == SGF_WHY_TOO_DEEP && w.place == 2048);
+    w = sgf_why_strict(text, SGF_TEXT_LIMIT + 1);
+    CHECK(w.number == 1 && w.fact == SGF_WHY_LENGTH && w.place == 0 && w.detail == SGF_TEXT_LIMIT + 1);
+}
+
 int main(void) {
     check_version();
     check_tokens();
@@ -278,6 +342,7 @@ int main(void) {
     check_writing();
     check_edit();
     check_feed();
+    check_why();
     printf("layout: %d checks, %d failures\n", checks, failures);
     return failures != 0;
 }

@@ -90,6 +90,17 @@ pub struct Edit {
     pub counts: Counts,
 }
 
+/// Why a text is refused, by number, fact, place and the number in the fact; or the counts, and where reading ended.
+#[repr(C)]
+#[derive(Debug, Clone, Copy, PartialEq, Eq)]
+pub struct Why {
+    pub number: u32,
+    pub fact: u32,
+    pub place: usize,
+    pub detail: usize,
+    pub counts: Counts,
+}
+
 /// What trimming keeps: number 0 and first..last, or number 2 and the place of the first bad sequence.
 #[repr(C)]
 #[derive(Debug, Clone, Copy, PartialEq, Eq)]
@@ -246,6 +257,10 @@ unsafe extern "C" {
     fn sgf_next_value(text: *const u8, text_len: usize, at: usize) -> Value;
     fn sgf_block(state: Blocks, block: *const u8, block_len: usize, rows: *mut u32, rows_len: usize) -> Block;
     fn sgf_close(state: Blocks, rows: *mut u32, rows_len: usize) -> Close;
+    fn sgf_count_strict(text: *const u8, text_len: usize) -> Reading;
+    fn sgf_count_lenient(text: *const u8, text_len: usize) -> Reading;
+    fn sgf_why_strict(text: *const u8, text_len: usize) -> Why;
+    fn sgf_why_lenient(text: *const u8, text_len: usize) -> Why;
     fn sgf_read_strict(
         text: *const u8,
         text_len: usize,
@@ -315,6 +330,22 @@ pub fn version() -> u32 {
 
 pub fn trim(text: &[u8]) -> Trimmed {
     unsafe { sgf_trim(text.as_ptr(), text.len()) }
+}
+
+pub fn count_strict(text: &[u8]) -> Reading {
+    unsafe { sgf_count_strict(text.as_ptr(), text.len()) }
+}
+
+pub fn count_lenient(text: &[u8]) -> Reading {
+    unsafe { sgf_count_lenient(text.as_ptr(), text.len()) }
+}
+
+pub fn why_strict(text: &[u8]) -> Why {
+    unsafe { sgf_why_strict(text.as_ptr(), text.len()) }
+}
+
+pub fn why_lenient(text: &[u8]) -> Why {
+    unsafe { sgf_why_lenient(text.as_ptr(), text.len()) }
 }
 
 pub fn token(text: &[u8], at: usize) -> Token {

@@ -76,6 +76,7 @@ mod session;
 mod size;
 mod tables;
 mod walk;
+mod why;
 
 pub use board::Board;
 pub use blocks::{Blocks, TokenKind, TokenSpan, Tokens};
@@ -90,6 +91,7 @@ pub use session::Session;
 pub use size::BoardSize;
 pub use tables::Tables;
 pub use walk::{Step, Walk};
+pub use why::{Counts, Explanation, Fact, counts, counts_lenient, explain, explain_lenient};
 
 /// The version of the linked library: major, minor, patch; that of this crate, where both are of one release.
 ///

@@ -42,7 +42,7 @@ one-less (suc (suc d)) h (end o ∷ ts) = absurd (omega arith)
 one-less d h (node o ∷ ts) = props-slice d ts
 one-less d h (prop p e ∷ ts) = props-slice d ts
 
-two-less : (ts : List Tok) → props (drop 2 (sliceFrom 0 ts)) ≡ props (behindOf (behindOf ts))
+pub two-less : (ts : List Tok) → props (drop 2 (sliceFrom 0 ts)) ≡ props (behindOf (behindOf ts))
 unfolding sliceFrom
 two-less [] = refl
 two-less (start o ∷ ts) = one-less 1 (omega arith) ts

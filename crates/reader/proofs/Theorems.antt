@@ -13,7 +13,7 @@ use Rattle.tables.specs.declared.Reading.the-variants.{Accepted, Refused}
 use Rattle.tables.specs.declared.Reason.{Reason}
 use Rattle.tables.specs.declared.Reason.the-variants.{TextTooLong, NotUtf8, MissingPropertyIdentifier, UnexpectedEndOfPropertyIdentifier, UnexpectedEndOfPropertyValue, UnexpectedGameTreeEnd, UnexpectedEndOfData, NoGameTrees, TooDeep, UnexpectedGameTreeStart, UnexpectedProperty, InvalidGameType, NoRoom, EmptyIdentifier, NoSuchNumber, GameTypeFixed, NotClosed, NotFitting}
 use Rattle.parser.specs.Read.{Answer, refused, accepted, read, readLenient}
-use Rattle.reader.specs.Lent.{Lent, roomy, answers, ReadIs}
+use Rattle.reader.specs.Lent.{Lent, roomy, answers, rowsCounted, ReadIs}
 use Rattle.reader.specs.LocalsMild.{Mild}
 use Rattle.reader.proofs.Reasons.{refused-with}
 
@@ -29,6 +29,14 @@ answer-mild t b = go (readLenient t) refl
     go : (a : Answer) → readLenient t ≡ a → Mild (answers a b)
     go (refused r p) e = refused-mild t r p e
     go (accepted ts) e = pick-elim Mild (roomy (tables ts) b) (λ _. (lenient.Accepted (countsOf (tables ts)), refl)) (λ _. (lenient.NoRoom, refl))
+
+-- where rows are only counted, one of four
+pub count-mild : (t : List ℕ) → Mild (rowsCounted (readLenient t))
+count-mild t = go (readLenient t) refl
+  where
+    go : (a : Answer) → readLenient t ≡ a → Mild (rowsCounted a)
+    go (refused r p) e = refused-mild t r p e
+    go (accepted ts) e = (lenient.Accepted (countsOf (tables ts)), refl)
 
 -- their numbers: 0, 1, 2, 9 and 14
 pub lenient-list : (r : Lenient) → (lenientNumber r ≡ 0) ⊎ ((lenientNumber r ≡ 1) ⊎ ((lenientNumber r ≡ 2) ⊎ ((lenientNumber r ≡ 9) ⊎ (lenientNumber r ≡ 14))))

@@ -11,6 +11,7 @@ use Rattle.tables.specs.Flat.{flatNodes, over}
 use Rattle.tables.specs.LocalsDepths.{LevelledTo, LevelsIs}
 use Rattle.tables.specs.LocalsLinks.{HasRows, LinkedFrom, LinksIs}
 use Rattle.tables.specs.declared.Counts.{Counts}
+use Rattle.tables.specs.declared.Reading.{Reading}
 use Rattle.tables.specs.declared.Reading.the-variants.{Accepted, Refused}
 use Rattle.tables.specs.declared.Reason.{Reason}
 use Rattle.tables.specs.declared.Reason.the-variants.{NoRoom}
@@ -18,7 +19,7 @@ use Rattle.parser.specs.LocalsSlice.{firstSlices}
 use Rattle.parser.specs.Read.{Answer, accepted, Trees, treesSoFar, noTrees, answer}
 use Rattle.parser_tree.specs.LocalsFlat.{bareRows}
 use Rattle.parser_tree.proofs.Flats.{val-length, prop-length, node-length}
-use Rattle.reader.specs.Lent.{Lent, lent, roomFor, roomy, stored, ReadIs}
+use Rattle.reader.specs.Lent.{Lent, lent, roomFor, roomy, rowsCounted, stored, ReadIs}
 use Rattle.reader.specs.LocalsSlices.{readOf, CountedAs, TreesPutIs, TreesIs, CountIs}
 use Rattle.reader.specs.declared.slices.Total.{Total}
 use Rattle.reader.specs.declared.slices.Total.the-variants.{Rows, Refused as refusedTotal}
@@ -142,3 +143,14 @@ module _ (X : Trees) (count : ℕ) {x : Total} (y : CountIs X count x) where
 
   pub total-refused : {r : Reason} → x ≡ refusedTotal r → X ≡ noTrees r
   total-refused e = subst (TreesIs X count (y .0) (y .1)) e (y .2)
+
+-- ---- counted only
+
+pub count-refused : {X : Trees} {r : Reason} → X ≡ noTrees r → Refused r 0 ≡ rowsCounted (answer X)
+count-refused e = ap (λ (z : Trees). rowsCounted (answer z)) (sym e)
+
+pub count-accepted : {X : Trees} {c : Counts} → CountedAs X c → Accepted c ≡ rowsCounted (answer X)
+count-accepted K = sym (ap rowsCounted (answer-is K) ∙ ap Accepted (K .counts))
+
+pub count-as : {A B : Answer} → A ≡ B → {r : Reading} → r ≡ rowsCounted B → r ≡ rowsCounted A
+count-as e q = q ∙ ap rowsCounted (sym e)

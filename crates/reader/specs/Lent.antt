@@ -45,6 +45,11 @@ abbrev pub answers : Answer → Lent → Reading
 answers (refused r p) l = Refused r p
 answers (accepted ts) l = pick (roomy (tables ts) l) (Accepted (countsOf (tables ts))) (Refused NoRoom 0)
 
+-- what is answered where no table is lent: how many rows there are, or the refusal (SCOPE 260)
+abbrev pub rowsCounted : Answer → Reading
+rowsCounted (refused r p) = Refused r p
+rowsCounted (accepted ts) = Accepted (countsOf (tables ts))
+
 -- the lent tables after it: a refusal leaves every number (SCOPE 57, 58)
 abbrev pub leaves : Answer → Lent → Lent
 leaves (refused r p) l = l

@@ -7,7 +7,7 @@ ghost use Rattle.parser.specs.Read as definition;
 ghost use Rattle.tables.specs.Lenient.{asReading};
 ghost use Rattle.parser_split.specs.LocalsPlans.{planText};
 ghost use Rattle.parser_census.specs.LocalsCensus.{censusOf};
-ghost use Rattle.reader.specs.Lent.{lent, ReadIs, LenientIs};
+ghost use Rattle.reader.specs.Lent.{lent, rowsCounted, ReadIs, LenientIs};
 ghost use Rattle.reader.specs.LocalsKnown.{knownBy, knownOf};
 ghost use Rattle.reader.specs.LocalsMild.{Mild};
 use parser_census::Census;
@@ -174,4 +174,40 @@ pub fn read_lenient(
         r ⌝ }
 {
     mild(read(text, true, trees, nodes, properties, values))
+}
+
+// How many rows a text of which nothing is known has.
+fn count_odd(text: &[u8], lenient: bool) -> Reading
+    ensures { λ r. ⌜ r ≡ rowsCounted (definition.read lenient (now (text .entry))) ⌝ }
+{
+    match plan_text(text, lenient) {
+        Plan::Refused(reason, place) => Reading::Refused(reason, place),
+        Plan::Slices(first, last, count) => {
+            slices::count_slices(&text[..last], first, count, lenient)
+        }
+    }
+}
+
+// How many rows a text has, read strictly or leniently. No table is lent and none is needed.
+fn count(text: &[u8], lenient: bool) -> Reading
+    ensures { λ r. ⌜ r ≡ rowsCounted (definition.read lenient (now (text .entry))) ⌝ }
+{
+    match known_text(text) {
+        Known::Nothing => count_odd(text, lenient),
+        Known::Rows(_, _, counts) => Reading::Accepted(counts),
+    }
+}
+
+// How many rows a strict reading of a text needs, or why it is refused and the place.
+pub fn count_strict(text: &[u8]) -> Reading
+    ensures { λ r. ⌜ r ≡ rowsCounted (definition.readStrict (now (text .entry))) ⌝ }
+{
+    count(text, false)
+}
+
+// How many rows a lenient reading of a text needs, or why it is refused.
+pub fn count_lenient(text: &[u8]) -> Lenient
+    ensures { λ r. ⌜ asReading r ≡ rowsCounted (definition.readLenient (now (text .entry))) ⌝ }
+{
+    mild(count(text, true))
 }

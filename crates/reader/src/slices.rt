@@ -6,7 +6,7 @@ ghost use Rattle.parser.specs.Game.{is, findGametype};
 ghost use Rattle.parser.specs.Read.{answer};
 ghost use Rattle.parser.specs.LocalsSlice.{sliceFrom, firstSlices};
 ghost use Rattle.parser_game.specs.LocalsGame.{typeOf};
-ghost use Rattle.reader.specs.Lent.{lent, roomFor, ReadIs};
+ghost use Rattle.reader.specs.Lent.{lent, roomFor, rowsCounted, ReadIs};
 ghost use Rattle.reader.specs.LocalsSlices.{leniently, readOf, SlicesReady, GoIf, FillReady, TreesIs, CountIs};
 use parser_game::GameType;
 use parser_tree::Walked;
@@ -203,5 +203,21 @@ pub fn read_slices(
                 values,
             )
         }
+    }
+}
+
+// How many rows the trees of `count` slices from a place on have, or why there are no trees.
+pub fn count_slices(s: &[u8], from: usize, count: usize, lenient: bool) -> Reading
+    requires { ⌜ SlicesReady lenient (now s) from count ⌝ }
+    ensures { λ r. ⌜ r ≡ rowsCounted (answer (readOf lenient count (lexAt (now (s .entry)) from .toks))) ⌝ }
+{
+    match count_rows(s, from, count, lenient) {
+        Total::Refused(reason) => Reading::Refused(reason, 0),
+        Total::Rows(n, p, v) => Reading::Accepted(Counts {
+            trees: count,
+            nodes: n,
+            properties: p,
+            values: v,
+        }),
     }
 }

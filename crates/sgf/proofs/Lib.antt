@@ -3,3 +3,4 @@ pub mod Reading
 pub mod Shaped
 pub mod UniqueIndex
 pub mod UniqueNames
+pub mod UniqueWhy

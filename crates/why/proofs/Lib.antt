@@ -1,0 +1,4 @@
+pub mod Going
+pub mod Props
+pub mod Searched
+pub mod Texts

@@ -1,0 +1,42 @@
+-- `why::in_text` meets its contract. Assumes nothing.
+use Rattle.lists.proofs.Prelude.{arith, sym, _∙_, length-take-le, needs}
+use denote.Ref.{now}
+use Rattle.text_utf8.proofs.Extent.{trim-bounds}
+use Rattle.why.proofs.Texts.{text-long, text-short}
+use Rattle.why.proofs.in_text.Statement.{statement}
+use Rattle.why.proofs.in_text.Tie as tie
+
+returns : tie.Need-returns
+returns c = text-long (c .before .before .args .lenient) (now (c .before .before .args .text)) (c .if1 .taken)
+
+slice-aggregate-in-tokens-2 : tie.Need-slice-aggregate-in-tokens-2
+slice-aggregate-in-tokens-2 c = let w = trim-bounds (now (c .before .before .before .before .before .before .before .args .text)) (c .before .before .first .given .0 .0) (c .before .before .first .given .0 .1 .0) (sym (c .before .before .before .before .trim .ensures) ∙ c .before .before .first .given .1) in let l = length-take-le (c .before .before .first .given .0 .1 .0) (now (c .before .before .before .before .before .before .before .args .text)) (w .1) in omega arith
+
+in-tokens-requires-2 : tie.Need-in-tokens-requires-2
+in-tokens-requires-2 c κs = let w = trim-bounds (now (c .before .before .before .before .before .before .before .args .text)) (c .before .before .first .given .0 .0) (c .before .before .first .given .0 .1 .0) (sym (c .before .before .before .before .trim .ensures) ∙ c .before .before .first .given .1) in let l = length-take-le (c .before .before .first .given .0 .1 .0) (now (c .before .before .before .before .before .before .before .args .text)) (w .1) in let h = c .before .before .before .before .before .if1 .left in (omega arith, omega arith)
+
+returns-2 : tie.Need-returns-2
+returns-2 c = text-short (c .before .before .before .before .before .before .args .lenient) (now (c .before .before .before .before .before .before .args .text)) (c .before .before .before .before .if1 .left) (c .before .before .before .trim .ensures) (c .before .place .given .1)
+
+returns-3 : tie.Need-returns-3
+returns-3 c = c .in-tokens .ensures ∙ text-short (c .before .before .before .before .before .before .before .args .lenient) (now (c .before .before .before .before .before .before .before .args .text)) (c .before .before .before .before .before .if1 .left) (c .before .before .before .before .trim .ensures) (c .before .before .enum-told .given .1)
+
+returns-4 : tie.Need-returns-4
+returns-4 c = c .in-tokens2 .ensures ∙ text-short (c .before .before .before .before .before .before .before .before .args .lenient) (now (c .before .before .before .before .before .before .before .before .args .text)) (c .before .before .before .before .before .before .if1 .left) (c .before .before .before .before .before .trim .ensures) (c .before .before .before .first .given .1)
+
+pub in-text-spec : {M : Type 1} → statement M
+in-text-spec =
+    tie.close
+    (tie.spec
+    returns
+    (λ c κs. search needs)
+    (λ c. search needs)
+    (λ c. search needs)
+    (λ c. search needs)
+    (λ c κs. search needs)
+    (λ c. search needs)
+    slice-aggregate-in-tokens-2
+    in-tokens-requires-2
+    returns-2
+    returns-3
+    returns-4)

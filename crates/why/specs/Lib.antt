@@ -1,0 +1,3 @@
+pub mod LocalsTrees
+pub mod Trees
+pub mod Why

@@ -1,0 +1,61 @@
+-- The walk of a slice that looks for the token to blame, and the slices one after the other, in the code's own terms. Nothing public is stated by these.
+use Rattle.lists.specs.Prelude.{ℕ, _+_, _-_, _≤_, _<_, _≡_, Bool, true, false, List, [], length}
+use Rattle.lists.specs.All.{All}
+use Rattle.lexer.specs.Token.{Tok, End, done, broken, lexAt}
+use Rattle.tables.specs.Numbers.{textLimit, depthLimit, none}
+use Rattle.tables.specs.Record.{Node}
+use Rattle.parser.specs.Walk.{Walk, walk, walks, walked}
+use Rattle.parser.specs.LocalsSlice.{sliceFrom, restFrom, firstSlices, Shallow}
+use Rattle.parser_tree.specs.LocalsTurns.{BehindIs}
+use Rattle.why_blame.specs.declared.Cutting.{Cutting}
+use Rattle.why_blame.specs.declared.Cutting.the-variants.{Wrong, Slices}
+use Rattle.why_blame.specs.declared.Blamed.{Blamed}
+use Rattle.why_blame.specs.declared.Blamed.the-variants.{No, By}
+use Rattle.why.specs.Trees.{treeBlame, nodesIn, slicesBlame}
+use Rattle.why.specs.declared.Ending.{Ending}
+use Rattle.why.specs.declared.Ending.the-variants.{Whole, Broken}
+use Rattle.why.specs.declared.tree.Walked.{Walked}
+use Rattle.why.specs.declared.tree.Walked.the-variants.{Stopped, Tree}
+
+-- how the tokens end
+abbrev pub endingOf : End → Ending
+endingOf done = Whole
+endingOf (broken f s) = Broken f s
+
+-- splitting that is refused
+abbrev pub wrongOf : Cutting → Blamed
+wrongOf (Wrong f p) = By f p
+wrongOf (Slices k q) = No
+
+-- the slice from a place on
+abbrev pub sliceAt : List ℕ → ℕ → List Tok
+sliceAt u from = sliceFrom 0 (lexAt u from .toks)
+
+-- what the walk asks for
+pub record SliceReady (u : List ℕ) (from base : ℕ) : Type 0 where
+  pub short : length u ≤ textLimit
+  pub inside : from ≤ length u
+  pub nodes : base ≤ from
+  pub shallow : Shallow 0 (sliceAt u from)
+
+-- a tree: nothing stops it, it has so many nodes, and the next slice starts there
+pub record SoundSlice (u : List ℕ) (from base next n : ℕ) : Type 0 where
+  pub none-stops : treeBlame base (sliceAt u from) ≡ No
+  pub count : n ≡ base + nodesIn base (sliceAt u from)
+  pub behind : BehindIs true u from 0 next
+  pub bound : n ≤ next
+
+-- what the walk finds
+abbrev pub FoundIn : (u : List ℕ) (from base : ℕ) → Walked → Type 0
+FoundIn u from base (Stopped f p) = treeBlame base (sliceAt u from) ≡ By f p
+FoundIn u from base (Tree next n) = SoundSlice u from base next n
+
+-- k slices are sound, the next starts at `at` and its nodes are numbered from base on
+pub record Searching (u : List ℕ) (from count at base k : ℕ) : Type 0 where
+  pub short : length u ≤ textLimit
+  pub inside : at ≤ length u
+  pub nodes : base ≤ at
+  pub below : k ≤ count
+  pub shallow : All (Shallow 0) (firstSlices (count - k) (lexAt u at .toks))
+  pub calm : lexAt u at .end ≡ done
+  pub same : slicesBlame 0 0 (firstSlices count (lexAt u from .toks)) ≡ slicesBlame k base (firstSlices (count - k) (lexAt u at .toks))

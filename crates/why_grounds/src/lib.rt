@@ -1,0 +1,1 @@
+// What an explanation says of its text: laws, and no code.
