@@ -1,2 +1,3 @@
 pub mod Changes
+pub mod Listed
 pub mod Mend
