@@ -3,7 +3,7 @@ use Rattle.lists.proofs.Prelude.{ℕ, Bool, true, false, true≢false, _≡_, r
 use Rattle.tables.proofs.Cases.{either-bool}
 use Rattle.tables.specs.Columns.{firstPropAt, propCountAt}
 use Rattle.parts_props.specs.Props.{Property, propertiesAt}
-use Rattle.board_acts.specs.declared.State.{State}
+use Rattle.board_acts.specs.declared.BoardState.{BoardState}
 use Rattle.board_node.specs.Node.{actsOf, rightNode}
 use Rattle.board_node.specs.Answer.{positionOf, answerOf, NodeIs}
 use Rattle.board_node.specs.declared.Position.{Position}
@@ -40,7 +40,7 @@ module _ (ps : List Property) (b : SgfBoard) where
   next-none r n e =
       record { no-board = λ z. e; refused = λ z. absurd (n z); shows = λ z. absurd (n z); acts = λ z. absurd (n z) }
 
-  module _ (z : b .number ≡ 0) {v : Bool} {b′ : List ℕ} {s′ : State} (f : NodeIs (b .columns) (b .rows) ps (positionIn b) (answerOf v b′ s′)) where
+  module _ (z : b .number ≡ 0) {v : Bool} {b′ : List ℕ} {s′ : BoardState} (f : NodeIs (b .columns) (b .rows) ps (positionIn b) (answerOf v b′ s′)) where
     pub next-refused : {r : SgfBoard} → v ≡ true → r ≡ refusedBoard 23 → NextBoardIs ps b r
     next-refused e g =
         let k = wrong-node f e in

@@ -10,7 +10,7 @@ use Rattle.parts_props.specs.Props.{Property}
 use Rattle.board_groups.specs.Groups.{Stone, Liberty, Settled}
 use Rattle.board_play.specs.Steps.{Pos, Act, Steps, emptyPos}
 use Rattle.board_acts.specs.Acts.{posOf, KnownSettled}
-use Rattle.board_acts.specs.declared.State.{State}
+use Rattle.board_acts.specs.declared.BoardState.{BoardState}
 use Rattle.board_acts.proofs.Exact.{ExactAll}
 use Rattle.board_node.specs.Node.{actsOf, rightNode}
 use Rattle.board_node.specs.Answer.{positionOf, answerOf, NodeIs}
@@ -39,7 +39,7 @@ start-known w h e = (empty-settled w h 1 (λ z. omega arith), empty-settled w h 
 
 module _ (w h : ℕ) (nd : List ℕ) (P : ℕ → List Property) (k : ℕ) where
   -- the nodes of the way to `at` are played, and `at` is on the way to k
-  pub record Walked (at : ℕ) (b : List ℕ) (s : State) : Type 0 where
+  pub record Walked (at : ℕ) (b : List ℕ) (s : BoardState) : Type 0 where
     pub on : onPath nd k at ≡ true
     pub right : wayRight w h (map P (wayTo nd at)) ≡ true
     pub steps : Steps w h emptyPos (wayActs w h (map P (wayTo nd at))) (posOf b s)
@@ -56,10 +56,10 @@ module _ (w h : ℕ) (nd : List ℕ) (P : ℕ → List Property) (k : ℕ) where
   refused-way : {r : SgfBoard} → wayRight w h (map P (wayTo nd k)) ≡ false → r ≡ refusedBoard 23 → WayAnswer w h (map P (wayTo nd k)) r
   refused-way e g = record { off = λ z. g; played = λ z. absurd (true≢false (sym z ∙ e)) }
 
-  module _ (root : ℕ) (o : onPath nd k root ≡ true) (orphan : parentAt nd root ≡ none) {v : Bool} {b : List ℕ} {s₀ s : State}
+  module _ (root : ℕ) (o : onPath nd k root ≡ true) (orphan : parentAt nd root ≡ none) {v : Bool} {b : List ℕ} {s₀ s : BoardState}
       (start : s₀ ≡ startState) (given : NodeIs w h (P root) (positionOf (replicate 2704 0) s₀) (answerOf v b s)) where
     f : NodeIs w h (P root) (positionOf (replicate 2704 0) startState) (answerOf v b s)
-    f = subst (λ (z : State). NodeIs w h (P root) (positionOf (replicate 2704 0) z) (answerOf v b s)) start given
+    f = subst (λ (z : BoardState). NodeIs w h (P root) (positionOf (replicate 2704 0) z) (answerOf v b s)) start given
 
     root-way : wayTo nd root ≡ root ∷ []
     root-way = way-root nd root (has-none nd root orphan)
@@ -80,7 +80,7 @@ module _ (w h : ℕ) (nd : List ℕ) (P : ℕ → List Property) (k : ℕ) where
     root-refused e g =
         refused-way (off-way root o (ap (λ (z : List ℕ). wayRight w h (map P z)) root-way ∙ right-one w h [] (P root) true false refl (wrong-node f e))) g
 
-  module _ {n root at to : ℕ} {b : List ℕ} {s : State} (walk : WayWalk nd root k n) (y : Walked at b s) (before : at < k) (move : NextIs nd at k to) where
+  module _ {n root at to : ℕ} {b : List ℕ} {s : BoardState} (walk : WayWalk nd root k n) (y : Walked at b s) (before : at < k) (move : NextIs nd at k to) where
     to-next : (parentAt nd to ≡ at) × (onPath nd k to ≡ true)
     to-next =
         let l = walk .ruled .most in
@@ -111,7 +111,7 @@ module _ (w h : ℕ) (nd : List ℕ) (P : ℕ → List Property) (k : ℕ) where
     to-nodes : map P (wayTo nd to) ≡ map P (wayTo nd at) ++ (P to ∷ [])
     to-nodes = ap (map P) to-way ∙ map-append P (wayTo nd at) (to ∷ [])
 
-    module _ {v : Bool} {b′ : List ℕ} {s′ : State} (f : NodeIs w h (P to) (positionOf b s) (answerOf v b′ s′)) where
+    module _ {v : Bool} {b′ : List ℕ} {s′ : BoardState} (f : NodeIs w h (P to) (positionOf b s) (answerOf v b′ s′)) where
       pub next-walked : v ≡ false → Walked to b′ s′
       next-walked e =
           let x = node-exact w h (P to) (positionOf b s) (answerOf v b′ s′) f e (y .long) (y .known) in
@@ -130,7 +130,7 @@ module _ (w h : ℕ) (nd : List ℕ) (P : ℕ → List Property) (k : ℕ) where
           refused-way (off-way to (to-next .1) (ap (wayRight w h) to-nodes ∙ right-one w h (map P (wayTo nd at)) (P to) true false (y .right) (wrong-node f e))) g
 
   -- all nodes are played
-  pub walked-all : {at : ℕ} {b : List ℕ} {s : State} → Walked at b s → k ≤ at → WayAnswer w h (map P (wayTo nd k)) (shownBoard w h b s)
+  pub walked-all : {at : ℕ} {b : List ℕ} {s : BoardState} → Walked at b s → k ≤ at → WayAnswer w h (map P (wayTo nd k)) (shownBoard w h b s)
   walked-all {at} {b} {s} y l =
       let c = path-le nd k at (y .on) in
       let e : at ≡ k = omega arith in

@@ -10,7 +10,7 @@ use Rattle.go_size.specs.declared.RootSize.{RootSize}
 use Rattle.go_size.specs.declared.RootSize.the-variants.{Absent, Sized, Wrong}
 use Rattle.board_play.specs.Steps.{Pos, Act, Steps, emptyPos}
 use Rattle.board_node.specs.Node.{actsOf, rightNode}
-use Rattle.board_acts.specs.declared.State.{State}
+use Rattle.board_acts.specs.declared.BoardState.{BoardState}
 use Rattle.board_path.specs.Way.{wayTo}
 use Rattle.board.specs.declared.SgfBoard.{SgfBoard}
 
@@ -86,7 +86,7 @@ refusedBoard n =
     }
 
 -- stones and sums, on a board of w columns and h rows
-abbrev pub shownBoard : (w h : ℕ) → List ℕ → State → SgfBoard
+abbrev pub shownBoard : (w h : ℕ) → List ℕ → BoardState → SgfBoard
 shownBoard w h b s = record { number = 0; columns = w; rows = h; reserved = 0; black = s .black; white = s .white; stones = b }
 
 -- the stones of a board and its sums

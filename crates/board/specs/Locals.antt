@@ -6,12 +6,12 @@ use Rattle.tables.specs.Each.{each}
 use Rattle.fit_nodes.specs.Locals.{Ruled}
 use Rattle.fit_nodes.specs.Nodes.{onPath, childRight, siblingRight}
 use Rattle.parts_props.specs.Props.{Property}
-use Rattle.board_acts.specs.declared.State.{State}
+use Rattle.board_acts.specs.declared.BoardState.{BoardState}
 use Rattle.board.specs.Answer.{wayRight, refusedBoard, PlayedBoard}
 use Rattle.board.specs.declared.SgfBoard.{SgfBoard}
 
 -- nothing put on or taken off, on a board where every stone has a liberty
-abbrev pub startState : State
+abbrev pub startState : BoardState
 startState = record { black = record { on = 0; off = 0 }; white = record { on = 0; off = 0 }; settled = true }
 
 -- no board has more than 52 columns or rows

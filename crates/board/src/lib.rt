@@ -10,7 +10,7 @@ ghost use Rattle.board_node.specs.Answer.{positionOf, answerOf, NodeIs};
 ghost use Rattle.board_path.specs.Way.{wayTo};
 ghost use Rattle.board.specs.Answer.{treeOver, nodeProperties, refusedBoard, shownBoard, BoardIs, NextBoardIs};
 ghost use Rattle.board.specs.Locals.{startState, SidesRight, WayWalk, WayAnswer};
-use board_acts::State;
+use board_acts::BoardState;
 use board_acts::Sums;
 use board_node::Turn;
 use go_size::RootSize;
@@ -72,7 +72,7 @@ pub fn board_next(
             stones: stones,
         };
     }
-    let state = State {
+    let state = BoardState {
         black: black,
         white: white,
         settled: false,
@@ -109,7 +109,7 @@ pub fn board_next(
 // Plays the properties of node `at` upon a board.
 fn play_at(
     stones: &mut [u8; 2704],
-    state: State,
+    state: BoardState,
     columns: usize,
     rows: usize,
     text: &[u8],
@@ -138,12 +138,12 @@ fn play_at(
 }
 
 // No sums yet, on an empty board.
-fn start() -> State
+fn start() -> BoardState
     ensures { λ r. ⌜ r ≡ startState ⌝ }
 {
     let black = Sums { on: 0, off: 0 };
     let white = Sums { on: 0, off: 0 };
-    State {
+    BoardState {
         black: black,
         white: white,
         settled: true,

@@ -5,14 +5,14 @@ use Rattle.board_play.specs.Play.{settable, playable, SetIs, Plays, PlaysNear}
 use Rattle.board_play.specs.Steps.{sets, plays}
 use Rattle.board_play.proofs.Playing.{settable-place}
 use Rattle.board_acts.specs.Acts.{posOf, setCounts, takeCounts, StepBy, set-by, whole-by, near-by}
-use Rattle.board_acts.specs.declared.State.{State}
+use Rattle.board_acts.specs.declared.BoardState.{BoardState}
 
-module _ (w h c p : ℕ) (b b′ : List ℕ) (stood : ℕ) (st r : State) where
+module _ (w h c p : ℕ) (b b′ : List ℕ) (stood : ℕ) (st r : BoardState) where
   pub set-acts : settable w h c p ≡ true → SetIs c p b b′ stood → r ≡ setCounts c stood st
       → StepBy w h (st .settled) (posOf b st) (sets c p) (r .settled) (posOf b′ r)
   set-acts on x e =
       let y = x .within (settable-place w h c p on) in
-      subst (λ (z : State). StepBy w h (st .settled) (posOf b st) (sets c p) (z .settled) (posOf b′ z)) (sym e)
+      subst (λ (z : BoardState). StepBy w h (st .settled) (posOf b st) (sets c p) (z .settled) (posOf b′ z)) (sym e)
       (subst (λ (z : List ℕ). StepBy w h (st .settled) (posOf b st) (sets c p) false (posOf z (setCounts c stood st))) (sym (y .1))
       (subst (λ (z : ℕ). StepBy w h (st .settled) (posOf b st) (sets c p) false (posOf (set b p c) (setCounts c z st))) (sym (y .0)) (set-by on)))
 
@@ -20,7 +20,7 @@ module _ (w h c p : ℕ) (b b′ : List ℕ) (stood : ℕ) (st r : State) where
     counted-so : {t : Bool} → st .settled ≡ t → StepBy w h t (posOf b st) (plays c p) true (posOf b′ (takeCounts c n k (setCounts c (at b p) st)))
         → StepBy w h (st .settled) (posOf b st) (plays c p) (r .settled) (posOf b′ r)
     counted-so g x =
-        subst (λ (z : State). StepBy w h (st .settled) (posOf b st) (plays c p) (z .settled) (posOf b′ z)) (sym f)
+        subst (λ (z : BoardState). StepBy w h (st .settled) (posOf b st) (plays c p) (z .settled) (posOf b′ z)) (sym f)
         (subst (λ (z : ℕ). StepBy w h (st .settled) (posOf b st) (plays c p) true (posOf b′ (takeCounts c n k (setCounts c z st)))) (sym e)
         (subst (λ (z : Bool). StepBy w h z (posOf b st) (plays c p) true (posOf b′ (takeCounts c n k (setCounts c (at b p) st)))) (sym g) x))
 

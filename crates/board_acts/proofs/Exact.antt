@@ -9,7 +9,7 @@ use Rattle.board_play.specs.Steps.{Pos, Act, sets, plays, puts, played, Step, s
 use Rattle.board_play.proofs.Acts.{settled-plays, near-acts}
 use Rattle.board_play.proofs.Playing.{playable-player, playable-board}
 use Rattle.board_acts.specs.Acts.{posOf, StepBy, set-by, whole-by, near-by, StepsBy, done-by, next-by, BoardActIs, KnownSettled}
-use Rattle.board_acts.specs.declared.State.{State}
+use Rattle.board_acts.specs.declared.BoardState.{BoardState}
 
 -- for a player c, black and white are c and the other
 module _ (w h : ℕ) (b : List ℕ) (c : ℕ) (player : Player c) where

@@ -4,11 +4,11 @@ use Rattle.lists.specs.Prelude.{ℕ, Bool, true, false, _≡_, List, [], _∷_,
 use Rattle.board_groups.specs.Groups.{Takes, TakesBeside, TakesGroup, Settled}
 use Rattle.board_play.specs.Play.{otherOf, settable, playable}
 use Rattle.board_play.specs.Steps.{Sum, Pos, Act, sets, plays, oneIf, sumUpTo, puts, played}
-use Rattle.board_acts.specs.declared.State.{State}
+use Rattle.board_acts.specs.declared.BoardState.{BoardState}
 use Rattle.board_acts.specs.declared.Sums.{Sums}
 
 -- the position that stones and sums are
-abbrev pub posOf : List ℕ → State → Pos
+abbrev pub posOf : List ℕ → BoardState → Pos
 posOf b s =
     record { stones = b; black = record { on = s .black .on; off = s .black .off }; white = record { on = s .white .on; off = s .white .off } }
 
@@ -22,11 +22,11 @@ abbrev pub takeSums : (x c n k : ℕ) → Sums → Sums
 takeSums x c n k s = record { on = s .on; off = sumUpTo (s .off) (pick (eqb x c) k n) }
 
 -- of both colours, where c was set
-abbrev pub setCounts : (c stood : ℕ) → State → State
+abbrev pub setCounts : (c stood : ℕ) → BoardState → BoardState
 setCounts c stood s = record { black = setSums 1 c stood (s .black); white = setSums 2 c stood (s .white); settled = false }
 
 -- of both colours, where a stone was played
-abbrev pub takeCounts : (c n k : ℕ) → State → State
+abbrev pub takeCounts : (c n k : ℕ) → BoardState → BoardState
 takeCounts c n k s = record { black = takeSums 1 c n k (s .black); white = takeSums 2 c n k (s .white); settled = true }
 
 -- one act; the flags: whether the board was, and is, known to be settled
@@ -45,7 +45,7 @@ pub data StepsBy (w h : ℕ) : Bool → Pos → List Act → Bool → Pos → Ty
       → StepsBy w h t s (a ∷ rest) t″ s″
 
 -- an act that cannot be done changes nothing; else it is done
-pub record BoardActIs (can : Bool) (w h : ℕ) (a : Act) (b : List ℕ) (s : State) (b′ : List ℕ) (s′ : State) : Type 0 where
+pub record BoardActIs (can : Bool) (w h : ℕ) (a : Act) (b : List ℕ) (s : BoardState) (b′ : List ℕ) (s′ : BoardState) : Type 0 where
   pub not-done : can ≡ false → (b′ ≡ b) × (s′ ≡ s)
   pub act : can ≡ true → StepBy w h (s .settled) (posOf b s) a (s′ .settled) (posOf b′ s′)
 

@@ -15,7 +15,7 @@ pub struct Sums {
 }
 
 // The sums of both colours; whether every stone on the board is known to have a liberty.
-pub struct State {
+pub struct BoardState {
     pub black: Sums,
     pub white: Sums,
     pub settled: bool,
@@ -76,12 +76,12 @@ fn sums_taken(sums: Sums, x: u8, colour: u8, taken: usize, lost: usize) -> Sums
 }
 
 // The sums of both colours after a point was set.
-fn count_set(state: State, colour: u8, stood: u8) -> State
+fn count_set(state: BoardState, colour: u8, stood: u8) -> BoardState
     ensures { λ r. ⌜ r ≡ setCounts colour stood state ⌝ }
 {
     let black = sums_set(state.black, 1, colour, stood);
     let white = sums_set(state.white, 2, colour, stood);
-    State {
+    BoardState {
         black: black,
         white: white,
         settled: false,
@@ -89,12 +89,12 @@ fn count_set(state: State, colour: u8, stood: u8) -> State
 }
 
 // The sums of both colours after stones were taken by a move.
-fn count_taken(state: State, colour: u8, taken: usize, lost: usize) -> State
+fn count_taken(state: BoardState, colour: u8, taken: usize, lost: usize) -> BoardState
     ensures { λ r. ⌜ r ≡ takeCounts colour taken lost state ⌝ }
 {
     let black = sums_taken(state.black, 1, colour, taken, lost);
     let white = sums_taken(state.white, 2, colour, taken, lost);
-    State {
+    BoardState {
         black: black,
         white: white,
         settled: true,
@@ -118,12 +118,12 @@ fn can_play(columns: usize, rows: usize, p: usize, colour: u8) -> bool
 // Sets a point to empty, black or white; nothing changes where that cannot be set.
 pub fn set_act(
     stones: &mut [u8; 2704],
-    state: State,
+    state: BoardState,
     columns: usize,
     rows: usize,
     p: usize,
     colour: u8,
-) -> State
+) -> BoardState
     ensures { λ r. ⌜ BoardActIs (settable columns rows colour p) columns rows (sets colour p) (now (stones .entry)) state (now (stones .exit)) r ⌝ }
 {
     if !can_set(columns, rows, p, colour) {
@@ -136,12 +136,12 @@ pub fn set_act(
 // Plays a stone, by the whole board or, where that is known to be settled, near the move; nothing changes where it cannot be played.
 pub fn play_act(
     stones: &mut [u8; 2704],
-    state: State,
+    state: BoardState,
     columns: usize,
     rows: usize,
     p: usize,
     colour: u8,
-) -> State
+) -> BoardState
     ensures { λ r. ⌜ BoardActIs (playable columns rows colour p) columns rows (plays colour p) (now (stones .entry)) state (now (stones .exit)) r ⌝ }
 {
     if !can_play(columns, rows, p, colour) {

@@ -6,25 +6,25 @@ use Rattle.board_groups.proofs.Beside.{board-on}
 use Rattle.board_play.specs.Play.{Player, settable, playable}
 use Rattle.board_play.specs.Steps.{Pos, Act, sets, plays}
 use Rattle.board_acts.specs.Acts.{posOf, StepBy, StepsBy, done-by, next-by, BoardActIs}
-use Rattle.board_acts.specs.declared.State.{State}
+use Rattle.board_acts.specs.declared.BoardState.{BoardState}
 use Rattle.board_node.specs.Node.{among, rightActs}
 use Rattle.board_node.specs.LocalsTurn.{rightBy, Leads, LeadsOn, TurnIs}
 
 module _ (w h : ℕ) where
-  pub turn-none : (m : List Bool) (b : List ℕ) (s : State) → TurnIs w h [] m b s m b s false
+  pub turn-none : (m : List Bool) (b : List ℕ) (s : BoardState) → TurnIs w h [] m b s m b s false
   turn-none m b s = record { stops = λ e. absurd (true≢false (sym e)); leads = λ e. record { on = λ tail. record { ok = refl; goes = λ u r x. x } } }
 
-  pub turn-same : {mine next : List Act} {m : List Bool} {b : List ℕ} {s : State} {m1 : List Bool} {b1 : List ℕ} {s1 : State} {v : Bool} → mine ≡ next
+  pub turn-same : {mine next : List Act} {m : List Bool} {b : List ℕ} {s : BoardState} {m1 : List Bool} {b1 : List ℕ} {s1 : BoardState} {v : Bool} → mine ≡ next
       → TurnIs w h mine m b s m1 b1 s1 v → TurnIs w h next m b s m1 b1 s1 v
   turn-same {mine} {next} {m} {b} {s} {m1} {b1} {s1} {v} e x = subst (λ (k : List Act). TurnIs w h k m b s m1 b1 s1 v) e x
 
-  pub leads-self : (all : List Act) (m : List Bool) (b : List ℕ) (s : State) → LeadsOn w h all all m b s m b s
+  pub leads-self : (all : List Act) (m : List Bool) (b : List ℕ) (s : BoardState) → LeadsOn w h all all m b s m b s
   leads-self all m b s = record { on = λ tail. record { ok = refl; goes = λ u r x. x } }
 
   opened : (left mine rest tail : List Act) → left ≡ mine ++ rest → left ++ tail ≡ mine ++ (rest ++ tail)
   opened left mine rest tail e = ap (λ (z : List Act). z ++ tail) e ∙ append-assoc mine rest tail
 
-  module _ {all left mine : List Act} (rest : List Act) {m : List Bool} {b : List ℕ} {s : State} {m1 : List Bool} {b1 : List ℕ} {s1 : State} {m2 : List Bool} {b2 : List ℕ} {s2 : State} {v : Bool} (e : left ≡ mine ++ rest) (x : LeadsOn w h all left m b s m1 b1 s1) (y : TurnIs w h mine m1 b1 s1 m2 b2 s2 v) where
+  module _ {all left mine : List Act} (rest : List Act) {m : List Bool} {b : List ℕ} {s : BoardState} {m1 : List Bool} {b1 : List ℕ} {s1 : BoardState} {m2 : List Bool} {b2 : List ℕ} {s2 : BoardState} {v : Bool} (e : left ≡ mine ++ rest) (x : LeadsOn w h all left m b s m1 b1 s1) (y : TurnIs w h mine m1 b1 s1 m2 b2 s2 v) where
     pub leads-then : v ≡ false → LeadsOn w h all rest m b s m2 b2 s2
     leads-then not-refused =
         record {
@@ -45,17 +45,17 @@ module _ (w h : ℕ) where
           leads = λ f. absurd (true≢false (sym is-refused ∙ f));
         }
 
-  pub leads-same : {all left next : List Act} {m : List Bool} {b : List ℕ} {s : State} {m1 : List Bool} {b1 : List ℕ} {s1 : State} → left ≡ next
+  pub leads-same : {all left next : List Act} {m : List Bool} {b : List ℕ} {s : BoardState} {m1 : List Bool} {b1 : List ℕ} {s1 : BoardState} → left ≡ next
       → LeadsOn w h all left m b s m1 b1 s1 → LeadsOn w h all next m b s m1 b1 s1
   leads-same {all} {left} {next} {m} {b} {s} {m1} {b1} {s1} e x = subst (λ (k : List Act). LeadsOn w h all k m b s m1 b1 s1) e x
 
-  pub leads-end : {all left : List Act} {m : List Bool} {b : List ℕ} {s : State} {m1 : List Bool} {b1 : List ℕ} {s1 : State} → left ≡ []
+  pub leads-end : {all left : List Act} {m : List Bool} {b : List ℕ} {s : BoardState} {m1 : List Bool} {b1 : List ℕ} {s1 : BoardState} → left ≡ []
       → LeadsOn w h all left m b s m1 b1 s1 → TurnIs w h all m b s m1 b1 s1 false
   leads-end {all} {left} {m} {b} {s} {m1} {b1} {s1} e x =
       record { stops = λ f. absurd (true≢false (sym f)); leads = λ f. subst (λ (k : List Act). LeadsOn w h all k m b s m1 b1 s1) e x }
 
   -- one act
-  module _ (c p : ℕ) (m : List Bool) (b : List ℕ) (s : State) (b′ : List ℕ) (s′ : State) where
+  module _ (c p : ℕ) (m : List Bool) (b : List ℕ) (s : BoardState) (b′ : List ℕ) (s′ : BoardState) where
     pub set-off : onBoard w h p ≡ false → TurnIs w h (sets c p ∷ []) m b s m b′ s′ true
     set-off off =
         record { stops = λ e tail. ap (λ (t : Bool). (t && not (getD m p false)) && rightBy w h (set m p true) tail) off; leads = λ e. absurd (true≢false e) }
@@ -136,11 +136,11 @@ module _ (w h : ℕ) where
   marks-none acts = by-marks acts (replicate 2704 false) [] (record { long = length-replicate {A = Bool} 2704 false; at = λ q. none-marked 2704 q })
 
   -- setup and moves together
-  module _ {setups : List Act} (moves : List Act) {m : List Bool} {b : List ℕ} {s : State} {m1 : List Bool} {b1 : List ℕ} {s1 : State} {v : Bool} (x : TurnIs w h setups m b s m1 b1 s1 v) where
+  module _ {setups : List Act} (moves : List Act) {m : List Bool} {b : List ℕ} {s : BoardState} {m1 : List Bool} {b1 : List ℕ} {s1 : BoardState} {v : Bool} (x : TurnIs w h setups m b s m1 b1 s1 v) where
     pub both-stop : v ≡ true → rightBy w h m (setups ++ moves) ≡ false
     both-stop e = x .stops e moves
 
-    module _ {b2 : List ℕ} {s2 : State} {u : Bool} (go-on : v ≡ false) (y : TurnIs w h moves m1 b1 s1 m1 b2 s2 u) where
+    module _ {b2 : List ℕ} {s2 : BoardState} {u : Bool} (go-on : v ≡ false) (y : TurnIs w h moves m1 b1 s1 m1 b2 s2 u) where
       pub then-stop : u ≡ true → rightBy w h m (setups ++ moves) ≡ false
       then-stop e = x .leads go-on .on moves .ok ∙ (ap (rightBy w h m1) (sym (append-nil moves)) ∙ y .stops e [])
 

@@ -4,7 +4,7 @@ use Rattle.parts_props.specs.Props.{Property}
 use Rattle.board_play.specs.Steps.{Steps, SumsRight}
 use Rattle.board_play.proofs.Sums.{stones-conserved}
 use Rattle.board_acts.specs.Acts.{posOf, KnownSettled}
-use Rattle.board_acts.specs.declared.State.{State}
+use Rattle.board_acts.specs.declared.BoardState.{BoardState}
 use Rattle.board_acts.proofs.Exact.{ExactAll, steps-exact, steps-by-once}
 use Rattle.board_acts.proofs.Unique.{pos-once}
 use Rattle.board_node.specs.Node.{actsOf, rightNode}
@@ -21,7 +21,7 @@ module _ (w h : ℕ) (ps : List Property) (x : Position) where
       go true e =
           let o = steps-by-once w h (f .acts e) (g .acts e) in
           let p = pos-once (r .position .stones) (s .position .stones) (r .position .state) (s .position .state) (o .0) (o .1) in
-          let q : r .position ≡ s .position = ap₂ (λ (b : List ℕ) (t : State). record { stones = b; state = t }) (p .0) (p .1) in
+          let q : r .position ≡ s .position = ap₂ (λ (b : List ℕ) (t : BoardState). record { stones = b; state = t }) (p .0) (p .1) in
           ap₂ (λ (v : Bool) (z : Position). record { refused = v; position = z }) (f .right e ∙ sym (g .right e)) q
 
   module _ (r : NodeAnswer) (f : NodeIs w h ps x r) where

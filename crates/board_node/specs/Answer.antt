@@ -2,21 +2,21 @@
 use Rattle.lists.specs.Prelude.{ℕ, Bool, true, false, not, _≡_, List, replicate}
 use Rattle.parts_props.specs.Props.{Property}
 use Rattle.board_acts.specs.Acts.{posOf, StepsBy}
-use Rattle.board_acts.specs.declared.State.{State}
+use Rattle.board_acts.specs.declared.BoardState.{BoardState}
 use Rattle.board_node.specs.Node.{actsOf, rightNode}
 use Rattle.board_node.specs.declared.Position.{Position}
 use Rattle.board_node.specs.declared.NodeAnswer.{NodeAnswer}
 
 -- nothing put on or taken off, on a board of which nothing is known
-abbrev pub noState : State
+abbrev pub noState : BoardState
 noState = record { black = record { on = 0; off = 0 }; white = record { on = 0; off = 0 }; settled = false }
 
 -- stones and sums
-abbrev pub positionOf : List ℕ → State → Position
+abbrev pub positionOf : List ℕ → BoardState → Position
 positionOf b s = record { stones = b; state = s }
 
 -- whether a node is refused, and what stands then
-abbrev pub answerOf : Bool → List ℕ → State → NodeAnswer
+abbrev pub answerOf : Bool → List ℕ → BoardState → NodeAnswer
 answerOf v b s = record { refused = v; position = positionOf b s }
 
 -- nothing stands

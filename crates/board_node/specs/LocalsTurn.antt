@@ -6,7 +6,7 @@ use Rattle.parts_props.specs.Props.{Property}
 use Rattle.board_groups.specs.Board.{onBoard}
 use Rattle.board_play.specs.Steps.{Pos, Act, sets, plays}
 use Rattle.board_acts.specs.Acts.{posOf, StepsBy}
-use Rattle.board_acts.specs.declared.State.{State}
+use Rattle.board_acts.specs.declared.BoardState.{BoardState}
 use Rattle.board_node.specs.Node.{allSetups}
 
 -- as `rightActs`, with marks at the places that were set before
@@ -21,16 +21,17 @@ pub record Leads (w h : ℕ) (m : List Bool) (t : Bool) (s : Pos) (all : List Ac
   pub goes : (u : Bool) (r : Pos) → StepsBy w h t′ s′ left u r → StepsBy w h t s all u r
 
 -- the same with anything behind
-pub record LeadsOn (w h : ℕ) (all left : List Act) (m : List Bool) (b : List ℕ) (s : State) (m′ : List Bool) (b′ : List ℕ) (s′ : State) : Type 0 where
+pub record LeadsOn (w h : ℕ) (all left : List Act) (m : List Bool) (b : List ℕ) (s : BoardState) (m′ : List Bool) (b′ : List ℕ) (s′ : BoardState) : Type 0 where
   pub on : (tail : List Act) → Leads w h m (s .settled) (posOf b s) (all ++ tail) m′ (s′ .settled) (posOf b′ s′) (left ++ tail)
 
 -- these acts are done, or one of them is refused
-pub record TurnIs (w h : ℕ) (mine : List Act) (m : List Bool) (b : List ℕ) (s : State) (m′ : List Bool) (b′ : List ℕ) (s′ : State) (off : Bool) : Type 0 where
+pub record TurnIs (w h : ℕ) (mine : List Act) (m : List Bool) (b : List ℕ) (s : BoardState) (m′ : List Bool) (b′ : List ℕ) (s′ : BoardState)
+    (off : Bool) : Type 0 where
   pub stops : off ≡ true → (tail : List Act) → rightBy w h m (mine ++ tail) ≡ false
   pub leads : off ≡ false → LeadsOn w h mine [] m b s m′ b′ s′
 
 -- the same of moves, which set no mark
-abbrev pub MovesIs : (w h : ℕ) (mine : List Act) (b : List ℕ) (s : State) (b′ : List ℕ) (s′ : State) (refused : Bool) → Type 0
+abbrev pub MovesIs : (w h : ℕ) (mine : List Act) (b : List ℕ) (s : BoardState) (b′ : List ℕ) (s′ : BoardState) (refused : Bool) → Type 0
 MovesIs w h mine b s b′ s′ refused = (m : List Bool) → TurnIs w h mine m b s m b′ s′ refused
 
 -- the properties from row r on up to row `to` set what those from row `first` on set
@@ -39,6 +40,6 @@ pub record SetupsFrom (f : ℕ → Property) (first to r : ℕ) : Type 0 where
   pub same : allSetups (tabulate f first (to - first)) ≡ allSetups (tabulate f r (to - r))
 
 -- these acts are done upon a board where none was done before, or one of them is refused; with the marks that they leave
-pub record SetupIs (w h : ℕ) (mine : List Act) (b : List ℕ) (s : State) (b′ : List ℕ) (s′ : State) (off : Bool) : Type 0 where
+pub record SetupIs (w h : ℕ) (mine : List Act) (b : List ℕ) (s : BoardState) (b′ : List ℕ) (s′ : BoardState) (off : Bool) : Type 0 where
   pub marks : List Bool
   pub turn : TurnIs w h mine (replicate 2704 false) b s marks b′ s′ off

@@ -14,7 +14,7 @@ ghost use Rattle.board_play.specs.Steps.{sets};
 ghost use Rattle.board_node.specs.Node.{setupColour, moveColour, setsFrom, moveActs, setupsOf, movesOf, allSetups, allMoves};
 ghost use Rattle.board_node.specs.Answer.{noState, positionOf, answerOf, refusedNode, NodeIs};
 ghost use Rattle.board_node.specs.LocalsTurn.{TurnIs, MovesIs, SetupsFrom, SetupIs};
-use board_acts::State;
+use board_acts::BoardState;
 use board_acts::Sums;
 use go_points::Value;
 use go_shape::Shape;
@@ -22,7 +22,7 @@ use go_shape::Shape;
 // What stands at each place, and the sums.
 pub struct Position {
     pub stones: [u8; 2704],
-    pub state: State,
+    pub state: BoardState,
 }
 
 // A node played, or refused: then nothing stands and the sums are 0.
@@ -34,7 +34,7 @@ pub struct NodeAnswer {
 // What one step leaves: whether it is refused, and the sums.
 pub struct Turn {
     pub refused: bool,
-    pub state: State,
+    pub state: BoardState,
 }
 
 // The place is a point of the board.
@@ -77,7 +77,7 @@ fn move_colour(identifier: &[u8]) -> u8
 fn set_place(
     stones: &mut [u8; 2704],
     seen: &mut [bool; 2704],
-    state: State,
+    state: BoardState,
     columns: usize,
     rows: usize,
     p: usize,
@@ -118,7 +118,7 @@ fn set_places(
     stones: &mut [u8; 2704],
     seen: &mut [bool; 2704],
     marks: &[bool; 2704],
-    state: State,
+    state: BoardState,
     columns: usize,
     rows: usize,
     colour: u8,
@@ -152,7 +152,7 @@ fn set_places(
 fn set_row(
     stones: &mut [u8; 2704],
     seen: &mut [bool; 2704],
-    state: State,
+    state: BoardState,
     columns: usize,
     rows: usize,
     text: &[u8],
@@ -175,15 +175,14 @@ fn set_row(
     let start = lists::wide(properties[p * tables::PROPERTY_STRIDE + tables::PROPERTY_FIRST]);
     let many = lists::wide(properties[p * tables::PROPERTY_STRIDE + tables::PROPERTY_COUNT]);
     let go = go::value::go_value(0, identifier, text, values, start, many);
-    let marks = go.marks;
-    set_places(stones, seen, &marks, state, columns, rows, colour)
+    set_places(stones, seen, &go.marks, state, columns, rows, colour)
 }
 
 // Does the setup of the properties from row `first` up to row `to`.
 fn set_rows(
     stones: &mut [u8; 2704],
     seen: &mut [bool; 2704],
-    state: State,
+    state: BoardState,
     columns: usize,
     rows: usize,
     text: &[u8],
@@ -242,7 +241,7 @@ fn setup_from(text: &[u8], properties: &[u32], first: usize, to: usize) -> usize
 // Does the setup of the properties from row `first` up to row `to`, where nothing was set before.
 fn set_all(
     stones: &mut [u8; 2704],
-    state: State,
+    state: BoardState,
     columns: usize,
     rows: usize,
     text: &[u8],
@@ -281,7 +280,7 @@ fn set_all(
 // Plays the move to (x, y): a pass where it is `tt` on a board up to 19 by 19.
 fn play_move(
     stones: &mut [u8; 2704],
-    state: State,
+    state: BoardState,
     columns: usize,
     rows: usize,
     x: u8,
@@ -314,7 +313,7 @@ fn play_move(
 // Plays the move of property p.
 fn play_row(
     stones: &mut [u8; 2704],
-    state: State,
+    state: BoardState,
     columns: usize,
     rows: usize,
     text: &[u8],
@@ -349,7 +348,7 @@ fn play_row(
 // Plays the moves of the properties from row `first` up to row `to`.
 fn play_rows(
     stones: &mut [u8; 2704],
-    state: State,
+    state: BoardState,
     columns: usize,
     rows: usize,
     text: &[u8],
@@ -381,12 +380,12 @@ fn play_rows(
 }
 
 // Nothing put on or taken off, on a board of which nothing is known.
-fn no_state() -> State
+fn no_state() -> BoardState
     ensures { λ r. ⌜ r ≡ noState ⌝ }
 {
     let black = Sums { on: 0, off: 0 };
     let white = Sums { on: 0, off: 0 };
-    State {
+    BoardState {
         black: black,
         white: white,
         settled: false,
@@ -407,7 +406,7 @@ fn refuse(stones: &mut [u8; 2704]) -> Turn
 // Plays the properties of `count` rows from `first` on upon a board: setup first, then moves, each in property order. A refusal leaves it empty.
 pub fn play_upon(
     stones: &mut [u8; 2704],
-    state: State,
+    state: BoardState,
     columns: usize,
     rows: usize,
     text: &[u8],
