@@ -26,8 +26,8 @@
  *
  * Stack, in bytes, on aarch64 (x86-64 within 130 bytes of it): sgf_board 25,600, sgf_board_next 22,400, sgf_go_value 11,392,
  * sgf_write 8,832, sgf_go_by_rule 5,696, sgf_read_strict and sgf_read_lenient 5,440, sgf_simple_value,
- * sgf_simple_property and sgf_entry 1,900 at most, the others 512 at most; those of feeds and blocks, sgf_escape and
- * sgf_tag are not measured by the gate yet (sgf_correct took about 1,050 once, sgf_block 940).
+ * sgf_simple_property and sgf_entry 1,900 at most, sgf_block 1,024 at most, the others 512 at most; those of feeds,
+ * sgf_escape and sgf_tag are not measured by the gate yet (sgf_correct took about 1,050 once).
  */
 #ifndef SGF_H
 #define SGF_H

@@ -36,6 +36,10 @@ static SgfToken token;
 static SgfValue value;
 static uint32_t number;
 static SgfBoard board;
+static SgfBlocks blocks, between;
+static uint32_t rows[SGF_TOKEN_STRIDE * ROWS];
+static SgfBlock taken;
+static SgfClose closed;
 
 static unsigned char stack[STACK];
 static volatile uintptr_t begin;
@@ -71,6 +75,8 @@ NOTE(SgfEdit, note_edit, uint8_t *t, size_t n, size_t m, SgfCounts k, const uint
 NOTE(SgfTrim, note_trim, const uint8_t *t, size_t n)
 NOTE(SgfToken, note_token, const uint8_t *t, size_t n, size_t at)
 NOTE(SgfValue, note_next_value, const uint8_t *t, size_t n, size_t at)
+NOTE(SgfBlock, note_block, SgfBlocks k, const uint8_t *t, size_t n, uint32_t *r, size_t m)
+NOTE(SgfClose, note_close, SgfBlocks k, uint32_t *r, size_t m)
 
 static int noting;
 #define EITHER(name) (noting ? note_##name : sgf_##name)
@@ -109,6 +115,13 @@ static void call_edit(void) { edit = EITHER(edit)(RECORD, asked, (const uint8_t 
 static void call_trim(void) { trim = EITHER(trim)(text, used); }
 static void call_token(void) { token = EITHER(token)(text, used, asked); }
 static void call_next_value(void) { value = EITHER(next_value)(text, used, asked); }
+/* From the start, and from the numbers of another phase, so that each is met at the head of a block. */
+static void call_block(void) {
+    memset(&blocks, 0, sizeof blocks);
+    blocks.now = blocks.kept = (uint32_t)asked % 7, blocks.last = blocks.total = options;
+    taken = EITHER(block)(blocks, text, used, rows, sizeof rows / 4);
+}
+static void call_close(void) { closed = EITHER(close)(between, rows, room < sizeof out ? room : sizeof rows / 4); }
 
 static struct function {
     const char *name;
@@ -136,6 +149,8 @@ static struct function {
     {"sgf_trim", call_trim, 0, 512},
     {"sgf_token", call_token, 0, 512},
     {"sgf_next_value", call_next_value, 0, 512},
+    {"sgf_block", call_block, 0, 1024},
+    {"sgf_close", call_close, 0, 512},
 };
 enum { COUNT = sizeof functions / sizeof *functions };
 
@@ -177,6 +192,7 @@ static void load(const char *source) {
     memcpy(text, source, used);
     reading = sgf_read_strict(text, used, 0, TABLES);
     counts = reading.counts;
+    between = sgf_block((SgfBlocks){0}, text, used, rows, sizeof rows / 4).state;
 }
 
 int main(void) {
@@ -212,6 +228,6 @@ int main(void) {
             failed = 1;
         }
     }
-    (void)span, (void)entry, (void)simple, (void)display, (void)go, (void)writing, (void)edit, (void)trim, (void)token, (void)value, (void)number, (void)board;
+    (void)span, (void)entry, (void)simple, (void)display, (void)go, (void)writing, (void)edit, (void)trim, (void)token, (void)value, (void)number, (void)board, (void)taken, (void)closed;
     return failed;
 }
