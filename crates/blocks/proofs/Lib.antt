@@ -1,5 +1,5 @@
 pub mod Ending
-pub mod Hushes
+pub mod Inks
 pub mod Quiets
-pub mod Runs
+pub mod Steadies
 pub mod Taking

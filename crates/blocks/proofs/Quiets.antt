@@ -1,4 +1,4 @@
--- Bytes that complete no token, one by one and within a value together. Assumes nothing.
+-- Bytes of a value, one by one and together. Assumes nothing.
 use Rattle.lists.proofs.Prelude.{_≡_, refl, sym, ap, ap₂, _∙_, subst, subst⁻¹, ℕ, zero, suc, _+_, _-_, _≤_, _<_, arith, Bool, true, false, List, [], _∷_, _++_, length, take, drop, getD, add-one, length-drop, length-append, length-take-le, take-add, take-append-drop, drop-drop, ne-eqb, _&&_, not, eqb, ltb, ltb-true, eqb-false, not-true}
 use Rattle.lists.proofs.Places.{drop-next}
 use Rattle.lists.proofs.Tests.{and-both, same-or}
@@ -9,33 +9,36 @@ use Rattle.blocks_step.specs.declared.Utf8.{Utf8}
 use Rattle.blocks_step.specs.declared.Utf8.the-variants.{Whole}
 use Rattle.blocks_step.specs.declared.Char.the-variants.{Ended}
 use Rattle.blocks_step.specs.declared.Phase.{Phase}
-use Rattle.blocks_step.specs.declared.Phase.the-variants.{Value}
+use Rattle.blocks_step.specs.declared.Phase.the-variants.{Value, After}
 use Rattle.blocks_step.specs.declared.Moved.{Moved}
 use Rattle.blocks_step.specs.Decode.{decodes}
 use Rattle.blocks_step.specs.Lean.{moves}
 use Rattle.blocks_step.proofs.Decoding.{bytes-ascii}
 use Rattle.blocks.specs.declared.Known.{Known}
 use Rattle.blocks.specs.Room.{Room, room, gone, withTokens, goes, keeps, takesByte, takesAll}
-use Rattle.blocks.specs.LocalsQuiet.{PlainByte, PlainRun, quietly}
-use Rattle.blocks.proofs.Hushes.{hush, hush-value}
+use Rattle.blocks.specs.LocalsSteady.{PlainByte, PlainRun, PointByte, quietMove}
 use Rattle.blocks.proofs.Taking.{took-ink, took-white}
 
 pub takes-append : (xs ys : List ℕ) (w : Room) → takesAll w (xs ++ ys) ≡ takesAll (takesAll w xs) ys
 takes-append [] ys w = refl
 takes-append (b ∷ xs) ys w = takes-append xs ys (takesByte w b)
 
+-- what is known n bytes on, where the last of them is no white space and the token rules stand so
+unfoldable pub quietly : Known → ℕ → Phase → Known
+quietly k n q = record { total = k .total + n; utf8 = Whole; last = k .total + n; now = q; count = k .count; kept = q; held = k .count }
+
 -- what is known behind it
 abbrev onward : Known → Phase → Known
 onward k q = record { total = suc (k .total); utf8 = Whole; last = k .last; now = q; count = k .count; kept = k .kept; held = k .held }
 
-silent-goes : (k : Known) (t : List ℕ) (b : ℕ) (q : Phase) → moves (k .now) (k .total) b ≡ hush q → goes Whole (room k t) b ≡ room (onward k q) t
+pub silent-goes : (k : Known) (t : List ℕ) (b : ℕ) (q : Phase) → moves (k .now) (k .total) b ≡ quietMove q → goes Whole (room k t) b ≡ room (onward k q) t
 unfolding goes
 silent-goes k t b q e = ap (λ (m : Moved). gone Whole k m (withTokens (room k t) m)) e
 
-ends-ascii : (k : Known) (b : ℕ) → k .utf8 ≡ Whole → b < 128 → (w : Bool) → white b ≡ w → Ended w ≡ decodes (k .utf8) (k .total) b
+pub ends-ascii : (k : Known) (b : ℕ) → k .utf8 ≡ Whole → b < 128 → (w : Bool) → white b ≡ w → Ended w ≡ decodes (k .utf8) (k .total) b
 ends-ascii k b u a w e = bytes-ascii (k .total) b (omega (arith, a)) (sym e) ∙ ap (λ (z : Utf8). decodes z (k .total) b) (sym u)
 
-pub quiet-byte : (k : Known) (t : List ℕ) (b : ℕ) (q : Phase) → k .utf8 ≡ Whole → k .total < textLimit → b < 128 → 32 < b → moves (k .now) (k .total) b ≡ hush q → takesByte (room k t) b ≡ room (quietly k 1 q) t
+pub quiet-byte : (k : Known) (t : List ℕ) (b : ℕ) (q : Phase) → k .utf8 ≡ Whole → k .total < textLimit → b < 128 → 32 < b → moves (k .now) (k .total) b ≡ quietMove q → takesByte (room k t) b ≡ room (quietly k 1 q) t
 unfolding keeps quietly
 quiet-byte k t b q u h a d e =
     sym (took-ink k t b h false refl (ends-ascii k b u a false (ascii-dark b d a)))
@@ -44,8 +47,13 @@ quiet-byte k t b q u h a d e =
 
 -- ---- a byte of a value
 
-value-hush : (s o b : ℕ) → PlainByte b → moves (Value s) o b ≡ hush (Value s)
-value-hush s o b p = hush-value s o b (p .closes) (p .escapes)
+pub value-silent : (s o b : ℕ) → PlainByte b → moves (Value s) o b ≡ quietMove (Value s)
+unfolding moves
+value-silent s o b p = rw (ne-eqb b 93 (p .closes), ne-eqb b 92 (p .escapes))
+
+pub close-silent : (s o : ℕ) → moves (Value s) o 93 ≡ quietMove (After s)
+unfolding moves
+close-silent s o = refl
 
 -- what is known behind it, white space or not
 record Onward (k : Known) (t : List ℕ) (b s : ℕ) : Type 0 where
@@ -61,8 +69,8 @@ plain-on : (k : Known) (t : List ℕ) (b s : ℕ) → k .utf8 ≡ Whole → 0 < 
 unfolding keeps
 plain-on k t b s u l n h p = go (white b) refl
   where
-    m : moves (k .now) (k .total) b ≡ hush (Value s)
-    m = ap (λ (z : Phase). moves z (k .total) b) n ∙ value-hush s (k .total) b p
+    m : moves (k .now) (k .total) b ≡ quietMove (Value s)
+    m = ap (λ (z : Phase). moves z (k .total) b) n ∙ value-silent s (k .total) b p
 
     go : (w : Bool) → white b ≡ w → Onward k t b s
     go true e =
@@ -91,7 +99,7 @@ plain-on k t b s u l n h p = go (white b) refl
 pub take-next : (s : List ℕ) (i n : ℕ) → i < length s → take (suc n) (drop i s) ≡ getD s i 0 ∷ take n (drop (i + 1) s)
 take-next s i n h = ap (take (suc n)) (drop-next s i h)
 
-pub same-quiet : (k k′ : Known) (n m : ℕ) (q : Phase) → k′ .total + m ≡ k .total + n → k′ .count ≡ k .count → quietly k′ m q ≡ quietly k n q
+same-quiet : (k k′ : Known) (n m : ℕ) (q : Phase) → k′ .total + m ≡ k .total + n → k′ .count ≡ k .count → quietly k′ m q ≡ quietly k n q
 unfolding quietly
 same-quiet k k′ n m q e c = ap₂ (λ (x y : ℕ). record { total = x; utf8 = Whole; last = x; now = q; count = y; kept = q; held = y }) e c
 
@@ -103,7 +111,7 @@ values-over zero s i p k t a u l w h =
     let b = subst (λ (z : ℕ). PlainByte (getD s z 0)) e (p .plain 0 (omega arith)) in
     let d = subst (λ (z : ℕ). 32 < getD s z 0) e (p .dark) in
     ap (takesAll (room k t)) (take-next s i 0 (omega arith))
-    ∙ quiet-byte k t (getD s i 0) (Value a) u (omega arith) (b .ascii) d (ap (λ (z : Phase). moves z (k .total) (getD s i 0)) w ∙ value-hush a (k .total) (getD s i 0) b)
+    ∙ quiet-byte k t (getD s i 0) (Value a) u (omega arith) (b .ascii) d (ap (λ (z : Phase). moves z (k .total) (getD s i 0)) w ∙ value-silent a (k .total) (getD s i 0) b)
 values-over (suc n) s i p k t a u l w h =
     let r = p .room in
     let e : i + 0 ≡ i = omega arith in
@@ -127,3 +135,8 @@ plain-test b h =
     let x = and-both (ltb b 128) (not (eqb b 93) && not (eqb b 92)) h in
     let y = and-both (not (eqb b 93)) (not (eqb b 92)) (x .1) in
     record { ascii = ltb-true b 128 (x .0); closes = eqb-false b 93 (not-true (eqb b 93) (y .0)); escapes = eqb-false b 92 (not-true (eqb b 92) (y .1)) }
+
+pub point-test : (b : ℕ) → (ltb 32 b && (ltb b 128 && (not (eqb b 93) && not (eqb b 92)))) ≡ true → PointByte b
+point-test b h =
+    let x = and-both (ltb 32 b) (ltb b 128 && (not (eqb b 93) && not (eqb b 92))) h in
+    record { plain = plain-test b (x .1); dark = ltb-true 32 b (x .0) }

@@ -1,5 +1,5 @@
 pub mod Block
 pub mod Close
-pub mod LocalsQuiet
+pub mod LocalsSteady
 pub mod Room
 pub mod State

@@ -12,7 +12,8 @@ ghost use Rattle.blocks.specs.State.{leftNumber, utf8Number, utf8From, u
 ghost use Rattle.blocks.specs.Room.{filledWith, tokenRow, rowsAt, countedOn, addRow, addRows, room, goes, takesByte};
 ghost use Rattle.blocks.specs.Close.{closing, clearedRows, shutOf, refusedAt, acceptedWith, CloseIs};
 ghost use Rattle.blocks.specs.Block.{BlockIs};
-ghost use Rattle.blocks.specs.LocalsQuiet.{PlainByte, PlainRun, ValueRun, StillIs, quietly, QuietIs, QuietFrom};
+ghost use Rattle.blocks.specs.LocalsSteady.{PlainByte, PlainRun, ValueRun, PointByte, PairAt, PairIs, WhiteStays, steadyAt, Steady, ranTo, RanIs, WentIs};
+ghost use Rattle.blocks_step.specs.Lean.{moves};
 use blocks_step::Char;
 use blocks_step::Left;
 use blocks_step::Phase;
@@ -346,7 +347,7 @@ fn take_byte(k: Known, b: u8, rows: &mut [u32]) -> Known
     }
 }
 
-// ---- bytes that complete no token
+// ---- bytes of a value together
 
 // Are `n` bytes ASCII, and none of them `]` or a backslash: no early way out, so that the compiler takes 16 at once.
 fn all_plain(s: &[u8], i: usize, n: usize) -> bool
@@ -361,89 +362,42 @@ fn all_plain(s: &[u8], i: usize, n: usize) -> bool
     plain
 }
 
-// Are there `n` such bytes from `i` on, and the last of them no white space.
-fn plain_run(s: &[u8], i: usize, n: usize) -> bool
-    requires { ⌜ (i ≤ length (now s)) × (0 < n) ⌝ }
-    ensures { λ r. ⌜ (r ≡ true → PlainRun (now (s .entry)) i n) ⌝ }
+// How many of `n` such bytes from `i` on can be taken together: the last of them is no white space; so all, or all but one, or none.
+fn plain_run(s: &[u8], i: usize, n: u32) -> u32
+    requires { ⌜ (i ≤ length (now s)) × (1 < n) ⌝ }
+    ensures { λ r. ⌜ (r ≤ n) × (0 < r → PlainRun (now (s .entry)) i r) ⌝ }
 {
-    if s.len() - i < n {
-        return false;
+    let m = lists::wide(n);
+    if s.len() - i < m {
+        return 0;
     }
-    if s[i + n - 1] <= 32 {
-        return false;
+    if all_plain(s, i, m) {
+        if 32 < s[i + (m - 1)] {
+            return n;
+        }
+        if 32 < s[i + (m - 2)] {
+            return n - 1;
+        }
     }
-    all_plain(s, i, n)
+    0
 }
 
-// How far bytes that complete no token were taken, and where the token rules stand there.
-pub struct Quiet {
-    pub to: usize,
-    pub stands: Phase,
-}
-
-// What a byte that is no white space does where it completes no token.
-pub enum Still {
-    Stands(Phase),
-    Speaks,
-}
-
-// The token rules and one byte more, where it completes no token.
-fn quiet_next(stands: Phase, at: u32, b: u8) -> Still
-    ensures { λ r. ⌜ StillIs stands at b r ⌝ }
-{
-    match stands {
-        Phase::Value(start) => {
-            if b == b']' {
-                return Still::Stands(Phase::After(start));
-            }
-            if b == b'\\' {
-                return Still::Stands(Phase::Escaped(start));
-            }
-            Still::Stands(Phase::Value(start))
-        }
-        Phase::Ident(start) => {
-            if b == b'[' {
-                return Still::Stands(Phase::Value(start));
-            }
-            Still::Stands(Phase::Ident(start))
-        }
-        Phase::Between => {
-            if (b == b'(') | ((b == b')') | (b == b';')) {
-                return Still::Speaks;
-            }
-            if b == b'[' {
-                return Still::Stands(Phase::Value(at));
-            }
-            Still::Stands(Phase::Ident(at))
-        }
-        Phase::After(start) => {
-            if b == b'[' {
-                return Still::Stands(Phase::Value(start));
-            }
-            Still::Speaks
-        }
-        Phase::Escaped(start) => Still::Stands(Phase::Value(start)),
-        Phase::Foreign(start) => Still::Stands(Phase::Foreign(start)),
-    }
-}
-
-// How many bytes of a value can be taken together: 64, or 16, or none.
-fn value_run(stands: Phase, at: u32, bytes: &[u8], i: usize) -> u32
+// How many bytes of a value can be taken together: 64, 16 or 8, or one less, or none.
+fn value_run(stands: Phase, bytes: &[u8], i: usize) -> u32
     requires { ⌜ i ≤ length (now bytes) ⌝ }
-    ensures { λ r. ⌜ (0 < r → ValueRun stands at (now (bytes .entry)) i r) ⌝ }
+    ensures { λ r. ⌜ (r ≤ 64) × (0 < r → ValueRun stands (now (bytes .entry)) i r) ⌝ }
 {
     match stands {
         Phase::Value(_) => {
-            if LIMIT - 64 < at {
-                return 0;
+            let some = plain_run(bytes, i, 16);
+            if some == 0 {
+                return plain_run(bytes, i, 8);
             }
-            if plain_run(bytes, i, 64) {
-                return 64;
+            let wide = plain_run(bytes, i, 64);
+            if wide == 0 {
+                return some;
             }
-            if plain_run(bytes, i, 16) {
-                return 16;
-            }
-            0
+            wide
         }
         Phase::Between => 0,
         Phase::Ident(_) => 0,
@@ -453,86 +407,307 @@ fn value_run(stands: Phase, at: u32, bytes: &[u8], i: usize) -> u32
     }
 }
 
-// Takes bytes that complete no token, as long as they are ASCII and no white space; within a value 64 or 16 at once, white space among them.
-fn quiet_run(stands: Phase, at: u32, bytes: &[u8], from: usize) -> Quiet
-    requires { ⌜ from ≤ length (now bytes) ⌝ }
-    ensures { λ r. ⌜ QuietIs stands at (now (bytes .entry)) from r ⌝ }
+// ASCII, no white space, and neither `]` nor a backslash.
+fn is_point(b: u8) -> bool
+    ensures { λ r. ⌜ (r ≡ true → PointByte b) ⌝ }
+{
+    (32 < b) & ((b < 128) & ((b != 93) & (b != 92)))
+}
+
+// Do two such bytes and a `]` stand behind the byte at `i`.
+fn is_pair(s: &[u8], i: usize) -> bool
+    requires { ⌜ i < length (now s) ⌝ }
+    ensures { λ r. ⌜ (r ≡ true → PairAt (now (s .entry)) i) ⌝ }
+{
+    if s.len() - i < 4 {
+        return false;
+    }
+    (s[i + 3] == 93) & (is_point(s[i + 1]) & is_point(s[i + 2]))
+}
+
+// A value of two such bytes, where a `[` opens one.
+pub enum Pair {
+    Past(Phase),
+    Other,
+}
+
+// Is the `[` at `i` one of a value of two such bytes.
+fn pair_run(stands: Phase, bytes: &[u8], i: usize) -> Pair
+    requires { ⌜ i < length (now bytes) ⌝ }
+    ensures { λ r. ⌜ PairIs stands (now (bytes .entry)) i r ⌝ }
+{
+    match stands {
+        Phase::Ident(start) => {
+            if is_pair(bytes, i) {
+                return Pair::Past(Phase::After(start));
+            }
+            Pair::Other
+        }
+        Phase::After(start) => {
+            if is_pair(bytes, i) {
+                return Pair::Past(Phase::After(start));
+            }
+            Pair::Other
+        }
+        Phase::Between => Pair::Other,
+        Phase::Value(_) => Pair::Other,
+        Phase::Escaped(_) => Pair::Other,
+        Phase::Foreign(_) => Pair::Other,
+    }
+}
+
+// ---- one ASCII byte that is no white space
+
+// Where the token rules stand then.
+fn ink_next(stands: Phase, at: u32, b: u8) -> Phase
+    requires { ⌜ (32 < b) × (b < 128) ⌝ }
+    ensures { λ r. ⌜ r ≡ moves stands at b .next ⌝ }
+{
+    match stands {
+        Phase::Value(start) => {
+            if b == b']' {
+                return Phase::After(start);
+            }
+            if b == b'\\' {
+                return Phase::Escaped(start);
+            }
+            Phase::Value(start)
+        }
+        Phase::Ident(start) => {
+            if b == b'[' {
+                return Phase::Value(start);
+            }
+            Phase::Ident(start)
+        }
+        Phase::Between => {
+            if blocks_step::kind(b) != 0 {
+                return Phase::Between;
+            }
+            if b == b'[' {
+                return Phase::Value(at);
+            }
+            Phase::Ident(at)
+        }
+        Phase::After(start) => {
+            if b == b'[' {
+                return Phase::Value(start);
+            }
+            if blocks_step::kind(b) != 0 {
+                return Phase::Between;
+            }
+            Phase::Ident(at)
+        }
+        Phase::Escaped(start) => Phase::Value(start),
+        Phase::Foreign(start) => Phase::Foreign(start),
+    }
+}
+
+// The rows of the tokens that it completes.
+fn ink_rows(stands: Phase, at: u32, b: u8, count: u32, rows: &mut [u32]) -> u32
+    requires { ⌜ (32 < b) × (b < 128) × (at < textLimit) ⌝ }
+    ensures { λ r. ⌜ filledWith r (now (rows .exit)) ≡ addRows (filledWith count (now (rows .entry))) (rowsAt (moves stands at b .tokens) at) ⌝ }
+{
+    match stands {
+        Phase::Between => {
+            let kind = blocks_step::kind(b);
+            if kind == 0 {
+                return count;
+            }
+            put_row(rows, count, kind, at, at + 1)
+        }
+        Phase::After(start) => {
+            if b == b'[' {
+                return count;
+            }
+            let more = put_row(rows, count, 4, start, at);
+            let kind = blocks_step::kind(b);
+            if kind == 0 {
+                return more;
+            }
+            put_row(rows, more, kind, at, at + 1)
+        }
+        Phase::Ident(_) => count,
+        Phase::Value(_) => count,
+        Phase::Escaped(_) => count,
+        Phase::Foreign(_) => count,
+    }
+}
+
+// Does white space leave the token rules as they stand: not after a backslash.
+fn holds_white(stands: Phase) -> bool
+    ensures { λ r. ⌜ (r ≡ true → WhiteStays stands) ⌝ }
+{
+    match stands {
+        Phase::Escaped(_) => false,
+        Phase::Between => true,
+        Phase::Ident(_) => true,
+        Phase::Value(_) => true,
+        Phase::After(_) => true,
+        Phase::Foreign(_) => true,
+    }
+}
+
+// ---- ASCII bytes
+
+// How far they were taken, and what is known there: the rules and the rows stand as after the last character that is no white space.
+pub struct Ran {
+    pub to: usize,
+    pub total: u32,
+    pub last: u32,
+    pub stands: Phase,
+    pub count: u32,
+}
+
+// Does no byte since the last character that is no white space matter, with no character begun.
+fn is_steady(k: Known) -> bool
+    ensures { λ r. ⌜ (r ≡ true → Steady k) ⌝ }
+{
+    if k.last == 0 {
+        return false;
+    }
+    if k.held != k.count {
+        return false;
+    }
+    let now = k.now;
+    let kept = k.kept;
+    if phase_number(now) != phase_number(kept) {
+        return false;
+    }
+    if phase_from(now) != phase_from(kept) {
+        return false;
+    }
+    let u = k.utf8;
+    match u {
+        Utf8::Whole => true,
+        Utf8::Within(_, _, _) => false,
+        Utf8::Bad(_) => false,
+    }
+}
+
+// Takes ASCII bytes from there on: values of two bytes and runs within a value together, white space where it changes nothing.
+fn steady_run(
+    stands: Phase,
+    at: u32,
+    last: u32,
+    count: u32,
+    bytes: &[u8],
+    from: usize,
+    rows: &mut [u32],
+) -> Ran
+    requires { ⌜ (from ≤ length (now bytes)) × (0 < last) ⌝ }
+    ensures { λ r. ⌜ RanIs (steadyAt at last stands count) (now (bytes .entry)) from (now (rows .entry)) r (now (rows .exit)) ⌝ }
 {
     let mut p = stands;
     let mut i = from;
     let mut place = at;
+    let mut ink = last;
+    let mut n = count;
     let mut again = from;
     while i < bytes.len() {
-        if LIMIT <= place {
-            return Quiet { to: i, stands: p };
+        if LIMIT - 64 < place {
+            break;
+        }
+        let b = bytes[i];
+        if b == b'[' {
+            if let Pair::Past(q) = pair_run(p, bytes, i) {
+                p = q;
+                i += 4;
+                place += 4;
+                ink = place;
+                continue;
+            }
         }
         if again <= i {
-            let n = value_run(p, place, bytes, i);
-            if 0 < n {
-                i += lists::wide(n);
-                place += n;
+            let run = value_run(p, bytes, i);
+            if 0 < run {
+                i += lists::wide(run);
+                place += run;
+                ink = place;
                 again = i;
                 continue;
             }
-            again = i + 16;
+            again = i + 8;
         }
-        let b = bytes[i];
-        if (b <= 32) | (128 <= b) {
-            return Quiet { to: i, stands: p };
+        if 128 <= b {
+            break;
         }
-        match quiet_next(p, place, b) {
-            Still::Speaks => {
-                return Quiet { to: i, stands: p };
+        if b <= 32 {
+            if lexer_scan::is_space(b) & holds_white(p) {
+                i += 1;
+                place += 1;
+                continue;
             }
-            Still::Stands(q) => {
-                p = q;
-            }
+            break;
         }
+        n = ink_rows(p, place, b, n, rows);
+        p = ink_next(p, place, b);
         i += 1;
         place += 1;
+        ink = place;
     }
-    Quiet { to: i, stands: p }
+    Ran {
+        to: i,
+        total: place,
+        last: ink,
+        stands: p,
+        count: n,
+    }
 }
 
-// The same from what is known, where a character that is no white space came before and none is begun.
-fn quiet_bytes(k: Known, bytes: &[u8], from: usize) -> Quiet
-    requires { ⌜ from ≤ length (now bytes) ⌝ }
-    ensures { λ r. ⌜ QuietFrom k (now (bytes .entry)) from r ⌝ }
+// What is known there.
+fn known_there(r: Ran) -> Known
+    ensures { λ k. ⌜ k ≡ ranTo r ⌝ }
 {
-    let stands = k.now;
-    if k.last == 0 {
-        return Quiet {
-            to: from,
-            stands: stands,
+    let stands = r.stands;
+    Known {
+        total: r.total,
+        utf8: Utf8::Whole,
+        last: r.last,
+        now: stands,
+        count: r.count,
+        kept: stands,
+        held: r.count,
+    }
+}
+
+// How far bytes were taken, and what is known there.
+pub struct Went {
+    pub to: usize,
+    pub known: Known,
+}
+
+// Takes ASCII bytes where what is known is steady, else none.
+fn run_on(k: Known, bytes: &[u8], from: usize, rows: &mut [u32]) -> Went
+    requires { ⌜ from ≤ length (now bytes) ⌝ }
+    ensures { λ r. ⌜ WentIs k (now (bytes .entry)) from (now (rows .entry)) r (now (rows .exit)) ⌝ }
+{
+    if is_steady(k) {
+        let stands = k.now;
+        let ran = steady_run(stands, k.total, k.last, k.count, bytes, from, rows);
+        let known = known_there(ran);
+        return Went {
+            to: ran.to,
+            known: known,
         };
     }
-    let u = k.utf8;
-    match u {
-        Utf8::Whole => quiet_run(stands, k.total, bytes, from),
-        Utf8::Within(_, _, _) => Quiet {
-            to: from,
-            stands: stands,
-        },
-        Utf8::Bad(_) => Quiet {
-            to: from,
-            stands: stands,
-        },
-    }
+    Went { to: from, known: k }
 }
 
-// What is known `n` bytes on, where they complete no token.
-fn went_quiet(k: Known, n: u32, stands: Phase) -> Known
-    requires { ⌜ k .total + n ≤ textLimit ⌝ }
-    ensures { λ r. ⌜ r ≡ quietly k n stands ⌝ }
+// The same, and one byte more where there is one.
+fn step_on(k: Known, bytes: &[u8], from: usize, rows: &mut [u32]) -> Went
+    requires { ⌜ from < length (now bytes) ⌝ }
+    ensures { λ r. ⌜ (from < r .to) × WentIs k (now (bytes .entry)) from (now (rows .entry)) r (now (rows .exit)) ⌝ }
 {
-    Known {
-        total: k.total + n,
-        utf8: Utf8::Whole,
-        last: k.total + n,
-        now: stands,
-        count: k.count,
-        kept: stands,
-        held: k.count,
+    let went = run_on(k, bytes, from, rows);
+    let to = went.to;
+    if bytes.len() <= to {
+        return went;
+    }
+    let known = went.known;
+    let next = take_byte(known, bytes[to], rows);
+    Went {
+        to: to + 1,
+        known: next,
     }
 }
 
@@ -558,16 +733,10 @@ pub fn block(state: State, bytes: &[u8], rows: &mut [u32]) -> Blocked
     let mut k = known_of(state);
     let mut i = 0;
     while i < bytes.len() {
-        let q = quiet_bytes(k, bytes, i);
-        let to = q.to;
-        if i < to {
-            let stands = q.stands;
-            k = went_quiet(k, (to - i) as u32, stands);
-            i = to;
-            continue;
-        }
-        k = take_byte(k, bytes[i], rows);
-        i += 1;
+        let went = step_on(k, bytes, i, rows);
+        let known = went.known;
+        k = known;
+        i = went.to;
     }
     let s = state_of(k);
     Blocked {

@@ -1,13 +1,16 @@
 pub mod Closes
 pub mod Ends
 pub mod Enough
+pub mod Exact
 pub mod Follows
 pub mod Joined
-pub mod Leaves
 pub mod Leans
+pub mod Leaves
 pub mod Numbers
 pub mod Owed
+pub mod Shuts
 pub mod Stored
+pub mod Strict
 pub mod Theorems
 pub mod Tracked
 pub mod Tracks

@@ -4,10 +4,9 @@ use Rattle.blocks_step.specs.declared.Left.{Left}
 use Rattle.blocks_step.specs.declared.Left.the-variants.{One, TwoFromA0, TwoTo9f, Two, ThreeFrom90, Three, ThreeTo8f}
 use Rattle.blocks_step.specs.declared.Utf8.{Utf8}
 use Rattle.blocks_step.specs.declared.Utf8.the-variants.{Whole, Within, Bad}
-use Rattle.blocks_step.specs.declared.Phase.{Phase}
-use Rattle.blocks_step.specs.declared.Phase.the-variants.{Between, Ident, Value, Escaped, After, Foreign}
 use Rattle.blocks.specs.declared.Known.{Known}
-use Rattle.blocks.specs.State.{utf8Number, utf8From, utf8Code, phaseNumber, phaseFrom, utf8By, phaseBy, stateSays, stateOf}
+use Rattle.blocks.specs.State.{utf8Number, utf8From, utf8Code, utf8By, stateSays, stateOf}
+use Rattle.blocks.proofs.Inks.{phase-back}
 
 utf8-back : (u : Utf8) → utf8By (utf8Number u) (utf8From u) (utf8Code u) ≡ u
 unfolding utf8By
@@ -20,15 +19,6 @@ utf8-back (Within ThreeFrom90 s c) = refl
 utf8-back (Within Three s c) = refl
 utf8-back (Within ThreeTo8f s c) = refl
 utf8-back (Bad p) = refl
-
-phase-back : (p : Phase) → phaseBy (phaseNumber p) (phaseFrom p) ≡ p
-unfolding phaseBy
-phase-back Between = refl
-phase-back (Ident s) = refl
-phase-back (Value s) = refl
-phase-back (Escaped s) = refl
-phase-back (After s) = refl
-phase-back (Foreign s) = refl
 
 pub says-state : (k : Known) → stateSays (stateOf k) ≡ k
 says-state k = rw (utf8-back (k .utf8), phase-back (k .now), phase-back (k .kept))

@@ -16,6 +16,7 @@ use Rattle.blocks.specs.Close.{closedBefore, CloseIs}
 use Rattle.blocks_laws.specs.Reading.{TokenReading, tokensRead, notRead, readTokens, rowsLeft}
 use Rattle.blocks_laws.specs.Calls.{atStart, BlockCalls, joinedText, numberRead, placeRead, countRead, leftRead, ReadAs}
 use Rattle.blocks_laws.proofs.Joined as joined
+use Rattle.blocks_laws.proofs.Shuts.{close-shuts}
 -- a text has no more tokens than bytes
 pub use Rattle.blocks_laws.proofs.Enough.{enough-rows}
 
@@ -60,6 +61,15 @@ block-after-close s bs t r t′ h b =
 
 pub close-after-close : (s : State) (t : List ℕ) (r : Closed) (t′ : List ℕ) → (s .closed ≡ 0 → ⊥) → CloseIs s t r t′ → (r ≡ closedBefore s) × (t′ ≡ t)
 close-after-close s t r t′ h b = (b .answer ∙ rw (ne-eqb (s .closed) 0 h), b .rows ∙ rw (ne-eqb (s .closed) 0 h))
+
+-- after any close, accepted or refused, a block is 20 and changes nothing
+pub block-after-any : (s : State) (t : List ℕ) (r : Closed) (t′ : List ℕ) → CloseIs s t r t′ → (bs u : List ℕ) (q : Blocked) (u′ : List ℕ) → BlockIs (r .state) bs u q u′
+    → (q ≡ record { number = 20; state = r .state }) × (u′ ≡ u)
+block-after-any s t r t′ c bs u q u′ b = block-after-close (r .state) bs u q u′ (close-shuts s t r t′ c) b
+
+-- and so is a close
+pub close-after-any : (s : State) (t : List ℕ) (r : Closed) (t′ : List ℕ) → CloseIs s t r t′ → (u : List ℕ) (q : Closed) (u′ : List ℕ) → CloseIs (r .state) u q u′ → (q ≡ closedBefore (r .state)) × (u′ ≡ u)
+close-after-any s t r t′ c u q u′ b = close-after-close (r .state) u q u′ (close-shuts s t r t′ c) b
 
 -- ---- no second answer
 

@@ -1,3 +1,5 @@
+pub mod Begins
 pub mod Calls
 pub mod LocalsListed
+pub mod Numbered
 pub mod Reading

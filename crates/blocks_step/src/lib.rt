@@ -153,7 +153,7 @@ pub struct Moved {
 }
 
 // The kind of a token of one byte; 0 is none.
-fn kind(b: u8) -> u32
+pub fn kind(b: u8) -> u32
     ensures { λ r. ⌜ r ≡ kindOf b ⌝ }
 {
     if b == b'(' {

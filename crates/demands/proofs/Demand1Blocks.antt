@@ -11,6 +11,12 @@ use Rattle.blocks_laws.proofs.Theorems as blocks
 use Rattle.blocks_laws.proofs.Leaves as leaves
 -- one reading of the joined text, for every list of blocks; two cuts of one text agree; as many rows as bytes never give 14; no second answer
 pub use Rattle.blocks_laws.proofs.Theorems.{blocks-joined, cuts-agree, enough-rows, tokens-of-cursor, block-once, close-once}
+-- after any close, accepted or refused and from any state, a block and a close are 20 and change nothing
+pub use Rattle.blocks_laws.proofs.Theorems.{block-after-any, close-after-any}
+-- the numbers of a block and of a close after blocks from the start on: each exactly where it is due, and no other
+pub use Rattle.blocks_laws.proofs.Exact.{block-exactly, close-exactly}
+-- for every text: where the reading of tokens refuses, so does the strict reading, with the same number and place; else that is what splitting makes of these tokens
+pub use Rattle.blocks_laws.proofs.Strict.{strict-begins}
 
 -- a block after the close is 20 and changes nothing
 pub block-refused : (s : State) (bs t : List ℕ) (r : Blocked) (t′ : List ℕ) → (s .closed ≡ 0 → ⊥) → BlockIs s bs t r t′ → (r ≡ record { number = 20; state = s }) × (t′ ≡ t)

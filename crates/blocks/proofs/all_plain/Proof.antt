@@ -1,6 +1,6 @@
 -- `blocks::all_plain` meets its contract. Assumes nothing.
 use Rattle.blocks.proofs.Quiets.{plain-test}
-use Rattle.blocks.specs.LocalsQuiet.{PlainByte}
+use Rattle.blocks.specs.LocalsSteady.{PlainByte}
 use Rattle.lists.proofs.Tests.{and-both}
 use borrow.Author.Count.{below-more}
 use denote.Ref.{now}

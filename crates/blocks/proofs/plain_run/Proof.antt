@@ -1,43 +1,70 @@
 -- `blocks::plain_run` meets its contract. Assumes nothing.
-use denote.Ref.{now}
-use Rattle.lists.proofs.Prelude.{arith, false≢true, subst, ℕ, _+_, _-_, _≡_, _<_, getD}
+use Rattle.lists.proofs.Prelude.{arith, ℕ, _+_, _-_, _≡_, _<_, getD, subst}
 use borrow.Author.Needs.{needs}
 use Rattle.blocks.proofs.plain_run.Statement.{statement}
 use Rattle.blocks.proofs.plain_run.Tie as tie
+
+wide-requires : tie.Need-wide-requires
+wide-requires c κs = search needs
 
 sub-if1 : tie.Need-sub-if1
 sub-if1 c = search needs
 
 returns : tie.Need-returns
-returns c = λ e. absurd (false≢true e)
-
-add-if2 : tie.Need-add-if2
-add-if2 c = search needs
-
-sub-if2 : tie.Need-sub-if2
-sub-if2 c = search needs
-
-shared-slice-read-if2 : tie.Need-shared-slice-read-if2
-shared-slice-read-if2 c = search needs
-
-returns-2 : tie.Need-returns-2
-returns-2 c = λ e. absurd (false≢true e)
+returns c = (omega arith, λ h. absurd (omega (arith, h)))
 
 all-plain-requires : tie.Need-all-plain-requires
-all-plain-requires c κs = search needs
+all-plain-requires c κs = omega (arith, c .if1 .left, c .before .before .before .pre .0)
+
+sub-if3 : tie.Need-sub-if3
+sub-if3 c = omega (arith, c .before .before .before .wide .ensures, c .before .before .before .before .before .pre .1)
+
+add-if3 : tie.Need-add-if3
+add-if3 c = omega (arith, c .before .before .if1 .left, c .before .before .before .before .before .pre .0, c .before .before .before .wide .ensures, c .before .before .before .before .before .pre .1)
+
+shared-slice-read-if3 : tie.Need-shared-slice-read-if3
+shared-slice-read-if3 c = omega (arith, c .before .before .before .if1 .left, c .before .before .before .before .before .before .pre .0, c .before .before .before .before .wide .ensures, c .before .before .before .before .before .before .pre .1)
+
+returns-2 : tie.Need-returns-2
+returns-2 c = (omega arith, λ h. record { room = omega (arith, c .before .before .before .before .if1 .left, c .before .before .before .before .before .before .before .pre .0, c .before .before .before .before .before .wide .ensures); some = h; plain = λ j l. c .before .before .before .all-plain .ensures (c .before .before .if2 .taken) j (omega (arith, l, c .before .before .before .before .before .wide .ensures)); dark = subst (λ (z : ℕ). 32 < getD (c .before .before .before .before .before .before .before .args .s .now) (c .before .before .before .before .before .before .before .args .i + (z - 1)) 0) (c .before .before .before .before .before .wide .ensures) (c .if3 .taken) })
+
+sub-if4 : tie.Need-sub-if4
+sub-if4 c = omega (arith, c .before .before .before .before .before .wide .ensures, c .before .before .before .before .before .before .before .pre .1)
+
+add-if4 : tie.Need-add-if4
+add-if4 c = omega (arith, c .before .before .before .before .if1 .left, c .before .before .before .before .before .before .before .pre .0, c .before .before .before .before .before .wide .ensures, c .before .before .before .before .before .before .before .pre .1)
+
+shared-slice-read-if4 : tie.Need-shared-slice-read-if4
+shared-slice-read-if4 c = omega (arith, c .before .before .before .before .before .if1 .left, c .before .before .before .before .before .before .before .before .pre .0, c .before .before .before .before .before .before .wide .ensures, c .before .before .before .before .before .before .before .before .pre .1)
+
+sub-result : tie.Need-sub-result
+sub-result c = omega (arith, c .before .before .before .before .before .before .before .before .before .pre .1)
 
 returns-3 : tie.Need-returns-3
-returns-3 c = λ e. let a = c .before .before .before .before .before .args in let q : a .i + a .n - 1 ≡ a .i + (a .n - 1) = (let z = c .before .before .before .before .before .pre in omega arith) in record { room = omega arith; some = c .before .before .before .before .before .pre .1; plain = λ j l. c .all-plain .ensures e j l; dark = subst (λ (z : ℕ). 32 < getD (now (a .s)) z 0) q (c .before .if2 .left) }
+returns-3 c = (omega arith, λ h. (let e : c .before .before .before .before .before .before .before .wide .result - 2 ≡ c .before .before .before .before .before .before .before .before .before .args .n - 1 - 1 = omega (arith, c .before .before .before .before .before .before .before .wide .ensures, c .before .before .before .before .before .before .before .before .before .pre .1) in record { room = omega (arith, c .before .before .before .before .before .before .if1 .left, c .before .before .before .before .before .before .before .before .before .pre .0, c .before .before .before .before .before .before .before .wide .ensures, c .before .before .before .before .before .before .before .before .before .pre .1); some = h; plain = λ j l. c .before .before .before .before .before .all-plain .ensures (c .before .before .before .before .if2 .taken) j (omega (arith, l, c .before .before .before .before .before .before .before .wide .ensures, c .before .before .before .before .before .before .before .before .before .pre .1)); dark = subst (λ (z : ℕ). 32 < getD (c .before .before .before .before .before .before .before .before .before .args .s .now) (c .before .before .before .before .before .before .before .before .before .args .i + z) 0) e (c .if4 .taken) }))
+
+returns-4 : tie.Need-returns-4
+returns-4 c = (omega arith, λ h. absurd (omega (arith, h)))
+
+returns-5 : tie.Need-returns-5
+returns-5 c = (omega arith, λ h. absurd (omega (arith, h)))
 
 pub plain-run-spec : {M : Type 1} → statement M
 plain-run-spec =
     tie.close
     (tie.spec
+    wide-requires
     sub-if1
     returns
-    add-if2
-    sub-if2
-    shared-slice-read-if2
-    returns-2
     all-plain-requires
-    returns-3)
+    sub-if3
+    add-if3
+    shared-slice-read-if3
+    returns-2
+    sub-if4
+    add-if4
+    shared-slice-read-if4
+    sub-result
+    returns-3
+    returns-4
+    returns-5)
