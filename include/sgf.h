@@ -26,8 +26,8 @@
  *
  * Stack, in bytes, on aarch64 (x86-64 within 130 bytes of it): sgf_board 25,600, sgf_board_next 22,400, sgf_go_value 11,392,
  * sgf_write 8,832, sgf_go_by_rule 5,696, sgf_read_strict and sgf_read_lenient 5,440, sgf_simple_value,
- * sgf_simple_property and sgf_entry 1,900 at most, the others 512 at most; those of feeds and blocks, sgf_escape and
- * sgf_tag are not measured by the gate yet (sgf_correct took about 1,050 once, sgf_block 940).
+ * sgf_simple_property and sgf_entry 1,900 at most, the others 512 at most; those of feeds and blocks and
+ * sgf_escape are not measured by the gate yet (sgf_correct took about 1,050 once, sgf_block 940).
  */
 #ifndef SGF_H
 #define SGF_H
@@ -563,6 +563,17 @@ SgfClose sgf_close(SgfBlocks state, uint32_t *rows, size_t rows_len);
 /* The tag of bytes: FNV-1a, 64 bits. That of a record is the tag of what sgf_write gives, so that records which are
  * written alike have one tag. It is shown as 16 hex digits, highest first (`"%016" PRIx64` of <inttypes.h>). */
 uint64_t sgf_tag(const uint8_t *bytes, size_t bytes_len);
+
+/* A number; how many trees, nodes, moves of each colour without passes, and passes a record has. */
+typedef struct {
+    uint32_t number, reserved;
+    size_t trees, nodes, black, white, passes;
+} SgfTally;
+
+/* The tally of a record: over the properties of its Go trees, B that is a point, W that is a point, and B or W that is a
+ * pass, as sgf_go_value says them. Properties are counted, not nodes; an invalid one counts nowhere. Number: 19; all else
+ * is then 0. */
+SgfTally sgf_tally(SGF_RECORD);
 
 #ifdef __cplusplus
 }
