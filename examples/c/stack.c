@@ -135,7 +135,7 @@ static struct function {
     {"sgf_go_by_rule", call_go_by_rule, 0, 9216},
     {"sgf_size", call_size, 0, 1024},
     {"sgf_tree_size", call_tree_size, 0, 1024},
-    {"sgf_tally", call_tally, 0, 2048},
+    {"sgf_tally", call_tally, 0, 4096},
     {"sgf_tag", call_tag, 0, 512},
     {"sgf_board", call_board, 0, 28672},
     {"sgf_board_next", call_board_next, 0, 25600},
