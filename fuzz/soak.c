@@ -42,7 +42,7 @@ enum { NUMBERS_END = 25 };
 static unsigned long operations, accepted, refusals[NUMBERS_END];
 
 /* What a fuzzer is told beside the code that was reached: which call gave which number, and sizes by their bits. */
-enum { READ, WALK, FITS, VALUE, DISPLAY, DISPLAY_VALUE, GO_VALUE, GO_BY_RULE, SIZE, ENTRY, SIMPLE_VALUE, SIMPLE_PROPERTY, WRITE, BLOCKS, ESCAPE, BOARD, TAG, NAMED, NEXT, EDIT, SESSION, LOOKUP, CORRECT, CALLS };
+enum { READ, WALK, FITS, VALUE, DISPLAY, DISPLAY_VALUE, GO_VALUE, GO_BY_RULE, SIZE, ENTRY, SIMPLE_VALUE, SIMPLE_PROPERTY, TALLY, WRITE, BLOCKS, ESCAPE, BOARD, TAG, NAMED, NEXT, EDIT, SESSION, LOOKUP, CORRECT, CALLS };
 #ifdef FUZZER
 __attribute__((section("__libfuzzer_extra_counters")))
 #endif
@@ -388,6 +388,13 @@ static void put(size_t at, size_t to) {
     REQUIRE(used == states[to].used && memcmp(lent[TEXTS].at, states[to].text, used) == 0);
 }
 
+/* The tag of the record's writing, or the number of its refusal. */
+static uint64_t tag_of_writing(void) {
+    static uint8_t written[OUT];
+    SgfWriting w = sgf_write(RECORD, written, sizeof written);
+    return w.number == 0 ? sgf_tag(written, w.length) : w.number;
+}
+
 /* A session of edits, undone, done again, and now and then undone once more; tables at either end are compared whole. */
 static void session(void) {
     size_t steps = 0;
@@ -397,6 +404,7 @@ static void session(void) {
     for (int t = 0; t < TABLES; t++) {
         memcpy(first[t], lent[t].at, lent[t].length);
     }
+    uint64_t tags[2] = {tag_of_writing(), 0};
     keep_state(0);
     for (uint32_t left = draw(STEPS + 1); left > 0; left--) {
         size_t k = draw((uint32_t)counts.values);
@@ -413,6 +421,7 @@ static void session(void) {
     for (int t = 0; t < TABLES; t++) {
         memcpy(last[t], lent[t].at, lent[t].length);
     }
+    tags[1] = tag_of_writing();
     for (int way = 0, ways = 2 + (int)draw(2); way < ways; way++) {
         for (size_t at = 0; at < steps; at++) {
             way % 2 == 0 ? put(steps - 1 - at, steps - 1 - at) : put(at, at + 1);
@@ -420,6 +429,7 @@ static void session(void) {
         for (int t = 0; t < TABLES; t++) {
             REQUIRE(memcmp(way % 2 == 0 ? first[t] : last[t], lent[t].at, lent[t].length) == 0);
         }
+        REQUIRE(tag_of_writing() == tags[way % 2]);
     }
 }
 
@@ -579,6 +589,49 @@ static void size(size_t tree) {
     REQUIRE((rows.columns == 0) == (rows.kind == SGF_SIZE_WRONG) && (rows.rows == 0) == (rows.kind == SGF_SIZE_WRONG));
     REQUIRE(given ? memcmp(&s, &rows, sizeof s) == 0 : (s.kind | s.columns | s.rows | s.rule) == 0);
     tell(SIZE, 0, (size_t)1 << (3 * rows.kind + rows.rule));
+}
+
+/* Whether the uppercase letters of a property's identifier are this one alone. */
+static bool is_named(size_t p, uint8_t letter) {
+    const uint32_t *row = TABLE(PROPERTIES) + SGF_PROPERTY_STRIDE * p;
+    size_t found = 0, other = 0;
+    for (uint32_t at = row[SGF_PROPERTY_IDENTIFIER_START]; at < row[SGF_PROPERTY_IDENTIFIER_END]; at++) {
+        uint8_t b = lent[TEXTS].at[at];
+        found += b == letter;
+        other += b != letter && b >= 'A' && b <= 'Z';
+    }
+    return found == 1 && other == 0;
+}
+
+/* The tally of a record, beside its counts and, of a small one, its Go values; the tag of any part of the text, beside the
+ * plain loop. */
+static void season(void) {
+    size_t length = lent[TEXTS].length, from = draw((uint32_t)length + 1), to = from + draw((uint32_t)(length - from) + 1);
+    uint64_t tag = UINT64_C(14695981039346656037);
+    for (size_t i = from; i < to; i++) {
+        tag = (tag ^ lent[TEXTS].at[i]) * UINT64_C(1099511628211);
+    }
+    REQUIRE(sgf_tag(lent[TEXTS].at + from, to - from) == tag);
+    SgfTally t = sgf_tally(RECORD);
+    bool given = answered(TALLY, t.number, MAY(19), 0);
+    REQUIRE(t.reserved == 0 && (given || (t.trees | t.nodes | t.black | t.white | t.passes) == 0));
+    tell(TALLY, 0, t.black + t.white);
+    tell(TALLY, 1, t.passes);
+    if (!given) {
+        return;
+    }
+    REQUIRE(t.trees == counts.trees && t.nodes == counts.nodes && t.black + t.white + t.passes <= counts.properties);
+    if (counts.properties > 16) {
+        return;
+    }
+    size_t black = 0, white = 0, passes = 0;
+    for (size_t p = 0; p < counts.properties; p++) {
+        SgfGoValue v = sgf_go_value(RECORD, p);
+        black += v.kind == SGF_MOVE && is_named(p, 'B');
+        white += v.kind == SGF_MOVE && is_named(p, 'W');
+        passes += v.kind == SGF_PASS;
+    }
+    REQUIRE(t.black == black && t.white == white && t.passes == passes);
 }
 
 /* Any part of the text as an identifier. */
@@ -822,6 +875,7 @@ static void call(int what) {
     case SIMPLE_PROPERTY: simple_property(k); break;
     case GO_BY_RULE: go_by_rule(k); break;
     case SIZE: size(draw(8) == 7 ? k : k % 4); break;
+    case TALLY: season(); break;
     case WRITE: write_text(); break;
     case SESSION: session(); break;
     case LOOKUP: lookup(k); break;

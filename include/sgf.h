@@ -26,9 +26,9 @@
  *
  * Stack, in bytes, on aarch64 (x86-64 within 130 bytes of it): sgf_board 25,600, sgf_board_next 22,400, sgf_go_value 11,392,
  * sgf_write 8,832, sgf_write_length 10,240 at most, sgf_go_by_rule 5,696, sgf_read_strict and sgf_read_lenient 5,440,
- * sgf_simple_value, sgf_simple_property and sgf_entry 1,900 at most; of the others sgf_correct 1,088, sgf_corrected and
- * sgf_feed_check 832, measured on x86-64, sgf_block 1,024 at most, the rest 512 at most. docs/MEMORY.md has each function's bound, which
- * examples/c/stack.c tests.
+ * sgf_tally 3,200, sgf_simple_value, sgf_simple_property and sgf_entry 1,900 at most; of the others sgf_correct 1,088,
+ * sgf_corrected and sgf_feed_check 832, measured on x86-64, sgf_block 1,024 at most, the rest 512 at most.
+ * docs/MEMORY.md has each function's bound, which examples/c/stack.c tests.
  */
 #ifndef SGF_H
 #define SGF_H
@@ -613,6 +613,17 @@ SgfClose sgf_close(SgfBlocks state, uint32_t *rows, size_t rows_len);
 /* The tag of bytes: FNV-1a, 64 bits. That of a record is the tag of what sgf_write gives, so that records which are
  * written alike have one tag. It is shown as 16 hex digits, highest first (`"%016" PRIx64` of <inttypes.h>). */
 uint64_t sgf_tag(const uint8_t *bytes, size_t bytes_len);
+
+/* A number; how many trees, nodes, moves of each colour without passes, and passes a record has. */
+typedef struct {
+    uint32_t number, reserved;
+    size_t trees, nodes, black, white, passes;
+} SgfTally;
+
+/* The tally of a record: over the properties of its Go trees, B that is a point, W that is a point, and B or W that is a
+ * pass, as sgf_go_value says them. Properties are counted, not nodes; an invalid one counts nowhere. Number: 19; all else
+ * is then 0. */
+SgfTally sgf_tally(SGF_RECORD);
 
 #ifdef __cplusplus
 }

@@ -215,6 +215,18 @@ static void check_sizes(void) {
     CHECK(sgf_size(RECORD, 0).number == SGF_NOT_FITTING && sgf_size(RECORD, 0).columns == 0);
 }
 
+/* Every field of a tally, and tags of known bytes. */
+static void check_season(void) {
+    read_text("(;B[aa];W[bb](;B[tt])(;W[cc];W[dd][ee]))(;SZ[20]W[tt])(;GM[2]B[aa])", sgf_read_strict, 0);
+    SgfTally t = sgf_tally(RECORD);
+    CHECK(t.number == 0 && t.reserved == 0 && t.trees == 3 && t.nodes == 7 && t.black == 1 && t.white == 3 && t.passes == 1);
+    counts.nodes--;
+    t = sgf_tally(RECORD);
+    CHECK(t.number == SGF_NOT_FITTING && t.reserved == 0 && (t.trees | t.nodes | t.black | t.white | t.passes) == 0);
+    CHECK(sgf_tag(NULL, 0) == UINT64_C(0xcbf29ce484222325) && sgf_tag((const uint8_t *)"a", 1) == UINT64_C(0xaf63dc4c8601ec8c));
+    CHECK(sgf_tag((const uint8_t *)"(;)", 3) == UINT64_C(0x09b11117f68c37b7));
+}
+
 static void check_writing(void) {
     uint8_t out[64];
     read_text("(;AB[ba][aa])", sgf_read_strict, 0);
@@ -339,6 +351,7 @@ int main(void) {
     check_refused_readings();
     check_record();
     check_sizes();
+    check_season();
     check_writing();
     check_edit();
     check_feed();

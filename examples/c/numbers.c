@@ -5,7 +5,7 @@
 #include <stdio.h>
 #include <string.h>
 
-enum { READ, FITS, VALUE, DISPLAY, GO_VALUE, WRITE, EDIT, CORRECT, CORRECTED, CHECK, SIZE, BOARD, NEXT, TRIM, TOKEN, DISPLAY_VALUE, CALLS };
+enum { READ, FITS, VALUE, DISPLAY, GO_VALUE, WRITE, EDIT, CORRECT, CORRECTED, CHECK, SIZE, TALLY, BOARD, NEXT, TRIM, TOKEN, DISPLAY_VALUE, CALLS };
 enum { LENIENT = 1, SHORT = 4 };
 enum { FIT, DAMAGED, DEEPER }; /* the tables of a reading; with a game type that there is not; with a root of depth 1 */
 enum { ROOM = 64, ROWS = 1100, LONG = SGF_TEXT_LIMIT };
@@ -106,6 +106,9 @@ static const Row rows[] = {
     {0, 0, SIZE, "(;SZ[9])", 0, FIT, 0, "", 0},
     {16, 0, SIZE, "(;SZ[9])", 0, FIT, 1, "", 0},
     {19, 0, SIZE, "(;SZ[9])", 0, DAMAGED, 1, "", 0},
+    {0, 0, TALLY, "(;B[aa])", 0, FIT, 0, "", 0},
+    {19, 0, TALLY, "(;B[aa])", 0, DAMAGED, 0, "", 0},
+    {19, 0, TALLY, "(;B[aa])", 0, DEEPER, 0, "", 0},
     {0, 0, BOARD, "(;SZ[9];B[aa])", 0, FIT, 1, "", 0},
     {19, 0, BOARD, "(;SZ[9];B[aa])", 0, DAMAGED, 2, "", 0},
     {21, 0, BOARD, "(;SZ[9];B[aa])", 0, FIT, 2, "", 0},
@@ -218,6 +221,11 @@ static uint32_t answer(const Row *r, uint32_t how, size_t *place, bool *is_zero)
     case SIZE: {
         SgfSize a = sgf_size(RECORD, r->k);
         *is_zero = (a.kind | a.columns | a.rows | a.rule) == 0;
+        return a.number;
+    }
+    case TALLY: {
+        SgfTally a = sgf_tally(RECORD);
+        *is_zero = (a.reserved | a.trees | a.nodes | a.black | a.white | a.passes) == 0;
         return a.number;
     }
     case BOARD: {

@@ -47,6 +47,7 @@ static uint8_t feed[ROOM];
 static size_t feed_len;
 static uint32_t rows[SGF_TOKEN_STRIDE * ROWS];
 static SgfBlocks half, all;
+static SgfTally tally;
 
 static unsigned char stack[STACK];
 static volatile uintptr_t begin;
@@ -75,6 +76,7 @@ NOTE(SgfSimple, note_simple_property, uint32_t rule, const uint8_t *i, size_t n,
 NOTE(SgfGoValue, note_go_by_rule, uint32_t rule, const uint8_t *i, size_t n, const uint8_t *t, size_t m, const uint32_t *v, size_t l, size_t first, size_t count)
 NOTE(SgfSize, note_size, SGF_RECORD, size_t tree)
 NOTE(SgfSize, note_tree_size, const uint8_t *t, size_t n, const uint32_t *a, size_t b, const uint32_t *c, size_t d, const uint32_t *e, size_t f, const uint32_t *g, size_t h, size_t tree)
+NOTE(SgfTally, note_tally, SGF_RECORD)
 NOTE(SgfBoard, note_board, SGF_RECORD, size_t k)
 NOTE(SgfBoard, note_board_next, SgfBoard on, const uint8_t *t, size_t n, const uint32_t *p, size_t m, const uint32_t *v, size_t l, size_t first, size_t count)
 NOTE(SgfWriting, note_write, SGF_RECORD, uint8_t *to, size_t to_len)
@@ -120,6 +122,7 @@ static void call_simple_property(void) {
 }
 static void call_size(void) { size = EITHER(size)(RECORD, asked); }
 static void call_tree_size(void) { size = EITHER(tree_size)(text, used, TABLES, asked); }
+static void call_tally(void) { tally = EITHER(tally)(RECORD); }
 static void call_board(void) { board = EITHER(board)(RECORD, asked); }
 static void call_board_next(void) {
     const uint32_t *row = nodes + asked * SGF_NODE_STRIDE;
@@ -165,6 +168,7 @@ static struct function {
     {"sgf_go_by_rule", call_go_by_rule, 0, 9216},
     {"sgf_size", call_size, 0, 1024},
     {"sgf_tree_size", call_tree_size, 0, 1024},
+    {"sgf_tally", call_tally, 0, 4096},
     {"sgf_board", call_board, 0, 28672},
     {"sgf_board_next", call_board_next, 0, 25600},
     {"sgf_write", call_write, 0, 10240},
@@ -280,6 +284,6 @@ int main(void) {
         }
     }
     (void)span, (void)entry, (void)simple, (void)display, (void)go, (void)writing, (void)edit, (void)trim, (void)token, (void)value, (void)number, (void)board;
-    (void)part, (void)check, (void)block, (void)closing, (void)tag;
+    (void)part, (void)check, (void)block, (void)closing, (void)tag, (void)tally;
     return failed;
 }

@@ -53,6 +53,19 @@ pub struct GoValue {
     pub marks: [u8; 2704],
 }
 
+/// A number; trees, nodes, moves of each colour without passes, passes.
+#[repr(C)]
+#[derive(Debug, Clone, Copy, PartialEq, Eq)]
+pub struct Tally {
+    pub number: u32,
+    pub reserved: u32,
+    pub trees: usize,
+    pub nodes: usize,
+    pub black: usize,
+    pub white: usize,
+    pub passes: usize,
+}
+
 /// A number; whether there is a board size, 0 none, 1 one, 2 a wrong one; columns and rows; the rule of the tree.
 #[repr(C)]
 #[derive(Debug, Clone, Copy, PartialEq, Eq)]
@@ -225,6 +238,7 @@ declare! {
     const sgf_display(k: usize, kind: u32, out: *mut u8, out_len: usize) -> Length;
     const sgf_go_value(p: usize) -> GoValue;
     const sgf_size(tree: usize) -> Size;
+    const sgf_tally() -> Tally;
     const sgf_board(node: usize) -> Board;
     const sgf_write(out: *mut u8, out_len: usize) -> Length;
     const sgf_write_length() -> Length;
@@ -236,6 +250,7 @@ declare! {
 
 unsafe extern "C" {
     fn sgf_version() -> u32;
+    fn sgf_tag(bytes: *const u8, bytes_len: usize) -> u64;
     fn sgf_board_next(
         board: Board,
         text: *const u8,
@@ -449,6 +464,14 @@ pub fn write_length(h: &Held) -> Length {
 
 pub fn size(h: &Held, tree: usize) -> Size {
     over!(sgf_size, h, tree)
+}
+
+pub fn tally(h: &Held) -> Tally {
+    over!(sgf_tally, h,)
+}
+
+pub fn tag(bytes: &[u8]) -> u64 {
+    unsafe { sgf_tag(bytes.as_ptr(), bytes.len()) }
 }
 
 pub fn tree_size(text: &[u8], tables: [&[u32]; 4], tree: usize) -> Size {
