@@ -15,18 +15,18 @@ use Rattle.tables.specs.Memory.{Memory, memory}
 use Rattle.fit.specs.Fit.{Fit}
 use Rattle.fit.specs.Record.{propRow, textIn}
 use Rattle.tables.proofs.Cases.{either-bool}
-use Rattle.fit.proofs.Clauses.{fit-short, fit-names, fit-vals}
+use Rattle.fit.proofs.Clauses.{fit-short}
 use Rattle.edit_splice.specs.Locals.{Replaceable}
 use Rattle.edit_splice.specs.Splice.{cleared, replaced}
 use Rattle.edit_splice.proofs.May.{replaced-is}
 use Rattle.edit_answer.specs.Answer.{outcomeOf, editedFor}
 use Rattle.edit_answer.specs.Edit.{ownerName, Outcome, refuses, gives}
-use Rattle.edit_answer.specs.Locals.{outcome, NamesLie}
+use Rattle.edit_answer.specs.Locals.{outcome}
 use Rattle.edit_answer.specs.declared.Edited.the-variants.{Changed, Refused}
 use Rattle.edit_answer.proofs.Fitting.{fit-within}
 use Rattle.edit_answer.proofs.Judged.{newText, newRows, answer-misfit, answer-beyond, tests-are, length-new}
 use Rattle.edit.specs.Lent.{memoryAfter, EditIs}
-use Rattle.edit.specs.Locals.{ValuesLie, propertiesMoved, valuesMoved}
+use Rattle.edit.specs.Locals.{propertiesMoved, valuesMoved}
 
 not-both : {A : Type 0} (n : ℕ) (r : Reason) (p : ℕ) → Changed n ≡ Refused r p → A
 not-both n r p e = never cc
@@ -106,12 +106,6 @@ module _ (m : Memory) (k : ℕ) (new : List ℕ) where
 
     pub given-end : valToAt (m .values) k ≤ textLimit
     given-end = let w = given-replaceable .within in omega (arith, w .inside, fit-short m (x .fit))
-
-    pub given-names : NamesLie (m .properties) (m .counts .properties) textLimit
-    given-names p l = let h = fit-names m (x .fit) p l in (h .0, omega (arith, h .1, fit-short m (x .fit)))
-
-    pub given-values : ValuesLie (m .values) (m .counts .values) textLimit
-    given-values v l = let h = fit-vals m (x .fit) v l in (h .0, omega (arith, h .1, fit-short m (x .fit)))
 
     -- the text's buffer holds the new text
     text-put : replaced (m .text) (m .used) (valFromAt (m .values) k) (valToAt (m .values) k) new ≡ over (cleared Text (m .used)) (m .text)

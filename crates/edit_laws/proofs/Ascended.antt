@@ -11,7 +11,7 @@ use Rattle.tables.specs.Each.{each, sum, tabulate}
 use Rattle.fit_spans.specs.Ranges.{gapless, hasValue}
 use Rattle.fit.specs.Record.{propRow, valRow}
 use Rattle.fit_spans.specs.Spans.{Span, span, valSpan, propSpans, spans, ascending}
-use Rattle.edit_laws.proofs.Apart.{First, first-is, is-first}
+use Rattle.edit.proofs.Apart.{First, first-is, is-first}
 
 module _ (used q e m : ℕ) (qe : q ≤ e) (eu : e ≤ used) where
   abbrev pub moved : Span → Span

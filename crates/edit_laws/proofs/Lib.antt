@@ -1,5 +1,4 @@
 pub mod Accepted
-pub mod Apart
 pub mod Ascended
 pub mod Bare
 pub mod Boxes

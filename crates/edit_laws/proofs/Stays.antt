@@ -24,7 +24,7 @@ use Rattle.edit_splice.specs.Splice.{cleared}
 use Rattle.edit_answer.specs.Edit.{Outcome}
 use Rattle.edit_answer.specs.declared.Edited.the-variants.{Changed}
 use Rattle.edit.specs.Lent.{memoryAfter, EditIs}
-use Rattle.edit_laws.proofs.Apart.{AllApart, all-apart}
+use Rattle.edit.proofs.Apart.{AllApart, all-apart}
 use Rattle.edit_laws.proofs.Ascended.{Ok, moved-ascend, first-same, count-same, spans-moved, all-spans, ranges-same, have-same}
 use Rattle.edit_laws.proofs.Boxes.{Boxed, boxed-is, value-box, slice-apart, box-apart, box-new}
 use Rattle.edit_answer.proofs.Judged.{newText, newRows, length-new}

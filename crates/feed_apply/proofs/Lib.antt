@@ -2,8 +2,8 @@ pub mod Answered
 pub mod Applying
 pub mod Holding
 pub mod Measuring
-pub mod Putting
 pub mod Sizes
+pub mod Stretches
 pub mod Sweeping
 pub mod Swept
 pub mod Unique

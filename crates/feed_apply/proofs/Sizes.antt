@@ -96,29 +96,6 @@ module _ (vl w : List ℕ) where
   pub tallied-at : (n k : ℕ) {s : Along} → Tallied vl w n s → k ≤ s .due → Uncorrected w k (s .due) → (s .grown ≡ grownTo vl w k) × (s .shrunk ≡ shrunkTo vl w k)
   tallied-at n k {s} x l u = let t = tally-skip k (s .due) l u in (x .grown ∙ t .0, x .shrunk ∙ t .1)
 
--- ---- one value taken, whether it is corrected or not
-
-module _ (w : List ℕ) (n k old : ℕ) where
-  -- what a step answers
-  abbrev pub Stepped : (s r : Along) → Type 0
-  Stepped s r =
-      Stands w n r × Uncorrected w (k + 1) (r .due) × (k < r .due) × (r .grown ≡ s .grown + (sizeFor (foundIn (listing w .entries) k) old - old))
-      × (r .shrunk ≡ s .shrunk + (old - sizeFor (foundIn (listing w .entries) k) old))
-
-  pub step-here : {s r : Along} → k < n → Stands w n s → s .due ≡ k
-      → Stands w n r × Uncorrected w (s .due + 1) (r .due) × (s .due < r .due) × (r .grown ≡ s .grown + (s .to - s .from - old)) × (r .shrunk ≡ s .shrunk + (old - (s .to - s .from)))
-      → Stepped s r
-  step-here {s} {r} l x e h =
-      let f : foundIn (listing w .entries) k ≡ At (s .from) (s .to) = subst (λ (j : ℕ). foundIn (listing w .entries) j ≡ At (s .from) (s .to)) e (x .here (omega (arith, l, e))) in
-      let z : sizeFor (foundIn (listing w .entries) k) old ≡ s .to - s .from = ap (λ (y : Found). sizeFor y old) f in
-      (h .0, λ j a b. h .1 j (omega (arith, a, e)) b, omega (arith, h .2, e), omega (arith, h .3, z), omega (arith, h .4, z))
-
-  pub step-on : {s : Along} → k ≤ s .due → (s .due ≡ k → ⊥) → Stands w n s → Uncorrected w k (s .due) → Stepped s s
-  step-on {s} l d x u =
-      let b : k < s .due = omega arith in
-      let z : sizeFor (foundIn (listing w .entries) k) old ≡ old = ap (λ (y : Found). sizeFor y old) (u k (omega arith) b) in
-      (x, λ j a c. u j (omega arith) c, b, omega (arith, z), omega (arith, z))
-
 -- ---- the walk beside the rows: value k is next
 
 module _ (vl w : List ℕ) (n : ℕ) where
@@ -132,15 +109,22 @@ module _ (vl w : List ℕ) (n : ℕ) where
   pub beside-begin : {r : Along} → Stands w n r × Uncorrected w 0 (r .due) × (r .grown ≡ 0) × (r .shrunk ≡ 0) → Beside 0 r
   beside-begin h = record { stands = h .0; bare = h .1; bound = omega arith; grown = h .2 ∙ sym (grown-none vl w); shrunk = h .3 ∙ sym (shrunk-none vl w) }
 
-  pub beside-step : {k old : ℕ} {s r : Along} → Beside k s → old ≡ oldSize vl k → Stepped w n k old s r → Beside (k + 1) r
-  beside-step {k} {old} {s} {r} x e h =
-      let z : sizeFor (foundIn (listing w .entries) k) old ≡ newSize vl w k = ap (sizeFor (foundIn (listing w .entries) k)) e in
-      let g : grownTo vl w (k + 1) ≡ grownTo vl w (suc k) = ap (grownTo vl w) (add-one k) in
-      let d : shrunkTo vl w (k + 1) ≡ shrunkTo vl w (suc k) = ap (shrunkTo vl w) (add-one k) in
+  -- the same at a later value with no correction between
+  pub beside-at : {k : ℕ} {s : Along} → Beside k s → (j : ℕ) → k ≤ j → j ≤ s .due → (s .grown ≡ grownTo vl w j) × (s .shrunk ≡ shrunkTo vl w j)
+  beside-at {k} x j a b = let t = tally-skip vl w k j a (λ i c d. x .bare i c (omega arith)) in (x .grown ∙ sym (t .0), x .shrunk ∙ sym (t .1))
+
+  pub beside-pass : {k old : ℕ} {s r : Along} → Beside k s → s .due < n → old ≡ oldSize vl (s .due)
+      → Stands w n r × Uncorrected w (s .due + 1) (r .due) × (s .due < r .due) × (r .grown ≡ s .grown + (s .to - s .from - old)) × (r .shrunk ≡ s .shrunk + (old - (s .to - s .from)))
+      → Beside (s .due + 1) r
+  beside-pass {k} {old} {s} {r} x l e h =
+      let t = beside-at x (s .due) (x .bound) (omega arith) in
+      let z = size-at vl w (s .due) (s .from) (s .to) (x .stands .here l) in
+      let g : grownTo vl w (s .due + 1) ≡ grownTo vl w (suc (s .due)) = ap (grownTo vl w) (add-one (s .due)) in
+      let d : shrunkTo vl w (s .due + 1) ≡ shrunkTo vl w (suc (s .due)) = ap (shrunkTo vl w) (add-one (s .due)) in
       record {
         stands = h .0;
         bare = h .1;
         bound = omega (arith, h .2);
-        grown = omega (arith, h .3, z, e, g, grown-more vl w k, x .grown);
-        shrunk = omega (arith, h .4, z, e, d, shrunk-more vl w k, x .shrunk);
+        grown = omega (arith, h .3, t .0, g, grown-more vl w (s .due), z, e);
+        shrunk = omega (arith, h .4, t .1, d, shrunk-more vl w (s .due), z, e);
       }

@@ -2,9 +2,7 @@
 ghost use mathlib.Core.Path.{_≡_};
 ghost use Prim.Native.Nat.{_+_, _-_, _<_, _≤_, _^_};
 ghost use lib.ListN.{length};
-ghost use Rattle.feed.specs.Feed.{listing};
-ghost use Rattle.feed.specs.Find.{foundIn};
-ghost use Rattle.feed_apply.specs.LocalsAlong.{Ahead, Stands, Uncorrected, sizeFor};
+ghost use Rattle.feed_apply.specs.LocalsAlong.{Ahead, Stands, Uncorrected};
 use feed::Next;
 use feed_numerals::Numeral;
 
@@ -111,17 +109,4 @@ pub fn pass(feed: &[u8], n: usize, s: Along, old: usize) -> Along
         s.grown + (size - old),
         s.shrunk,
     )
-}
-
-// Behind value k, which had `old` bytes, whether it is corrected or not.
-pub fn step(feed: &[u8], n: usize, s: Along, k: usize, old: usize) -> Along
-    requires { ⌜ (k < n) × (k ≤ s .due) × Stands (now feed) n s × Uncorrected (now feed) k (s .due) × (s .shrunk + old < 2 ^ 64) ⌝ }
-    ensures { λ r. ⌜ Stands (now (feed .entry)) n r × Uncorrected (now (feed .entry)) (k + 1) (r .due) × (k < r .due)
-        × (r .grown ≡ s .grown + (sizeFor (foundIn (listing (now (feed .entry)) .entries) k) old - old))
-        × (r .shrunk ≡ s .shrunk + (old - sizeFor (foundIn (listing (now (feed .entry)) .entries) k) old)) ⌝ }
-{
-    if s.due == k {
-        return pass(feed, n, s, old);
-    }
-    s
 }

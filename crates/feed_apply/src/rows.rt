@@ -68,14 +68,10 @@ pub fn move_properties(properties: &mut [u32], p: usize, values: &[u32], n: usiz
     let mut s = along::begin(feed, n);
     let mut k: usize = 0;
     while k < p {
-        let at = k * tables::PROPERTY_STRIDE;
-        let first = properties[at + tables::PROPERTY_FIRST];
-        let count = properties[at + tables::PROPERTY_COUNT];
+        let first = properties[k * tables::PROPERTY_STRIDE + tables::PROPERTY_FIRST];
         s = reach(values, n, feed, s, lists::wide(first));
-        let from = moved(properties[at], s.grown, s.shrunk);
-        let to = moved(properties[at + tables::PROPERTY_END], s.grown, s.shrunk);
-        store_numbers::put4(properties, at, from, to, first, count);
-        k += 1;
+        let by = edit_rows::change(s.grown, s.shrunk);
+        k += edit_rows::shift_names(properties, k, p - k, s.due, by);
     }
 }
 
@@ -86,12 +82,18 @@ pub fn move_values(values: &mut [u32], n: usize, feed: &[u8])
 {
     let mut s = along::begin(feed, n);
     let mut k: usize = 0;
-    while k < n {
-        let at = k * tables::VALUE_STRIDE;
+    while s.due < n {
+        let v = s.due;
+        let at = v * tables::VALUE_STRIDE;
+        let old = size_of(values, v);
         let from = moved(values[at], s.grown, s.shrunk);
-        s = along::step(feed, n, s, k, size_of(values, k));
+        let by = edit_rows::change(s.grown, s.shrunk);
+        edit_rows::shift_values(values, k, v - k, by);
+        s = along::pass(feed, n, s, old);
         let to = moved(values[at + tables::VALUE_END], s.grown, s.shrunk);
         store_numbers::put2(values, at, from, to);
-        k += 1;
+        k = v + 1;
     }
+    let by = edit_rows::change(s.grown, s.shrunk);
+    edit_rows::shift_values(values, k, n - k, by);
 }

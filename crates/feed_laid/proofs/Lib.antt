@@ -2,5 +2,4 @@ pub mod Edited
 pub mod Lengths
 pub mod OverMemory
 pub mod Places
-pub mod Rising
 pub mod Texts

@@ -17,7 +17,7 @@ use Rattle.edit_splice.specs.Splice.{pasted}
 use Rattle.edit_answer.specs.Edit.{spanAt, shifted}
 use Rattle.feed_laid.specs.Laid.{with, shift, laidVal, laidProp, laidRows, laid}
 use Rattle.feed_laid.specs.OfMemory.{laidText, laidTables, ownBytes}
-use Rattle.feed_laid.proofs.Rising.{Rise, rises}
+use Rattle.edit.proofs.Rising.{Rise, rises}
 use Rattle.feed_laid.proofs.Places.{sum-none, sum-more, old-low, old-in, value-size}
 use Rattle.feed_laid.proofs.Lengths.{Chain, fromOf, toOf, sum-same, before-shift, laid-own}
 use Rattle.feed_laid.proofs.Texts.{before, behind, laid-split, laid-pasted}

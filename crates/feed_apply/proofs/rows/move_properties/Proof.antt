@@ -1,13 +1,15 @@
 -- `feed_apply::rows::move_properties` meets its contract. Assumes nothing.
-use Rattle.lists.proofs.Prelude.{ℕ, suc, _+_, _-_, _≤_, _<_, _≡_, sym, ap, _∙_, add-one, arith, needs}
+use Rattle.lists.proofs.Prelude.{ℕ, suc, _+_, _-_, _*_, _/_, min, length, _≤_, _<_, _≡_, sym, ap, _∙_, arith, needs}
 use Rattle.tables.specs.Columns.{firstValAt}
-use Rattle.tables.specs.Numbers.{textLimit}
 use Rattle.feed.specs.Feed.{listing}
 use Rattle.feed.specs.Find.{foundIn}
 use Rattle.feed.specs.declared.Found.the-variants.{Nowhere}
+use Rattle.edit_rows.specs.LocalsShift.{namesBefore}
+use Rattle.edit_rows.proofs.Rows.{PropsPut, props-none, prop-ahead, prop-cell, props-shift, props-done}
+use Rattle.edit_rows.proofs.Shifting.{before-goes, before-within, before-least}
 use Rattle.feed_apply.specs.LocalsSizes.{movedProp, Tallied}
-use Rattle.feed_apply.proofs.Putting.{PropsPut, props-none, prop-from, prop-cell, props-more, props-done}
-use Rattle.feed_apply.proofs.Sizes.{tallied-begin, tallied-at, shrunk-spanned, grown-up}
+use Rattle.feed_apply.proofs.Sizes.{tallied-begin}
+use Rattle.feed_apply.proofs.Stretches.{rises, name-moved}
 use Rattle.feed_apply.proofs.rows.move_properties.Statement.{statement}
 use Rattle.feed_apply.proofs.rows.move_properties.Tie as tie
 
@@ -28,79 +30,111 @@ loop-holds c =
       λ j _ _ y. b .1 j (omega arith) y,
     )
 
+mul-first : tie.Need-mul-first Inv-loop μ-loop
+mul-first c =
+    let p = c .before .before .before .before .before .before .pre in
+    let l = c .before .loop in
+    let h = c .loop-test .taken in
+    let x = l .inv .0 in
+    omega (arith, h, p .0, x .put .len, c .before .before .before .before .before .before .good)
+
+add-first : tie.Need-add-first Inv-loop μ-loop
+add-first c =
+    let p = c .before .before .before .before .before .before .pre in
+    let l = c .before .loop in
+    let h = c .loop-test .taken in
+    let x = l .inv .0 in
+    omega (arith, h, p .0, x .put .len, c .before .before .before .before .before .before .good)
+
+mul-first-2 : tie.Need-mul-first-2 Inv-loop μ-loop
+mul-first-2 c =
+    let p = c .before .before .before .before .before .before .pre in
+    let l = c .before .loop in
+    let h = c .loop-test .taken in
+    let x = l .inv .0 in
+    omega (arith, h, p .0, x .put .len, c .before .before .before .before .before .before .good)
+
+slice-read-first : tie.Need-slice-read-first Inv-loop μ-loop
+slice-read-first c =
+    let p = c .before .before .before .before .before .before .before .pre in
+    let l = c .before .before .loop in
+    let h = c .before .loop-test .taken in
+    let x = l .inv .0 in
+    omega (arith, h, p .0, x .put .len, c .before .before .before .before .before .before .before .good)
+
 reach-requires : tie.Need-reach-requires Inv-loop μ-loop
 reach-requires c κs =
-    let a = c .before .before .before .before .before .before .before .before .before .args in
-    let p = c .before .before .before .before .before .before .before .before .before .pre in
-    let l = c .before .before .before .before .loop in
-    let h = c .before .before .before .loop-test .taken in
-    let o : c .wide .result ≡ firstValAt (a .properties .now) (l .k) = c .wide .ensures ∙ prop-cell _ _ _ (l .inv .0) 2 in
-    (p .1, p .2, omega (arith, o, p .3 .here (l .k) h), l .inv .1, λ j x y. l .inv .2 j h (omega (arith, x, o)) y)
-
-moved-requires : tie.Need-moved-requires Inv-loop μ-loop
-moved-requires c κs =
-    let a = c .before .before .before .before .before .before .before .before .before .before .before .args in
-    let p = c .before .before .before .before .before .before .before .before .before .before .before .pre in
-    let l = c .before .before .before .before .before .before .loop in
-    let h = c .before .before .before .before .before .loop-test .taken in
-    let r = c .before .reach .ensures in
-    let o : c .before .before .wide .result ≡ firstValAt (a .properties .now) (l .k) = c .before .before .wide .ensures ∙ prop-cell _ _ _ (l .inv .0) 2 in
-    let t = tallied-at (a .values .now) (a .feed .now) (a .n) (firstValAt (a .properties .now) (l .k)) (r .1) (omega (arith, r .0, o)) (λ j x y. r .2 j (omega (arith, x, o)) y) in
-    let b = shrunk-spanned (a .values .now) (a .feed .now) (firstValAt (a .properties .now) (l .k)) in
-    let e = prop-from _ _ _ (l .inv .0) in (
-      omega (arith, e, p .3 .order (l .k) h, p .3 .inside (l .k) h),
-      omega (arith, t .0, grown-up (a .values .now) (a .feed .now) (firstValAt (a .properties .now) (l .k)) (a .n) (p .3 .here (l .k) h), p .4),
-      omega (arith, e, t .1, b, p .3 .behind (l .k) h),
-    )
-
-moved-requires-2 : tie.Need-moved-requires-2 Inv-loop μ-loop
-moved-requires-2 c κs =
-    let a = c .before .before .before .before .before .before .before .before .before .before .before .before .before .args in
-    let p = c .before .before .before .before .before .before .before .before .before .before .before .before .before .pre in
-    let l = c .before .before .before .before .before .before .before .before .loop in
-    let h = c .before .before .before .before .before .before .before .loop-test .taken in
-    let r = c .before .before .before .reach .ensures in
-    let o : c .before .before .before .before .wide .result ≡ firstValAt (a .properties .now) (l .k) = c .before .before .before .before .wide .ensures ∙ prop-cell _ _ _ (l .inv .0) 2 in
-    let t = tallied-at (a .values .now) (a .feed .now) (a .n) (firstValAt (a .properties .now) (l .k)) (r .1) (omega (arith, r .0, o)) (λ j x y. r .2 j (omega (arith, x, o)) y) in
-    let b = shrunk-spanned (a .values .now) (a .feed .now) (firstValAt (a .properties .now) (l .k)) in
-    let e = prop-cell _ _ _ (l .inv .0) 1 in (
-      omega (arith, e, p .3 .inside (l .k) h),
-      omega (arith, t .0, grown-up (a .values .now) (a .feed .now) (firstValAt (a .properties .now) (l .k)) (a .n) (p .3 .here (l .k) h), p .4),
-      omega (arith, e, t .1, b, p .3 .behind (l .k) h, p .3 .order (l .k) h),
-    )
+    let a = c .before .before .before .before .before .before .before .before .args in
+    let p = c .before .before .before .before .before .before .before .before .pre in
+    let l = c .before .before .before .loop in
+    let h = c .before .before .loop-test .taken in
+    let x = l .inv .0 in
+    let pr = a .properties .now in
+    let o : c .wide .result ≡ firstValAt pr (l .k) = c .wide .ensures ∙ prop-cell _ _ _ x 2 in
+    (p .1, p .2, omega (arith, o, p .3 .here (l .k) h), l .inv .1, λ j y z. l .inv .2 j h (omega (arith, y, o)) z)
 
 add-k : tie.Need-add-k Inv-loop μ-loop
 add-k c =
-    let a = c .before .before .before .before .before .before .before .before .before .before .before .before .before .before .before .before .before .before .args in
-    let p = c .before .before .before .before .before .before .before .before .before .before .before .before .before .before .before .before .before .before .pre in
-    let l = c .before .before .before .before .before .before .before .before .before .before .before .before .before .loop in
-    let h = c .before .before .before .before .before .before .before .before .before .before .before .before .loop-test .taken in
-    omega (arith, h, p .0, c .before .before .before .before .before .before .before .before .before .before .before .before .before .before .before .before .before .before .good)
+    let a = c .before .before .before .before .before .before .before .before .before .before .before .before .before .before .args in
+    let p = c .before .before .before .before .before .before .before .before .before .before .before .before .before .before .pre in
+    let l = c .before .before .before .before .before .before .before .before .before .loop in
+    let h = c .before .before .before .before .before .before .before .before .loop-test .taken in
+    let x = l .inv .0 in
+    let s = c .before .before .before .before .before .reach .result in
+    let z = c .before .before .shift-names .ensures in
+    let many = min (a .p - l .k) (length (l .properties) / 4 - l .k) in
+    let left = before-within (l .properties) (s .due) (l .k) many in
+    omega (arith, z .0, left, h, p .0, x .put .len, c .before .before .before .before .before .before .before .before .before .before .before .before .before .before .good)
+
+loop-less : tie.Need-loop-less Inv-loop μ-loop
+loop-less c =
+    let a = c .before .before .before .before .before .before .before .before .before .before .before .before .before .before .args in
+    let p = c .before .before .before .before .before .before .before .before .before .before .before .before .before .before .pre in
+    let l = c .before .before .before .before .before .before .before .before .before .loop in
+    let h = c .before .before .before .before .before .before .before .before .loop-test .taken in
+    let x = l .inv .0 in
+    let pr = a .properties .now in
+    let o : c .before .before .before .before .before .before .wide .result ≡ firstValAt pr (l .k) = c .before .before .before .before .before .before .wide .ensures ∙ prop-cell _ _ _ x 2 in
+    let r = c .before .before .before .before .before .reach .ensures in
+    let s = c .before .before .before .before .before .reach .result in
+    let z = c .before .before .shift-names .ensures in
+    let first : firstValAt (l .properties) (l .k) ≤ s .due = omega (arith, r .0, o, prop-cell _ _ _ x 2) in
+    let many = min (a .p - l .k) (length (l .properties) / 4 - l .k) in
+    let goes = before-goes (l .properties) (s .due) (l .k) many (omega (arith, h, p .0, x .put .len)) first in
+    omega (arith, z .0, goes, h)
 
 loop-again : tie.Need-loop-again Inv-loop μ-loop
 loop-again c =
-    let a = c .before .before .before .before .before .before .before .before .before .before .before .before .before .before .before .before .before .before .args in
-    let p = c .before .before .before .before .before .before .before .before .before .before .before .before .before .before .before .before .before .before .pre in
-    let l = c .before .before .before .before .before .before .before .before .before .before .before .before .before .loop in
-    let h = c .before .before .before .before .before .before .before .before .before .before .before .before .loop-test .taken in
-    let r = c .before .before .before .before .before .before .before .before .reach .ensures in
-    let o : c .before .before .before .before .before .before .before .before .before .wide .result ≡ firstValAt (a .properties .now) (l .k) = c .before .before .before .before .before .before .before .before .before .wide .ensures ∙ prop-cell _ _ _ (l .inv .0) 2 in
-    let t = tallied-at (a .values .now) (a .feed .now) (a .n) (firstValAt (a .properties .now) (l .k)) (r .1) (omega (arith, r .0, o)) (λ j x y. r .2 j (omega (arith, x, o)) y) in
-    let b = shrunk-spanned (a .values .now) (a .feed .now) (firstValAt (a .properties .now) (l .k)) in
-    let e = prop-from _ _ _ (l .inv .0) in
-    let f = prop-cell _ _ _ (l .inv .0) 1 in (
-      props-more _ _ _ (l .inv .0) h
-          (omega (arith, c .before .before .before .before .before .before .moved .ensures, e, t .0, t .1))
-          (omega (arith, c .before .before .before .before .moved2 .ensures, f, t .0, t .1))
-          (prop-cell _ _ _ (l .inv .0) 2)
-          (prop-cell _ _ _ (l .inv .0) 3)
-          (c .before .before .put4 .ensures),
+    let a = c .before .before .before .before .before .before .before .before .before .before .before .before .before .before .args in
+    let p = c .before .before .before .before .before .before .before .before .before .before .before .before .before .before .pre in
+    let l = c .before .before .before .before .before .before .before .before .before .loop in
+    let h = c .before .before .before .before .before .before .before .before .loop-test .taken in
+    let x = l .inv .0 in
+    let pr = a .properties .now in
+    let vl = a .values .now in
+    let w = a .feed .now in
+    let o : c .before .before .before .before .before .before .wide .result ≡ firstValAt pr (l .k) = c .before .before .before .before .before .before .wide .ensures ∙ prop-cell _ _ _ x 2 in
+    let r = c .before .before .before .before .before .reach .ensures in
+    let s = c .before .before .before .before .before .reach .result in
+    let m = c .before .before .shift-names .result in
+    let z = c .before .before .shift-names .ensures in
+    let many = min (a .p - l .k) (length (l .properties) / 4 - l .k) in
+    let left = before-within (l .properties) (s .due) (l .k) many in
+    let up : (j : ℕ) → l .k ≤ j → j < a .p → firstValAt pr (l .k) ≤ firstValAt pr j = rises pr vl w (a .p) (a .n) (p .3) (p .4) (l .k) in
+    let least : (j : ℕ) → l .k ≤ j → j < l .k + m → firstValAt pr j ≤ s .due =
+    λ j y u. let e : l .k + (j - l .k) ≡ j = omega arith in
+    let b = before-least (l .properties) (s .due) (l .k) many (j - l .k) (omega (arith, z .0, y, u)) in
+    omega (arith, b, ap (firstValAt (l .properties)) e, prop-ahead _ _ _ x (j * 4 + 2) (omega arith)) in (
+      props-shift _ _ _ x _ m (omega (arith, z .0, left, h))
+          (λ j y u. name-moved pr vl w (a .p) (a .n) (p .3) (p .4) (r .1) _ (c .before .before .before .before .change .ensures) j (omega (arith, z .0, left, h, u)) (least j y u) (λ i b d. r .2 i (omega (arith, b, o, up j y (omega (arith, z .0, left, h, u)))) d))
+          (z .1),
       r .1,
-      λ j x y z. r .2 j (omega (arith, o, p .3 .rising (l .k) (omega (arith, x)), y, ap (firstValAt (a .properties .now)) (add-one (l .k)))) z,
+      λ j y b d. r .2 j (omega (arith, o, b, up (l .k + m) (omega arith) y)) d,
     )
 
 returns : tie.Need-returns Inv-loop μ-loop
-returns c = props-done _ _ _ (c .before .loop .inv .0) (c .loop-test .left)
+returns c =
+    props-done _ _ _ (c .before .loop .inv .0) (c .loop-test .left)
 
 pub move-properties-spec : {M : Type 1} → statement M
 move-properties-spec =
@@ -110,25 +144,17 @@ move-properties-spec =
     μ-loop
     (λ c κs. search needs)
     loop-holds
-    (λ c. search needs)
-    (λ c. search needs)
-    (λ c. search needs)
-    (λ c. search needs)
-    (λ c. search needs)
-    (λ c. search needs)
-    (λ c. search needs)
+    mul-first
+    add-first
+    mul-first-2
+    slice-read-first
     (λ c κs. search needs)
     reach-requires
+    (λ c κs. search needs)
     (λ c. search needs)
-    (λ c. search needs)
-    moved-requires
-    (λ c. search needs)
-    (λ c. search needs)
-    (λ c. search needs)
-    moved-requires-2
     (λ c κs. search needs)
     add-k
-    (λ c. search needs)
+    loop-less
     loop-again
     (λ c. search needs)
     returns)

@@ -4,7 +4,7 @@ use Rattle.lists.proofs.Tests.{same-or}
 use Rattle.tables.specs.Columns.{nameFromAt, nameToAt, firstValAt, valCountAt, valFromAt, valToAt}
 use Rattle.tables.proofs.Cases.{below-or}
 use Rattle.fit_spans.specs.Spans.{spans, ascending}
-use Rattle.edit_laws.proofs.Apart.{Ranged, upTo, up-suc, property-is, spans-low}
+use Rattle.edit.proofs.Apart.{Ranged, upTo, up-suc, property-is, spans-low}
 
 module _ (pr vl : List ℕ) (used : ℕ) where
   pub record Rise (p m : ℕ) : Type 0 where

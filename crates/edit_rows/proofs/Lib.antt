@@ -1,0 +1,4 @@
+pub mod Putting
+pub mod Rows
+pub mod Shifting
+pub mod Unique
