@@ -24,10 +24,10 @@
  * One exception: rows lent to sgf_block and sgf_close are working room until the close. After a close that is accepted
  * the rows behind its count are 0, after one that is refused all rows; only number 20 leaves them as they were.
  *
- * Stack, in bytes, on aarch64 (x86-64 within 130 bytes of it): sgf_board 23,104 and sgf_board_next 19,904, both measured on
- * x86-64, sgf_go_value 11,392, sgf_write 8,832, sgf_go_by_rule 5,696, sgf_read_strict and sgf_read_lenient 5,440, sgf_simple_value,
- * sgf_simple_property and sgf_entry 1,900 at most, the others 512 at most; those of feeds and blocks, sgf_escape and
- * sgf_tag are not measured by the gate yet (sgf_correct took about 1,050 once, sgf_block 940).
+ * Stack, in bytes, on aarch64 (x86-64 within 130 bytes of it): sgf_board 23,104 and sgf_board_next 19,904, both
+ * measured on x86-64, sgf_go_value 11,392, sgf_write 8,832, sgf_go_by_rule 5,696, sgf_read_strict and sgf_read_lenient
+ * 5,440, sgf_simple_value, sgf_simple_property and sgf_entry 1,900 at most, the others 512 at most; those of feeds and
+ * blocks, sgf_escape and sgf_tag are not measured by the gate yet (sgf_correct took about 1,050 once, sgf_block 940).
  */
 #ifndef SGF_H
 #define SGF_H
