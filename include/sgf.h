@@ -24,11 +24,11 @@
  * One exception: rows lent to sgf_block and sgf_close are working room until the close. After a close that is accepted
  * the rows behind its count are 0, after one that is refused all rows; only number 20 leaves them as they were.
  *
- * Stack, in bytes, on aarch64 (x86-64 within 130 bytes of it): sgf_board 25,600, sgf_board_next 22,400, sgf_go_value 11,392,
- * sgf_write 8,832, sgf_write_length 10,240 at most, sgf_go_by_rule 5,696, sgf_read_strict and sgf_read_lenient 5,440,
- * sgf_tally 3,200, sgf_simple_value, sgf_simple_property and sgf_entry 1,900 at most; of the others sgf_correct 1,088,
- * sgf_corrected and sgf_feed_check 832, measured on x86-64, sgf_block 1,024 at most, the rest 512 at most.
- * docs/MEMORY.md has each function's bound, which examples/c/stack.c tests.
+ * Stack, in bytes, on aarch64 (x86-64 within 130 bytes of it): sgf_board 23,104 and sgf_board_next 19,904, both measured
+ * on x86-64, sgf_go_value 11,392, sgf_write 8,832, sgf_write_length 10,240 at most, sgf_go_by_rule 5,696, sgf_read_strict
+ * and sgf_read_lenient 5,440, sgf_tally 3,200, sgf_simple_value, sgf_simple_property and sgf_entry 1,900 at most; of the
+ * others sgf_correct 1,088, sgf_corrected and sgf_feed_check 832, measured on x86-64, sgf_block 1,024 at most, the rest
+ * 512 at most. docs/MEMORY.md has each function's bound, which examples/c/stack.c tests.
  */
 #ifndef SGF_H
 #define SGF_H

@@ -169,8 +169,8 @@ static struct function {
     {"sgf_size", call_size, 0, 1024},
     {"sgf_tree_size", call_tree_size, 0, 1024},
     {"sgf_tally", call_tally, 0, 4096},
-    {"sgf_board", call_board, 0, 28672},
-    {"sgf_board_next", call_board_next, 0, 25600},
+    {"sgf_board", call_board, 0, 24576},
+    {"sgf_board_next", call_board_next, 0, 20480},
     {"sgf_write", call_write, 0, 10240},
     {"sgf_write_length", call_write_length, 0, 10240},
     {"sgf_edit", call_edit, 0, 1024},
@@ -191,7 +191,7 @@ static struct function {
 };
 enum { COUNT = sizeof functions / sizeof *functions };
 
-/* The bounds are for aarch64, where they were measured; other machines keep registers and slots otherwise. */
+/* The bounds are for aarch64, where all but the board's were measured; other machines keep registers and slots otherwise. */
 #ifdef __aarch64__
 #define SPARE 0
 #else
