@@ -7,6 +7,8 @@ mod bench_blocks;
 mod bench_board;
 mod bench_feeds;
 mod bench_records;
+#[cfg(not(stand_in))]
+mod bench_season;
 mod bench_values;
 #[cfg(not(stand_in))]
 mod blocks;
@@ -43,6 +45,8 @@ mod reader;
 mod records;
 mod report;
 mod rng;
+#[cfg(not(stand_in))]
+mod season;
 mod size_texts;
 #[cfg(stand_in)]
 mod stand_in;
@@ -85,6 +89,11 @@ fn run() -> bool {
             true
         }
         #[cfg(not(stand_in))]
+        Some("bench-season") => {
+            bench_season::run();
+            true
+        }
+        #[cfg(not(stand_in))]
         Some("bench-board") => {
             bench_board::run();
             true
@@ -95,7 +104,7 @@ fn run() -> bool {
             true
         }
         _ => {
-            eprintln!("usage: compare short [SUBJECT] | long [SUBJECT] | store-tokens [DIR] | bench | bench-values | bench-board | bench-feeds | bench-blocks");
+            eprintln!("usage: compare short [SUBJECT] | long [SUBJECT] | store-tokens [DIR] | bench | bench-values | bench-board | bench-feeds | bench-blocks | bench-season");
             false
         }
     }
