@@ -8,6 +8,8 @@ mod bench_board;
 #[cfg(not(stand_in))]
 mod bench_feeds;
 mod bench_records;
+#[cfg(not(stand_in))]
+mod bench_season;
 mod bench_values;
 #[cfg(not(stand_in))]
 mod blocks;
@@ -46,6 +48,8 @@ mod reader;
 mod records;
 mod report;
 mod rng;
+#[cfg(not(stand_in))]
+mod season;
 mod size_texts;
 #[cfg(stand_in)]
 mod stand_in;
@@ -89,6 +93,11 @@ fn run() -> bool {
             true
         }
         #[cfg(not(stand_in))]
+        Some("bench-season") => {
+            bench_season::run();
+            true
+        }
+        #[cfg(not(stand_in))]
         Some("bench-board") => {
             bench_board::run();
             true
@@ -101,7 +110,7 @@ fn run() -> bool {
             true
         }
         _ => {
-            eprintln!("usage: compare short [SUBJECT] | long [SUBJECT] | gnugo | store-tokens [DIR] | bench | bench-values | bench-board | bench-feeds | bench-blocks");
+            eprintln!("usage: compare short [SUBJECT] | long [SUBJECT] | gnugo | store-tokens [DIR] | bench | bench-values | bench-board | bench-feeds | bench-blocks | bench-season");
             false
         }
     }

@@ -300,12 +300,35 @@ fn compare_blocks(scale: &Scale) -> bool {
     good & forged.close()
 }
 
+/// Tags and tallies; the stand-in has none.
+#[cfg(stand_in)]
+fn compare_season(_: &Scale) -> bool {
+    true
+}
+
+#[cfg(not(stand_in))]
+fn compare_season(scale: &Scale) -> bool {
+    let mut tags = Report::new("tags", crate::season::compare_tag);
+    crate::season::bytes(4_096, 1_000_000, &mut |bytes| tags.text(bytes));
+    let good = tags.close();
+    let mut report = Report::new("tallies", crate::season::compare_tally);
+    texts::sequences(texts::WORDS, scale.words, &mut |text| report.text(text));
+    report.group("all short sequences of words");
+    size_texts::sizes(scale.size_symbols, &mut |text| report.text(text));
+    report.group("board sizes");
+    texts::made(12, scale.written_records, 1, &mut |text| report.text(text));
+    report.group("made records");
+    texts::corpus().iter().for_each(|text| report.text(text));
+    report.group("real records");
+    good & report.close()
+}
+
 type Subject = fn(&Scale) -> bool;
 
 /// Compares one subject, or all; true if nothing differed.
 pub fn compare(scale: &Scale, subject: Option<&str>) -> bool {
     println!("library: {}", library::NAME);
-    let subjects: [(&str, Subject); 14] = [
+    let subjects: [(&str, Subject); 15] = [
         ("tokens", compare_tokens),
         ("places", compare_places),
         ("examples", |_| examples::hold()),
@@ -320,6 +343,7 @@ pub fn compare(scale: &Scale, subject: Option<&str>) -> bool {
         ("board", compare_board),
         ("feeds", compare_feeds),
         ("blocks", compare_blocks),
+        ("season", compare_season),
     ];
     let wanted: Vec<_> = subjects.iter().filter(|(name, _)| subject.is_none_or(|chosen| *name == chosen)).collect();
     wanted.iter().fold(!wanted.is_empty(), |good, (_, run)| run(scale) & good)
