@@ -6,7 +6,7 @@ pub mod boards;
 pub mod by_blocks;
 pub mod season;
 pub mod size; // size.rt: the board size of a tree
-pub mod why;
+pub mod explain;
 
 use ask::Refusal;
 use c_answers::SgfDisplay;

@@ -1,6 +1,7 @@
 // Why tokens are refused: the fact, and the place of the token to blame. Faults of the tokens, splitting, the game type of a slice.
 pub mod game; // game.rt: the game type of a slice
 pub mod split; // split.rt: splitting
+
 ghost use mathlib.Core.Path.{_≡_};
 ghost use lib.ListN.{drop};
 ghost use Rattle.why_blame.specs.Cuts.{foreignFrom, faultFact};
