@@ -48,6 +48,7 @@ static size_t feed_len;
 static uint32_t rows[SGF_TOKEN_STRIDE * ROWS];
 static SgfBlocks half, all;
 static SgfTally tally;
+static SgfWhy why;
 
 static unsigned char stack[STACK];
 static volatile uintptr_t begin;
@@ -64,6 +65,10 @@ static volatile uintptr_t begin;
 #pragma GCC diagnostic ignored "-Wunused-parameter"
 NOTE(SgfReading, note_read_strict, const uint8_t *t, size_t n, uint32_t o, TABLE_TYPES)
 NOTE(SgfReading, note_read_lenient, const uint8_t *t, size_t n, uint32_t o, TABLE_TYPES)
+NOTE(SgfReading, note_count_strict, const uint8_t *t, size_t n)
+NOTE(SgfReading, note_count_lenient, const uint8_t *t, size_t n)
+NOTE(SgfWhy, note_why_strict, const uint8_t *t, size_t n)
+NOTE(SgfWhy, note_why_lenient, const uint8_t *t, size_t n)
 NOTE(uint32_t, note_fits, SGF_RECORD)
 NOTE(SgfSpan, note_value, SGF_RECORD, size_t k)
 NOTE(SgfDisplay, note_display, SGF_RECORD, size_t k, uint32_t kind, uint8_t *to, size_t to_len)
@@ -101,6 +106,10 @@ static int noting;
 #define EITHER(name) (noting ? note_##name : sgf_##name)
 static void call_read_strict(void) { reading = EITHER(read_strict)(text, used, options, TABLES); }
 static void call_read_lenient(void) { reading = EITHER(read_lenient)(text, used, options, TABLES); }
+static void call_count_strict(void) { reading = EITHER(count_strict)(text, used); }
+static void call_count_lenient(void) { reading = EITHER(count_lenient)(text, used); }
+static void call_why_strict(void) { why = EITHER(why_strict)(text, used); }
+static void call_why_lenient(void) { why = EITHER(why_lenient)(text, used); }
 static void call_fits(void) { number = EITHER(fits)(RECORD); }
 static void call_value(void) { span = EITHER(value)(RECORD, asked); }
 static void call_display(void) { display = EITHER(display)(RECORD, asked, options, out, room); }
@@ -156,6 +165,10 @@ static struct function {
 } functions[] = {
     {"sgf_read_strict", call_read_strict, 0, 6144},
     {"sgf_read_lenient", call_read_lenient, 0, 6144},
+    {"sgf_count_strict", call_count_strict, 0, 6144},
+    {"sgf_count_lenient", call_count_lenient, 0, 6144},
+    {"sgf_why_strict", call_why_strict, 0, 6144},
+    {"sgf_why_lenient", call_why_lenient, 0, 6144},
     {"sgf_fits", call_fits, 0, 1024},
     {"sgf_value", call_value, 0, 1024},
     {"sgf_display", call_display, 0, 1024},
@@ -284,6 +297,6 @@ int main(void) {
         }
     }
     (void)span, (void)entry, (void)simple, (void)display, (void)go, (void)writing, (void)edit, (void)trim, (void)token, (void)value, (void)number, (void)board;
-    (void)part, (void)check, (void)block, (void)closing, (void)tag, (void)tally;
+    (void)part, (void)check, (void)block, (void)closing, (void)tag, (void)tally, (void)why;
     return failed;
 }

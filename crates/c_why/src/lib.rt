@@ -23,7 +23,7 @@ pub struct SgfWhy {
 }
 
 // The three numbers.
-fn shown(number: u32, fact: u32, detail: usize) -> Shown
+fn numbers(number: u32, fact: u32, detail: usize) -> Shown
     ensures { λ r. ⌜ r ≡ record { number = number; fact = fact; detail = detail } ⌝ }
 {
     Shown {
@@ -38,21 +38,21 @@ pub fn fact_in_c(fact: Fact) -> Shown
     ensures { λ r. ⌜ r ≡ shownFact fact ⌝ }
 {
     match fact {
-        Fact::Length(n) => shown(1, 1, n),
-        Fact::BadSequence => shown(2, 2, 0),
-        Fact::NoBracket(n) => shown(3, 3, n),
-        Fact::Foreign(n) => shown(4, 4, n),
-        Fact::NotClosed(n) => shown(5, 5, n),
-        Fact::EndBeyond => shown(6, 6, 0),
-        Fact::StaysOpen(n) => shown(7, 7, n),
-        Fact::NoNode(n) => shown(7, 8, n),
-        Fact::NoEnd => shown(8, 9, 0),
-        Fact::TooDeep => shown(9, 10, 0),
-        Fact::EmptyList(n) => shown(10, 11, lists::wide(n)),
-        Fact::SecondGm(n) => shown(11, 12, n),
-        Fact::Stray => shown(11, 13, 0),
-        Fact::GmValues(n) => shown(12, 14, n),
-        Fact::GmNumber => shown(12, 15, 0),
+        Fact::Length(n) => numbers(1, 1, n),
+        Fact::BadSequence => numbers(2, 2, 0),
+        Fact::NoBracket(n) => numbers(3, 3, n),
+        Fact::Foreign(n) => numbers(4, 4, n),
+        Fact::NotClosed(n) => numbers(5, 5, n),
+        Fact::EndBeyond => numbers(6, 6, 0),
+        Fact::StaysOpen(n) => numbers(7, 7, n),
+        Fact::NoNode(n) => numbers(7, 8, n),
+        Fact::NoEnd => numbers(8, 9, 0),
+        Fact::TooDeep => numbers(9, 10, 0),
+        Fact::EmptyList(n) => numbers(10, 11, lists::wide(n)),
+        Fact::SecondGm(n) => numbers(11, 12, n),
+        Fact::Stray => numbers(11, 13, 0),
+        Fact::GmValues(n) => numbers(12, 14, n),
+        Fact::GmNumber => numbers(12, 15, 0),
     }
 }
 

@@ -8,7 +8,7 @@ pub mod names; // names.rt: an identifier by its read letters
 pub mod length; // length.rt: the length of a writing
 pub mod season;
 pub mod size; // size.rt: the board size of a tree
-pub mod why;
+pub mod explain;
 
 use ask::Refusal;
 use c_answers::SgfDisplay;

@@ -11,6 +11,8 @@ use Rattle.lexer.specs.declared.Fault.the-variants.{MissingPropertyIdentifier, 
 use Rattle.tables.specs.Numbers.{textLimit, depthLimit, none, reasonOf}
 use Rattle.tables.specs.Record.{Node, Tree}
 use Rattle.tables.specs.Rows.{tables, countsOf}
+use Rattle.tables.specs.declared.Counts.{Counts}
+use Rattle.tables.specs.declared.Reason.{Reason}
 use Rattle.tables.specs.declared.Reason.the-variants.{UnexpectedGameTreeEnd, TooDeep as tooDeep}
 use Rattle.parser.specs.Split.{Splitting, splitting, over, wrong, split, ended, no, slices, deep, filled, sliced, splitByGametree}
 use Rattle.parser.specs.Game.{Game, is, noGame, findGametype}
@@ -21,6 +23,7 @@ use Rattle.parser_tree.proofs.Bounded.{Mild, mild-walked}
 use Rattle.reader.specs.Lent.{rowsCounted}
 use Rattle.why_blame.specs.Cuts.{faultFact, deepAt, loose, cutDeep, cutSlices, cutting, cutTokens}
 use Rattle.why_blame.specs.Numbered.{factReason}
+use Rattle.why_blame.specs.declared.Fact.{Fact}
 use Rattle.why_blame.specs.declared.Fact.the-variants.{TooDeep, Length}
 use Rattle.why_blame.specs.declared.Blamed.{Blamed}
 use Rattle.why_blame.specs.declared.Blamed.the-variants.{No, By}
@@ -28,6 +31,7 @@ use Rattle.why_blame.specs.declared.Cutting.{Cutting}
 use Rattle.why_blame.specs.declared.Cutting.the-variants.{Wrong, Slices}
 use Rattle.why.specs.Trees.{slicesBlame}
 use Rattle.why.specs.Why.{acceptedSlices, cutBlame, tokensBlame, trimBlame, textBlame, trimLoose, refusedBy, explainedBy, explained}
+use Rattle.why.specs.declared.Why.the-variants.{Accepted, Refused}
 use Rattle.why_grounds.specs.Agree.{SameVerdict}
 use Rattle.why_grounds.proofs.Trees.{Agree, slices-agree}
 
@@ -162,3 +166,19 @@ module _ (len : Bool) (t : List ℕ) where
       go (refused r p) (By f q) h = h
       go (accepted ts) No h = refl
       go (accepted ts) (By f q) h = absurd h
+
+  -- a text that is explained by a fact is refused with its number
+  pub why-refused : {f : Fact} {p : ℕ} → explained len t ≡ Refused f p → (place : ℕ) × (read len t ≡ refused (factReason f) place)
+  why-refused {f} {p} e = go (read len t) refl (subst (SameVerdict (read len t)) e why-number)
+    where
+      go : (a : Answer) → read len t ≡ a → SameVerdict a (Refused f p) → (place : ℕ) × (read len t ≡ refused (factReason f) place)
+      go (refused r o) q h = (o, q ∙ ap (λ (z : Reason). refused z o) (sym h))
+      go (accepted ts) q h = absurd h
+
+  -- one that is explained by counts is accepted with them
+  pub why-accepted : {c : Counts} {p : ℕ} → explained len t ≡ Accepted c p → (ts : List Tree) × (read len t ≡ accepted ts) × (c ≡ countsOf (tables ts))
+  why-accepted {c} {p} e = go (read len t) refl (subst (SameVerdict (read len t)) e why-number)
+    where
+      go : (a : Answer) → read len t ≡ a → SameVerdict a (Accepted c p) → (ts : List Tree) × (read len t ≡ accepted ts) × (c ≡ countsOf (tables ts))
+      go (refused r o) q h = absurd h
+      go (accepted ts) q h = (ts, q, h)

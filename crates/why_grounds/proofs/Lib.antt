@@ -1,2 +1,4 @@
 pub mod Agrees
+pub mod Grounds
+pub mod Told
 pub mod Trees

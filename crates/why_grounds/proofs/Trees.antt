@@ -109,27 +109,23 @@ none-stay r (u ∷ us) = none-stay r us
 pub slices-agree : (n base : ℕ) (ts : List Tree) (us : List (List Tok)) → Agree (answer (parseGametrees false (treesSoFar base ts) us)) (slicesBlame n base us)
 slices-agree n base ts [] = tt
 slices-agree n base ts (s ∷ us) =
-    typed (findGametype s) (gameBlame n (propsNamed GM (props (drop 2 s)))) (game-agrees n (propsNamed GM (props (drop 2 s))))
+    typed (findGametype s) (gameBlame n (propsNamed GM (props (drop 2 s)))) (game-agrees n (propsNamed GM (props (drop 2 s)))) (λ b os. slices-agree (suc n) b os us)
   where
-    abbrev W : Walk
-    W = walked false base (walk none [] false []) s
-
-    abbrev Rest : ℕ → Blamed
-    Rest b = slicesBlame (suc n) b us
-
-    no-tree : (r : Reason) (b : Blamed) → AgreeGame (noGame r) b → (c : Blamed) → Agree (answer (parseGametrees false (noTrees r) us)) (orBlame (orBlame b c) (Rest (base + length (nodesOf W))))
+    no-tree : (r : Reason) (b : Blamed) → AgreeGame (noGame r) b → (c : Blamed) → Agree (answer (parseGametrees false (noTrees r) us)) (orBlame (orBlame b c) (slicesBlame (suc n) (base + length (nodesOf (walked false base (walk none [] false []) s))) us))
     no-tree r No h c = absurd h
     no-tree r (By f p) h c = subst⁻¹ (λ (z : Trees). Agree (answer z) (By f p)) (none-stay r us) h
 
-    grown : (k : ℕ) (w : Walk) (b : Blamed) → AgreeWalk w b → Agree (answer (parseGametrees false (treeOfWalk false base k w ts) us)) (orBlame (orBlame b (emptyBlame n (length (nodesOf w)) s)) (Rest (base + length (nodesOf w))))
-    grown k (walk c st g []) No h = subst⁻¹ (λ (z : Trees). Agree (answer z) (emptyBlame n 0 s)) (none-stay _ us) refl
-    grown k (walk c st g (m ∷ ms)) No h = slices-agree (suc n) (base + length (m ∷ ms)) _ us
-    grown k (walk c st g ns) (By f p) h = absurd h
-    grown k (halted ns) b h = absurd h
-    grown k (stopped r) No h = absurd h
-    grown k (stopped r) (By f p) h = subst⁻¹ (λ (z : Trees). Agree (answer z) (By f p)) (none-stay r us) h
+    grown : (k : ℕ) (w : Walk) (b : Blamed) → AgreeWalk w b → ((b : ℕ) (os : List Tree) → Agree (answer (parseGametrees false (treesSoFar b os) us)) (slicesBlame (suc n) b us))
+        → Agree (answer (parseGametrees false (treeOfWalk false base k w ts) us)) (orBlame (orBlame b (emptyBlame n (length (nodesOf w)) s)) (slicesBlame (suc n) (base + length (nodesOf w)) us))
+    grown k (walk c st g []) No h ih = subst⁻¹ (λ (z : Trees). Agree (answer z) (emptyBlame n 0 s)) (none-stay _ us) refl
+    grown k (walk c st g (m ∷ ms)) No h ih = ih (base + length (m ∷ ms)) _
+    grown k (walk c st g ns) (By f p) h ih = absurd h
+    grown k (halted ns) b h ih = absurd h
+    grown k (stopped r) No h ih = absurd h
+    grown k (stopped r) (By f p) h ih = subst⁻¹ (λ (z : Trees). Agree (answer z) (By f p)) (none-stay r us) h
 
-    typed : (g : Game) (b : Blamed) → AgreeGame g b → Agree (answer (parseGametrees false (treeOfGame false base g s ts) us)) (orBlame (orBlame b (orBlame (treeBlame base s) (emptyBlame n (length (nodesOf W)) s))) (Rest (base + length (nodesOf W))))
-    typed (is k) No h = grown k W (treeBlame base s) (walk-agrees base none [] false [] [] s)
-    typed (is k) (By f p) h = absurd h
-    typed (noGame r) b h = no-tree r b h (orBlame (treeBlame base s) (emptyBlame n (length (nodesOf W)) s))
+    typed : (g : Game) (b : Blamed) → AgreeGame g b → ((b : ℕ) (os : List Tree) → Agree (answer (parseGametrees false (treesSoFar b os) us)) (slicesBlame (suc n) b us))
+        → Agree (answer (parseGametrees false (treeOfGame false base g s ts) us)) (orBlame (orBlame b (orBlame (treeBlame base s) (emptyBlame n (length (nodesOf (walked false base (walk none [] false []) s))) s))) (slicesBlame (suc n) (base + length (nodesOf (walked false base (walk none [] false []) s))) us))
+    typed (is k) No h ih = grown k (walked false base (walk none [] false []) s) (treeBlame base s) (walk-agrees base none [] false [] [] s) ih
+    typed (is k) (By f p) h ih = absurd h
+    typed (noGame r) b h ih = no-tree r b h (orBlame (treeBlame base s) (emptyBlame n (length (nodesOf (walked false base (walk none [] false []) s))) s))
