@@ -18,7 +18,7 @@ use Rattle.c_answers.specs.declared.SgfEdit.{SgfEdit}
 use Rattle.c_feed.specs.Parts.{appliedInC, CorrectInC}
 
 -- no refusal has the number 0
-no-zero : {A : Type 0} (f : FeedRefusal) → feedNumber f ≡ 0 → A
+pub no-zero : {A : Type 0} (f : FeedRefusal) → feedNumber f ≡ 0 → A
 no-zero NotFitting h = absurd (omega (arith, h))
 no-zero Malformed h = absurd (omega (arith, h))
 no-zero NoSuchNumber h = absurd (omega (arith, h))

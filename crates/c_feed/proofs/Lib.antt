@@ -1,3 +1,5 @@
+pub mod Checked
 pub mod Corrected
+pub mod Exactly
 pub mod Shown
 pub mod Unique

@@ -1,5 +1,5 @@
 -- The lexer's scans answer what fitting asks of identifiers and values. Assumes nothing.
-use Rattle.lists.proofs.Prelude.{ℕ, suc, _+_, _-_, _≤_, _<_, Bool, true, false, not, _&&_, and-false, List, [], _∷_, _++_, _≡_, refl, sym, ap, _∙_, subst, arith, leb, ltb, eqb, length, getD, take, drop, take-append-drop, List·getD-eq-default, slice, take-at, getD-at, getD-drop, drop-cons, drop-append-le, length-take-le, length-slice, eq-eqb, ne-eqb, eqb-true, lt-ltb, le-ltb, leb-true, leb-false, pick}
+use Rattle.lists.proofs.Prelude.{ℕ, suc, _+_, _-_, _≤_, _<_, Bool, true, false, not, _&&_, and-false, and-true, List, [], _∷_, _++_, _≡_, refl, sym, ap, _∙_, subst, arith, leb, ltb, eqb, length, getD, take, drop, take-append-drop, List·getD-eq-default, slice, take-at, getD-at, getD-drop, drop-cons, drop-append-le, length-take-le, length-slice, eq-eqb, ne-eqb, eqb-true, lt-ltb, le-ltb, leb-true, leb-false, pick}
 use Rattle.lexer_laws.proofs.Exactly.{CloseIs, close-is, close-exactly}
 use Rattle.lexer.specs.Closed.{closed}
 use Rattle.lexer_scan.specs.Scan.{identFrom}
@@ -91,3 +91,10 @@ name-is t pr k {a} {e} ea ee er = er ∙ ap plainName (part-slice a e t) ∙ rw 
 
 pub value-is : (t vl : List ℕ) (k : ℕ) {a e : ℕ} → a ≡ valFromAt vl k → e ≡ valToAt vl k → {r : Bool} → r ≡ inBracketsClosed t a e → r ≡ valueRight t vl k
 value-is t vl k ea ee er = er ∙ rw (ea, ee)
+
+-- one byte
+pub plain-one : (s : List ℕ) → length s ≡ 1 → (ltb (getD s 0 0) 0x80 && not (eqb (getD s 0 0) 0x5b)) ≡ plainName s
+unfolding plainName
+plain-one [] h = absurd (omega (arith, h))
+plain-one (b ∷ []) h = ap (λ (x : Bool). ltb b 0x80 && x) (sym (and-true (not (eqb b 0x5b))))
+plain-one (b ∷ d ∷ s) h = absurd (omega (arith, h))

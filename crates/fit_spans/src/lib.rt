@@ -142,10 +142,13 @@ fn property_spans(properties: &[u32], k: usize, values: &[u32], used: usize, fro
     value_spans(values, used, name.next, first, count)
 }
 
-// Whether an identifier is ASCII without `[`.
+// Whether an identifier is ASCII without `[`. Most are one byte.
 fn is_plain(name: &[u8]) -> bool
     ensures { λ r. ⌜ r ≡ plainName (now (name .entry)) ⌝ }
 {
+    if name.len() == 1 {
+        return (name[0] < 128) & (name[0] != b'[');
+    }
     match lexer_scan::ident_end(name, 0) {
         lexer_scan::Ident::Opens(_) => false,
         lexer_scan::Ident::Missing => true,

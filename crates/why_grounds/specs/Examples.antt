@@ -9,23 +9,23 @@ use Rattle.why.specs.declared.Why.{Why}
 use Rattle.why.specs.declared.Why.the-variants.{Accepted, Refused}
 
 -- what is told of a text: the fact and its place; or the place where reading ended
-pub data Told : Type 0 where
-  by : Fact → (place : ℕ) → Told
-  ends : (place : ℕ) → Told
+pub data Telling : Type 0 where
+  by : Fact → (place : ℕ) → Telling
+  ends : (place : ℕ) → Telling
 
 -- of an explanation
-abbrev pub toldOf : Why → Told
-toldOf (Accepted c q) = ends q
-toldOf (Refused f p) = by f p
+abbrev pub tellingOf : Why → Telling
+tellingOf (Accepted c q) = ends q
+tellingOf (Refused f p) = by f p
 
 -- a text, how it is read, and what is told
 pub record Asked : Type 0 where
   pub text : List ℕ
   pub how : Bool
-  pub told : Told
+  pub told : Telling
 
 -- a row
-abbrev pub askedOf : List ℕ → Bool → Told → Asked
+abbrev pub askedOf : List ℕ → Bool → Telling → Asked
 askedOf t h w = record { text = t; how = h; told = w }
 
 -- an ideographic space, three bytes
@@ -66,4 +66,4 @@ toldTexts =
 
 -- each text is told as the table says
 abbrev pub AsTold : List Asked → Type 0
-AsTold rs = map (λ (r : Asked). toldOf (explained (r .how) (r .text))) rs ≡ map (λ (r : Asked). r .told) rs
+AsTold rs = map (λ (r : Asked). tellingOf (explained (r .how) (r .text))) rs ≡ map (λ (r : Asked). r .told) rs
