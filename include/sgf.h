@@ -18,8 +18,9 @@
  *
  * Every answer but SgfValue, SgfEntry, sgf_is_named, the tag and the version has a number: SGF_ACCEPTED, or why the call
  * is refused. A refusal leaves every lent byte and number as it was, and its counts, lengths and spans are 0 (SgfToken's
- * are its token's start); so is its place, but for numbers 2 to 5. After acceptance, what lies behind the counts given
- * back stays as well, except for the bytes that sgf_edit and sgf_correct set to 0. Fields called `reserved` are always 0.
+ * are its token's start); so is its place, but for numbers 2 to 5 and in SgfWhy. After acceptance, what lies behind the
+ * counts given back stays as well, except for the bytes that sgf_edit and sgf_correct set to 0. Fields called `reserved`
+ * are always 0.
  *
  * One exception: rows lent to sgf_block and sgf_close are working room until the close. After a close that is accepted
  * the rows behind its count are 0, after one that is refused all rows; only number 20 leaves them as they were.
@@ -203,7 +204,7 @@ SgfWhy sgf_why_lenient(const uint8_t *text, size_t text_len);
 
 /* ---- Over a record in memory ------------------------------------------------------------------------------ */
 
-/* Each function below takes a text of which the first `used` bytes are the record's, the counts of used rows and
+/* Each function below with SGF_RECORD takes a text of which the first `used` bytes are the record's, the counts of used rows and
  * the four tables. Whatever made them, a call first checks that they fit one another, in time linear in text and
  * tables, and answers 19 if they do not. Tables that a reading or sgf_edit accepted do fit their text. text_len may
  * exceed SGF_TEXT_LIMIT, used may not; used above text_len is 19. */
@@ -324,8 +325,8 @@ SgfDisplay sgf_escape(const uint8_t *text, size_t text_len, uint8_t *out, size_t
 /* What stands at a point. */
 enum { SGF_EMPTY = 0, SGF_BLACK = 1, SGF_WHITE = 2 };
 
-/* A number; the sides of the board; stones put on and taken off so far; what stands at each point, 0 off the board.
- * All else 0 where refused. What the sums mean: a stone is put on where setup or a move sets a point to black or white
+/* A number; the sides of the board; stones put on and taken off so far; what stands at each point. Of sgf_board 0 off the
+ * board, and all else 0 where refused; sgf_board_next keeps what a board given to it has there. What the sums mean: a stone is put on where setup or a move sets a point to black or white
  * that was not that colour before; it is taken off where a move captures it, where a move is suicide, where AE clears
  * it, and where another colour is set over it. A point set again to its own colour counts nowhere. So for each colour
  * put on is what stands and what was taken off: captures are taken off without the stones that were cleared or
@@ -344,10 +345,12 @@ typedef struct {
 SgfBoard sgf_board(SGF_RECORD, size_t node);
 
 /* One node more: its properties, `count` rows from row `first` on, played upon a board, without the check, for callers
- * whose tables are known to fit. Upon the board of its parent it gives the board of the node. Numbers: 23, or that of the
- * board given, which then comes back as it is. `reserved` comes back 0, whatever was given. A byte of `stones` above 2 is
- * neither stone nor liberty. Rows that are not there are no properties. A board of number 0 with no columns or no rows has
- * no point: a node that sets or plays one gives 23, any other the board as it is. Sides above 52 count as 52. */
+ * whose tables are known to fit. Upon the board of its parent it gives the board of the node, text_len being the used
+ * length. Numbers: 23, or that of the board given, which then comes back as it is. `reserved` comes back 0, whatever was
+ * given. A byte of `stones` above 2 is neither stone nor liberty. Rows that are not there are no properties; a value row
+ * that is not there is an empty value, and a span is cut at the end of the text. A board of number 0 with no columns or
+ * no rows has no point: a node that sets or plays one gives 23, any other the board as it is. Sides above 52 count as 52,
+ * and come back as given. */
 SgfBoard sgf_board_next(SgfBoard board, const uint8_t *text, size_t text_len, const uint32_t *properties,
                         size_t properties_len, const uint32_t *values, size_t values_len, size_t first, size_t count);
 

@@ -1,3 +1,4 @@
+pub mod ChangeExamples
 pub mod Changes
 pub mod Listed
 pub mod Mend
