@@ -15,30 +15,30 @@ pub record Lists : Type 0 where
   pub changes : List Change
 
 -- a row of the table
-abbrev lists : String → List Change → Lists
-lists t cs = record { text = t; changes = cs }
+abbrev listing : String → List Change → Lists
+listing t cs = record { text = t; changes = cs }
 
 -- every kind; a fault inside an open tree is a tail and no cut; an end that is added, a type that changes and another form of the values are not listed (SCOPE 285)
-abbrev pub listed : List Lists
-listed =
-    lists "(;GaM[2]B[aa])" (spelledAnew 0 ∷ [])
-    ∷ lists ";;GM[2](;)" []
-    ∷ lists "(A[]GM[2])" (emptyRoot 0 ∷ cutShort 0 1 ∷ [])
-    ∷ lists "(;GM[1]GaM[2])" (removedGM 0 ∷ removedGM 1 ∷ [])
-    ∷ lists "(;GaM[x])" (removedGM 0 ∷ [])
-    ∷ lists "(;GM[\\1])" []
-    ∷ lists "(;;GM[x])" []
-    ∷ lists "(;" []
-    ∷ lists "(;[x]b[aa](;A[y" (unnamed 0 ∷ unnamed 1 ∷ tailDropped 12 ∷ [])
-    ∷ lists "(;);)" (tailDropped 3 ∷ [])
-    ∷ lists "(;(;)A[x];)" (cutShort 0 5 ∷ [])
-    ∷ lists "(;)(;((;)))" (cutShort 1 6 ∷ [])
-    ∷ lists "(;A[x]B" (tailDropped 6 ∷ [])
-    ∷ lists "(;)(;Bl[a])" (spelledAnew 0 ∷ [])
-    ∷ lists "(;AB[aa:ab])" []
-    ∷ lists ";" (emptyRoot 0 ∷ tailDropped 0 ∷ [])
-    ∷ lists "x" (emptyRoot 0 ∷ tailDropped 0 ∷ [])
-    ∷ lists "" (emptyRoot 0 ∷ [])
+abbrev pub listedTexts : List Lists
+listedTexts =
+    listing "(;GaM[2]B[aa])" (spelledAnew 0 ∷ [])
+    ∷ listing ";;GM[2](;)" []
+    ∷ listing "(A[]GM[2])" (emptyRoot 0 ∷ cutShort 0 1 ∷ [])
+    ∷ listing "(;GM[1]GaM[2])" (removedGM 0 ∷ removedGM 1 ∷ [])
+    ∷ listing "(;GaM[x])" (removedGM 0 ∷ [])
+    ∷ listing "(;GM[\\1])" []
+    ∷ listing "(;;GM[x])" []
+    ∷ listing "(;" []
+    ∷ listing "(;[x]b[aa](;A[y" (unnamed 0 ∷ unnamed 1 ∷ tailDropped 12 ∷ [])
+    ∷ listing "(;);)" (tailDropped 3 ∷ [])
+    ∷ listing "(;(;)A[x];)" (cutShort 0 5 ∷ [])
+    ∷ listing "(;)(;((;)))" (cutShort 1 6 ∷ [])
+    ∷ listing "(;A[x]B" (tailDropped 6 ∷ [])
+    ∷ listing "(;)(;Bl[a])" (spelledAnew 0 ∷ [])
+    ∷ listing "(;AB[aa:ab])" []
+    ∷ listing ";" (emptyRoot 0 ∷ tailDropped 0 ∷ [])
+    ∷ listing "x" (emptyRoot 0 ∷ tailDropped 0 ∷ [])
+    ∷ listing "" (emptyRoot 0 ∷ [])
     ∷ []
 
 -- the lists of the texts
@@ -52,6 +52,6 @@ listsSaid [] = []
 listsSaid (r ∷ rs) = r .changes ∷ listsSaid rs
 
 -- each list is as its row says
-pub changes-right : listsGiven listed ≡ listsSaid listed
+pub changes-right : listsGiven listedTexts ≡ listsSaid listedTexts
 unfolding white space readFrom readIdentifier decimalOf digitsFrom digitOf
 changes-right = refl
