@@ -15,30 +15,30 @@ pub record Lists : Type 0 where
   pub changes : List Change
 
 -- a row of the table
-abbrev listing : String → List Change → Lists
-listing t cs = record { text = t; changes = cs }
+abbrev listedFor : String → List Change → Lists
+listedFor t cs = record { text = t; changes = cs }
 
 -- every kind; a fault inside an open tree is a tail and no cut; an end that is added, a type that changes and another form of the values are not listed (SCOPE 285)
 abbrev pub listedTexts : List Lists
 listedTexts =
-    listing "(;GaM[2]B[aa])" (spelledAnew 0 ∷ [])
-    ∷ listing ";;GM[2](;)" []
-    ∷ listing "(A[]GM[2])" (emptyRoot 0 ∷ cutShort 0 1 ∷ [])
-    ∷ listing "(;GM[1]GaM[2])" (removedGM 0 ∷ removedGM 1 ∷ [])
-    ∷ listing "(;GaM[x])" (removedGM 0 ∷ [])
-    ∷ listing "(;GM[\\1])" []
-    ∷ listing "(;;GM[x])" []
-    ∷ listing "(;" []
-    ∷ listing "(;[x]b[aa](;A[y" (unnamed 0 ∷ unnamed 1 ∷ tailDropped 12 ∷ [])
-    ∷ listing "(;);)" (tailDropped 3 ∷ [])
-    ∷ listing "(;(;)A[x];)" (cutShort 0 5 ∷ [])
-    ∷ listing "(;)(;((;)))" (cutShort 1 6 ∷ [])
-    ∷ listing "(;A[x]B" (tailDropped 6 ∷ [])
-    ∷ listing "(;)(;Bl[a])" (spelledAnew 0 ∷ [])
-    ∷ listing "(;AB[aa:ab])" []
-    ∷ listing ";" (emptyRoot 0 ∷ tailDropped 0 ∷ [])
-    ∷ listing "x" (emptyRoot 0 ∷ tailDropped 0 ∷ [])
-    ∷ listing "" (emptyRoot 0 ∷ [])
+    listedFor "(;GaM[2]B[aa])" (spelledAnew 0 ∷ [])
+    ∷ listedFor ";;GM[2](;)" []
+    ∷ listedFor "(A[]GM[2])" (emptyRoot 0 ∷ cutShort 0 1 ∷ [])
+    ∷ listedFor "(;GM[1]GaM[2])" (removedGM 0 ∷ removedGM 1 ∷ [])
+    ∷ listedFor "(;GaM[x])" (removedGM 0 ∷ [])
+    ∷ listedFor "(;GM[\\1])" []
+    ∷ listedFor "(;;GM[x])" []
+    ∷ listedFor "(;" []
+    ∷ listedFor "(;[x]b[aa](;A[y" (unnamed 0 ∷ unnamed 1 ∷ tailDropped 12 ∷ [])
+    ∷ listedFor "(;);)" (tailDropped 3 ∷ [])
+    ∷ listedFor "(;(;)A[x];)" (cutShort 0 5 ∷ [])
+    ∷ listedFor "(;)(;((;)))" (cutShort 1 6 ∷ [])
+    ∷ listedFor "(;A[x]B" (tailDropped 6 ∷ [])
+    ∷ listedFor "(;)(;Bl[a])" (spelledAnew 0 ∷ [])
+    ∷ listedFor "(;AB[aa:ab])" []
+    ∷ listedFor ";" (emptyRoot 0 ∷ tailDropped 0 ∷ [])
+    ∷ listedFor "x" (emptyRoot 0 ∷ tailDropped 0 ∷ [])
+    ∷ listedFor "" (emptyRoot 0 ∷ [])
     ∷ []
 
 -- the lists of the texts
