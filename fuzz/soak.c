@@ -191,6 +191,15 @@ static void read_text(void) {
     }
     tell(READ, 4, r.place);
     REQUIRE(r.place == 0 || (r.number >= 2 && r.number <= 5 && r.place < used));
+    /* How many rows, and why, without tables: what the reading says, which 14 alone can keep from it. */
+    SgfReading c = (lenient ? sgf_count_lenient : sgf_count_strict)(lent[TEXTS].at, used);
+    SgfWhy w = (lenient ? sgf_why_lenient : sgf_why_strict)(lent[TEXTS].at, used);
+    answered(READ, 0, 0, MAY(TREES) | MAY(NODES) | MAY(PROPERTIES) | MAY(VALUES));
+    REQUIRE(c.ignored == 0 && c.number != 14 && (r.number == 14 || (c.number == r.number && c.place == r.place)));
+    REQUIRE(w.number == c.number && (w.fact == 0) == (w.number == 0) && w.place <= used && memcmp(&w.counts, &c.counts, sizeof c.counts) == 0);
+    REQUIRE(w.number < 2 || w.number > 5 || w.place == c.place);
+    REQUIRE(!good || memcmp(&c.counts, &r.counts, sizeof c.counts) == 0);
+    tell(READ, 5, w.fact);
     counts = r.counts;
     REQUIRE(!good || sgf_fits(RECORD) == 0);
     is_strict = good && !lenient;

@@ -27,9 +27,10 @@
  *
  * Stack, in bytes, on aarch64 (x86-64 within 130 bytes of it): sgf_board 23,104 and sgf_board_next 19,904, both measured
  * on x86-64, sgf_go_value 11,392, sgf_write 8,832, sgf_write_length 10,240 at most, sgf_go_by_rule 5,696, sgf_read_strict
- * and sgf_read_lenient 5,440, sgf_tally 3,200, sgf_simple_value, sgf_simple_property and sgf_entry 1,900 at most; of the
- * others sgf_correct 1,088, sgf_corrected and sgf_feed_check 832, measured on x86-64, sgf_block 1,024 at most, the rest
- * 512 at most. docs/MEMORY.md has each function's bound, which examples/c/stack.c tests.
+ * and sgf_read_lenient 5,440, those that count rows or say why 6,144 at most, sgf_tally 3,200, sgf_simple_value,
+ * sgf_simple_property and sgf_entry 1,900 at most; of the others sgf_correct 1,088, sgf_corrected and sgf_feed_check 832,
+ * measured on x86-64, sgf_block 1,024 at most, the rest 512 at most. docs/MEMORY.md has each function's bound, which
+ * examples/c/stack.c tests.
  */
 #ifndef SGF_H
 #define SGF_H
