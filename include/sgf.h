@@ -25,10 +25,10 @@
  * the rows behind its count are 0, after one that is refused all rows; only number 20 leaves them as they were.
  *
  * Stack, in bytes, on aarch64 (x86-64 within 130 bytes of it): sgf_board 25,600, sgf_board_next 22,400, sgf_go_value 11,392,
- * sgf_write 8,832, sgf_go_by_rule 5,696, sgf_read_strict and sgf_read_lenient 5,440, sgf_why_strict and its like and
- * sgf_count_strict and its like 5,440 at most (x86-64: 5,184), sgf_simple_value,
- * sgf_simple_property and sgf_entry 1,900 at most, the others 512 at most; those of feeds and blocks, sgf_escape and
- * sgf_tag are not measured by the gate yet (sgf_correct took about 1,050 once, sgf_block 940).
+ * sgf_write 8,832, sgf_go_by_rule 5,696, sgf_read_strict and sgf_read_lenient 5,440, sgf_simple_value,
+ * sgf_simple_property and sgf_entry 1,900 at most, the others 512 at most; on x86-64 sgf_why_strict 5,184, sgf_why_lenient
+ * 5,056, sgf_count_strict and sgf_count_lenient 4,928. Those of feeds and blocks, sgf_escape and sgf_tag are not measured
+ * by the gate yet (sgf_correct took about 1,050 once, sgf_block 940).
  */
 #ifndef SGF_H
 #define SGF_H
