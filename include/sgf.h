@@ -27,9 +27,9 @@
  *
  * Stack, in bytes, on aarch64 (x86-64 within 130 bytes of it): sgf_board 23,104 and sgf_board_next 19,904, both measured
  * on x86-64, sgf_go_value 11,392, sgf_write 8,832, sgf_write_length 10,240 at most, sgf_go_by_rule 5,696, sgf_read_strict
- * and sgf_read_lenient 5,440, those that count rows or say why 6,144 at most, sgf_tally 3,200, sgf_simple_value,
- * sgf_simple_property and sgf_entry 1,900 at most; of the others sgf_correct 1,088, sgf_corrected and sgf_feed_check 832,
- * measured on x86-64, sgf_block 1,024 at most, the rest 512 at most. docs/MEMORY.md has each function's bound, which
+ * and sgf_read_lenient 5,440, those that count rows or say why 6,144 at most, sgf_tally 4,096 at most, sgf_simple_value,
+ * sgf_simple_property and sgf_entry 1,900 at most; of the others sgf_block 1,536, sgf_correct, sgf_corrected and
+ * sgf_feed_check 1,536 at most, the rest 1,024 at most. docs/MEMORY.md has each function's bound, which
  * examples/c/stack.c tests.
  */
 #ifndef SGF_H
@@ -170,7 +170,7 @@ SgfReading sgf_count_strict(const uint8_t *text, size_t text_len);
 SgfReading sgf_count_lenient(const uint8_t *text, size_t text_len);
 
 /* Why a text is refused: a fact of the text, in the order in which a reading looks for them; in `detail` what stands
- * behind the colon, else 0. Slices are the trees of a text, numbered from 0, and nodes are numbered as in the table. */
+ * behind the first semicolon, else 0. Slices are the trees of a text, numbered from 0, and nodes are numbered as in the table. */
 enum {
     SGF_WHY_ACCEPTED = 0,
     SGF_WHY_LENGTH = 1,       /* 1; the text's bytes */
@@ -347,7 +347,7 @@ SgfBoard sgf_board(SGF_RECORD, size_t node);
 
 /* One node more: its properties, `count` rows from row `first` on, played upon a board, without the check, for callers
  * whose tables are known to fit. Upon the board of its parent it gives the board of the node, text_len being the used
- * length. Numbers: 23, or that of the board given, which then comes back as it is. `reserved` comes back 0, whatever was
+ * length. Numbers: 23, all else then 0; or that of the board given, which then comes back as it is. `reserved` comes back 0, whatever was
  * given. A byte of `stones` above 2 is neither stone nor liberty. Rows that are not there are no properties; a value row
  * that is not there is an empty value, and a span is cut at the end of the text. A board of number 0 with no columns or
  * no rows has no point: a node that sets or plays one gives 23, any other the board as it is. Sides above 52 count as 52,

@@ -1,5 +1,5 @@
 //! The lines of docs/FROM-SGF-PARSE.md, "What is new", as they stand there.
-use ekimorepa::{Blocks, Board, BoardSize, Color, Entry, Error, Feed, Move, NoPoint, Overlaid, Point, Record, Session, Simple, Step, Tokens, escape, parse};
+use ekimorepa::{Blocks, Board, BoardSize, Color, Counts, Entry, Error, Explanation, Feed, Move, NoPoint, Overlaid, Point, Record, Session, Simple, Step, Tally, Tokens, counts, escape, explain, parse, tag};
 
 #[test]
 fn what_is_new() -> Result<(), Error> {
@@ -36,11 +36,20 @@ fn what_is_new() -> Result<(), Error> {
     let entered: usize = tree.walk().filter(|step: &Step| matches!(step, Step::Enter(_))).count();
     let alone: String = tree.to_sgf()?;
     let played: Result<Move, NoPoint> = "cc".parse();
+    // why a text is refused, the rows that it needs, and how long its writing is
+    let why: Explanation = explain("(;)(;((;)))");
+    let rows_needed: Counts = counts(text)?;
+    let long: usize = record.written_len()?;
+    // a season: the tag of a record's writing, and its tally
+    let tagged: u64 = record.tag()?;
+    let tally: Tally = record.tally();
 
     assert_eq!((stone, size), (Some(Color::Black), BoardSize::Sized(9, 9)));
     assert_eq!((corrected, applied, set, undone), (Some(&b"the centre"[..]), Ok(()), Ok(()), true));
     assert_eq!((tokens.len(), entry.is_some(), simple, entered), (4, true, Simple::Other, 2));
     assert_eq!((alone.as_str(), played), (text, Ok(Move::Move(Point { x: 2, y: 2 }))));
+    assert!(why.to_string().contains("child"), "{why}");
+    assert_eq!((rows_needed.nodes, long, tagged, tally.black), (2, text.len(), tag(text.as_bytes()), 1));
     Ok(())
 }
 

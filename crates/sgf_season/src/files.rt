@@ -63,7 +63,13 @@ pub fn is_folder(file: i32) -> bool {
     libc::read(file, &mut none[..0]) < 0
 }
 
-// Of a file by its name.
+// The next read of a file fails, as the last one did that ended before the file.
+fn is_failing(file: i32) -> bool {
+    let mut more = [0u8; 1];
+    libc::read(file, &mut more) < 0
+}
+
+// Of a file by its name; one whose reading fails is unread.
 pub fn file_line(name: &[u8]) -> Line {
     let file = os::open_read(name);
     if file < 0 {
@@ -75,6 +81,10 @@ pub fn file_line(name: &[u8]) -> Line {
     }
     let mut text = tool::text_room();
     let line = open_line(file, &mut text);
+    let failed = is_failing(file);
     libc::close(file);
+    if failed {
+        return Line::Unread;
+    }
     line
 }

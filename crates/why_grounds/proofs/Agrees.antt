@@ -150,7 +150,8 @@ module _ (len : Bool) (t : List ℕ) where
       subst⁻¹ (λ (z : Lexed). Agree (lexing len (z .end) (z .toks)) (trimBlame len t (Kept f l))) (lex-prefix t f l (trim-bounds t f l e .1))
       (tokens-agree (length t) (take l t) (lexAt (take l t) f) len (lexAt (take l t) f .end))
 
-  text-agrees : Agree (read len t) (textBlame len t)
+  -- a refused text has something to blame
+  pub text-agrees : Agree (read len t) (textBlame len t)
   text-agrees = go (ltb textLimit (length t)) refl
     where
       go : (b : Bool) → ltb textLimit (length t) ≡ b → Agree (read len t) (pick b (By (Length (length t)) 0) (trimBlame len t (trimmed t)))

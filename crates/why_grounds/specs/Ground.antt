@@ -1,4 +1,4 @@
--- The scope's condition behind a fact, without a reading: what refuses the text holds, and nothing earlier in the scope's order does.
+-- The scope's condition behind a fact, without `explained`: what refuses the text holds, and nothing earlier in the scope's order does.
 use Rattle.lists.specs.Prelude.{ℕ, _≤_, _<_, _≡_, Bool, true, false, _⊎_, List, length}
 use Rattle.text_chars.specs.Table.{BadFrom}
 use Rattle.lexer.specs.Token.{Tok}
