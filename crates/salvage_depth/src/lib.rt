@@ -58,10 +58,10 @@ fn bracket(nodes: &[u32], k: usize) -> usize
     if child_of(nodes, parent) != k {
         return 1;
     }
-    if nodes[k * tables::NODE_STRIDE + tables::NODE_SIBLING] != tables::NONE {
-        return 1;
+    if nodes[k * tables::NODE_STRIDE + tables::NODE_SIBLING] == tables::NONE {
+        return 0;
     }
-    0
+    1
 }
 
 // How many brackets end between node k and a node behind it whose parent is p; none: all.

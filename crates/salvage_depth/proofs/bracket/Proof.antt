@@ -17,12 +17,12 @@ returns-2 c =
 returns-3 : tie.Need-returns-3
 returns-3 c =
     let args = c .before .before .before .before .before .before .before .args in
-    bracket-sibling (args .nodes .now) (args .k) (c .before .before .before .before .if1 .left) (c .before .before .before .child-of .ensures) (c .before .before .if2 .left) (c .if3 .taken)
+    bracket-none (args .nodes .now) (args .k) (c .before .before .before .before .if1 .left) (c .before .before .before .child-of .ensures) (c .before .before .if2 .left) (c .if3 .taken)
 
 returns-4 : tie.Need-returns-4
 returns-4 c =
     let args = c .before .before .before .before .before .before .before .args in
-    bracket-none (args .nodes .now) (args .k) (c .before .before .before .before .if1 .left) (c .before .before .before .child-of .ensures) (c .before .before .if2 .left) (c .if3 .left)
+    bracket-sibling (args .nodes .now) (args .k) (c .before .before .before .before .if1 .left) (c .before .before .before .child-of .ensures) (c .before .before .if2 .left) (c .if3 .left)
 
 pub bracket-spec : {M : Type 1} → statement M
 bracket-spec =
