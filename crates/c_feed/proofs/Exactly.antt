@@ -28,7 +28,7 @@ not-both f p e = never cc
 
 -- ---- what a correction can be refused for
 
-data OfCorrection : Checked → Type 0 where
+pub data OfCorrection : Checked → Type 0 where
   passes : OfCorrection Passed
   unknown : (p : ℕ) → OfCorrection (Refused NoSuchNumber p)
   fixed : (p : ℕ) → OfCorrection (Refused GameTypeFixed p)
@@ -52,7 +52,7 @@ module _ (t : List ℕ) (rs : List PropRow) (total : ℕ) (w : List ℕ) where
   of-first Passed y a b = b
   of-first (Refused f p) y a b = a
 
-  of-all : (xs : List Entry) → OfCorrection (correctionsJudged t rs total w xs)
+  pub of-all : (xs : List Entry) → OfCorrection (correctionsJudged t rs total w xs)
   unfolding correctionsJudged
   of-all [] = passes
   of-all (x ∷ xs) = of-first (correctionJudged t rs total w x) (correctionsJudged t rs total w xs) (of-one x) (of-all xs)

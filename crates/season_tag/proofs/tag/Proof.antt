@@ -1,5 +1,5 @@
 -- `season_tag::tag` meets its contract. Assumes nothing.
-use Rattle.lists.proofs.Prelude.{_-_, _≡_, refl, arith, needs, length, drop}
+use Rattle.lists.proofs.Prelude.{_-_, _≡_, refl, ap, _∙_, arith, needs, length, drop}
 use Rattle.season_tag.specs.Tag.{tagFrom, tagOf}
 use Rattle.season_tag.proofs.Tags.{tag-turn, tag-end}
 use Rattle.season_tag.proofs.tag.Statement.{statement}
@@ -14,11 +14,14 @@ abbrev μ-loop : tie.MeasureT-loop
 loop-again : tie.Need-loop-again Inv-loop μ-loop
 loop-again c =
     let l = c .before .before .before in
-    tag-turn (l .before .before .args .s .now) (l .loop .i) (l .loop .h) (c .step .result) _ (c .before .before .loop-test .taken) (c .step .ensures) (l .loop .inv)
+    tag-turn (l .before .before .before .args .s .now) (l .loop .i) (l .loop .h) (c .step .result) _ (c .before .before .loop-test .taken) (c .step .ensures) (l .loop .inv)
 
 returns : tie.Need-returns Inv-loop μ-loop
 unfolding tagOf
-returns c = tag-end (c .before .before .before .args .s .now) (c .before .loop .i) (c .before .loop .h) _ (c .loop-test .left) (c .before .loop .inv)
+returns c =
+    let p = c .before .before in
+    let s = p .before .before .args .s .now in
+    tag-end s (c .before .loop .i) (c .before .loop .h) _ (c .loop-test .left) (c .before .loop .inv) ∙ ap (λ v. tagFrom v s) (p .product .ensures)
 
 pub tag-spec : {M : Type 1} → statement M
 tag-spec =
@@ -26,6 +29,7 @@ tag-spec =
     (tie.spec
     Inv-loop
     μ-loop
+    (λ c κs. search needs)
     (λ c. refl)
     (λ c. omega arith)
     (λ c κs. search needs)
