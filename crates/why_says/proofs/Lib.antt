@@ -1,7 +1,14 @@
+pub mod Along
 pub mod Counts
 pub mod Cuts
+pub mod CutsBack
+pub mod Exactly
 pub mod Held
+pub mod Laws
+pub mod Loose
+pub mod Says
 pub mod Scanned
 pub mod Slices
+pub mod SlicesBack
 pub mod Trees
-pub mod Says
+pub mod TreesBack

@@ -117,7 +117,7 @@ module _ (t : List ℕ) where
     cut-strict l (splitting (suc d) m cur ss) e =
         let c : Counted 0 0 (L .toks) (suc d) m = subst (Counts false 0 0 (L .toks)) e (counts false (L .toks) 0 0 [] []) in
         (open-found (L .toks) d m cur ss e, (l, c .covered))
-    cut-strict l (over m ss) e = never (let z : false ≡ true = subst (Counts false 0 0 (L .toks)) e (counts false (L .toks) 0 0 [] []) in cc)
+    cut-strict l (over m ss) e = never (let z : false ≡ true = subst (Counts false 0 0 (L .toks)) e (counts false (L .toks) 0 0 [] []) .0 in cc)
     cut-strict l (wrong r) e = (wrong-found (L .toks) (ap splitWrong e), l)
 
   -- ---- the tokens

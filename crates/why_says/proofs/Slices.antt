@@ -77,7 +77,7 @@ ready : (base : ℕ) (w : Walk) (ts : List Tok) → Ready w → Ready (walked fa
 ready base w [] h = h
 ready base w (t ∷ ts) h = ready base (walks false base w t) ts (ready-on base w t h)
 
-abbrev new : Walk
+abbrev pub new : Walk
 new = walk none [] false []
 
 module _ (n base : ℕ) (s : List Tok) where
