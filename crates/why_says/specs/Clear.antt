@@ -6,7 +6,7 @@ use Rattle.reader_exactly.specs.When.{Valid, tokensOf, Lexes, Splits}
 use Rattle.why_blame.specs.declared.Fact.{Fact}
 use Rattle.why_blame.specs.declared.Fact.the-variants.{Length, BadSequence, NoBracket, Foreign, NotClosed, EndBeyond, StaysOpen, NoNode, NoEnd, TooDeep, EmptyList, SecondGm, Stray, GmValues, GmNumber}
 
--- of a strict reading; that the slices before are trees and the game type is taken, `FactSays` says itself
+-- of a strict reading; that the slices before are trees and the game type is taken, `FactSays` says itself (SCOPE 261)
 abbrev pub Clear : List ℕ → Fact → Type 0
 Clear t (Length n) = Unit {0}
 Clear t BadSequence = length t ≤ textLimit
@@ -24,7 +24,7 @@ Clear t Stray = Splits t
 Clear t (GmValues k) = Splits t
 Clear t GmNumber = Splits t
 
--- of a lenient one: 1, 2, 9, and no other fact
+-- of a lenient one: 1, 2, 9, and no other fact (SCOPE 261)
 abbrev pub LenientClear : List ℕ → Fact → Type 0
 LenientClear t (Length n) = Unit {0}
 LenientClear t BadSequence = length t ≤ textLimit

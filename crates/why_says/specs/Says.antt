@@ -24,7 +24,7 @@ use Rattle.why_says.specs.Scans.{Crossed, MeetsForeign, StaysUnclosed}
 abbrev pub HeadAt : List Tok → (p : ℕ) → Type 0
 HeadAt s p = (t : Tok) × (rest : List Tok) × (s ≡ t ∷ rest) × (p ≡ tokenPlace t)
 
--- 6: an end at p, before which starts and ends are equal in number, and in no prefix of the tokens before it are there more ends
+-- 6: an end at p, before which starts and ends are equal in number, and in no prefix of the tokens before it are there more ends (SCOPE 264)
 pub record ExceedsAt (ts : List Tok) (p : ℕ) : Type 0 where
   pub before : List Tok
   pub behind : List Tok
@@ -32,7 +32,7 @@ pub record ExceedsAt (ts : List Tok) (p : ℕ) : Type 0 where
   pub covered : Covered 0 before
   pub even : starts before ≡ ends before
 
--- 7: d more starts than ends; the slice that stays open is the last, and its first token stands at p
+-- 7: d more starts than ends; the slice that stays open is the last, and its first token stands at p (SCOPE 265)
 pub record OpenAt (ts : List Tok) (d p : ℕ) : Type 0 where
   pub more : starts ts ≡ d + ends ts
   pub some : 0 < d
@@ -41,7 +41,7 @@ pub record OpenAt (ts : List Tok) (d p : ℕ) : Type 0 where
   pub are : slicesFrom 0 ts ≡ shut ++ (last ∷ [])
   pub head : HeadAt last p
 
--- 9: a start at p, before which as many trees are open as the limit allows and nowhere more; splitting comes to it, since no end is beyond the starts before it
+-- 9: a start at p, before which as many trees are open as the limit allows and nowhere more; splitting comes to it, since no end is beyond the starts before it (SCOPE 266)
 pub record DeepAt (ts : List Tok) (p : ℕ) : Type 0 where
   pub before : List Tok
   pub behind : List Tok
@@ -60,32 +60,33 @@ InSlice n P ss = (x : First P ss) × (n ≡ length (x .before))
 abbrev pub NodelessAt : (p base : ℕ) → List Tok → Type 0
 NodelessAt p base s = Nodeless base s × HeadAt s p
 
--- 10: the walk comes to a start at p, where no child of q, on top of the stack, stands
+-- 10: the walk comes to a start at p, where no child of q, on top of the stack, stands (SCOPE 267)
 abbrev pub EmptyListAt : (q p base : ℕ) → List Tok → Type 0
 EmptyListAt q p base s =
-    (front : List Tok) × (cur : ℕ) × (st : List ℕ) × (g : Bool) × (ns : List Node) × Comes base s front (start p) (walk cur (q ∷ st) g ns) × (children q ns ≡ false)
+    (front : List Tok) × (cur : ℕ) × (st : List ℕ) × (g : Bool) × (ns : List Node)
+    × Comes base s front (start p) (walk cur (q ∷ st) g ns) × (children q ns ≡ false)
 
--- 11: the walk comes to a property at p that is not directly after a node or its properties
+-- 11: the walk comes to a property at p that is not directly after a node or its properties (SCOPE 269)
 abbrev pub StrayAt : (p base : ℕ) → List Tok → Type 0
 StrayAt p base s =
     (front : List Tok) × (a : Prop) × (e cur : ℕ) × (st : List ℕ) × (ns : List Node) × Comes base s front (prop a e) (walk cur st false ns) × (p ≡ a .from)
 
--- 11: the second GM stands at p
+-- 11: the second GM stands at p (SCOPE 268)
 abbrev pub SecondAt : (p base : ℕ) → List Tok → Type 0
 SecondAt p base s = (a b : Prop) × (more : List Prop) × (games s ≡ a ∷ b ∷ more) × (p ≡ b .from)
 
--- 12: the one GM stands at p and has k values, not one
+-- 12: the one GM stands at p and has k values, not one (SCOPE 268)
 abbrev pub ValuesAt : (k p base : ℕ) → List Tok → Type 0
 ValuesAt k p base s = (a : Prop) × (games s ≡ a ∷ []) × (k ≡ length (a .vals)) × (k ≡ 1 → ⊥) × (p ≡ a .from)
 
--- 12: the one GM stands at p, and its one value is no optional sign and digits within i32
+-- 12: the one GM stands at p, and its one value is no optional sign and digits within i32 (SCOPE 268)
 abbrev pub NumberAt : (p base : ℕ) → List Tok → Type 0
 NumberAt p base s =
     (a : Prop) × (v : Val) × (games s ≡ a ∷ []) × (a .vals ≡ v ∷ []) × (isI32 (decimalOf (2 ^ 31 - 1) (readValue (v .raw))) ≡ false) × (p ≡ a .from)
 
 -- ---- each fact
 
--- the fact, with the number in it, holds of the text, and p is the place to blame
+-- the fact, with the number in it, holds of the text, and p is the place to blame (SCOPE 261, 262)
 abbrev pub FactSays : List ℕ → Fact → (p : ℕ) → Type 0
 FactSays t (Length n) p = (n ≡ length t) × (textLimit < n) × (p ≡ 0)
 FactSays t BadSequence p = BadFrom t p

@@ -10,7 +10,7 @@ use Rattle.lexer_scan.specs.declared.ValueStep.the-variants.{Value}
 abbrev pub Crossed : ℕ → Type 0
 Crossed b = (b < 128) × (b ≡ 0x5b → ⊥)
 
--- the bytes of u from p on: an identifier crosses those before e, and the one at e is not ASCII
+-- the bytes of u from p on: an identifier crosses those before e, and the one at e is not ASCII (SCOPE 263)
 pub record MeetsForeign (u : List ℕ) (p e : ℕ) : Type 0 where
   pub before : List ℕ
   pub byte : ℕ
@@ -25,7 +25,7 @@ pub data ReachesByValues (u : List ℕ) : ℕ → ℕ → Type 0 where
   none-more : {i : ℕ} → ReachesByValues u i i
   one-more : {i k : ℕ} (a e n : ℕ) → valueStepAt u i ≡ Value a e n → ReachesByValues u n k → ReachesByValues u i k
 
--- of the property that starts at p a value begins at `bracket`, and no unescaped `]` follows in u
+-- of the property that starts at p a value begins at `bracket`, and no unescaped `]` follows in u (SCOPE 263)
 pub record StaysUnclosed (u : List ℕ) (p : ℕ) : Type 0 where
   pub first : ℕ
   pub bracket : ℕ
