@@ -61,28 +61,29 @@ head-place (u ∷ s) (t, r, e, q) = q ∙ ap (λ (z : List Tok). firstPlace 0 z 
 module _ (n : ℕ) (l : Lexed) where
   -- ---- 6
 
-  pub exceeds-cut : {p : ℕ} → ExceedsAt (l .toks) p → cutTokens false n l ≡ Wrong EndBeyond p
-  exceeds-cut {p} x = ap (cutting false n l) wrongs ∙ ap (Wrong EndBeyond) at
-    where
-      c : Comes-to false (x .before)
-      c = comes-to false (x .before) (x .covered)
+  module _ {p : ℕ} (x : ExceedsAt (l .toks) p) where
+    even-state : (m : ℕ) × (cur : List Tok) × (ss : List (List Tok)) × (split false begun (x .before) ≡ splitting 0 m cur ss)
+    even-state =
+        let c = comes-to false (x .before) (x .covered) in
+        let q = c .counted .count in
+        let e = x .even in
+        let z : c .d ≡ 0 = omega arith in
+        (c .m, c .cur, c .ss, c .is ∙ ap (λ (k : ℕ). splitting k (c .m) (c .cur) (c .ss)) z)
 
-      state : split false begun (x .before) ≡ splitting 0 (c .m) (c .cur) (c .ss)
-      state = let q = c .counted .count in let e = x .even in let z : c .d ≡ 0 = omega arith in c .is ∙ ap (λ (k : ℕ). splitting k (c .m) (c .cur) (c .ss)) z
+    pub exceeds-wrong : split false begun (l .toks) ≡ wrong UnexpectedGameTreeEnd
+    exceeds-wrong =
+        ap (split false begun) (x .are) ∙ split-append false begun (x .before) (end p ∷ x .behind)
+        ∙ ap (λ (z : Splitting). split false z (end p ∷ x .behind)) (even-state .3) ∙ wrong-stays false UnexpectedGameTreeEnd (x .behind)
 
-      wrongs : split false begun (l .toks) ≡ wrong UnexpectedGameTreeEnd
-      wrongs =
-          ap (split false begun) (x .are) ∙ split-append false begun (x .before) (end p ∷ x .behind)
-          ∙ ap (λ (z : Splitting). split false z (end p ∷ x .behind)) state ∙ wrong-stays false UnexpectedGameTreeEnd (x .behind)
+    exceeds-place : wrongAt (l .toks) ≡ p
+    exceeds-place =
+        let f = split-folds false splitWrong begun (x .before) ∙ even-state .3 in
+        ap (λ (z : List Tok). blamePlace (blame (splits false) splitWrong begun [] z)) (x .are)
+        ∙ ap blamePlace (found-at (splits false) splitWrong (λ (s : Splitting). splitWrong s ≡ false) (right-back false) (λ _ h. h) begun (x .before) (end p) (x .behind)
+        (ap splitWrong f) (ap (λ (z : Splitting). splitWrong (splits false z (end p))) f))
 
-      folded : folds (splits false) splitWrong begun (x .before) ≡ splitting 0 (c .m) (c .cur) (c .ss)
-      folded = split-folds false splitWrong begun (x .before) ∙ state
-
-      at : wrongAt (l .toks) ≡ p
-      at =
-          ap (λ (z : List Tok). blamePlace (blame (splits false) splitWrong begun [] z)) (x .are)
-          ∙ ap blamePlace (found-at (splits false) splitWrong (λ (s : Splitting). splitWrong s ≡ false) (right-back false) (λ _ h. h) begun (x .before) (end p) (x .behind)
-          (ap splitWrong folded) (ap (λ (z : Splitting). splitWrong (splits false z (end p))) folded))
+    pub exceeds-cut : cutTokens false n l ≡ Wrong EndBeyond p
+    exceeds-cut = ap (cutting false n l) exceeds-wrong ∙ ap (Wrong EndBeyond) exceeds-place
 
   -- ---- 7
 

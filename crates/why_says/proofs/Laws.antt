@@ -1,5 +1,5 @@
 -- Facts, places and numbers: an explanation is the one fact, with the one place, that the scope's words give. Assumes nothing.
-use Rattle.lists.proofs.Prelude.{ℕ, _≡_, refl, sym, ap, _∙_, subst, Bool, true, false, List}
+use Rattle.lists.proofs.Prelude.{ℕ, _<_, _≡_, refl, sym, ap, _∙_, subst, Bool, true, false, List}
 use Rattle.lists.proofs.Tests.{never}
 use Rattle.text_utf8.specs.Trim.{trimmed}
 use Rattle.tables.specs.declared.Reason.{Reason}
@@ -15,7 +15,8 @@ use Rattle.why.specs.declared.Why.the-variants.{Refused}
 use Rattle.why_grounds.proofs.Trees.{Agree}
 use Rattle.why_grounds.proofs.Agrees.{text-agrees}
 use Rattle.why_says.specs.Says.{FactSays}
-use Rattle.why_says.specs.Clear.{Clear, LenientClear}
+use Rattle.why_says.specs.Clear.{Clear, LenientClear, stageOf}
+use Rattle.why_says.proofs.Earlier.{earlier-refuted}
 use Rattle.why_says.proofs.Exactly.{says-blamed, says-blamed-lenient}
 use Rattle.why_says.proofs.Says.{why-says, why-clear, why-clear-lenient}
 
@@ -45,6 +46,10 @@ module _ (t : List ℕ) where
   -- a text is explained by a fact and a place exactly when the fact holds of it there and nothing earlier applies
   pub why-exactly : (f : Fact) (p : ℕ) → Iff (explained false t ≡ Refused f p) (FactSays t f p × Clear t f)
   why-exactly f p = ((λ e. (why-says t false f p e, why-clear t f p e)), λ h. blamed-why false (says-blamed t f p (h .0) (h .1)))
+
+  -- and no fact that stands earlier in the scope's order holds of it, at any place
+  pub clear-not : (f g : Fact) (q : ℕ) → Clear t f → stageOf g < stageOf f → FactSays t g q → ⊥
+  clear-not f g q c l x = earlier-refuted t f g q c l x
 
   -- so there is at most one such fact, and one place
   pub grounds-once : (f g : Fact) (p q : ℕ) → FactSays t f p → Clear t f → FactSays t g q → Clear t g → (f ≡ g) × (p ≡ q)

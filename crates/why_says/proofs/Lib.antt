@@ -2,6 +2,7 @@ pub mod Along
 pub mod Counts
 pub mod Cuts
 pub mod CutsBack
+pub mod Earlier
 pub mod Exactly
 pub mod Held
 pub mod Laws

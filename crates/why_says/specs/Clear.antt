@@ -41,3 +41,21 @@ LenientClear t (SecondGm n) = ⊥
 LenientClear t Stray = ⊥
 LenientClear t (GmValues k) = ⊥
 LenientClear t GmNumber = ⊥
+
+-- where a fact stands in the scope's order: 1; 2; 3 to 5; 6; 7 of splitting; 8; 9; the trees, of which the first that is refused counts
+abbrev pub stageOf : Fact → ℕ
+stageOf (Length n) = 0
+stageOf BadSequence = 1
+stageOf (NoBracket e) = 2
+stageOf (Foreign e) = 2
+stageOf (NotClosed e) = 2
+stageOf EndBeyond = 3
+stageOf (StaysOpen d) = 4
+stageOf NoEnd = 5
+stageOf TooDeep = 6
+stageOf (NoNode n) = 7
+stageOf (EmptyList q) = 7
+stageOf (SecondGm n) = 7
+stageOf Stray = 7
+stageOf (GmValues k) = 7
+stageOf GmNumber = 7
