@@ -60,7 +60,7 @@ InSlice n P ss = (x : First P ss) × (n ≡ length (x .before))
 abbrev pub NodelessAt : (p base : ℕ) → List Tok → Type 0
 NodelessAt p base s = Nodeless base s × HeadAt s p
 
--- 10: the walk comes to a start at p, where no child of q, on top of the stack, stands (SCOPE 267)
+-- 10: the walk comes to a start at p, and q, on top of the stack, has no child yet (SCOPE 267)
 abbrev pub EmptyListAt : (q p base : ℕ) → List Tok → Type 0
 EmptyListAt q p base s =
     (front : List Tok) × (cur : ℕ) × (st : List ℕ) × (g : Bool) × (ns : List Node)
