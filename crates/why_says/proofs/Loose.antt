@@ -7,12 +7,13 @@ use Rattle.text_utf8.specs.declared.Trimmed.the-variants.{NotUtf8, Blank, Kept}
 use Rattle.lexer.specs.Token.{Tok, start, end, node, prop, End, done, broken, Lexed, lexAt}
 use Rattle.tables.specs.Numbers.{textLimit, depthLimit}
 use Rattle.tables.specs.Record.{Tree}
+use Rattle.tables.specs.Rows.{tables, countsOf}
 use Rattle.tables.specs.declared.Counts.{Counts}
 use Rattle.parser.specs.Split.{Splitting, splitting, over, wrong, split}
 use Rattle.parser.specs.Read.{Answer, refused, accepted, read}
 use Rattle.parser.proofs.Cuts.{standing, Right}
 use Rattle.reader.specs.Lent.{rowsCounted}
-use Rattle.reader_exactly.specs.Slicing.{onto, slicesFrom}
+use Rattle.reader_exactly.specs.Slicing.{Iff, onto, slicesFrom}
 use Rattle.reader_exactly.specs.When.{tokensIn, tokensOf}
 use Rattle.reader_exactly.proofs.Standing.{slices-are}
 use Rattle.why_blame.specs.Cuts.{deepAt, slicedTokens, firstPlace, loose, cutDeep, cutSlices, cutting, cutTokens}
@@ -24,7 +25,7 @@ use Rattle.why_blame.specs.declared.Cutting.the-variants.{Wrong, Slices}
 use Rattle.why.specs.Why.{cutBlame, tokensBlame, trimBlame, textBlame, cutLoose, trimLoose, explainedBy, explained}
 use Rattle.why.specs.declared.Why.the-variants.{Accepted}
 use Rattle.why_grounds.proofs.Trees.{Agree}
-use Rattle.why_grounds.proofs.Agrees.{text-agrees}
+use Rattle.why_grounds.proofs.Agrees.{text-agrees, why-accepted}
 use Rattle.why_says.specs.Behind.{LooseAt}
 use Rattle.why_says.proofs.Cuts.{begun}
 
@@ -145,3 +146,13 @@ loose-once t p q x y = x .place ∙ ap (λ (z : List Tok). firstPlace (length t)
     rest-is : {r : ℕ} (z : LooseAt t r) → z .rest ≡ drop (length (slicedTokens (slicesFrom 0 (tokensOf t .toks)))) (tokensOf t .toks)
     rest-is z =
         sym (ap (λ (w : List Tok). drop (length (slicedTokens (slicesFrom 0 (tokensOf t .toks)))) w) (z .are) ∙ drop-front (slicedTokens (slicesFrom 0 (tokensOf t .toks))) (z .rest))
+
+-- a text is explained by counts and a place exactly when it is accepted with them, and that is the place
+pub accepted-exactly : (len : Bool) (t : List ℕ) (c : Counts) (q : ℕ) → Iff (explained len t ≡ Accepted c q) ((ts : List Tree) × (read len t ≡ accepted ts) × (c ≡ countsOf (tables ts)) × LooseAt t q)
+accepted-exactly len t c q = ((λ e. let x = why-accepted len t e in (x .0, x .1, x .2, why-loose len t c q e)), λ h. back (h .0) (h .1) (h .2) (h .3))
+  where
+    back : (ts : List Tree) → read len t ≡ accepted ts → c ≡ countsOf (tables ts) → LooseAt t q → explained len t ≡ Accepted c q
+    back ts r k l =
+        let y = trimLoose len t (trimmed t) in
+        let e : explained len t ≡ Accepted (countsOf (tables ts)) y = ap (λ (a : Answer). explainedBy (rowsCounted a) (textBlame len t) y) r in
+        e ∙ ap (λ (z : Counts). Accepted z y) (sym k) ∙ ap (Accepted c) (loose-once t y q (why-loose len t (countsOf (tables ts)) y e) l)
