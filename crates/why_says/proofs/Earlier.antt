@@ -17,7 +17,7 @@ use Rattle.why_blame.specs.declared.Fact.{Fact}
 use Rattle.why_blame.specs.declared.Fact.the-variants.{Length, BadSequence, NoBracket, Foreign, NotClosed, EndBeyond, StaysOpen, NoNode, NoEnd, TooDeep as tooDeep, EmptyList, SecondGm, Stray, GmValues, GmNumber}
 use Rattle.why_blame.specs.declared.Cutting.the-variants.{Wrong, Slices}
 use Rattle.why_says.specs.Says.{FactSays}
-use Rattle.why_says.specs.Clear.{Clear, stageOf}
+use Rattle.why_says.specs.Clear.{Clear, LenientClear, stageOf}
 use Rattle.why_says.proofs.Counts.{Going, going}
 use Rattle.why_says.proofs.Cuts.{begun}
 use Rattle.why_says.proofs.CutsBack.{exceeds-wrong, deep-strict}
@@ -120,3 +120,73 @@ module _ (t : List ℕ) where
   earlier-refuted f g q c l x =
       let m = last-stage f in
       refuted g q x (omega arith) (back-to (suc (stageOf g)) (stageOf f) (omega arith) (clear-passed f c))
+
+  -- ---- lenient: 1, 2 and 9 are the only facts
+
+  lenient-short : (f : Fact) → LenientClear t f → 0 < stageOf f → length t ≤ textLimit
+  lenient-short (Length n) c l = absurd (omega (arith, l))
+  lenient-short BadSequence c l = c
+  lenient-short (NoBracket e) c l = absurd c
+  lenient-short (Foreign e) c l = absurd c
+  lenient-short (NotClosed e) c l = absurd c
+  lenient-short EndBeyond c l = absurd c
+  lenient-short (StaysOpen d) c l = absurd c
+  lenient-short (NoNode n) c l = absurd c
+  lenient-short NoEnd c l = absurd c
+  lenient-short tooDeep c l = c .short
+  lenient-short (EmptyList q) c l = absurd c
+  lenient-short (SecondGm n) c l = absurd c
+  lenient-short Stray c l = absurd c
+  lenient-short (GmValues k) c l = absurd c
+  lenient-short GmNumber c l = absurd c
+
+  lenient-valid : (f : Fact) → LenientClear t f → 1 < stageOf f → Valid t
+  lenient-valid (Length n) c l = absurd (omega (arith, l))
+  lenient-valid BadSequence c l = absurd (omega (arith, l))
+  lenient-valid (NoBracket e) c l = absurd c
+  lenient-valid (Foreign e) c l = absurd c
+  lenient-valid (NotClosed e) c l = absurd c
+  lenient-valid EndBeyond c l = absurd c
+  lenient-valid (StaysOpen d) c l = absurd c
+  lenient-valid (NoNode n) c l = absurd c
+  lenient-valid NoEnd c l = absurd c
+  lenient-valid tooDeep c l = c
+  lenient-valid (EmptyList q) c l = absurd c
+  lenient-valid (SecondGm n) c l = absurd c
+  lenient-valid Stray c l = absurd c
+  lenient-valid (GmValues k) c l = absurd c
+  lenient-valid GmNumber c l = absurd c
+
+  lenient-last : (f : Fact) → LenientClear t f → stageOf f ≤ 6
+  lenient-last (Length n) c = omega arith
+  lenient-last BadSequence c = omega arith
+  lenient-last (NoBracket e) c = absurd c
+  lenient-last (Foreign e) c = absurd c
+  lenient-last (NotClosed e) c = absurd c
+  lenient-last EndBeyond c = absurd c
+  lenient-last (StaysOpen d) c = absurd c
+  lenient-last (NoNode n) c = absurd c
+  lenient-last NoEnd c = absurd c
+  lenient-last tooDeep c = omega arith
+  lenient-last (EmptyList q) c = absurd c
+  lenient-last (SecondGm n) c = absurd c
+  lenient-last Stray c = absurd c
+  lenient-last (GmValues k) c = absurd c
+  lenient-last GmNumber c = absurd c
+
+  pub earlier-refuted-lenient : (f g : Fact) (q : ℕ) → LenientClear t f → LenientClear t g → stageOf g < stageOf f → FactSays t g q → ⊥
+  earlier-refuted-lenient f (Length n) q c d l x = let s = lenient-short f c l in omega (arith, x .0, x .1, s)
+  earlier-refuted-lenient f BadSequence q c d l x = well-formed-trimmed t (lenient-valid f c l .formed) q (bad-trimmed t q x)
+  earlier-refuted-lenient f (NoBracket e) q c d l x = absurd d
+  earlier-refuted-lenient f (Foreign e) q c d l x = absurd d
+  earlier-refuted-lenient f (NotClosed e) q c d l x = absurd d
+  earlier-refuted-lenient f EndBeyond q c d l x = absurd d
+  earlier-refuted-lenient f (StaysOpen k) q c d l x = absurd d
+  earlier-refuted-lenient f (NoNode n) q c d l x = absurd d
+  earlier-refuted-lenient f NoEnd q c d l x = absurd d
+  earlier-refuted-lenient f tooDeep q c d l x = let m = lenient-last f c in omega (arith, l, m)
+  earlier-refuted-lenient f (EmptyList j) q c d l x = absurd d
+  earlier-refuted-lenient f (SecondGm n) q c d l x = absurd d
+  earlier-refuted-lenient f Stray q c d l x = absurd d
+  earlier-refuted-lenient f (GmValues k) q c d l x = absurd d
+  earlier-refuted-lenient f GmNumber q c d l x = absurd d

@@ -16,7 +16,7 @@ use Rattle.why_grounds.proofs.Trees.{Agree}
 use Rattle.why_grounds.proofs.Agrees.{text-agrees}
 use Rattle.why_says.specs.Says.{FactSays}
 use Rattle.why_says.specs.Clear.{Clear, LenientClear, stageOf}
-use Rattle.why_says.proofs.Earlier.{earlier-refuted}
+use Rattle.why_says.proofs.Earlier.{earlier-refuted, earlier-refuted-lenient}
 use Rattle.why_says.proofs.Exactly.{says-blamed, says-blamed-lenient}
 use Rattle.why_says.proofs.Says.{why-says, why-clear, why-clear-lenient}
 
@@ -62,6 +62,10 @@ module _ (t : List ℕ) where
 
   pub why-exactly-lenient : (f : Fact) (p : ℕ) → Iff (explained true t ≡ Refused f p) (FactSays t f p × LenientClear t f)
   why-exactly-lenient f p = ((λ e. (why-says t true f p e, why-clear-lenient t f p e)), λ h. blamed-why true (says-blamed-lenient t f p (h .0) (h .1)))
+
+  -- of the facts that a lenient reading has, none that stands earlier holds
+  pub clear-not-lenient : (f g : Fact) (q : ℕ) → LenientClear t f → LenientClear t g → stageOf g < stageOf f → FactSays t g q → ⊥
+  clear-not-lenient f g q c d l x = earlier-refuted-lenient t f g q c d l x
 
   pub grounds-once-lenient : (f g : Fact) (p q : ℕ) → FactSays t f p → LenientClear t f → FactSays t g q → LenientClear t g → (f ≡ g) × (p ≡ q)
   grounds-once-lenient f g p q x c y d = same-blame true (says-blamed-lenient t f p x c) (says-blamed-lenient t g q y d)
