@@ -1,0 +1,15 @@
+pub mod Along
+pub mod Counts
+pub mod Cuts
+pub mod CutsBack
+pub mod Earlier
+pub mod Exactly
+pub mod Held
+pub mod Laws
+pub mod Loose
+pub mod Says
+pub mod Scanned
+pub mod Slices
+pub mod SlicesBack
+pub mod Trees
+pub mod TreesBack

@@ -1,0 +1,4 @@
+pub mod Behind
+pub mod Clear
+pub mod Says
+pub mod Scans

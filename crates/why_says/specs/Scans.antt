@@ -1,0 +1,35 @@
+-- Where the scan of a failing token stops, in the scope's words.
+use Rattle.lists.specs.Prelude.{ℕ, _+_, _≤_, _<_, _≡_, true, List, _∷_, _++_, length, drop, getD}
+use Rattle.lists.specs.All.{All}
+use Rattle.lexer.specs.Closed.{closed}
+use Rattle.lexer_scan.specs.Scan.{identAt, valueStepAt}
+use Rattle.lexer_scan.specs.declared.Ident.the-variants.{Opens}
+use Rattle.lexer_scan.specs.declared.ValueStep.the-variants.{Value}
+
+-- a byte that an identifier crosses: ASCII, and no `[`
+abbrev pub Crossed : ℕ → Type 0
+Crossed b = (b < 128) × (b ≡ 0x5b → ⊥)
+
+-- the bytes of u from p on: an identifier crosses those before e, and the one at e is not ASCII (SCOPE 263)
+pub record MeetsForeign (u : List ℕ) (p e : ℕ) : Type 0 where
+  pub before : List ℕ
+  pub byte : ℕ
+  pub behind : List ℕ
+  pub are : drop p u ≡ before ++ (byte ∷ behind)
+  pub crossed : All Crossed before
+  pub foreign : 128 ≤ byte
+  pub stop : e ≡ p + length before
+
+-- k is reached from i by values
+pub data ReachesByValues (u : List ℕ) : ℕ → ℕ → Type 0 where
+  none-more : {i : ℕ} → ReachesByValues u i i
+  one-more : {i k : ℕ} (a e n : ℕ) → valueStepAt u i ≡ Value a e n → ReachesByValues u n k → ReachesByValues u i k
+
+-- of the property that starts at p a value begins at `bracket`, and no unescaped `]` follows in u (SCOPE 263)
+pub record StaysUnclosed (u : List ℕ) (p : ℕ) : Type 0 where
+  pub first : ℕ
+  pub bracket : ℕ
+  pub named : identAt u p ≡ Opens first
+  pub reached : ReachesByValues u first bracket
+  pub opens : getD u bracket 0 ≡ 0x5b
+  pub never-closed : (body post : List ℕ) → drop (bracket + 1) u ≡ body ++ (0x5d ∷ post) → closed body ≡ true → ⊥

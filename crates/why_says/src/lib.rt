@@ -1,0 +1,1 @@
+// What each fact says of its text, with its number and its place: laws, and no code.
