@@ -90,7 +90,7 @@ pub const LONG: Scale = Scale {
     block_records: 20_000,
     board_moves: 6,
     board_step: 1,
-    why_bytes: 6,
+    why_bytes: 7,
     why_words: 6,
 };
 
