@@ -12,6 +12,8 @@ mod bench_records;
 mod bench_season;
 mod bench_values;
 #[cfg(not(stand_in))]
+mod bench_why;
+#[cfg(not(stand_in))]
 mod blocks;
 mod board;
 mod by_hand;
@@ -43,6 +45,8 @@ mod plain_go;
 mod plain_index;
 mod plain_reader;
 mod plain_size;
+#[cfg(not(stand_in))]
+mod plain_why;
 mod plain_write;
 mod reader;
 mod records;
@@ -61,6 +65,8 @@ mod texts;
 mod tokens;
 mod value_texts;
 mod whole;
+#[cfg(not(stand_in))]
+mod why;
 mod writing;
 
 use std::path::{Path, PathBuf};
@@ -103,6 +109,13 @@ fn run() -> bool {
             true
         }
         #[cfg(not(stand_in))]
+        Some("bench-why") => {
+            bench_why::run();
+            true
+        }
+        #[cfg(not(stand_in))]
+        Some("why-once") => bench_why::once(std::env::args().skip(2)),
+        #[cfg(not(stand_in))]
         Some("gnugo") => gnugo::run(),
         Some("bench") => {
             bench::run();
@@ -110,7 +123,7 @@ fn run() -> bool {
             true
         }
         _ => {
-            eprintln!("usage: compare short [SUBJECT] | long [SUBJECT] | gnugo | store-tokens [DIR] | bench | bench-values | bench-board | bench-feeds | bench-blocks | bench-season");
+            eprintln!("usage: compare short [SUBJECT] | long [SUBJECT] | gnugo | store-tokens [DIR] | bench | bench-values | bench-board | bench-feeds | bench-blocks | bench-season | bench-why");
             false
         }
     }

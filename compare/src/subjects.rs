@@ -30,6 +30,8 @@ pub struct Scale {
     block_records: usize,
     board_moves: usize,
     board_step: usize,
+    why_bytes: usize,
+    why_words: usize,
 }
 
 pub const SHORT: Scale = Scale {
@@ -58,6 +60,8 @@ pub const SHORT: Scale = Scale {
     block_records: 300,
     board_moves: 4,
     board_step: 1,
+    why_bytes: 5,
+    why_words: 4,
 };
 
 pub const LONG: Scale = Scale {
@@ -86,6 +90,8 @@ pub const LONG: Scale = Scale {
     block_records: 20_000,
     board_moves: 6,
     board_step: 1,
+    why_bytes: 7,
+    why_words: 6,
 };
 
 /// Compares the families of texts that tokens and readings share; of the edges of UTF-8 one in so many.
@@ -323,12 +329,33 @@ fn compare_season(scale: &Scale) -> bool {
     good & report.close()
 }
 
+/// Explanations; the stand-in has none.
+#[cfg(stand_in)]
+fn compare_why(_: &Scale) -> bool {
+    true
+}
+
+#[cfg(not(stand_in))]
+fn compare_why(scale: &Scale) -> bool {
+    let mut report = Report::new("explanations", crate::why::compare);
+    texts::sequences(crate::why::BYTES, scale.why_bytes, &mut |text| report.text(text));
+    report.group("all short strings");
+    texts::sequences(crate::why::WORDS, scale.why_words, &mut |text| report.text(text));
+    report.group("all short sequences of words");
+    crate::why::deep(scale.copies, &mut |text| report.text(text));
+    report.group("deep texts and damaged copies");
+    compare_shared(&mut report, scale, scale.tree_records, scale.edges_step);
+    limits::texts(scale.limits).iter().for_each(|text| report.text(text));
+    report.group("limits");
+    crate::why::facts() & report.close()
+}
+
 type Subject = fn(&Scale) -> bool;
 
 /// Compares one subject, or all; true if nothing differed.
 pub fn compare(scale: &Scale, subject: Option<&str>) -> bool {
     println!("library: {}", library::NAME);
-    let subjects: [(&str, Subject); 15] = [
+    let subjects: [(&str, Subject); 16] = [
         ("tokens", compare_tokens),
         ("places", compare_places),
         ("examples", |_| examples::hold()),
@@ -344,6 +371,7 @@ pub fn compare(scale: &Scale, subject: Option<&str>) -> bool {
         ("feeds", compare_feeds),
         ("blocks", compare_blocks),
         ("season", compare_season),
+        ("why", compare_why),
     ];
     let wanted: Vec<_> = subjects.iter().filter(|(name, _)| subject.is_none_or(|chosen| *name == chosen)).collect();
     wanted.iter().fold(!wanted.is_empty(), |good, (_, run)| run(scale) & good)

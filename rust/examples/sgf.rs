@@ -1,5 +1,7 @@
 //! `write`, `show` and `same` as the script `sgf` has them, for records of up to 1 MiB.
-use ekimorepa::{BoardSize, Error, GameType, GoValue, Move, Node, Property, Record, Section, TEXT_LIMIT, Tree, parse, parse_lenient};
+use ekimorepa::{
+    BoardSize, Error, Explanation, GameType, GoValue, Move, Node, Property, Record, Section, TEXT_LIMIT, Tree, parse, parse_lenient,
+};
 use std::ffi::{OsStr, OsString};
 use std::fs::File;
 use std::io::{Read, Write, stdin, stdout};
@@ -35,15 +37,22 @@ fn bytes(file: &OsStr) -> Result<Vec<u8>, Stop> {
     Ok(text)
 }
 
-/// A file, and where in its text an error is.
-fn spot(file: &OsStr, text: &[u8], error: Error) -> String {
-    let place = error.line_and_column(text).map_or(String::new(), |(line, column)| format!("{line}:{column}:"));
-    format!("{}:{place}", named(file))
+/// A file, where in its text an error is, and what is wrong there. A refused reading is explained, with a place but for 1 and 8.
+fn told(file: &OsStr, text: &[u8], error: Error) -> (String, String) {
+    let (place, words) = match error.explain(text) {
+        Some(why @ Explanation::Refused(2..=7 | 9..=12, fact, _)) => {
+            let (line, column) = why.line_and_column(text);
+            (format!("{line}:{column}:"), fact.to_string())
+        }
+        _ => (String::new(), error.meaning().to_string()),
+    };
+    (format!("{}:{place}", named(file)), words)
 }
 
 /// A refusal of a file's text.
 fn refused(file: &OsStr, text: &[u8], error: Error, status: u8) -> Stop {
-    Stop(format!("{} refused {}: {}", spot(file, text, error), error.number(), error.meaning()), status)
+    let (spot, words) = told(file, text, error);
+    Stop(format!("{spot} refused {}: {words}", error.number()), status)
 }
 
 /// The writing of a file's record.
@@ -126,8 +135,8 @@ fn answer(words: &[OsString]) -> Result<(String, u8), Stop> {
             let record = read.map_err(|error| refused(file, &text, error, 1))?;
             // What a strict reading accepts has nothing left out.
             if let (true, Err(error)) = (lenient, parse(&text)) {
-                let (number, meaning) = (error.number(), error.meaning());
-                eprintln!("{} note: refused {number} without --lenient: {meaning}; some of it may be left out", spot(file, &text, error));
+                let ((spot, words), number) = (told(file, &text, error), error.number());
+                eprintln!("{spot} note: refused {number} without --lenient: {words}; some of it may be left out");
             }
             Ok((show(&record), 0))
         }

@@ -167,7 +167,7 @@ impl fmt::Display for Fact {
             Fact::StaysOpen(1) => write!(f, "from here on a tree is not closed"),
             Fact::StaysOpen(n) => write!(f, "from here on {n} trees are not closed"),
             Fact::NoNode(n) => write!(f, "tree {n} has no node"),
-            Fact::NoEnd => write!(f, "there is no game tree in the text"),
+            Fact::NoEnd => write!(f, "there is no game tree in the text: it is empty, or no `(` begins one"),
             Fact::TooDeep => write!(f, "this `(` is inside more than 1,023 others"),
             Fact::EmptyList(None) => write!(f, "this `(` stands where the tree has no node yet"),
             Fact::EmptyList(Some(n)) => write!(f, "this `(` stands where node {n} has no child yet"),
@@ -187,6 +187,7 @@ impl fmt::Display for Explanation {
                 "accepted: {} trees, {} nodes, {} properties, {} values; read up to byte {place}",
                 c.trees, c.nodes, c.properties, c.values
             ),
+            Explanation::Refused(_, fact @ (Fact::Length(_) | Fact::NoEnd), _) => write!(f, "{fact}"),
             Explanation::Refused(_, fact, place) => write!(f, "at byte {place}: {fact}"),
         }
     }
@@ -201,6 +202,7 @@ impl fmt::Display for Explanation {
 /// assert_eq!((why.number(), why.place(), why.fact()), (10, 6, Some(Fact::EmptyList(Some(1)))));
 /// assert_eq!(why.to_string(), "at byte 6: this `(` stands where node 1 has no child yet");
 /// assert_eq!(explain("(;);").place(), 3);
+/// assert_eq!(explain("").to_string(), "there is no game tree in the text: it is empty, or no `(` begins one");
 /// ```
 pub fn explain(text: impl AsRef<[u8]>) -> Explanation {
     ffi::why_strict(text.as_ref()).into()

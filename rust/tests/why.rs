@@ -35,6 +35,10 @@ fn short_texts() {
         assert_eq!((explain_lenient(text).number(), explain_lenient(text).place()), (0, place), "{text}");
     }
     assert_eq!(explain(b"(\xff"), Explanation::Refused(2, Fact::BadSequence, 1));
+    // The length and the lack of a tree have no place.
+    assert!(["", " ;"].iter().all(|text| explain(text).to_string().starts_with("there is no game tree")));
+    assert_eq!(explain(vec![b' '; 1_048_577]).to_string(), "the text has 1048577 bytes, more than 1,048,576");
+    assert_eq!(explain("()").to_string(), "at byte 0: tree 0 has no node");
 }
 
 #[test]
