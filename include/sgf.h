@@ -169,8 +169,9 @@ SgfReading sgf_read_lenient(const uint8_t *text, size_t text_len, uint32_t setti
 SgfReading sgf_count_strict(const uint8_t *text, size_t text_len);
 SgfReading sgf_count_lenient(const uint8_t *text, size_t text_len);
 
-/* Why a text is refused: a fact of the text, in the order in which a reading looks for them; in `detail` what stands
- * behind the first semicolon, else 0. Slices are the trees of a text, numbered from 0, and nodes are numbered as in the table. */
+/* Why a text is refused: a fact of the text, numbered in the order of the refusals' numbers; in `detail` what stands
+ * behind the first semicolon, else 0. Slices are numbered from 0: a slice goes up to the `)` that closes a tree's first
+ * `(`. Nodes are numbered as in the table. */
 enum {
     SGF_WHY_ACCEPTED = 0,
     SGF_WHY_LENGTH = 1,       /* 1; the text's bytes */

@@ -9,7 +9,7 @@ use Rattle.why.specs.declared.Why.the-variants.{Accepted, Refused}
 use Rattle.c_why.specs.declared.Shown.{Shown}
 use Rattle.c_why.specs.declared.SgfWhy.{SgfWhy}
 
--- the fact's own number, from 1 on in the scope's order, and the number in it, else 0 (SCOPE 271)
+-- the fact's own number, from 1 on in the order of the refusals' numbers, and the number in it, else 0 (SCOPE 271)
 abbrev pub shownAs : (number fact detail : ℕ) → Shown
 shownAs n f d = record { number = n; fact = f; detail = d }
 
