@@ -1,9 +1,11 @@
 -- The loop over ranges, and what gapless ranges say. Assumes nothing.
-use Rattle.lists.proofs.Prelude.{ℕ, zero, suc, _+_, _*_, _-_, _≤_, _<_, Bool, true, false, and-false, _≡_, refl, sym, _∙_, subst, suc-mul, mul-le-mul-right, add-one, arith, eqb, eq-eqb, ne-eqb, eqb-true}
+use Rattle.lists.proofs.Prelude.{ℕ, zero, suc, _+_, _*_, _-_, _≤_, _<_, Bool, true, false, List, _&&_, and-assoc, and-false, and-true, _≡_, refl, sym, ap, ap₂, _∙_, subst, suc-mul, mul-le-mul-right, add-one, arith, eqb, eq-eqb, ne-eqb, eqb-true, leb, le-leb, lt-leb}
 use Rattle.tables.specs.Each.{each, sum}
-use Rattle.fit_spans.specs.Ranges.{gapless}
+use Rattle.tables.specs.declared.Counts.{Counts}
+use Rattle.tables.specs.Columns.{firstPropAt, propCountAt, firstValAt, valCountAt}
+use Rattle.fit_spans.specs.Ranges.{gapless, hasValue, rangesFit}
 use Rattle.tables.proofs.Cases.{and-left, and-right}
-use Rattle.tables.proofs.Each.{each-at, each-more, each-end, each-fails}
+use Rattle.tables.proofs.Each.{each-at, each-more, each-end, each-fails, each-all}
 
 module _ (first count : ℕ → ℕ) where
   sum-far : (d k : ℕ) → sum count k ≤ sum count (k + d)
@@ -73,6 +75,43 @@ module _ (first count : ℕ → ℕ) where
         let r = x .rows in
         let e : k ≡ n = omega arith in
         rw (← each-end Follows k n r h (x .so-far), x .is, e)
+
+-- ---- beside them, that no row counts less than a number
+
+module _ (first count : ℕ → ℕ) (n total least : ℕ) where
+  abbrev Enough : ℕ → Bool
+  Enough k = leb least (count k)
+
+  abbrev Both : Bool
+  Both = gapless first count n total && each n Enough
+
+  pub both-gap : false ≡ gapless first count n total → false ≡ Both
+  both-gap e = ap (λ (z : Bool). z && each n Enough) e
+
+  pub both-less : (k : ℕ) → k < n → {q : ℕ} → q ≡ count k → q < least → false ≡ Both
+  both-less k h eq l =
+      sym (and-false (gapless first count n total))
+      ∙ ap (λ (z : Bool). gapless first count n total && z) (each-fails Enough k n h (lt-leb least (count k) (omega (arith, eq, l))))
+
+  pub both-end : {r : Bool} → r ≡ gapless first count n total → (k : ℕ) → k ≤ n → n ≤ k → each k Enough ≡ true → r ≡ Both
+  both-end e k a b h = e ∙ sym (and-true (gapless first count n total)) ∙ ap (λ (z : Bool). gapless first count n total && z) (each-end Enough k n a b h)
+
+pub counts-more : (count : ℕ → ℕ) (least k : ℕ) → each k (λ j. leb least (count j)) ≡ true → {q : ℕ} → q ≡ count k → least ≤ q → each (k + 1) (λ j. leb least (count j)) ≡ true
+counts-more count least k h eq l = each-more (λ j. leb least (count j)) k h (le-leb least (count k) (omega (arith, eq, l)))
+
+-- no row counts less than 0
+none-less : (count : ℕ → ℕ) (n : ℕ) → each n (λ k. leb 0 (count k)) ≡ true
+none-less count n = each-all (λ k. leb 0 (count k)) n (λ k h. le-leb 0 (count k) (omega arith))
+
+-- ranges of nodes, and of properties, which have a value each
+pub ranges-are : (c : Counts) (nd pr : List ℕ) {a b : Bool}
+    → a ≡ (gapless (firstPropAt nd) (propCountAt nd) (c .nodes) (c .properties) && each (c .nodes) (λ k. leb 0 (propCountAt nd k)))
+    → b ≡ (gapless (firstValAt pr) (valCountAt pr) (c .properties) (c .values) && each (c .properties) (hasValue pr)) → a && b ≡ rangesFit c nd pr
+unfolding rangesFit
+ranges-are c nd pr x y =
+    let g = gapless (firstPropAt nd) (propCountAt nd) (c .nodes) (c .properties) in
+    let h = gapless (firstValAt pr) (valCountAt pr) (c .properties) (c .values) in
+    ap₂ _&&_ (x ∙ ap (λ (z : Bool). g && z) (none-less (propCountAt nd) (c .nodes)) ∙ and-true g) y ∙ sym (and-assoc g h (each (c .properties) (hasValue pr)))
 
 -- cell j of row k lies in a table of n rows of w cells
 pub cell-in : (k n w j len : ℕ) → k < n → n * w ≤ len → j < w → k * w + j < len

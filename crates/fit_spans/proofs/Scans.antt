@@ -4,6 +4,8 @@ use Rattle.lexer_laws.proofs.Exactly.{CloseIs, close-is, close-exactly}
 use Rattle.lexer.specs.Closed.{closed}
 use Rattle.lexer_scan.specs.Scan.{identFrom}
 use Rattle.lexer_close.specs.Close.{closeAt}
+use Rattle.lexer_close.specs.LocalsRun.{closesNothing}
+use Rattle.lexer_close.proofs.Leads.{close-pair}
 use Rattle.lexer_close.specs.declared.Close.{Close}
 use Rattle.lexer_close.specs.declared.Close.the-variants.{At, Open}
 use Rattle.lexer_scan.specs.declared.Ident.{Ident}
@@ -98,3 +100,10 @@ unfolding plainName
 plain-one [] h = absurd (omega (arith, h))
 plain-one (b ∷ []) h = ap (λ (x : Bool). ltb b 0x80 && x) (sym (and-true (not (eqb b 0x5b))))
 plain-one (b ∷ d ∷ s) h = absurd (omega (arith, h))
+
+-- two bytes that close nothing
+pub pair-closes : (t : List ℕ) (a e : ℕ) → e - a ≡ 2 → e < length t → {x y : Bool} → x ≡ closesNothing (getD t a 0) → y ≡ closesNothing (getD t (a + 1) 0)
+    → eqb (getD t e 0) 0x5d && (x && y) ≡ true → closeAt t a ≡ At e
+pair-closes t a e w l {x} {y} ex ey h =
+    let z : a + 2 ≡ e = omega (arith, w) in
+    subst (λ (k : ℕ). closeAt t a ≡ At k) z (close-pair t a (omega arith) ex ey (ap (λ (k : ℕ). eqb (getD t k 0) 0x5d && (x && y)) z ∙ h))

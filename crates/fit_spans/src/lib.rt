@@ -3,17 +3,21 @@ ghost use mathlib.Core.Path.{_≡_};
 ghost use mathlib.Core.Bool.{true, _&&_};
 ghost use mathlib.Core.List.{[], _∷_};
 ghost use Prim.Native.Nat.{ℕ, _+_, _*_, _/_, _<_, _≤_};
+ghost use lib.Dec.{leb};
 ghost use lib.ListN.{length, getD};
+ghost use Rattle.lexer_close.specs.declared.Close.the-variants.{At};
 ghost use Rattle.lexer_close.specs.Close.{closeAt};
+ghost use Rattle.lexer_close.specs.LocalsRun.{closesNothing};
 ghost use Rattle.tables.specs.Numbers.{textLimit};
 ghost use Rattle.tables.specs.Columns.{nodeStride, propertyStride, valueStride, nameFromAt, nameToAt, firstValAt, valCountAt, valFromAt, valToAt};
 ghost use Rattle.tables.specs.Each.{each, tabulate};
 ghost use Rattle.fit_spans.specs.Locals.{Spanned};
 ghost use Rattle.fit_spans.specs.LocalsParts.{lentParts, partsFit};
-ghost use Rattle.fit_spans.specs.Ranges.{gapless, hasValue, rangesFit};
+ghost use Rattle.fit_spans.specs.Ranges.{gapless, rangesFit};
 ghost use Rattle.fit_spans.specs.Spans.{span, valSpan, propSpans, spans, ascending, plainName, nameRight, inBracketsClosed, valueRight, spansFit};
 
-// Whether the ranges of `n` rows follow one another from 0 to the total; a row of `stride` cells has its first at the one column, its count at the other.
+// Whether the ranges of `n` rows follow one another from 0 to the total, and none counts less than `least`.
+// A row of `stride` cells has its first at the one column, its count at the other.
 fn ranges_follow(
     table: &[u32],
     stride: usize,
@@ -21,9 +25,11 @@ fn ranges_follow(
     count: usize,
     n: usize,
     total: usize,
+    least: usize,
 ) -> bool
     requires { ⌜ (n * stride ≤ length (now table)) × (first < stride) × (count < stride) ⌝ }
-    ensures { λ r. ⌜ r ≡ gapless (λ k. getD (now (table .entry)) (k * stride + first) 0) (λ k. getD (now (table .entry)) (k * stride + count) 0) n total ⌝ }
+    ensures { λ r. ⌜ r ≡ (gapless (λ k. getD (now (table .entry)) (k * stride + first) 0) (λ k. getD (now (table .entry)) (k * stride + count) 0) n total
+        && each n (λ k. leb least (getD (now (table .entry)) (k * stride + count) 0))) ⌝ }
 {
     let mut sum: usize = 0;
     let mut k: usize = 0;
@@ -36,25 +42,13 @@ fn ranges_follow(
         if total - sum < has {
             return false;
         }
+        if has < least {
+            return false;
+        }
         sum += has;
         k += 1;
     }
     sum == total
-}
-
-// Whether each of `n` properties has a value.
-fn have_values(properties: &[u32], n: usize) -> bool
-    requires { ⌜ n ≤ length (now properties) / propertyStride ⌝ }
-    ensures { λ r. ⌜ r ≡ each n (hasValue (now (properties .entry))) ⌝ }
-{
-    let mut k = 0;
-    while k < n {
-        if properties[k * tables::PROPERTY_STRIDE + tables::PROPERTY_COUNT] < 1 {
-            return false;
-        }
-        k += 1;
-    }
-    true
 }
 
 // Whether the ranges of properties and values fit.
@@ -69,6 +63,7 @@ fn ranges_fit(nodes: &[u32], properties: &[u32], counts: tables::Counts) -> bool
         4,
         counts.nodes,
         counts.properties,
+        0,
     )
         & ranges_follow(
             properties,
@@ -77,8 +72,8 @@ fn ranges_fit(nodes: &[u32], properties: &[u32], counts: tables::Counts) -> bool
             3,
             counts.properties,
             counts.values,
+            1,
         )
-        & have_values(properties, counts.properties)
 }
 
 // Whether spans lie one after another, and where the next may start.
@@ -191,15 +186,25 @@ fn spans_right(text: &[u8], properties: &[u32], n: usize, values: &[u32]) -> boo
     true
 }
 
-// Where a value from `start` on, which its row says to end at `end`, closes. Most values are two bytes.
-fn close_at(text: &[u8], start: usize, end: usize) -> lexer_close::Close
-    requires { ⌜ start ≤ end ⌝ }
-    ensures { λ r. ⌜ r ≡ closeAt (now (text .entry)) start ⌝ }
+// Neither `]` nor a backslash.
+fn closes_nothing(b: u8) -> bool
+    ensures { λ r. ⌜ r ≡ closesNothing b ⌝ }
 {
-    if end - start == 2 {
-        return lexer_close::quick_end(text, start);
+    (b != b']') & (b != b'\\')
+}
+
+// Whether a value, which lies in the text, is two bytes that close nothing, with `]` behind them. Most are.
+fn is_pair(text: &[u8], start: usize, end: usize) -> bool
+    requires { ⌜ start ≤ end ⌝ }
+    ensures { λ r. ⌜ (r ≡ true → closeAt (now (text .entry)) start ≡ At end) ⌝ }
+{
+    if end - start != 2 {
+        return false;
     }
-    lexer_close::value_end(text, start)
+    if text.len() <= end {
+        return false;
+    }
+    (text[end] == b']') & (closes_nothing(text[start]) & closes_nothing(text[start + 1]))
 }
 
 // Whether a value, which lies in the text, stands after `[` and before `]` and is closed: the scan from its start ends at its end.
@@ -213,7 +218,10 @@ fn is_boxed(text: &[u8], start: usize, end: usize) -> bool
     if text[start - 1] != b'[' {
         return false;
     }
-    match close_at(text, start, end) {
+    if is_pair(text, start, end) {
+        return true;
+    }
+    match lexer_close::value_end(text, start) {
         lexer_close::Close::At(place) => place == end,
         lexer_close::Close::Open => false,
     }

@@ -9,7 +9,7 @@ use Rattle.tables.specs.declared.Counts.{Counts}
 use Rattle.tables.specs.declared.Reading.{Reading}
 use Rattle.tables.specs.declared.Reading.the-variants.{Accepted, Refused as NotRead}
 use Rattle.tables.specs.declared.Reason.{Reason}
-use Rattle.tables.specs.declared.Reason.the-variants.{NoRoom, NotFitting as Unfit}
+use Rattle.tables.specs.declared.Reason.the-variants.{NoRoom}
 use Rattle.fit.specs.Fit.{Fit}
 use Rattle.fit.specs.Record.{recordOf, rowsOf, recordIn}
 use Rattle.parser.specs.Read.{Answer, refused, accepted, read, readStrict}
@@ -21,35 +21,34 @@ use Rattle.serialize.specs.declared.Written.{Written}
 use Rattle.serialize.specs.declared.Written.the-variants.{Wrote, Refused as NotWritten}
 use Rattle.serialize.proofs.Room.{answer-length}
 use Rattle.season_tag.specs.Tag.{tagOf}
-use Rattle.season_tally.specs.Tally.{tallyOf, tallyAnswer}
-use Rattle.season_tally.specs.declared.TallyAnswer.{TallyAnswer}
-use Rattle.season_tally.specs.declared.TallyAnswer.the-variants.{Tallied, NotFitting}
+use Rattle.season_tally.specs.Tally.{tallyOf, tallyWith, WriteTallyIs}
+use Rattle.season_tally.specs.declared.WrittenTally.{WrittenTally}
+use Rattle.season_tally.specs.declared.WrittenTally.the-variants.{Done, Undone}
 use Rattle.season_totals.specs.declared.Line.{Line}
 use Rattle.season_totals.specs.declared.Line.the-variants.{Refused, Counted}
 use Rattle.season_totals.specs.declared.Tally.{Tally}
 use Rattle.season.specs.Season.{writtenWith, lineBy, lineOf, lineLeaves, LineIs, RecordLineIs}
 
--- what the tally says of the tables
-pub tally-not : (m : Memory) {a : TallyAnswer} → a ≡ tallyAnswer m → a ≡ NotFitting → Fit m ≡ false
-unfolding tallyAnswer
-tally-not m e h = go (Fit m) refl (sym h ∙ e)
-  where
-    go : (f : Bool) → Fit m ≡ f → NotFitting ≡ pick f (Tallied (tallyOf (recordIn m))) NotFitting → Fit m ≡ false
-    go true p q = never cc
-    go false p q = p
+-- what the writer answered
+module _ (m : Memory) (out out′ : List ℕ) {r : WrittenTally} (x : WriteTallyIs m out out′ r) where
+  pub as-written : WriteIs m out out′ (written m (length out))
+  as-written = record { is = refl; bytes = x .bytes }
 
-pub tally-is : (m : Memory) {a : TallyAnswer} {t : Tally} → a ≡ tallyAnswer m → a ≡ Tallied t → t ≡ tallyOf (recordIn m)
-unfolding tallyAnswer
-tally-is m {a} {t} e h = go (Fit m) (sym h ∙ e)
-  where
-    go : (f : Bool) → Tallied t ≡ pick f (Tallied (tallyOf (recordIn m))) NotFitting → t ≡ tallyOf (recordIn m)
-    go true q = cc
-    go false q = never cc
+  pub was-written : {n : ℕ} {t : Tally} → r ≡ Done n t → (written m (length out) ≡ Wrote n) × (t ≡ tallyOf (recordIn m))
+  was-written {n} {t} h = go (written m (length out)) (sym h ∙ x .answer)
+    where
+      go : (w : Written) → Done n t ≡ tallyWith w (recordIn m) → (w ≡ Wrote n) × (t ≡ tallyOf (recordIn m))
+      go (Wrote k) e = (cc, cc)
+      go (NotWritten k) e = never cc
+
+  pub was-refused : {k : Reason} → r ≡ Undone k → written m (length out) ≡ NotWritten k
+  was-refused {k} h = go (written m (length out)) (sym h ∙ x .answer)
+    where
+      go : (w : Written) → Undone k ≡ tallyWith w (recordIn m) → w ≡ NotWritten k
+      go (Wrote n) e = never cc
+      go (NotWritten j) e = cc
 
 module _ (m : Memory) (out : List ℕ) where
-  pub line-unfit : Fit m ≡ false → {n : ℕ} → n ≡ numberOf Unfit → RecordLineIs m out out (Refused n)
-  line-unfit h e = record { line = rw h (ap Refused e); bytes = rw h refl }
-
   module _ (out′ : List ℕ) {w : Written} (x : WriteIs m out out′ w) where
     left-bytes : out′ ≡ output (written m (length out)) (writing (recordIn m)) out
     left-bytes = x .bytes ∙ ap (λ (z : Written). output z (writing (recordIn m)) out) (x .is)

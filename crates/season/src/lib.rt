@@ -1,10 +1,8 @@
 // The line of a text in a season's report: read strictly, counted, written and tagged, in memory that is lent once for all texts.
-use season_tally::TallyAnswer;
+use season_tally::WrittenTally;
 use season_totals::Line;
-use serialize::Written;
 use tables::Counts;
 use tables::Reading;
-use tables::Reason;
 ghost use Rattle.tables.specs.Memory.{memory};
 ghost use Rattle.parser.specs.Read.{readStrict};
 ghost use Rattle.reader.specs.Lent.{lent};
@@ -25,21 +23,9 @@ pub fn record_line(
         (memory (now (text .entry)) used counts (now (trees .entry)) (now (nodes .entry)) (now (properties .entry)) (now (values .entry)))
         (now (out .entry)) (now (out .exit)) r ⌝ }
 {
-    match season_tally::tally(text, used, counts, trees, nodes, properties, values) {
-        TallyAnswer::NotFitting => Line::Refused(tables::number(Reason::NotFitting)),
-        TallyAnswer::Tallied(tally) => match serialize::write(
-            text,
-            used,
-            counts,
-            trees,
-            nodes,
-            properties,
-            values,
-            out,
-        ) {
-            Written::Refused(reason) => Line::Refused(tables::number(reason)),
-            Written::Wrote(n) => Line::Counted(tally, season_tag::tag(&out[..n])),
-        },
+    match season_tally::write_tally(text, used, counts, trees, nodes, properties, values, out) {
+        WrittenTally::Undone(reason) => Line::Refused(tables::number(reason)),
+        WrittenTally::Done(n, tally) => Line::Counted(tally, season_tag::tag(&out[..n])),
     }
 }
 

@@ -1,3 +1,4 @@
 pub mod Playing
 pub mod Unique
 pub mod Walk
+pub mod Writes

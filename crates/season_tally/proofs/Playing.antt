@@ -1,5 +1,8 @@
 -- What a property counts as by its row, and one more of them. Assumes nothing.
-use Rattle.lists.proofs.Prelude.{ℕ, zero, suc, _+_, _-_, _/_, _≤_, _<_, _≡_, refl, sym, ap, ap₂, _∙_, subst, Bool, true, false, List, [], _∷_, arith, add-one, length, le-ltb, lt-ltb, pick}
+use Rattle.lists.proofs.Prelude.{ℕ, zero, suc, _+_, _-_, _/_, _≤_, _<_, _≡_, refl, sym, ap, ap₂, _∙_, subst, Bool, true, false, List, [], _∷_, arith, add-one, length, getD, _&&_, eqb, leb, le-ltb, lt-ltb, pick}
+use Rattle.lists.proofs.Tests.{never}
+use denote.Enum.Declared.{tagOf}
+use types.Run.{OneOf, miss}
 use Rattle.lists.specs.Same.{same}
 use Rattle.values.specs.Read.{readIdentifier}
 use Rattle.parts.specs.Rows.{valuesAt}
@@ -12,11 +15,12 @@ use Rattle.go.specs.Value.{isGo, valueBy, goValue}
 use Rattle.fit.proofs.RootRows.{same-equal}
 use Rattle.tables.specs.Columns.{propertyStride, rootAt, firstPropAt, firstValAt, valCountAt}
 use Rattle.tables.specs.Each.{sum}
+use Rattle.season_tally.proofs.Played as played
 use Rattle.season_tally.specs.declared.Played.{Played}
 use Rattle.season_tally.specs.declared.Played.the-variants.{Black, White, Passed, Nothing}
 use Rattle.season_tally.specs.declared.Moves.{Moves}
 use Rattle.season_tally.specs.Tally.{movedBy, playedBy, isBlack, isWhite, isPassed}
-use Rattle.season_tally.specs.Locals.{playedAt, onePlayed, BelowAll, Counted, Goes, nextFirst}
+use Rattle.season_tally.specs.Locals.{moverOf, playedAt, onePlayed, BelowAll, Counted, Goes, nextFirst}
 
 other-none : (name : List ℕ) → Nothing ≡ playedBy name Other
 unfolding playedBy
@@ -87,22 +91,78 @@ goes-next g from m p m1 w l e x =
       counted = λ f h c. one-counted f p m1 w (h p l (omega arith) ∙ sym e) (x .counted f (λ q a b. h q a (omega arith)) c);
     }
 
+-- whose move an identifier names
+module _ (name : List ℕ) where
+  pub mover-black : same name (0x42 ∷ []) ≡ true → Black ≡ moverOf name
+  unfolding moverOf
+  mover-black h = rw h
+
+  pub mover-white : same name (0x42 ∷ []) ≡ false → same name (0x57 ∷ []) ≡ true → White ≡ moverOf name
+  unfolding moverOf
+  mover-white h k = rw (h, k)
+
+  pub mover-none : same name (0x42 ∷ []) ≡ false → same name (0x57 ∷ []) ≡ false → Nothing ≡ moverOf name
+  unfolding moverOf
+  mover-none h k = rw (h, k)
+
+-- and one byte
+pub letter-black : (b : ℕ) → b ≡ 0x42 → Black ≡ moverOf (readIdentifier (b ∷ []))
+unfolding moverOf readIdentifier
+letter-black b e = rw e
+
+pub letter-white : (b : ℕ) → b ≡ 0x57 → White ≡ moverOf (readIdentifier (b ∷ []))
+unfolding moverOf readIdentifier
+letter-white b e = rw e
+
+pub letter-none : (b : ℕ) → eqb b 0x42 ≡ false → eqb b 0x57 ≡ false → Nothing ≡ moverOf (readIdentifier (b ∷ []))
+unfolding moverOf readIdentifier
+letter-none b h k = go (leb 0x41 b && leb b 0x5a)
+  where
+    go : (t : Bool) → Nothing ≡ moverOf (pick t (b ∷ []) [])
+    go true = rw (h, k)
+    go false = refl
+
+pub one-letter : (s : List ℕ) → length s ≡ 1 → {b : ℕ} → b ≡ getD s 0 0 → {r : Played} → r ≡ moverOf (readIdentifier (b ∷ [])) → r ≡ moverOf (readIdentifier s)
+one-letter [] h e x = absurd (omega (arith, h))
+one-letter (b ∷ []) h e x = x ∙ ap (λ (z : ℕ). moverOf (readIdentifier (z ∷ []))) e
+one-letter (b ∷ d ∷ s) h e x = absurd (omega (arith, h))
+
+-- what is told to be no nothing
+pub not-nothing : (w : Played) → OneOf (0 ∷ 1 ∷ 2 ∷ []) (tagOf played.the-type w) → w ≡ Nothing → ⊥
+not-nothing w h e = miss (0 ∷ 1 ∷ 2 ∷ []) 3 tt (subst (λ (z : Played). OneOf (0 ∷ 1 ∷ 2 ∷ []) (tagOf played.the-type z)) e h)
+
 -- what the code found at property p
-module _ (rule : ℕ) (text pr vl : List ℕ) (p : ℕ) (e : isGo rule ≡ true) (id : List ℕ) (i : id ≡ identifierAt text pr p) where
+module _ (rule : ℕ) (text pr vl : List ℕ) (p : ℕ) (e : isGo rule ≡ true) (id : List ℕ) (i : id ≡ identifierAt text pr p) (mine : Played) (o : mine ≡ moverOf (readIdentifier id)) where
+  mine-is : mine ≡ moverOf (name rule text pr vl p)
+  mine-is = o ∙ ap (λ (z : List ℕ). moverOf (readIdentifier z)) i
+
+  pub found-none : mine ≡ Nothing → Nothing ≡ playedAt rule text pr vl p
+  unfolding moverOf
+  found-none h = go (same nm (0x42 ∷ [])) refl (same nm (0x57 ∷ [])) refl (sym h ∙ mine-is)
+    where
+      nm : List ℕ
+      nm = name rule text pr vl p
+
+      go : (t : Bool) → same nm (0x42 ∷ []) ≡ t → (u : Bool) → same nm (0x57 ∷ []) ≡ u → Nothing ≡ pick t Black (pick u White Nothing) → Nothing ≡ playedAt rule text pr vl p
+      go true x u y z = never cc
+      go false x true y z = never cc
+      go false x false y z = played-neither rule text pr vl p x y
+
   module _ (first count : ℕ) (x : first ≡ firstValAt pr p) (y : count ≡ valCountAt pr p) (v : Value) (u : v ≡ valueBy rule OneMove (valuesAt text vl first count) .value) (r : Played) where
-    pub found-black : same (readIdentifier id) (0x42 ∷ []) ≡ true → r ≡ movedBy Black v → r ≡ playedAt rule text pr vl p
-    found-black h w =
-        w ∙ ap (movedBy Black) (u ∙ ap₂ (λ (a b : ℕ). valueBy rule OneMove (valuesAt text vl a b) .value) x y)
-        ∙ played-black rule text pr vl p e (ap (λ (z : List ℕ). same (readIdentifier z) (0x42 ∷ [])) (sym i) ∙ h)
+    value-is : v ≡ valueBy rule OneMove (values rule text pr vl p) .value
+    value-is = u ∙ ap₂ (λ (a b : ℕ). valueBy rule OneMove (valuesAt text vl a b) .value) x y
 
-    pub found-white : same (readIdentifier id) (0x57 ∷ []) ≡ true → r ≡ movedBy White v → r ≡ playedAt rule text pr vl p
-    found-white h w =
-        w ∙ ap (movedBy White) (u ∙ ap₂ (λ (a b : ℕ). valueBy rule OneMove (valuesAt text vl a b) .value) x y)
-        ∙ played-white rule text pr vl p e (ap (λ (z : List ℕ). same (readIdentifier z) (0x57 ∷ [])) (sym i) ∙ h)
+    pub found-some : (mine ≡ Nothing → ⊥) → r ≡ movedBy mine v → r ≡ playedAt rule text pr vl p
+    unfolding moverOf
+    found-some h w = go (same nm (0x42 ∷ [])) refl (same nm (0x57 ∷ [])) refl mine-is
+      where
+        nm : List ℕ
+        nm = name rule text pr vl p
 
-  pub found-neither : same (readIdentifier id) (0x42 ∷ []) ≡ false → same (readIdentifier id) (0x57 ∷ []) ≡ false → Nothing ≡ playedAt rule text pr vl p
-  found-neither h k =
-      played-neither rule text pr vl p (ap (λ (z : List ℕ). same (readIdentifier z) (0x42 ∷ [])) (sym i) ∙ h) (ap (λ (z : List ℕ). same (readIdentifier z) (0x57 ∷ [])) (sym i) ∙ k)
+        go : (t : Bool) → same nm (0x42 ∷ []) ≡ t → (s : Bool) → same nm (0x57 ∷ []) ≡ s → mine ≡ pick t Black (pick s White Nothing) → r ≡ playedAt rule text pr vl p
+        go true a s b z = w ∙ ap₂ movedBy z value-is ∙ played-black rule text pr vl p e a
+        go false a true b z = w ∙ ap₂ movedBy z value-is ∙ played-white rule text pr vl p e b
+        go false a false b z = absurd (h z)
 
 -- the first property of the next root
 module _ (tr nd : List ℕ) (m r n : ℕ) where

@@ -1,5 +1,6 @@
 -- What the steps of counting promise each other.
-use Rattle.lists.specs.Prelude.{ℕ, _+_, _/_, _<_, _≤_, _≡_, List, ltb, length, pick}
+use Rattle.lists.specs.Prelude.{ℕ, _+_, _/_, _<_, _≤_, _≡_, List, [], _∷_, ltb, length, pick}
+use Rattle.lists.specs.Same.{same}
 use Rattle.values.specs.Read.{readIdentifier}
 use Rattle.parts_props.specs.Props.{identifierAt}
 use Rattle.parts.specs.Rows.{valuesAt}
@@ -10,6 +11,10 @@ use Rattle.season_tally.specs.declared.Moves.{Moves}
 use Rattle.season_tally.specs.declared.Played.{Played}
 use Rattle.season_tally.specs.declared.Played.the-variants.{Black, White, Passed, Nothing}
 use Rattle.season_tally.specs.Tally.{playedBy, isBlack, isWhite, isPassed}
+
+-- whose move a read identifier names: that of B, of W, or none
+unfoldable pub moverOf : (name : List ℕ) → Played
+moverOf name = pick (same name (0x42 ∷ [])) Black (pick (same name (0x57 ∷ [])) White Nothing)
 
 -- what property p counts as under a rule, by its row
 unfoldable pub playedAt : (rule : ℕ) (text pr vl : List ℕ) → ℕ → Played

@@ -1,5 +1,5 @@
 -- The tally of a record: by the read identifier and the Go value of each property, as SCOPE 97 numbers them. Properties are counted, not nodes.
-use Rattle.lists.specs.Prelude.{ℕ, Bool, List, [], _∷_, length, getD, pick}
+use Rattle.lists.specs.Prelude.{ℕ, _≡_, Bool, List, [], _∷_, length, getD, pick}
 use Rattle.lists.specs.Same.{same}
 use Rattle.values.specs.Read.{readIdentifier}
 use Rattle.go_points.specs.declared.Value.{Value}
@@ -10,11 +10,16 @@ use Rattle.tables.specs.Memory.{Memory}
 use Rattle.fit.specs.Fit.{Fit}
 use Rattle.fit.specs.Record.{recordIn}
 use Rattle.ask.specs.Ask.{noProp, goAt}
+use Rattle.serialize.specs.Form.{writing, written, output}
+use Rattle.serialize.specs.declared.Written.{Written}
+use Rattle.serialize.specs.declared.Written.the-variants.{Wrote, Refused}
 use Rattle.season_totals.specs.declared.Tally.{Tally}
 use Rattle.season_tally.specs.declared.Played.{Played}
 use Rattle.season_tally.specs.declared.Played.the-variants.{Black, White, Passed, Nothing}
 use Rattle.season_tally.specs.declared.TallyAnswer.{TallyAnswer}
 use Rattle.season_tally.specs.declared.TallyAnswer.the-variants.{Tallied, NotFitting}
+use Rattle.season_tally.specs.declared.WrittenTally.{WrittenTally}
+use Rattle.season_tally.specs.declared.WrittenTally.the-variants.{Done, Undone}
 
 -- a value of a colour's move: a point is that colour's, a pass is a pass; an invalid one counts nowhere
 abbrev pub movedBy : (mine : Played) → Value → Played
@@ -69,3 +74,13 @@ tallyOf ts =
 -- 19 where the tables don't fit the text, else the tally of the record that they denote
 unfoldable pub tallyAnswer : Memory → TallyAnswer
 tallyAnswer m = pick (Fit m) (Tallied (tallyOf (recordIn m))) NotFitting
+
+-- what the writer answers, with the record's tally where it wrote
+abbrev pub tallyWith : Written → List Tree → WrittenTally
+tallyWith (Wrote n) ts = Done n (tallyOf ts)
+tallyWith (Refused r) ts = Undone r
+
+-- the answer, and the lent bytes after it as the writer leaves them
+pub record WriteTallyIs (m : Memory) (out out′ : List ℕ) (r : WrittenTally) : Type 0 where
+  pub answer : r ≡ tallyWith (written m (length out)) (recordIn m)
+  pub bytes : out′ ≡ output (written m (length out)) (writing (recordIn m)) out

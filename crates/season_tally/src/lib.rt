@@ -2,16 +2,20 @@
 use go_points::Value;
 use go_shape::Shape;
 use season_totals::Tally;
+use serialize::Written;
 use tables::Counts;
+use tables::Reason;
 ghost use mathlib.Core.Path.{_≡_};
 ghost use mathlib.Core.Bool.{true};
+ghost use mathlib.Core.List.{[], _∷_};
 ghost use Prim.Native.Nat.{_-_, _^_, _<_, _≤_};
 ghost use Rattle.tables.specs.Memory.{memory};
+ghost use Rattle.values.specs.Read.{readIdentifier};
 ghost use Rattle.go.specs.Value.{isGo};
 ghost use Rattle.fit.specs.Fit.{Fit};
 ghost use Rattle.fit.specs.Record.{recordIn};
-ghost use Rattle.season_tally.specs.Tally.{movedBy, countsAs, tallyOf, tallyAnswer};
-ghost use Rattle.season_tally.specs.Locals.{RootsLent, playedAt, nextFirst, onePlayed, Goes, Counted, BelowAll};
+ghost use Rattle.season_tally.specs.Tally.{movedBy, countsAs, tallyOf, tallyAnswer, WriteTallyIs};
+ghost use Rattle.season_tally.specs.Locals.{RootsLent, moverOf, playedAt, nextFirst, onePlayed, Goes, Counted, BelowAll};
 
 // What a property counts as: a move of a colour to a point, a pass of either, or nothing.
 pub enum Played {
@@ -25,6 +29,12 @@ pub enum Played {
 pub enum TallyAnswer {
     Tallied(Tally),
     NotFitting,
+}
+
+// A record that was written: how many bytes that took, and its tally; or why it was not.
+pub enum WrittenTally {
+    Done(usize, Tally),
+    Undone(Reason),
 }
 
 // Moves of each colour, and passes.
@@ -55,6 +65,35 @@ fn is_go(rule: u32) -> bool
     (rule == 0) | (rule == 2)
 }
 
+// Whose move one byte names.
+fn letter_mover(b: u8) -> Played
+    ensures { λ r. ⌜ r ≡ moverOf (readIdentifier (b ∷ [])) ⌝ }
+{
+    if b == b'B' {
+        return Played::Black;
+    }
+    if b == b'W' {
+        return Played::White;
+    }
+    Played::Nothing
+}
+
+// Whose move a raw identifier names: that of B, of W, or none. Most are one letter.
+fn mover(identifier: &[u8]) -> Played
+    ensures { λ r. ⌜ r ≡ moverOf (readIdentifier (now (identifier .entry))) ⌝ }
+{
+    if identifier.len() == 1 {
+        return letter_mover(identifier[0]);
+    }
+    if parts_props::reads_as(identifier, b"B") {
+        return Played::Black;
+    }
+    if parts_props::reads_as(identifier, b"W") {
+        return Played::White;
+    }
+    Played::Nothing
+}
+
 // What property p counts as in a tree with this rule.
 fn played_at(rule: u32, text: &[u8], properties: &[u32], values: &[u32], p: usize) -> Played
     ensures { λ r. ⌜ r ≡ playedAt rule (now (text .entry)) (now (properties .entry)) (now (values .entry)) p ⌝ }
@@ -65,18 +104,16 @@ fn played_at(rule: u32, text: &[u8], properties: &[u32], values: &[u32], p: usiz
     if properties.len() / tables::PROPERTY_STRIDE <= p {
         return Played::Nothing;
     }
-    let identifier = parts_props::identifier_at(text, properties, p);
+    let mine = mover(parts_props::identifier_at(text, properties, p));
+    if let Played::Nothing = mine {
+        return Played::Nothing;
+    }
     let first = lists::wide(properties[p * tables::PROPERTY_STRIDE + tables::PROPERTY_FIRST]);
     let count = lists::wide(properties[p * tables::PROPERTY_STRIDE + tables::PROPERTY_COUNT]);
-    if parts_props::reads_as(identifier, b"B") {
-        let v = go::value::value_by(rule, Shape::OneMove, text, values, first, count);
-        return moved(Played::Black, v);
-    }
-    if parts_props::reads_as(identifier, b"W") {
-        let v = go::value::value_by(rule, Shape::OneMove, text, values, first, count);
-        return moved(Played::White, v);
-    }
-    Played::Nothing
+    moved(
+        mine,
+        go::value::value_by(rule, Shape::OneMove, text, values, first, count),
+    )
 }
 
 // One property more.
@@ -217,4 +254,28 @@ pub fn tally(
         return TallyAnswer::NotFitting;
     }
     TallyAnswer::Tallied(count(text, used, counts, trees, nodes, properties, values))
+}
+
+// The tally of a record that is written into `out`: one fitting check for both. Refused as the writer does: 19, 15, 14.
+pub fn write_tally(
+    text: &[u8],
+    used: usize,
+    counts: Counts,
+    trees: &[u32],
+    nodes: &[u32],
+    properties: &[u32],
+    values: &[u32],
+    out: &mut [u8],
+) -> WrittenTally
+    ensures { λ r. ⌜ WriteTallyIs
+        (memory (now (text .entry)) used counts (now (trees .entry)) (now (nodes .entry)) (now (properties .entry)) (now (values .entry)))
+        (now (out .entry)) (now (out .exit)) r ⌝ }
+{
+    match serialize::write(text, used, counts, trees, nodes, properties, values, out) {
+        Written::Refused(reason) => WrittenTally::Undone(reason),
+        Written::Wrote(n) => {
+            let tally = count(text, used, counts, trees, nodes, properties, values);
+            WrittenTally::Done(n, tally)
+        }
+    }
 }

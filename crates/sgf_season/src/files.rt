@@ -1,6 +1,51 @@
 // The line of a file.
 use season_totals::Line;
 
+// Rows, and bytes of a writing, that are enough for most texts of 8,192 bytes, in a sixth of the memory: of 2,048 nodes and properties, 4,096 values.
+fn most_node_rows() -> [u32; 12288] {
+    [0u32; 12288]
+}
+
+// Of trees, 1,024.
+fn most_tree_rows() -> [u32; 2048] {
+    [0u32; 2048]
+}
+
+// Of properties, and of values.
+fn most_rows() -> [u32; 8192] {
+    [0u32; 8192]
+}
+
+// Of a writing.
+fn most_bytes() -> [u8; 16384] {
+    [0u8; 16384]
+}
+
+// Of a text, in these; 14 where they are too few.
+fn quick_line(text: &[u8]) -> Line {
+    let mut trees = most_tree_rows();
+    let mut nodes = most_node_rows();
+    let mut properties = most_rows();
+    let mut values = most_rows();
+    let mut out = most_bytes();
+    season::line(
+        text,
+        &mut trees,
+        &mut nodes,
+        &mut properties,
+        &mut values,
+        &mut out,
+    )
+}
+
+fn is_no_room(line: Line) -> bool {
+    match line {
+        Line::Unread => false,
+        Line::Refused(n) => n == 14,
+        Line::Counted(_, _) => false,
+    }
+}
+
 // Rows enough for any text of 8,192 bytes: of trees, properties and values.
 fn few_rows() -> [u32; 16384] {
     [0u32; 16384]
@@ -54,7 +99,11 @@ fn open_line(file: i32, text: &mut [u8]) -> Line {
     if 8192 < n {
         return large_line(tool::first(text, n));
     }
-    small_line(tool::first(text, n))
+    let line = quick_line(tool::first(text, n));
+    if is_no_room(line) {
+        return small_line(tool::first(text, n));
+    }
+    line
 }
 
 // A folder opens, and the first read of it fails.

@@ -1,0 +1,32 @@
+-- `season_tally::write_tally` meets its contract. Assumes nothing.
+use Rattle.lists.proofs.Prelude.{needs}
+use Rattle.tables.specs.Memory.{memory}
+use Rattle.season_tally.proofs.Writes.{wrote-fits, tally-undone, tally-done}
+use Rattle.season_tally.proofs.write_tally.Statement.{statement}
+use Rattle.season_tally.proofs.write_tally.Tie as tie
+
+count-requires : tie.Need-count-requires
+count-requires c κs = wrote-fits _ _ _ _ (c .before .before .before .before .before .write .ensures) (c .before .n .given .1)
+
+returns : tie.Need-returns
+returns c =
+    let args = c .before .before .before .before .before .before .before .before .before .before .before .before .before .args in
+    tally-undone (memory (args .text .now) (args .used) (args .counts) (args .trees .now) (args .nodes .now) (args .properties .now) (args .values .now)) (args .out .now) _ (c .before .before .before .before .before .write .ensures) (c .before .reason .given .1)
+
+returns-2 : tie.Need-returns-2
+returns-2 c =
+    let args = c .before .before .before .before .before .before .before .before .before .before .before .before .before .before .args in
+    tally-done (memory (args .text .now) (args .used) (args .counts) (args .trees .now) (args .nodes .now) (args .properties .now) (args .values .now)) (args .out .now) _ (c .before .before .before .before .before .before .write .ensures) (c .before .before .n .given .1) (c .count .ensures)
+
+pub write-tally-spec : {M : Type 1} → statement M
+write-tally-spec =
+    tie.close
+    (tie.spec
+    (λ c κs. search needs)
+    (λ c. search needs)
+    (λ c. search needs)
+    count-requires
+    (λ c. search needs)
+    returns
+    (λ c. search needs)
+    returns-2)
