@@ -1,4 +1,4 @@
--- The product modulo 2 to the 64 by halves of 32 bits, and that with the prime. Assumes nothing.
+-- The product modulo 2 to the 64 by halves of 32 bits. Assumes nothing.
 use Rattle.lists.proofs.Prelude.{ℕ, _+_, _*_, _/_, _%_, _^_, _<_, _≤_, _≡_, sym, ap, _∙_, arith}
 use native.Mathlib.Nat.{add-mul, mul-comm, mul-right-comm, mul-le-mul, add-mul-mod-self-right}
 
@@ -41,9 +41,3 @@ halves-fit x y h k =
     let q : y ≤ 4294967295 = omega arith in
     let r : x * y ≤ 4294967295 * 4294967295 = mul-le-mul p q in
     omega arith
-
--- the product with the prime, by 2 ^ 40 and 435
-pub prime-parts : (h : ℕ) → (h % 16777216 * 1099511627776 + (h * 435) % 2 ^ 64) % 2 ^ 64 ≡ (h * 1099511628211) % 2 ^ 64
-prime-parts h =
-    let e : h * 1099511628211 ≡ h % 16777216 * 1099511627776 + (h * 435) % 2 ^ 64 + (h / 16777216 + h * 435 / 2 ^ 64) * 2 ^ 64 = omega arith in
-    sym (ap (λ v. v % 2 ^ 64) e ∙ add-mul-mod-self-right (h % 16777216 * 1099511627776 + (h * 435) % 2 ^ 64) (h / 16777216 + h * 435 / 2 ^ 64) (2 ^ 64))

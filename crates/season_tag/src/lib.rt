@@ -16,21 +16,14 @@ pub fn product(a: u64, b: u64) -> u64
     let x = a1 * b0 % 0x1_0000_0000;
     let y = a0 * b1 % 0x1_0000_0000;
     let m = (x + y) % 0x1_0000_0000;
-    std::num::wrapping_add_u64(a0 * b0, m * 0x1_0000_0000)
-}
-
-// The product with the prime, which is 2 to the 40 and 435.
-fn by_prime(h: u64) -> u64
-    ensures { λ r. ⌜ r ≡ (h * 1099511628211) % 2 ^ 64 ⌝ }
-{
-    std::num::wrapping_add_u64(h % 0x100_0000 * 0x100_0000_0000, product(h, 435))
+    std::num::wrapping_add_u64(m * 0x1_0000_0000, a0 * b0)
 }
 
 // One byte more: exclusive-or, then the product.
 fn step(h: u64, b: u8) -> u64
     ensures { λ r. ⌜ r ≡ tagStep h b ⌝ }
 {
-    by_prime(h ^ (b as u64))
+    product(h ^ (b as u64), 1099511628211)
 }
 
 // The tag of the bytes. The start is a product with 1 for the compiler's sake: where the prime is the only second factor

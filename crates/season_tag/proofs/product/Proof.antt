@@ -1,6 +1,5 @@
 -- `season_tag::product` meets its contract. Assumes nothing.
-use Rattle.lists.proofs.Prelude.{_+_, _*_, _/_, _%_, _^_, ap, _∙_, arith, needs}
-use native.Mathlib.Nat.{add-comm}
+use Rattle.lists.proofs.Prelude.{_/_, _%_, _∙_, arith, needs}
 use Rattle.season_tag.proofs.Halves.{product-right, halves-fit}
 use Rattle.season_tag.proofs.product.Statement.{statement}
 use Rattle.season_tag.proofs.product.Tie as tie
@@ -11,15 +10,12 @@ mul-x c = record { fits = halves-fit (c .args .a / 4294967296) (c .args .b % 429
 mul-y : tie.Need-mul-y
 mul-y c = record { fits = halves-fit (c .args .a % 4294967296) (c .args .b / 4294967296) (omega arith) (omega arith) }
 
-mul-low : tie.Need-mul-wrapping-add-u64
+mul-low : tie.Need-mul-wrapping-add-u64-2
 mul-low c = record { fits = halves-fit (c .args .a % 4294967296) (c .args .b % 4294967296) (omega arith) (omega arith) }
 
 returns : tie.Need-returns
-returns c =
-    let a = c .before .args .a in
-    let b = c .before .args .b in
-    c .wrapping-add-u64 .ensures ∙ ap (λ v. v % 2 ^ 64) (add-comm (a % 4294967296 * (b % 4294967296)) _) ∙ product-right a b
+returns c = c .wrapping-add-u64 .ensures ∙ product-right (c .before .args .a) (c .before .args .b)
 
 pub product-spec : {M : Type 1} → statement M
 product-spec =
-    tie.close (tie.spec mul-x mul-y (λ c. search needs) mul-low (λ c. search needs) (λ c κs. search needs) returns)
+    tie.close (tie.spec mul-x mul-y (λ c. search needs) (λ c. search needs) mul-low (λ c κs. search needs) returns)
