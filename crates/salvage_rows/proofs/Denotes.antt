@@ -5,7 +5,7 @@ use Rattle.parser.specs.Game.{gameVals, gameProps}
 use Rattle.fit.specs.Record.{rawOf, rawsOf}
 use Rattle.fit_rule.specs.Rule.{propertyOf}
 use Rattle.salvage_mend.specs.Mend.{readsGM, gmsAmong}
-use Rattle.salvage_rows.specs.Game.{gmsIn, gameOfValues, gameBy, gameIn}
+use Rattle.salvage_rows.specs.LocalsGM.{gmsIn, gameOfValues, gameBy, gameIn}
 
 gms-are : (ps : List Prop) → gmsIn (map propertyOf ps) ≡ map rawsOf (gmsAmong ps)
 gms-are [] = refl

@@ -9,7 +9,7 @@ use Rattle.parser_game.specs.declared.GameType.{GameType}
 use Rattle.parser_game.specs.declared.GameType.the-variants.{Is, Refused}
 use Rattle.fit_rule.specs.Rule.{rootPropertiesAt}
 use Rattle.salvage_mend.specs.Mend.{keptGame, gmsBad}
-use Rattle.salvage_rows.specs.Game.{gameIn, keptAt}
+use Rattle.salvage_rows.specs.LocalsGM.{gameIn, keptAt}
 
 -- the type and the badness, of the code's answer
 abbrev keptOf : GameType → ℕ

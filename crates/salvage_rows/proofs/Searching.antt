@@ -11,7 +11,7 @@ use Rattle.parser.specs.Game.{Game, is, noGame, GM, gameOf}
 use Rattle.parser_game.specs.LocalsGame.{typeOf}
 use Rattle.parser_game.specs.declared.GameType.{GameType}
 use Rattle.parser_game.specs.declared.GameType.the-variants.{Is, Refused}
-use Rattle.salvage_rows.specs.Game.{gmsIn, gameOfValues, gameBy, gameIn}
+use Rattle.salvage_rows.specs.LocalsGM.{gmsIn, gameOfValues, gameBy, gameIn}
 use Rattle.salvage_rows.specs.Locals.{NextGM}
 
 module _ (text pr vl : List ℕ) where

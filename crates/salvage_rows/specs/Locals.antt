@@ -3,7 +3,7 @@ use Rattle.lists.specs.Prelude.{ℕ, _-_, _≤_, _<_, true, _≡_, List, [], _�
 use Rattle.tables.specs.Each.{tabulate}
 use Rattle.parts_props.specs.Props.{namedAt, propertyAt}
 use Rattle.parser.specs.Game.{GM}
-use Rattle.salvage_rows.specs.Game.{gmsIn}
+use Rattle.salvage_rows.specs.LocalsGM.{gmsIn}
 
 -- r is the first GM of the rows from `from` up to `to`, or not below `to`
 pub record NextGM (text pr : List ℕ) (from to r : ℕ) : Type 0 where

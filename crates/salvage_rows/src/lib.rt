@@ -4,7 +4,7 @@ ghost use Rattle.parts.specs.Rows.{valuesAt};
 ghost use Rattle.parts_props.specs.Props.{namedAt, propertiesAt};
 ghost use Rattle.parser.specs.Game.{GM};
 ghost use Rattle.parser_game.specs.LocalsGame.{typeOf};
-ghost use Rattle.salvage_rows.specs.Game.{gameOfValues, gameIn, badIn, keptAt};
+ghost use Rattle.salvage_rows.specs.LocalsGM.{gameOfValues, gameIn, badIn, keptAt};
 ghost use Rattle.salvage_rows.specs.Locals.{NextGM};
 use parser_game::GameType;
 use tables::Reason;

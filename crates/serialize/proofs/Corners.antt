@@ -20,7 +20,7 @@ use Rattle.fit.proofs.Clauses.{Clauses, value-in}
 use Rattle.fit_spans.proofs.Ranges.{gapless-in}
 use Rattle.serialize_values.specs.LocalsForm.{rawsText}
 use Rattle.serialize_values.proofs.Plain.{corner-byte}
-use Rattle.serialize.specs.LocalsWalk.{texts, cornerEnd, readNameAt, valuesText, propText, keeps, keptText, badAt, propsText, startText, endsBefore, nodeBy}
+use Rattle.serialize.specs.LocalsWalk.{texts, cornerEnd, readNameAt, valuesText, propText, isKept, keptText, badAt, propsText, startText, endsBefore, nodeBy}
 
 -- a byte that a value ends with which reads as `tt`
 abbrev cornerByte : ℕ → Bool
@@ -163,7 +163,7 @@ module _ {t : List ℕ} {c : Counts} {tr nd pr vl : List ℕ} (f : Clauses t c t
 
   kept-calm : (mends bad : Bool) (p : ℕ) → p < c .properties → keptText mends bad t pr vl 0 p ≡ keptText mends bad t pr vl 2 p
   unfolding keptText
-  kept-calm mends bad p h = ap (λ (z : List ℕ). pick (keeps mends bad (readNameAt t pr p)) z []) (prop-calm p h)
+  kept-calm mends bad p h = ap (λ (z : List ℕ). pick (isKept mends bad (readNameAt t pr p)) z []) (prop-calm p h)
 
   pub node-calm : (mends : Bool) (k : ℕ) → k < c .nodes → nodeBy mends t nd pr vl 0 k ≡ nodeBy mends t nd pr vl 2 k
   unfolding nodeBy propsText

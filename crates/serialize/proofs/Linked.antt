@@ -19,7 +19,7 @@ use Rattle.go_size.specs.Root.{sizeIn}
 use Rattle.fit_rule.specs.Rule.{ruleBy, sizeOfTree, ruleOf, ruleAt, rootPropertiesAt}
 use Rattle.fit_rule.proofs.Denotes.{tabulate-alike, properties-at, root-properties, rule-tree}
 use Rattle.salvage_mend.specs.Mend.{rootGame, keptGame, gmsBad, mendProps, mendNode, mendTree, mended}
-use Rattle.salvage_rows.specs.Game.{gameIn}
+use Rattle.salvage_rows.specs.LocalsGM.{gameIn}
 use Rattle.salvage_rows.proofs.Again.{size-mended}
 use Rattle.salvage_rows.proofs.Denotes.{game-props}
 use Rattle.serialize.specs.Form.{formProp, formNode, formTree, writing}

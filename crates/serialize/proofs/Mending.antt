@@ -1,5 +1,7 @@
 -- The answer of the mended record's writer: 19, 1, 14, then the writing; and its length. Assumes nothing.
 use Rattle.lists.proofs.Prelude.{ℕ, _^_, _≤_, _<_, Bool, true, false, not, List, [], _++_, _≡_, refl, sym, ap, ap₂, _∙_, subst, arith, ltb, length, drop, lt-ltb, le-ltb, pick}
+use Rattle.lists.specs.Once.{Once}
+use Rattle.lists.proofs.Once.{once-is}
 use Rattle.store_bytes.specs.LocalsWrote.{Wrote}
 use Rattle.store_bytes.proofs.Written.{wrote-all}
 use Rattle.tables.specs.Numbers.{textLimit}
@@ -8,7 +10,7 @@ use Rattle.tables.specs.Memory.{Memory}
 use Rattle.fit.specs.Fit.{Fit}
 use Rattle.fit.specs.Record.{textIn, recordIn}
 use Rattle.salvage_mend.specs.Mend.{mended}
-use Rattle.serialize.specs.Form.{writing, amplest}
+use Rattle.serialize.specs.Form.{writing, amplest, output}
 use Rattle.serialize.specs.Mended.{writtenMended, mendedLength, MendedIs}
 use Rattle.serialize.specs.LocalsWalk.{linksText}
 use Rattle.serialize.specs.declared.Written.{Written}
@@ -87,3 +89,13 @@ module _ (m : Memory) where
               is = ap Done (q ∙ same) ∙ decided (length out) (short-enough h) (le-ltb (length out) (length w) (omega (arith, same)));
               bytes = z ∙ ap₂ (λ (u : List ℕ) (i : ℕ). u ++ drop i out) (mended-is m fit) (sym q);
             }
+
+-- ---- no second answer
+
+pub write-mended-once : (m : Memory) (out : List ℕ) (r s : Written) (x y : List ℕ) → MendedIs m out x r → MendedIs m out y s → (r ≡ s) × (x ≡ y)
+write-mended-once m out r s x y p q =
+    let e : r ≡ s = p .is ∙ sym (q .is) in
+    (e, p .bytes ∙ ap (λ (a : Written). output a (w m) out) e ∙ sym (q .bytes))
+
+pub mended-length-once : (m : Memory) → Once (λ (r : Written). r ≡ mendedLength m)
+mended-length-once m = once-is (mendedLength m)

@@ -9,7 +9,7 @@ use Rattle.fit_nodes.specs.Locals.{Ruled}
 use Rattle.go_size.specs.declared.RootSize.{RootSize}
 use Rattle.go_size.specs.declared.RootSize.the-variants.{Absent}
 use Rattle.fit_rule.specs.Rule.{ttPasses, ruleBy, sizeAt}
-use Rattle.salvage_rows.specs.Game.{keptAt}
+use Rattle.salvage_rows.specs.LocalsGM.{keptAt}
 use Rattle.serialize.specs.LocalsWalk.{rootsBelow, typeTold, ruleTold, treeRule}
 
 -- ---- how many roots

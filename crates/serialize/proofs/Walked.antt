@@ -14,8 +14,8 @@ use Rattle.fit_nodes.proofs.Rule.{rule-at, rule-before}
 use Rattle.fit_nodes.specs.Nodes.{parentRight}
 use Rattle.fit_nodes.specs.Locals.{Ruled}
 use Rattle.serialize.specs.Locals.{Placed, Above, NodesHeld}
-use Rattle.serialize.specs.LocalsWalk.{texts, rootsBelow, ruleTold, readNameAt, valuesText, propText, keeps, keptText, badAt, propsText, startText, endsBefore, nodeBy, nodeText, linksText, hasName}
-use Rattle.salvage_rows.specs.Game.{badIn}
+use Rattle.serialize.specs.LocalsWalk.{texts, rootsBelow, ruleTold, readNameAt, valuesText, propText, isKept, keptText, badAt, propsText, startText, endsBefore, nodeBy, nodeText, linksText, hasName}
+use Rattle.salvage_rows.specs.LocalsGM.{badIn}
 use Rattle.serialize_values.specs.LocalsForm.{rawsText}
 use Rattle.serialize_values.proofs.Writing.{writing-first, writing-is, writing-next, writing-last}
 use Rattle.tables.specs.LocalsNames.{NameHeld}
@@ -62,9 +62,9 @@ module _ (t pr vl : List ℕ) (rule p : ℕ) {a e first count : ℕ} (ea : a ≡
 
 -- whether it is written
 module _ (mends bad : Bool) (t pr vl : List ℕ) (rule p : ℕ) {a e : ℕ} (ea : a ≡ nameFromAt pr p) (ee : e ≡ nameToAt pr p) {b : Bool}
-    (h : b ≡ keeps mends bad (readIdentifier (take (e - a) (drop a t)))) where
-  kept-is : b ≡ keeps mends bad (readNameAt t pr p)
-  kept-is = h ∙ ap (keeps mends bad) (name-part t pr p ea ee)
+    (h : b ≡ isKept mends bad (readIdentifier (take (e - a) (drop a t)))) where
+  kept-is : b ≡ isKept mends bad (readNameAt t pr p)
+  kept-is = h ∙ ap (isKept mends bad) (name-part t pr p ea ee)
 
   pub kept-here : b ≡ true → propText t pr vl rule p ≡ keptText mends bad t pr vl rule p
   unfolding keptText

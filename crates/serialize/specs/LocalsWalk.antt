@@ -9,7 +9,7 @@ use Rattle.tables.specs.Each.{each}
 use Rattle.parser.specs.Game.{GM}
 use Rattle.fit_rule.specs.Rule.{ruleBy, sizeAt}
 use Rattle.go_size.specs.declared.RootSize.the-variants.{Absent}
-use Rattle.salvage_rows.specs.Game.{badIn, keptAt}
+use Rattle.salvage_rows.specs.LocalsGM.{badIn, keptAt}
 use Rattle.serialize_values.specs.LocalsForm.{rawsText}
 use Rattle.tables.specs.Columns.{gameAt, parentAt, childAt, siblingAt, firstPropAt, propCountAt, nameFromAt, nameToAt, firstValAt, valCountAt, valFromAt, valToAt}
 
@@ -27,7 +27,7 @@ rootsBelow nd (suc k) = let r = rootsBelow nd k in pick (eqb (parentAt nd k) non
 abbrev pub cornerEnd : (t vl : List ℕ) → ℕ → Bool
 cornerEnd t vl v = let b = getD t (valToAt vl v - 1) 0 in leb (valToAt vl v - valFromAt vl v) 5 && (eqb b 0x74 || eqb b 0x5c)
 
--- the game type of tree r: its own; where the record is mended, the one that its root keeps
+-- the game type of tree r: its own; where the record is mended, the one that its root isKept
 abbrev pub typeTold : (mends : Bool) (t tr nd pr vl : List ℕ) → ℕ → ℕ
 typeTold mends t tr nd pr vl r = pick mends (keptAt t tr nd pr vl r) (gameAt tr r)
 
@@ -56,12 +56,12 @@ unfoldable pub propText : (t pr vl : List ℕ) → (rule p : ℕ) → List ℕ
 propText t pr vl rule p = readNameAt t pr p ++ valuesText t pr vl rule p
 
 -- a property with this read identifier is written: any is; where the record is mended, one that stays (salvage_mend/specs/Mend.propStays)
-abbrev pub keeps : (mends bad : Bool) → List ℕ → Bool
-keeps mends bad w = not mends || (not (leb (length w) 0) && not (bad && same w GM))
+abbrev pub isKept : (mends bad : Bool) → List ℕ → Bool
+isKept mends bad w = not mends || (not (leb (length w) 0) && not (bad && same w GM))
 
 -- property p, where it is written
 unfoldable pub keptText : (mends bad : Bool) (t pr vl : List ℕ) → (rule p : ℕ) → List ℕ
-keptText mends bad t pr vl rule p = pick (keeps mends bad (readNameAt t pr p)) (propText t pr vl rule p) []
+keptText mends bad t pr vl rule p = pick (isKept mends bad (readNameAt t pr p)) (propText t pr vl rule p) []
 
 -- node k is a root of a record that is mended, and its GMs are removed
 unfoldable pub badAt : (mends : Bool) (t nd pr vl : List ℕ) → ℕ → Bool

@@ -10,7 +10,7 @@ use Rattle.serialize.specs.Form.{writing, amplest, output}
 use Rattle.serialize.specs.declared.Written.{Written}
 use Rattle.serialize.specs.declared.Written.the-variants.{Wrote, Refused}
 
--- the answer over lent memory: the first refusal that applies, else how many bytes are written; no identifier is empty (SCOPE 280, 287)
+-- the answer over lent memory: the first refusal that applies, else how many bytes are written; no identifier is empty (SCOPE 287)
 abbrev pub writtenMended : Memory → (room : ℕ) → Written
 writtenMended m room =
     pick (not (Fit m)) (Refused NotFitting)
@@ -22,7 +22,7 @@ writtenMended m room =
 abbrev pub mendedLength : Memory → Written
 mendedLength m = writtenMended m amplest
 
--- the answer and the lent bytes: a refusal changes none
+-- the answer and the lent bytes: a refusal changes none (SCOPE 287)
 pub record MendedIs (m : Memory) (out out′ : List ℕ) (r : Written) : Type 0 where
   pub is : r ≡ writtenMended m (length out)
   pub bytes : out′ ≡ output r (writing (mended (recordIn m))) out

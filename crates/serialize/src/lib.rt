@@ -128,8 +128,9 @@ pub fn write_mended(
     let used_text = &text[..used];
     let n = counts.nodes;
     let corners = walk::any_corner(used_text, values, counts.values);
+    let nowhere = &mut out[..0];
     let need = walk::put_all(
-        &mut out[..0],
+        nowhere,
         used_text,
         trees,
         nodes,
@@ -178,7 +179,7 @@ pub fn mended_length(
     let used_text = &text[..used];
     let corners = walk::any_corner(used_text, values, counts.values);
     let mut none = [0u8; 1];
-    let need = walk::put_all(
+    let count = walk::put_all(
         &mut none[..0],
         used_text,
         trees,
@@ -189,8 +190,8 @@ pub fn mended_length(
         corners,
         true,
     );
-    if tables::TEXT_LIMIT < need {
+    if tables::TEXT_LIMIT < count {
         return Written::Refused(Reason::TextTooLong);
     }
-    Written::Wrote(need)
+    Written::Wrote(count)
 }

@@ -6,7 +6,7 @@ ghost use lib.ListN.{length};
 ghost use Rattle.values.specs.Read.{readIdentifier};
 ghost use Rattle.store_bytes.specs.LocalsWrote.{Wrote};
 ghost use Rattle.tables.specs.LocalsNames.{NameHeld};
-ghost use Rattle.serialize.specs.LocalsWalk.{keeps, namesGood};
+ghost use Rattle.serialize.specs.LocalsWalk.{isKept, namesGood};
 use store_bytes::put_byte;
 
 // The uppercase letters of an identifier.
@@ -42,7 +42,7 @@ fn is_named(name: &[u8]) -> bool
 
 // Whether a property with this identifier is written: any is; where the record is mended, one that stays.
 pub fn is_kept(mends: bool, bad: bool, name: &[u8]) -> bool
-    ensures { λ r. ⌜ r ≡ keeps mends bad (readIdentifier (now (name .entry))) ⌝ }
+    ensures { λ r. ⌜ r ≡ isKept mends bad (readIdentifier (now (name .entry))) ⌝ }
 {
     if !mends {
         return true;

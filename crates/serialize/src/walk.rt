@@ -93,7 +93,7 @@ fn rule_told(
     fit_rule::rule_of(game, RootSize::Absent)
 }
 
-// The rule at node k: asked at a root, which is that of the tree behind `roots` others; else that of the node before.
+// The rule at node k: asked at a root, which is that of this tree; else that of the node before.
 fn rule_with(
     corners: bool,
     mends: bool,
@@ -103,25 +103,16 @@ fn rule_with(
     properties: &[u32],
     values: &[u32],
     k: usize,
-    roots: usize,
+    tree: usize,
     rule: u32,
 ) -> u32
     requires { ⌜ k < length (now nodes) / nodeStride ⌝ }
     ensures { λ r. ⌜ r ≡ pick (eqb (parentAt (now (nodes .entry)) k) none)
         (ruleTold corners mends
-        (now (text .entry)) (now (trees .entry)) (now (nodes .entry)) (now (properties .entry)) (now (values .entry)) roots) rule ⌝ }
+        (now (text .entry)) (now (trees .entry)) (now (nodes .entry)) (now (properties .entry)) (now (values .entry)) tree) rule ⌝ }
 {
     if nodes[k * tables::NODE_STRIDE] == tables::NONE {
-        return rule_told(
-            corners,
-            mends,
-            text,
-            trees,
-            nodes,
-            properties,
-            values,
-            roots,
-        );
+        return rule_told(corners, mends, text, trees, nodes, properties, values, tree);
     }
     rule
 }

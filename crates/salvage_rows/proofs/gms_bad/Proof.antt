@@ -1,7 +1,7 @@
 -- `salvage_rows::gms_bad` meets its contract. Assumes nothing.
 use Rattle.lists.proofs.Prelude.{needs}
 use Rattle.parts_props.specs.Props.{propertiesAt}
-use Rattle.salvage_rows.specs.Game.{gameIn}
+use Rattle.salvage_rows.specs.LocalsGM.{gameIn}
 use Rattle.salvage_rows.proofs.Kept.{good-told, bad-told}
 use Rattle.salvage_rows.proofs.gms_bad.Statement.{statement}
 use Rattle.salvage_rows.proofs.gms_bad.Tie as tie

@@ -1,7 +1,7 @@
 -- `salvage_rows::kept_type` meets its contract. Assumes nothing.
 use Rattle.lists.proofs.Prelude.{needs}
 use Rattle.parts_props.specs.Props.{propertiesAt}
-use Rattle.salvage_rows.specs.Game.{gameIn}
+use Rattle.salvage_rows.specs.LocalsGM.{gameIn}
 use Rattle.salvage_rows.proofs.Kept.{type-told, none-told, kept-no-tree, kept-no-node, kept-there}
 use Rattle.salvage_rows.proofs.kept_type.Statement.{statement}
 use Rattle.salvage_rows.proofs.kept_type.Tie as tie
