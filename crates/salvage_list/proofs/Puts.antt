@@ -8,7 +8,7 @@ use Rattle.lexer.specs.Token.{Prop}
 use Rattle.parser.specs.Game.{GM}
 use Rattle.salvage_mend.specs.Changes.{Change, emptyRoot, unnamed, removedGM, spelledAnew, cutShort, tailDropped, propChange}
 use Rattle.salvage_list.specs.ListRows.{changeRow, changeRows}
-use Rattle.salvage_list.specs.LocalsPuts.{EntriesPut, kindOf, rootIf, cutIf}
+use Rattle.salvage_list.specs.LocalsPuts.{EntriesPut, entryKind, rootIf, cutIf}
 
 row-three : (c : Change) → length (changeRow c) ≡ 3
 row-three (cutShort i o) = refl
@@ -63,16 +63,16 @@ entry-by p false true c = ((λ e. absurd (omega arith)), (λ n. (removedGM p, re
 entry-by p false false true = ((λ e. refl), (λ n. absurd (n refl)))
 entry-by p false false false = ((λ e. absurd (omega arith)), (λ n. (spelledAnew p, refl, refl)))
 
-pub entry-of : (bad : Bool) (p : ℕ) (x : Prop) → Entry (kindOf bad (x .name)) p (propChange bad p x)
+pub entry-of : (bad : Bool) (p : ℕ) (x : Prop) → Entry (entryKind bad (x .name)) p (propChange bad p x)
 entry-of bad p x =
-    subst⁻¹ (λ (a : Bool). Entry (kindOf bad (x .name)) p (pick a (unnamed p ∷ []) (pick (bad && same (readIdentifier (x .name)) GM) (removedGM p ∷ []) (pick (same (readIdentifier (x .name)) (x .name)) [] (spelledAnew p ∷ [])))))
+    subst⁻¹ (λ (a : Bool). Entry (entryKind bad (x .name)) p (pick a (unnamed p ∷ []) (pick (bad && same (readIdentifier (x .name)) GM) (removedGM p ∷ []) (pick (same (readIdentifier (x .name)) (x .name)) [] (spelledAnew p ∷ [])))))
     (none-same (readIdentifier (x .name)))
     (entry-by p (same (readIdentifier (x .name)) []) (bad && same (readIdentifier (x .name)) GM) (same (readIdentifier (x .name)) (x .name)))
 
-pub prop-none : {t : List ℕ} {e : ℕ} (bad : Bool) (p : ℕ) (x : Prop) {kind : ℕ} → kind ≡ kindOf bad (x .name) → kind ≡ 0 → EntriesPut t e (propChange bad p x) e t
+pub prop-none : {t : List ℕ} {e : ℕ} (bad : Bool) (p : ℕ) (x : Prop) {kind : ℕ} → kind ≡ entryKind bad (x .name) → kind ≡ 0 → EntriesPut t e (propChange bad p x) e t
 prop-none {t} {e} bad p x q z = puts-as (puts-none t e) (sym (entry-of bad p x .0 (sym q ∙ z)))
 
-pub prop-one : {t t′ : List ℕ} {e r : ℕ} (bad : Bool) (p : ℕ) (x : Prop) {kind : ℕ} → kind ≡ kindOf bad (x .name) → (kind ≡ 0 → ⊥)
+pub prop-one : {t t′ : List ℕ} {e r : ℕ} (bad : Bool) (p : ℕ) (x : Prop) {kind : ℕ} → kind ≡ entryKind bad (x .name) → (kind ≡ 0 → ⊥)
     → (r ≡ e + 1) × PutWhole t (e * 3) (kind ∷ p ∷ 0 ∷ []) t′ → EntriesPut t e (propChange bad p x) r t′
 prop-one bad p x {kind} q n h =
     let y = entry-of bad p x .1 (λ z. n (q ∙ z)) in
@@ -107,22 +107,22 @@ prop-few bad k p = go (leb (length (readIdentifier (p .name))) 0) (bad && same (
 -- ---- the kind of the entry of a property, test by test
 
 module _ (bad : Bool) (w : List ℕ) {a : Bool} (ea : a ≡ same (readIdentifier w) []) where
-  kind-by : {x : Bool} → a ≡ x → pick x 2 (pick (bad && same (readIdentifier w) GM) 4 (pick (same (readIdentifier w) w) 0 3)) ≡ kindOf bad w
+  kind-by : {x : Bool} → a ≡ x → pick x 2 (pick (bad && same (readIdentifier w) GM) 4 (pick (same (readIdentifier w) w) 0 3)) ≡ entryKind bad w
   kind-by h = ap (λ (z : Bool). pick z 2 (pick (bad && same (readIdentifier w) GM) 4 (pick (same (readIdentifier w) w) 0 3))) (sym h ∙ ea)
 
-  pub kind-two : a ≡ true → 2 ≡ kindOf bad w
+  pub kind-two : a ≡ true → 2 ≡ entryKind bad w
   kind-two h = kind-by h
 
   module _ (ha : a ≡ false) {b : Bool} (eb : b ≡ same (readIdentifier w) GM) where
-    kind-gm : {x : Bool} → (bad && b) ≡ x → pick x 4 (pick (same (readIdentifier w) w) 0 3) ≡ kindOf bad w
+    kind-gm : {x : Bool} → (bad && b) ≡ x → pick x 4 (pick (same (readIdentifier w) w) 0 3) ≡ entryKind bad w
     kind-gm h = ap (λ (z : Bool). pick z 4 (pick (same (readIdentifier w) w) 0 3)) (sym h ∙ ap (λ (z : Bool). bad && z) eb) ∙ kind-by ha
 
-    pub kind-four : (bad && b) ≡ true → 4 ≡ kindOf bad w
+    pub kind-four : (bad && b) ≡ true → 4 ≡ entryKind bad w
     kind-four h = kind-gm h
 
     module _ (hb : (bad && b) ≡ false) {c : Bool} (ec : c ≡ same (readIdentifier w) w) where
-      pub kind-none : c ≡ true → 0 ≡ kindOf bad w
+      pub kind-none : c ≡ true → 0 ≡ entryKind bad w
       kind-none h = ap (λ (z : Bool). pick z 0 3) (sym h ∙ ec) ∙ kind-gm hb
 
-      pub kind-three : c ≡ false → 3 ≡ kindOf bad w
+      pub kind-three : c ≡ false → 3 ≡ entryKind bad w
       kind-three h = ap (λ (z : Bool). pick z 0 3) (sym h ∙ ec) ∙ kind-gm hb

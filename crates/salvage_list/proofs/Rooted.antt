@@ -1,5 +1,5 @@
 -- The properties of the first node are those that directly follow it; and the entries of nodes, one more token. Assumes nothing.
-use Rattle.lists.proofs.Prelude.{ℕ, suc, _+_, _≤_, _≡_, refl, sym, ap, _∙_, Bool, true, false, List, [], _∷_, _++_, append-assoc, append-nil, reverse, reverse-cons, arith, length, length-append, length-reverse, pick}
+use Rattle.lists.proofs.Prelude.{ℕ, suc, _+_, _≡_, refl, sym, ap, _∙_, Bool, true, false, List, [], _∷_, _++_, append-assoc, append-nil, reverse, reverse-cons, arith, length, length-append, length-reverse, pick}
 use Rattle.lexer.specs.Token.{Prop, Tok, start, end, node, prop}
 use Rattle.tables.specs.Record.{Node, allProps}
 use Rattle.parser.specs.Game.{gameProps, props}
@@ -8,7 +8,6 @@ use Rattle.parser_tree.proofs.Flats.{props-append}
 use Rattle.salvage_mend.specs.Mend.{gmsAmong, rootGame, gmsBad}
 use Rattle.salvage_mend.specs.Changes.{Change, propChange, propsChanges, nodesChanges}
 use Rattle.salvage_list.specs.Listed.{walkNodes}
-use Rattle.salvage_list.proofs.Puts.{prop-few}
 
 -- ---- the first node's properties
 
@@ -184,19 +183,3 @@ module _ (m : Node) (p : Prop) where
       ap (withRoot b k) (reverse-cons joined (x ∷ ns))
       ∙ many b k (reverse (x ∷ ns)) x ns refl
       ∙ ap (λ (z : List Node). withRoot b k z ++ propChange false (k + length (allProps z)) p) (sym (reverse-cons m (x ∷ ns)))
-
--- ---- not more entries than properties
-
-pub changes-few : (b : Bool) (k : ℕ) (ps : List Prop) → length (propsChanges b k ps) ≤ length ps
-changes-few b k [] = omega arith
-changes-few b k (p ∷ ps) = let l = length-append (propChange b k p) (propsChanges b (suc k) ps) in let a = prop-few b k p in let h = changes-few b (suc k) ps in omega arith
-
-pub nodes-few : (k : ℕ) (ns : List Node) → length (nodesChanges k ns) ≤ length (allProps ns)
-nodes-few k [] = omega arith
-nodes-few k (n ∷ ns) =
-    let b : Bool = gmsBad (rootGame (n ∷ ns)) in
-    let l = length-append (propsChanges b k (n .props)) (propsChanges false (k + length (n .props)) (allProps ns)) in
-    let q = length-append (n .props) (allProps ns) in
-    let x = changes-few b k (n .props) in
-    let y = changes-few false (k + length (n .props)) (allProps ns) in
-    omega arith

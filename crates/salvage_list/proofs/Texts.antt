@@ -13,7 +13,7 @@ use Rattle.parser.specs.Read.{tokenize}
 use Rattle.parser.proofs.Texts.{lex-prefix}
 use Rattle.salvage_mend.specs.Changes.{Change}
 use Rattle.salvage_list.specs.Listed.{slicesChanges, utfChanges, changesOf}
-use Rattle.salvage_list.specs.ListRows.{changeRows, listed, withChanges}
+use Rattle.salvage_list.specs.ListRows.{changeRows, textChanges, withChanges}
 use Rattle.salvage_list.specs.LocalsPuts.{EntriesPut}
 use Rattle.salvage_list.proofs.Puts.{rows-length}
 
@@ -33,22 +33,22 @@ module _ (t : List ℕ) where
   utf-trims (part k s n r c) = refl
   utf-trims (bad p) = refl
 
-  pub listed-long : textLimit < length t → listed t ≡ []
+  pub listed-long : textLimit < length t → textChanges t ≡ []
   listed-long h = ap (λ (z : Bool). pick z [] (changesOf t)) (lt-ltb textLimit (length t) h)
 
   module _ (h : length t ≤ textLimit) {x : Trimmed} (e : x ≡ trimmed t) where
-    listed-by : {y : Trimmed} → x ≡ y → listed t ≡ trimChanges y
+    listed-by : {y : Trimmed} → x ≡ y → textChanges t ≡ trimChanges y
     unfolding trimmed
     listed-by q = ap (λ (z : Bool). pick z [] (changesOf t)) (le-ltb textLimit (length t) h) ∙ utf-trims (utfs (whole blank) 0 t) ∙ ap trimChanges (sym e ∙ q)
 
-    pub listed-bad : {p : ℕ} → x ≡ NotUtf8 p → listed t ≡ []
+    pub listed-bad : {p : ℕ} → x ≡ NotUtf8 p → textChanges t ≡ []
     listed-bad q = listed-by q
 
-    pub listed-blank : x ≡ Blank → listed t ≡ tokensChanges (lexAt [] 0)
+    pub listed-blank : x ≡ Blank → textChanges t ≡ tokensChanges (lexAt [] 0)
     unfolding lexAt
     listed-blank q = listed-by q
 
-    pub listed-kept : {f l : ℕ} → x ≡ Kept f l → listed t ≡ tokensChanges (lexAt (take l t) f)
+    pub listed-kept : {f l : ℕ} → x ≡ Kept f l → textChanges t ≡ tokensChanges (lexAt (take l t) f)
     listed-kept {f} {l} q = listed-by q ∙ ap tokensChanges (lex-prefix t f l (trim-bounds t f l (sym e ∙ q) .1))
 
 -- ---- the lent rows

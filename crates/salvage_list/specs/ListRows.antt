@@ -5,8 +5,8 @@ use Rattle.salvage_mend.specs.Changes.{Change, emptyRoot, unnamed, removedGM, s
 use Rattle.salvage_list.specs.Listed.{changesOf}
 
 -- the list of a text; one above the text limit has none (SCOPE 289)
-abbrev pub listed : List ℕ → List Change
-listed t = pick (ltb textLimit (length t)) [] (changesOf t)
+abbrev pub textChanges : List ℕ → List Change
+textChanges t = pick (ltb textLimit (length t)) [] (changesOf t)
 
 -- an entry: its kind, the number of the tree or property, the place (SCOPE 289)
 abbrev pub changeRow : Change → List ℕ

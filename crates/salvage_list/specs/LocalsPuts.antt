@@ -17,8 +17,8 @@ pub record EntriesPut (t : List ℕ) (e : ℕ) (cs : List Change) (r : ℕ) (t�
   pub put : PutIs t (e * 3) (changeRows cs) t′
 
 -- the kind of a property's entry, by its raw identifier; 0: it has none
-abbrev pub kindOf : (bad : Bool) → (name : List ℕ) → ℕ
-kindOf bad w = pick (same (readIdentifier w) []) 2 (pick (bad && same (readIdentifier w) GM) 4 (pick (same (readIdentifier w) w) 0 3))
+abbrev pub entryKind : (bad : Bool) → (name : List ℕ) → ℕ
+entryKind bad w = pick (same (readIdentifier w) []) 2 (pick (bad && same (readIdentifier w) GM) 4 (pick (same (readIdentifier w) w) 0 3))
 
 -- an empty root, or none
 abbrev pub rootIf : Bool → (tree : ℕ) → List Change

@@ -68,7 +68,7 @@ pub record ListReady (u : List ℕ) (from count : ℕ) : Type 0 where
   pub are : splitByGametree true (lexAt u from .toks) ≡ slices (firstSlices count (lexAt u from .toks))
 
 -- k slices are listed, the next starts at `at`; its nodes are numbered from base on, its properties from p on, its entries from e on
-pub record Listing (u : List ℕ) (from count at base p e k : ℕ) (t t′ : List ℕ) : Type 0 where
+pub record SlicesListed (u : List ℕ) (from count at base p e k : ℕ) (t t′ : List ℕ) : Type 0 where
   pub ready : ListReady u from count
   pub inside : at ≤ length u
   pub below : k ≤ count

@@ -9,7 +9,7 @@ ghost use Rattle.lexer.specs.Token.{lexAt};
 ghost use Rattle.tables.specs.Numbers.{textLimit};
 ghost use Rattle.parser.specs.Split.{splitByGametree};
 ghost use Rattle.salvage_list.specs.Listed.{tailOf, slicesChanges};
-ghost use Rattle.salvage_list.specs.ListRows.{listed, withChanges};
+ghost use Rattle.salvage_list.specs.ListRows.{textChanges, withChanges};
 ghost use Rattle.salvage_list.specs.LocalsPuts.{entryLimit, EntriesPut, rootIf, cutIf};
 ghost use Rattle.salvage_list.specs.LocalsWalk.{StandReady, TreeListed, ListReady};
 use lexer::Step;
@@ -136,7 +136,7 @@ fn put_tokens(s: &[u8], from: usize, rows: &mut [u32]) -> usize
 
 // The entries of a text, each where there is room; how many they are.
 fn put_all(text: &[u8], rows: &mut [u32]) -> usize
-    ensures { λ r. ⌜ EntriesPut (now (rows .entry)) 0 (listed (now (text .entry))) r (now (rows .exit)) ⌝ }
+    ensures { λ r. ⌜ EntriesPut (now (rows .entry)) 0 (textChanges (now (text .entry))) r (now (rows .exit)) ⌝ }
 {
     if tables::TEXT_LIMIT < text.len() {
         return 0;
@@ -150,7 +150,7 @@ fn put_all(text: &[u8], rows: &mut [u32]) -> usize
 
 // How many entries the list of a text has.
 pub fn count_changes(text: &[u8]) -> usize
-    ensures { λ r. ⌜ r ≡ length (listed (now (text .entry))) ⌝ }
+    ensures { λ r. ⌜ r ≡ length (textChanges (now (text .entry))) ⌝ }
 {
     let mut rows = [0u32; 1];
     put_all(text, &mut rows)
@@ -158,7 +158,7 @@ pub fn count_changes(text: &[u8]) -> usize
 
 // The list of a text, three numbers an entry, into the lent rows where there is room for all of it; how many entries it has.
 pub fn put_changes(text: &[u8], rows: &mut [u32]) -> usize
-    ensures { λ r. ⌜ (r ≡ length (listed (now (text .entry)))) × (now (rows .exit) ≡ withChanges (listed (now (text .entry))) (now (rows .entry))) ⌝ }
+    ensures { λ r. ⌜ (r ≡ length (textChanges (now (text .entry)))) × (now (rows .exit) ≡ withChanges (textChanges (now (text .entry))) (now (rows .entry))) ⌝ }
 {
     let n = count_changes(text);
     if n <= rows.len() / 3 {

@@ -1,6 +1,6 @@
 // The tree of a slice, walked for its entries: the stack of `parser_tree`, and no tables.
 ghost use mathlib.Core.Path.{_≡_};
-ghost use mathlib.Core.Bool.{_&&_};
+ghost use mathlib.Core.Bool.{true, _&&_};
 ghost use mathlib.Core.List.{[], _∷_};
 ghost use Prim.Native.Nat.{_+_, _*_, _≤_};
 ghost use lib.ListN.{length};
@@ -8,10 +8,12 @@ ghost use Rattle.lexer.specs.Token.{lexAt};
 ghost use Rattle.lexer.specs.Step.{propAt, valsAt};
 ghost use Rattle.lists.specs.Put.{PutWhole};
 ghost use Rattle.parser.specs.Game.{props, gameVals, gameProps};
+ghost use Rattle.tables.specs.Numbers.{textLimit, depthLimit};
+ghost use Rattle.parser_tree.specs.LocalsTurns.{BehindIs};
 ghost use Rattle.parser_step.specs.LocalsActs.{stackOf, hasChild, mayOpen};
 ghost use Rattle.salvage_mend.specs.Mend.{gmsAmong, gmsBad};
 ghost use Rattle.salvage_mend.specs.Changes.{propChange};
-ghost use Rattle.salvage_list.specs.LocalsPuts.{entryLimit, EntriesPut, kindOf};
+ghost use Rattle.salvage_list.specs.LocalsPuts.{entryLimit, EntriesPut, entryKind};
 ghost use Rattle.salvage_list.specs.LocalsWalk.{StandReady, StoodIs};
 use lexer::Step;
 use parser_game::GameType;
@@ -51,7 +53,7 @@ pub fn put_entry(rows: &mut [u32], e: usize, kind: u32, number: usize, place: us
 
 // What becomes of a property, by its raw identifier: 2 removed for its name, 4 removed for its game type, 3 spelled anew, 0 nothing.
 fn kind_of(name: &[u8], bad: bool) -> u32
-    ensures { λ r. ⌜ r ≡ kindOf bad (now (name .entry)) ⌝ }
+    ensures { λ r. ⌜ r ≡ entryKind bad (now (name .entry)) ⌝ }
 {
     if parts_props::reads_as(name, &name[..0]) {
         return 2;
@@ -152,6 +154,38 @@ fn may_open(stack: &[u32; 1024], depth: usize, base: usize, n: usize) -> bool
     has_child(stack[depth - 1], base, n)
 }
 
+// The place behind the slice in which so many trees are open.
+fn skip_slice(s: &[u8], from: usize, opened: usize) -> usize
+    requires { ⌜ (length (now s) ≤ textLimit) × (from ≤ length (now s)) × (opened ≤ depthLimit) ⌝ }
+    ensures { λ r. ⌜ BehindIs true (now (s .entry)) from opened r ⌝ }
+{
+    let mut at = from;
+    let mut depth = opened;
+    loop {
+        match lexer::next_token(s, at) {
+            Step::Start(i) => {
+                depth += 1;
+                at = i + 1;
+            }
+            Step::End(i) => {
+                if depth <= 1 {
+                    return i + 1;
+                }
+                depth -= 1;
+                at = i + 1;
+            }
+            Step::Node(i) => {
+                at = i + 1;
+            }
+            Step::Property(_, _, e) => {
+                at = e;
+            }
+            Step::Refused(_, _) => return at,
+            Step::Done => return at,
+        }
+    }
+}
+
 // The slice that starts at a place, its first node numbered `base`, its first property p0: the entries of its properties from e0 on.
 pub fn walk_slice(
     s: &[u8],
@@ -178,7 +212,7 @@ pub fn walk_slice(
             Step::Start(i) => {
                 if !may_open(&stack, depth, base, n) {
                     return Stood {
-                        next: parser_tree::skip_slice(s, at, depth),
+                        next: skip_slice(s, at, depth),
                         nodes: n,
                         properties: p,
                         entries: e,
@@ -227,7 +261,7 @@ pub fn walk_slice(
             Step::Property(i, k, next) => {
                 if !follows {
                     return Stood {
-                        next: parser_tree::skip_slice(s, at, depth),
+                        next: skip_slice(s, at, depth),
                         nodes: n,
                         properties: p,
                         entries: e,

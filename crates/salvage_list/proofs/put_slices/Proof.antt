@@ -1,12 +1,12 @@
 -- `salvage_list::put_slices` meets its contract. Assumes nothing.
-use Rattle.salvage_list.proofs.Trees.{listing-first, listing-few, listing-ready, listing-more, listing-end}
-use Rattle.salvage_list.specs.LocalsWalk.{Listing}
+use Rattle.salvage_list.proofs.Slices.{listing-first, listing-few, listing-ready, listing-more, listing-end}
+use Rattle.salvage_list.specs.LocalsWalk.{SlicesListed}
 use Rattle.lists.proofs.Prelude.{arith, _-_, _∙_}
 use Rattle.salvage_list.proofs.put_slices.Statement.{statement}
 use Rattle.salvage_list.proofs.put_slices.Tie as tie
 
 abbrev Inv-loop : tie.InvT-loop
-Inv-loop s from count rows₀ at₀ base₀ p₀ e₀ k₀ rows at base p e k = Listing s from count at base p e k rows₀ rows
+Inv-loop s from count rows₀ at₀ base₀ p₀ e₀ k₀ rows at base p e k = SlicesListed s from count at base p e k rows₀ rows
 
 abbrev μ-loop : tie.MeasureT-loop
 μ-loop s from count rows₀ at₀ base₀ p₀ e₀ k₀ rows at base p e k = count - k

@@ -1,6 +1,6 @@
 -- `salvage_list::put_tokens` meets its contract. Assumes nothing.
 use denote.Ref.{now}
-use Rattle.salvage_list.proofs.Trees.{tokens-none, tokens-empty, tokens-ready}
+use Rattle.salvage_list.proofs.Slices.{tokens-none, tokens-empty, tokens-ready}
 use Rattle.salvage_list.proofs.Puts.{puts-one}
 use Rattle.salvage_mend.specs.Changes.{emptyRoot}
 use Rattle.lists.proofs.Prelude.{arith, refl}

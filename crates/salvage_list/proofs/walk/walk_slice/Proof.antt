@@ -1,6 +1,7 @@
 -- `proofs::walk_slice` meets its contract. Assumes nothing.
 use Rattle.salvage_list.proofs.Props.{standing-node, prop-stops, standing-prop, none-left}
-use Rattle.salvage_list.proofs.Going.{Standing, standing-first, start-deep, start-stops, standing-start, end-stops, end-tree, standing-end}
+use Rattle.salvage_list.proofs.Going.{Standing, standing-first, start-deep, start-stops, standing-start}
+use Rattle.salvage_list.proofs.Ends.{end-stops, end-tree, standing-end}
 use Rattle.parser.proofs.Meets.{meets}
 use Rattle.lexer.proofs.Within.{found-within}
 use Rattle.lexer.specs.Token.{Lexed}
