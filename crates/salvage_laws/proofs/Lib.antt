@@ -1,3 +1,4 @@
+pub mod Empty
 pub mod Lists
 pub mod MendedNodes
 pub mod MendedProps
@@ -5,4 +6,5 @@ pub mod Order
 pub mod Own
 pub mod Says
 pub mod Silent
+pub mod Tailless
 pub mod Theorem
