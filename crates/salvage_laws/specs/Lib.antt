@@ -1,3 +1,4 @@
 pub mod Again
 pub mod MendedExamples
+pub mod Result
 pub mod Tail
