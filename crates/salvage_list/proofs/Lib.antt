@@ -10,3 +10,4 @@ pub mod Slices
 pub mod Stacks
 pub mod Texts
 pub mod Trees
+pub mod Unique

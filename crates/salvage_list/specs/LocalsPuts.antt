@@ -1,10 +1,12 @@
 -- Entries put into the lent rows, in the code's own terms. Nothing public is stated by these.
-use Rattle.lists.specs.Prelude.{ℕ, _+_, _*_, _≡_, Bool, _&&_, List, [], _∷_, length, leb, pick}
+use Rattle.lists.specs.Prelude.{ℕ, _+_, _*_, _<_, _≡_, Bool, _&&_, List, [], _∷_, length, pick}
 use Rattle.lists.specs.Same.{same}
 use Rattle.lists.specs.Put.{PutIs}
 use Rattle.values.specs.Read.{readIdentifier}
 use Rattle.parser.specs.Game.{GM}
-use Rattle.salvage_mend.specs.Changes.{Change, emptyRoot, cutShort}
+use Rattle.salvage_mend.specs.Changes.{Change, emptyRoot, cutShort, tailDropped}
+use Rattle.salvage_list.specs.declared.Tail.{Tail}
+use Rattle.salvage_list.specs.declared.Tail.the-variants.{At, None}
 use Rattle.salvage_list.specs.ListRows.{changeRows}
 
 -- more than any number of an entry
@@ -27,3 +29,8 @@ rootIf b i = pick b (emptyRoot i ∷ []) []
 -- a cut, or none
 abbrev pub cutIf : Bool → (tree place : ℕ) → List Change
 cutIf b i o = pick b (cutShort i o ∷ []) []
+
+-- the entry of the tail, in a text of n bytes
+abbrev pub TailIs : (n : ℕ) → List Change → Tail → Type 0
+TailIs n cs (At o) = (cs ≡ tailDropped o ∷ []) × (o < n)
+TailIs n cs None = cs ≡ []

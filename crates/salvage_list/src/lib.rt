@@ -10,7 +10,7 @@ ghost use Rattle.tables.specs.Numbers.{textLimit};
 ghost use Rattle.parser.specs.Split.{splitByGametree};
 ghost use Rattle.salvage_list.specs.Listed.{tailOf, slicesChanges};
 ghost use Rattle.salvage_list.specs.ListRows.{textChanges, withChanges};
-ghost use Rattle.salvage_list.specs.LocalsPuts.{entryLimit, EntriesPut, rootIf, cutIf};
+ghost use Rattle.salvage_list.specs.LocalsPuts.{entryLimit, EntriesPut, rootIf, cutIf, TailIs};
 ghost use Rattle.salvage_list.specs.LocalsWalk.{StandReady, TreeListed, ListReady};
 use lexer::Step;
 use parser::Survey;
@@ -22,6 +22,12 @@ struct Behind {
     nodes: usize,
     properties: usize,
     entries: usize,
+}
+
+// The place of the first token that is in no slice; or there is none.
+enum Tail {
+    At(usize),
+    None,
 }
 
 // The entry of an empty root, where a tree has no node.
@@ -81,18 +87,28 @@ fn put_tree(
     }
 }
 
-// The entry of the first token from a place on, failing or not, if there is one.
+// The first token from a place on, failing or not.
+fn tail_at(s: &[u8], at: usize) -> Tail
+    ensures { λ r. ⌜ TailIs (length (now (s .entry))) (tailOf (lexAt (now (s .entry)) at .toks) (lexAt (now (s .entry)) at .end)) r ⌝ }
+{
+    match lexer::next_token(s, at) {
+        Step::Start(i) => Tail::At(i),
+        Step::End(i) => Tail::At(i),
+        Step::Node(i) => Tail::At(i),
+        Step::Property(i, _, _) => Tail::At(i),
+        Step::Refused(_, i) => Tail::At(i),
+        Step::Done => Tail::None,
+    }
+}
+
+// Its entry, if there is such a token.
 fn put_tail(s: &[u8], at: usize, e: usize, rows: &mut [u32]) -> usize
     requires { ⌜ (length (now s) ≤ textLimit) × (e ≤ entryLimit) ⌝ }
     ensures { λ r. ⌜ EntriesPut (now (rows .entry)) e (tailOf (lexAt (now (s .entry)) at .toks) (lexAt (now (s .entry)) at .end)) r (now (rows .exit)) ⌝ }
 {
-    match lexer::next_token(s, at) {
-        Step::Start(i) => walk::put_entry(rows, e, 5, 0, i),
-        Step::End(i) => walk::put_entry(rows, e, 5, 0, i),
-        Step::Node(i) => walk::put_entry(rows, e, 5, 0, i),
-        Step::Property(i, _, _) => walk::put_entry(rows, e, 5, 0, i),
-        Step::Refused(_, i) => walk::put_entry(rows, e, 5, 0, i),
-        Step::Done => e,
+    match tail_at(s, at) {
+        Tail::At(i) => walk::put_entry(rows, e, 5, 0, i),
+        Tail::None => e,
     }
 }
 
