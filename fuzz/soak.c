@@ -8,7 +8,8 @@
  * written nothing and its number is one that the call may give; tables of a reading fit; after an accepted edit of a
  * strict reading the tables are those of a fresh one, and so is the board at a node; the board at a node is the one along
  * its line, node by node, and its sums are right; a session of edits is undone and redone, step by step, to the same
- * used bytes and the same tables; a writing reads back, and is written again as the same bytes.
+ * used bytes and the same tables; a writing reads back, and is written again as the same bytes; a salvage leaves the
+ * lenient reading in its tables, its result reads strictly, and is salvaged again as the same bytes with an empty list.
  * The process holds no more memory at the end than after a tenth of them. */
 #define _GNU_SOURCE
 #include "lent.h"
@@ -21,7 +22,7 @@ enum { TEXT = 4096, OUT = 16384, NEW = 512, ROOM = 250, TABLES = 4 };
 static const size_t strides[TABLES] = {SGF_TREE_STRIDE, SGF_NODE_STRIDE, SGF_PROPERTY_STRIDE, SGF_VALUE_STRIDE};
 
 /* The lent arrays. The tables are lent in whole numbers of four bytes. */
-enum { TREES, NODES, PROPERTIES, VALUES, TEXTS, OUTS, NEWS, LENT };
+enum { TREES, NODES, PROPERTIES, VALUES, TEXTS, OUTS, NEWS, LISTS, LENT };
 static Lent lent[LENT];
 #define BYTES(l) lent[l].at, lent[l].length
 #define TABLE(l) ((uint32_t *)(void *)lent[l].at)
@@ -42,7 +43,7 @@ enum { NUMBERS_END = 25 };
 static unsigned long operations, accepted, refusals[NUMBERS_END];
 
 /* What a fuzzer is told beside the code that was reached: which call gave which number, and sizes by their bits. */
-enum { READ, WALK, FITS, VALUE, DISPLAY, DISPLAY_VALUE, GO_VALUE, GO_BY_RULE, SIZE, ENTRY, SIMPLE_VALUE, SIMPLE_PROPERTY, TALLY, WRITE, BLOCKS, ESCAPE, BOARD, TAG, NAMED, NEXT, EDIT, SESSION, LOOKUP, CORRECT, CALLS };
+enum { READ, WALK, FITS, VALUE, DISPLAY, DISPLAY_VALUE, GO_VALUE, GO_BY_RULE, SIZE, ENTRY, SIMPLE_VALUE, SIMPLE_PROPERTY, TALLY, WRITE, BLOCKS, ESCAPE, BOARD, TAG, NAMED, NEXT, SALVAGE, EDIT, SESSION, LOOKUP, CORRECT, CALLS };
 #ifdef FUZZER
 __attribute__((section("__libfuzzer_extra_counters")))
 #endif
@@ -539,6 +540,53 @@ static void write_text(void) {
     }
 }
 
+/* Salvages the used text: 1 cannot come from so short a text, 9 and 14 of the result leave list and output. */
+static uint32_t rescued[TABLES][SGF_NODE_STRIDE * OUT];
+#define RESCUED rescued[0], SGF_NODE_STRIDE * OUT, rescued[1], SGF_NODE_STRIDE * OUT, rescued[2], SGF_NODE_STRIDE * OUT, rescued[3], SGF_NODE_STRIDE * OUT
+static unsigned long salvaged, changed;
+
+static void salvage(void) {
+    static uint8_t again[OUT];
+    size_t length = used < lent[TEXTS].length ? used : lent[TEXTS].length;
+    size_t numbers = SGF_CHANGE_STRIDE * SGF_CHANGES_FOR(length);
+    lend(&lent[LISTS], 4 * (draw(4) == 3 ? draw((uint32_t)numbers + 1) : numbers + draw(4)), draw(4) == 3);
+    remember_all();
+    memset(rescued[1], 0x5A, 4 * SGF_NODE_STRIDE * SGF_NODES_FOR(length));
+    SgfSalvage s = sgf_salvage(lent[TEXTS].at, length, RESCUED, NUMBERS(LISTS), BYTES(OUTS));
+    bool good = answered(SALVAGE, s.number, MAY(2) | MAY(9) | MAY(14), MAY(OUTS) | MAY(LISTS));
+    SgfReading r = sgf_read_lenient(lent[TEXTS].at, length, 0, FRESH);
+    REQUIRE(s.reserved == 0 && s.place == r.place && (r.number == 0 || s.number == r.number));
+    size_t rows[TABLES] = {r.counts.trees, r.counts.nodes, r.counts.properties, r.counts.values};
+    for (int t = 0; t < TABLES; t++) {
+        REQUIRE(memcmp(fresh[t], rescued[t], rows[t] * strides[t] * 4) == 0);
+    }
+    if (!good) {
+        REQUIRE(s.length == 0 && s.changes == 0 && s.counts.trees + s.counts.nodes + s.counts.properties + s.counts.values == 0);
+        return;
+    }
+    REQUIRE(same_counts(s.counts, r.counts) && s.changes <= 2 * s.counts.trees + s.counts.properties + 1);
+    tell(SALVAGE, 0, s.length);
+    tell(SALVAGE, 1, s.changes);
+    stays_but(OUTS, 0, s.length);
+    stays_but(LISTS, 0, 4 * SGF_CHANGE_STRIDE * s.changes);
+    salvaged++;
+    changed += s.changes;
+    size_t removed = 0;
+    for (size_t i = 0; i < s.changes; i++) {
+        const uint32_t *row = TABLE(LISTS) + SGF_CHANGE_STRIDE * i;
+        uint32_t kind = row[SGF_CHANGE_KIND];
+        bool of_tree = kind == SGF_TREE_CUT || kind == SGF_EMPTY_ROOT, has_place = kind == SGF_TREE_CUT || kind == SGF_TAIL_DROPPED;
+        REQUIRE(kind <= SGF_TAIL_DROPPED && (has_place ? row[SGF_CHANGE_PLACE] < length : row[SGF_CHANGE_PLACE] == 0));
+        REQUIRE(kind == SGF_TAIL_DROPPED ? row[SGF_CHANGE_NUMBER] == 0 && i + 1 == s.changes : row[SGF_CHANGE_NUMBER] < (of_tree ? s.counts.trees : s.counts.properties));
+        removed += kind == SGF_NAMELESS_REMOVED || kind == SGF_GM_REMOVED;
+    }
+    SgfReading strict = sgf_read_strict(lent[OUTS].at, s.length, 0, FRESH);
+    REQUIRE(strict.number == 0 && strict.counts.trees == s.counts.trees && strict.counts.nodes == s.counts.nodes && strict.counts.properties + removed == s.counts.properties);
+    SgfSalvage twice = sgf_salvage(lent[OUTS].at, s.length, FRESH, NULL, 0, again, s.length);
+    REQUIRE(twice.number == 0 && twice.changes == 0 && twice.length == s.length && memcmp(again, lent[OUTS].at, s.length) == 0);
+    remember_all();
+}
+
 static void display(size_t k, uint32_t kind) {
     SgfDisplay d = sgf_display(RECORD, k, kind, BYTES(OUTS));
     answered(DISPLAY, d.number, MAY(19) | MAY(16) | MAY(14), MAY(OUTS));
@@ -891,6 +939,7 @@ static void call(int what) {
     case CORRECT: correct(k); break;
     case BLOCKS: blocks(); break;
     case ESCAPE: escape(); break;
+    case SALVAGE: salvage(); break;
     case TAG: tag(); break;
     case NAMED: named(); break;
     case BOARD: board(draw(30) == 29 ? (size_t)-1 : draw((uint32_t)(counts.nodes % TEXT) + 2)); break;
@@ -922,6 +971,7 @@ static void begin(void) {
         make_room(&lent[TEXTS], TEXT + ROOM);
         make_room(&lent[OUTS], OUT);
         make_room(&lent[NEWS], NEW);
+        make_room(&lent[LISTS], 4 * (SGF_CHANGE_STRIDE * SGF_CHANGES_FOR(TEXT + ROOM) + 4));
         memset(states, 1, sizeof states);
         memset(first, 1, sizeof first);
         memset(last, 1, sizeof last);
@@ -972,6 +1022,7 @@ int main(int argc, char **argv) {
     }
     printf("\nboards: %lu, %lu nodes along their lines; %lu after edits, of which %lu had changed", boards, steps_along, boards_fresh, boards_changed);
     printf("\nsessions: %lu, of %lu edits, undone and redone", sessions, undone);
+    printf("\nsalvaged: %lu, with %lu changes", salvaged, changed);
     printf("\nmemory: %ld KB after a tenth of them, %ld KB at the end\n", before, after);
     return after > before;
 }

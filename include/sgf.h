@@ -22,14 +22,15 @@
  * counts given back stays as well, except for the bytes that sgf_edit and sgf_correct set to 0. Fields called `reserved`
  * are always 0.
  *
- * One exception: rows lent to sgf_block and sgf_close are working room until the close. After a close that is accepted
- * the rows behind its count are 0, after one that is refused all rows; only number 20 leaves them as they were.
+ * Two exceptions. Rows lent to sgf_block and sgf_close are working room until the close. After a close that is accepted
+ * the rows behind its count are 0, after one that is refused all rows; only number 20 leaves them as they were. And where
+ * sgf_salvage refuses a result, its four tables hold the lenient reading.
  *
  * Stack, in bytes, on aarch64 (x86-64 within 130 bytes of it): sgf_board 23,104 and sgf_board_next 19,904, both measured
  * on x86-64, sgf_go_value 11,392, sgf_write 8,832, sgf_write_length 10,240 at most, sgf_go_by_rule 5,696, sgf_read_strict
- * and sgf_read_lenient 5,440, those that count rows or say why 6,144 at most, sgf_tally 4,096 at most, sgf_simple_value,
- * sgf_simple_property and sgf_entry 1,900 at most; of the others sgf_block 1,536, sgf_correct, sgf_corrected and
- * sgf_feed_check 1,536 at most, the rest 1,024 at most. docs/MEMORY.md has each function's bound, which
+ * and sgf_read_lenient 5,440, those that count rows or say why 6,144 at most, sgf_salvage 10,240 at most, sgf_tally 4,096
+ * at most, sgf_simple_value, sgf_simple_property and sgf_entry 1,900 at most; of the others sgf_block 1,536, sgf_correct,
+ * sgf_corrected and sgf_feed_check 1,536 at most, the rest 1,024 at most. docs/MEMORY.md has each function's bound, which
  * examples/c/stack.c tests.
  */
 #ifndef SGF_H
@@ -203,6 +204,45 @@ typedef struct {
 /* Why a reading of the text is refused, or where it ended. No tables are lent; 14 is not explained. */
 SgfWhy sgf_why_strict(const uint8_t *text, size_t text_len);
 SgfWhy sgf_why_lenient(const uint8_t *text, size_t text_len);
+
+/* ---- Salvage ----------------------------------------------------------------------------------------------- */
+
+/* What salvage changed. Trees and properties have the numbers of the lenient reading, places count bytes of the text. */
+enum {
+    SGF_TREE_CUT = 0,         /* tree, and the place from which it was not read */
+    SGF_EMPTY_ROOT = 1,       /* tree: it had no node, and was given an empty root */
+    SGF_NAMELESS_REMOVED = 2, /* property: its identifier has no uppercase letter */
+    SGF_SPELLED_ANEW = 3,     /* property: its identifier is its uppercase letters now */
+    SGF_GM_REMOVED = 4,       /* property: a root's GM, where they are not one with one signed 32-bit number */
+    SGF_TAIL_DROPPED = 5      /* the place from which nothing was read, and which stands in no tree */
+};
+
+/* A row of the list: a kind, the number of a tree or a property, and a place; 0 where the kind has none. */
+enum { SGF_CHANGE_KIND = 0, SGF_CHANGE_NUMBER = 1, SGF_CHANGE_PLACE = 2, SGF_CHANGE_STRIDE = 3 };
+
+/* Rows of the list that suffice for any text of n bytes. */
+#define SGF_CHANGES_FOR(n) (2 * SGF_TREES_FOR(n) + SGF_PROPERTIES_FOR(n) + 1)
+
+/* A number and a place; how many bytes and changes were written, and the used rows of the tables. */
+typedef struct {
+    uint32_t number, reserved;
+    size_t place, length, changes;
+    SgfCounts counts;
+} SgfSalvage;
+
+/* Reads a text leniently into the tables, writes to `out` a text that sgf_read_strict accepts, and to `changes` what was
+ * changed: tree by tree an empty root, its properties by number, a cut; at the end the tail. Each tree is written by the
+ * game type that its kept GM gives, Go if none. Not listed are ends that are added, another form of the values, and a
+ * game type that changes with nothing removed. Salvaged again the result stays as it is, with an empty list.
+ * Numbers: 1, 2, 9 of the text, 14 of the tables, and nothing lent changes; then, the tables holding the lenient reading,
+ * 1 and 9 of the result, then 14 of list and output together, and list and output do not change. After 0 the tables hold
+ * the lenient reading, whose numbers the changes name.
+ * Memory: beside the tables SGF_CHANGES_FOR(n) rows of the list and up to SGF_TEXT_LIMIT bytes of output; with less it
+ * may be 14. It is meant for an archive, not for a box. */
+SgfSalvage sgf_salvage(const uint8_t *text, size_t text_len, uint32_t *trees, size_t trees_len,
+                       uint32_t *nodes, size_t nodes_len, uint32_t *properties, size_t properties_len,
+                       uint32_t *values, size_t values_len, uint32_t *changes, size_t changes_len,
+                       uint8_t *out, size_t out_len);
 
 /* ---- Over a record in memory ------------------------------------------------------------------------------ */
 

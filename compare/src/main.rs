@@ -9,6 +9,8 @@ mod bench_board;
 mod bench_feeds;
 mod bench_records;
 #[cfg(not(stand_in))]
+mod bench_salvage;
+#[cfg(not(stand_in))]
 mod bench_season;
 mod bench_values;
 #[cfg(not(stand_in))]
@@ -44,6 +46,8 @@ mod plain_fit;
 mod plain_go;
 mod plain_index;
 mod plain_reader;
+#[cfg(not(stand_in))]
+mod plain_salvage;
 mod plain_size;
 #[cfg(not(stand_in))]
 mod plain_why;
@@ -52,6 +56,8 @@ mod reader;
 mod records;
 mod report;
 mod rng;
+#[cfg(not(stand_in))]
+mod salvage;
 #[cfg(not(stand_in))]
 mod season;
 mod size_texts;
@@ -99,6 +105,11 @@ fn run() -> bool {
             true
         }
         #[cfg(not(stand_in))]
+        Some("bench-salvage") => {
+            bench_salvage::run();
+            true
+        }
+        #[cfg(not(stand_in))]
         Some("bench-season") => {
             bench_season::run();
             true
@@ -123,7 +134,7 @@ fn run() -> bool {
             true
         }
         _ => {
-            eprintln!("usage: compare short [SUBJECT] | long [SUBJECT] | gnugo | store-tokens [DIR] | bench | bench-values | bench-board | bench-feeds | bench-blocks | bench-season | bench-why");
+            eprintln!("usage: compare short [SUBJECT] | long [SUBJECT] | gnugo | store-tokens [DIR] | bench | bench-values | bench-board | bench-feeds | bench-blocks | bench-salvage | bench-season | bench-why");
             false
         }
     }

@@ -133,14 +133,14 @@ fn game_type(text: &[u8], slice: &[Token]) -> Result<u32, Refusal> {
 fn game_number(text: &[u8], values: &[(usize, usize)]) -> Result<u32, Refusal> {
     let [(from, to)] = values[..] else { return Err(refused(12)) };
     let read = plain::unescape(&text[from..to]);
-    if !is_i32(&read) {
+    if !is_game_number(&read) {
         return Err(refused(12));
     }
     Ok(if read == b"1" { 0 } else { 1 })
 }
 
 /// An optional sign and digits, within i32.
-fn is_i32(read: &[u8]) -> bool {
+pub fn is_game_number(read: &[u8]) -> bool {
     let (limit, digits) = match read {
         [b'-', rest @ ..] => (1 << 31, rest),
         [b'+', rest @ ..] => ((1 << 31) - 1, rest),

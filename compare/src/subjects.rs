@@ -32,6 +32,7 @@ pub struct Scale {
     board_step: usize,
     why_bytes: usize,
     why_words: usize,
+    cuts_step: usize,
 }
 
 pub const SHORT: Scale = Scale {
@@ -62,6 +63,7 @@ pub const SHORT: Scale = Scale {
     board_step: 1,
     why_bytes: 5,
     why_words: 4,
+    cuts_step: 4_099,
 };
 
 pub const LONG: Scale = Scale {
@@ -92,6 +94,7 @@ pub const LONG: Scale = Scale {
     board_step: 1,
     why_bytes: 7,
     why_words: 6,
+    cuts_step: 1,
 };
 
 /// Compares the families of texts that tokens and readings share; of the edges of UTF-8 one in so many.
@@ -350,6 +353,54 @@ fn compare_why(scale: &Scale) -> bool {
     crate::why::facts() & report.close()
 }
 
+/// Salvage; the stand-in has none.
+#[cfg(stand_in)]
+fn compare_salvage(_: &Scale) -> bool {
+    true
+}
+
+/// Every text cut at one in so many bytes; of bytes at such places, one dropped, doubled, and two exchanged.
+#[cfg(not(stand_in))]
+fn torn(text: &[u8], step: usize, visit: texts::Visitor) {
+    for at in (text.len() % step..text.len()).step_by(step) {
+        visit(&text[..at]);
+        visit(&[&text[..at], &text[at + 1..]].concat());
+        visit(&[&text[..=at], &text[at..]].concat());
+        if at + 1 < text.len() {
+            visit(&[&text[..at], &[text[at + 1], text[at]], &text[at + 2..]].concat());
+        }
+    }
+}
+
+#[cfg(not(stand_in))]
+fn compare_salvage(scale: &Scale) -> bool {
+    let mut report = Report::new("salvage", crate::salvage::compare);
+    texts::sequences(texts::TREE_BYTES, scale.tree_bytes - 1, &mut |text| report.text(text));
+    report.group("all short strings");
+    texts::sequences(texts::SALVAGE_WORDS, scale.words, &mut |text| report.text(text));
+    report.group("all short sequences of words");
+    texts::made(14, scale.edited_records, scale.copies, &mut |text| report.text(text));
+    report.group("made records and damaged copies");
+    let made: Vec<Vec<u8>> = { let mut all = vec![]; texts::made(15, 40, 0, &mut |text| all.push(text.to_vec())); all };
+    made.iter().for_each(|text| torn(text, 1 + scale.cuts_step / 500, &mut |text| report.text(text)));
+    report.group("made records, torn");
+    for text in texts::corpus() {
+        report.text(&text);
+        torn(&text, scale.cuts_step, &mut |text| report.text(text));
+    }
+    report.group("real records, torn");
+    for n in [96, 97] {
+        report.text(format!("(;SZ[52]{})", "AB[aa:ZZ]".repeat(n)).as_bytes());
+    }
+    for n in [1_023, 1_024] {
+        report.text(format!("(;{})", "(;);".repeat(n)).as_bytes());
+        report.text(format!("(;{}{})", "(;);".repeat(n), "AB[aa:ZZ]".repeat(97)).as_bytes());
+    }
+    limits::texts(scale.limits).iter().step_by(scale.limits_step).for_each(|text| report.text(text));
+    report.group("limits");
+    report.close()
+}
+
 type Subject = fn(&Scale) -> bool;
 
 /// Compares one subject, or all; true if nothing differed.
@@ -372,6 +423,7 @@ pub fn compare(scale: &Scale, subject: Option<&str>) -> bool {
         ("blocks", compare_blocks),
         ("season", compare_season),
         ("why", compare_why),
+        ("salvage", compare_salvage),
     ];
     let wanted: Vec<_> = subjects.iter().filter(|(name, _)| subject.is_none_or(|chosen| *name == chosen)).collect();
     wanted.iter().fold(!wanted.is_empty(), |good, (_, run)| run(scale) & good)

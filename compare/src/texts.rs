@@ -15,6 +15,10 @@ pub const TREE_BYTES: &[&[u8]] = &[b"(", b")", b";", b"[", b"]", b"\\", b"A", b"
 /// Words that the splitting and tree rules tell apart.
 pub const WORDS: &[&[u8]] = &[b"(", b")", b";", b"A[]", b"a[x]", b"GM[1]", b"GM[2]", b"GM[x]", b"GM[1][2]"];
 
+/// Words that salvage tells apart.
+#[cfg(not(stand_in))]
+pub const SALVAGE_WORDS: &[&[u8]] = &[b"(", b")", b";", b"A[]", b"a[x]", b"Bl[ab]", b"GM[2]", b"GaM[1]", b"GM[x]", b"AB[aa:ab]", b"x"];
+
 /// Words among which a vertical tab stands before tokens, after values, in identifiers and in values.
 pub const TAB_WORDS: &[&[u8]] = &[b"(", b")", b";", b"GM", b"[2]", b"[\x0B]", b"\x0B"];
 

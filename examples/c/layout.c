@@ -344,6 +344,74 @@ static void check_why(void) {
     CHECK(w.number == 1 && w.fact == SGF_WHY_LENGTH && w.place == 0 && w.detail == SGF_TEXT_LIMIT + 1);
 }
 
+/* Salvage: a text, its result, and each change as kind, number and place; at most three. */
+typedef struct {
+    const char *source, *result;
+    size_t changes;
+    uint32_t list[3][SGF_CHANGE_STRIDE];
+} Saved;
+
+static const Saved saved[] = {
+    {"(;GaM[2]B[aa])", "(;GM[2]B[aa])", 1, {{SGF_SPELLED_ANEW, 0, 0}}},
+    {";;GM[2](;)", "(;;GM[2];)", 0, {{0}}},
+    {"(A[]GM[2])", "(;)", 2, {{SGF_EMPTY_ROOT, 0, 0}, {SGF_TREE_CUT, 0, 1}}},
+    {"(;GM[1]GaM[2])", "(;)", 2, {{SGF_GM_REMOVED, 0, 0}, {SGF_GM_REMOVED, 1, 0}}},
+    {"(;[x]b[aa](;A[y", "(;;)", 3, {{SGF_NAMELESS_REMOVED, 0, 0}, {SGF_NAMELESS_REMOVED, 1, 0}, {SGF_TAIL_DROPPED, 0, 12}}},
+    {"(;)(;((;)))", "(;)(;)", 1, {{SGF_TREE_CUT, 1, 6}}},
+    {"(;B[aa])", "(;B[aa])", 0, {{0}}},
+    {"", "(;)", 1, {{SGF_EMPTY_ROOT, 0, 0}}},
+};
+
+static void check_salvage(void) {
+    static uint8_t out[SGF_TEXT_LIMIT];
+    static uint32_t list[SGF_CHANGE_STRIDE * ROWS];
+    for (size_t i = 0; i < sizeof saved / sizeof *saved; i++) {
+        const Saved *t = saved + i;
+        const uint8_t *source = (const uint8_t *)t->source;
+        size_t length = strlen(t->source), result = strlen(t->result), numbers = SGF_CHANGE_STRIDE * t->changes;
+        SgfReading r = read_text(t->source, sgf_read_lenient, 0);
+        memset(out, 7, sizeof out);
+        memset(list, 7, sizeof list);
+        SgfSalvage s = sgf_salvage(source, length, TABLES, list, numbers, out, result);
+        CHECK(s.number == 0 && s.reserved == 0 && s.place == 0 && s.length == result && s.changes == t->changes);
+        CHECK(memcmp(&s.counts, &r.counts, sizeof r.counts) == 0 && memcmp(out, t->result, result) == 0 && out[result] == 7);
+        CHECK(memcmp(list, t->list, 4 * numbers) == 0 && list[numbers] == 0x07070707);
+        CHECK(sgf_read_strict(out, result, 0, TABLES).number == 0);
+        /* a byte or a row too few: neither list nor output changes, and the tables hold the lenient reading */
+        memset(out, 7, sizeof out);
+        memset(list, 7, sizeof list);
+        trees[0] = 9;
+        s = sgf_salvage(source, length, TABLES, list, numbers, out, result - 1);
+        CHECK(s.number == 14 && s.length == 0 && s.changes == 0 && has(s.counts, 0, 0, 0, 0) && out[0] == 7 && list[0] == 0x07070707 && trees[0] == 0);
+        if (numbers > 0) {
+            s = sgf_salvage(source, length, TABLES, list, numbers - 1, out, result);
+            CHECK(s.number == 14 && out[0] == 7 && list[0] == 0x07070707);
+        }
+        /* no row of a table: nothing changes */
+        trees[0] = 9;
+        s = sgf_salvage(source, length, trees, 1, nodes, 4, properties, 4, values, 2, list, numbers, out, result);
+        CHECK(s.number == 14 && trees[0] == 9 && out[0] == 7);
+    }
+    SgfSalvage s = sgf_salvage((const uint8_t *)"(;C[\xFF", 5, TABLES, list, 3, out, 9);
+    CHECK(s.number == 2 && s.place == 4);
+    /* of the result: 9, of one open tree more than the text has; before 14, and 1 before it */
+    memcpy(text, "(;", 2);
+    for (size_t i = 0; i < 1024; i++) {
+        memcpy(text + 2 + 4 * i, "(;);", 4);
+    }
+    text[4098] = ')';
+    CHECK(sgf_salvage(text, 4099, TABLES, list, 0, out, 0).number == 9);
+    memcpy(text, "(;SZ[52]", 8);
+    for (size_t i = 0; i < 97; i++) {
+        memcpy(text + 8 + 9 * i, "AB[aa:ZZ]", 9);
+    }
+    text[881] = ')';
+    CHECK(sgf_salvage(text, 882, TABLES, list, 0, out, 0).number == 1);
+    CHECK(sgf_salvage(text, 881 - 9, TABLES, list, 0, out, 0).number == 14);
+    CHECK(sgf_salvage(text, 881 - 9, TABLES, list, 0, out, sizeof out).number == 0);
+    CHECK(sgf_salvage(text, SGF_TEXT_LIMIT + 1, TABLES, list, 0, out, 0).number == 1);
+}
+
 int main(void) {
     check_version();
     check_tokens();
@@ -356,6 +424,7 @@ int main(void) {
     check_edit();
     check_feed();
     check_why();
+    check_salvage();
     printf("layout: %d checks, %d failures\n", checks, failures);
     return failures != 0;
 }

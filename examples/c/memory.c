@@ -71,6 +71,7 @@ int main(void) {
     SIZE(SgfCounts);
     SIZE(SgfReading);
     SIZE(SgfEdit);
+    SIZE(SgfSalvage);
     SIZE(SgfGoValue);
     SIZE(SgfBoard);
     SIZE(SgfBlocks);

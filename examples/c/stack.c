@@ -49,6 +49,8 @@ static uint32_t rows[SGF_TOKEN_STRIDE * ROWS];
 static SgfBlocks half, all;
 static SgfTally tally;
 static SgfWhy why;
+static SgfSalvage salvage;
+static uint32_t changes[SGF_CHANGE_STRIDE * ROWS];
 
 static unsigned char stack[STACK];
 static volatile uintptr_t begin;
@@ -82,6 +84,7 @@ NOTE(SgfGoValue, note_go_by_rule, uint32_t rule, const uint8_t *i, size_t n, con
 NOTE(SgfSize, note_size, SGF_RECORD, size_t tree)
 NOTE(SgfSize, note_tree_size, const uint8_t *t, size_t n, const uint32_t *a, size_t b, const uint32_t *c, size_t d, const uint32_t *e, size_t f, const uint32_t *g, size_t h, size_t tree)
 NOTE(SgfTally, note_tally, SGF_RECORD)
+NOTE(SgfSalvage, note_salvage, const uint8_t *t, size_t n, uint32_t *r, size_t rl, uint32_t *d, size_t dl, uint32_t *p, size_t pl, uint32_t *v, size_t vl, uint32_t *c, size_t cl, uint8_t *o, size_t ol)
 NOTE(SgfBoard, note_board, SGF_RECORD, size_t k)
 NOTE(SgfBoard, note_board_next, SgfBoard on, const uint8_t *t, size_t n, const uint32_t *p, size_t m, const uint32_t *v, size_t l, size_t first, size_t count)
 NOTE(SgfWriting, note_write, SGF_RECORD, uint8_t *to, size_t to_len)
@@ -110,6 +113,7 @@ static void call_count_strict(void) { reading = EITHER(count_strict)(text, used)
 static void call_count_lenient(void) { reading = EITHER(count_lenient)(text, used); }
 static void call_why_strict(void) { why = EITHER(why_strict)(text, used); }
 static void call_why_lenient(void) { why = EITHER(why_lenient)(text, used); }
+static void call_salvage(void) { salvage = EITHER(salvage)(text, used, TABLES, changes, options == 2 ? 2 : sizeof changes / 4, out, room); }
 static void call_fits(void) { number = EITHER(fits)(RECORD); }
 static void call_value(void) { span = EITHER(value)(RECORD, asked); }
 static void call_display(void) { display = EITHER(display)(RECORD, asked, options, out, room); }
@@ -169,6 +173,7 @@ static struct function {
     {"sgf_count_lenient", call_count_lenient, 0, 6144},
     {"sgf_why_strict", call_why_strict, 0, 6144},
     {"sgf_why_lenient", call_why_lenient, 0, 6144},
+    {"sgf_salvage", call_salvage, 0, 10240},
     {"sgf_fits", call_fits, 0, 1024},
     {"sgf_value", call_value, 0, 1024},
     {"sgf_display", call_display, 0, 1024},
@@ -297,6 +302,6 @@ int main(void) {
         }
     }
     (void)span, (void)entry, (void)simple, (void)display, (void)go, (void)writing, (void)edit, (void)trim, (void)token, (void)value, (void)number, (void)board;
-    (void)part, (void)check, (void)block, (void)closing, (void)tag, (void)tally, (void)why;
+    (void)part, (void)check, (void)block, (void)closing, (void)tag, (void)tally, (void)why, (void)salvage;
     return failed;
 }

@@ -114,6 +114,18 @@ pub struct Why {
     pub counts: Counts,
 }
 
+/// A number and a place; how many bytes and changes were written, and the counts of the tables.
+#[repr(C)]
+#[derive(Debug, Clone, Copy, PartialEq, Eq)]
+pub struct Salvage {
+    pub number: u32,
+    pub reserved: u32,
+    pub place: usize,
+    pub length: usize,
+    pub changes: usize,
+    pub counts: Counts,
+}
+
 /// What trimming keeps: number 0 and first..last, or number 2 and the place of the first bad sequence.
 #[repr(C)]
 #[derive(Debug, Clone, Copy, PartialEq, Eq)]
@@ -276,6 +288,22 @@ unsafe extern "C" {
     fn sgf_count_lenient(text: *const u8, text_len: usize) -> Reading;
     fn sgf_why_strict(text: *const u8, text_len: usize) -> Why;
     fn sgf_why_lenient(text: *const u8, text_len: usize) -> Why;
+    fn sgf_salvage(
+        text: *const u8,
+        text_len: usize,
+        trees: *mut u32,
+        trees_len: usize,
+        nodes: *mut u32,
+        nodes_len: usize,
+        properties: *mut u32,
+        properties_len: usize,
+        values: *mut u32,
+        values_len: usize,
+        changes: *mut u32,
+        changes_len: usize,
+        out: *mut u8,
+        out_len: usize,
+    ) -> Salvage;
     fn sgf_read_strict(
         text: *const u8,
         text_len: usize,
@@ -407,6 +435,15 @@ pub fn read_strict(text: &[u8], settings: u32, tables: [&mut [u32]; 4]) -> Readi
 
 pub fn read_lenient(text: &[u8], settings: u32, tables: [&mut [u32]; 4]) -> Reading {
     reading!(sgf_read_lenient, text, settings, tables)
+}
+
+pub fn salvage(text: &[u8], tables: [&mut [u32]; 4], changes: &mut [u32], out: &mut [u8]) -> Salvage {
+    let [trees, nodes, properties, values] = tables;
+    unsafe {
+        sgf_salvage(text.as_ptr(), text.len(), trees.as_mut_ptr(), trees.len(), nodes.as_mut_ptr(), nodes.len(),
+            properties.as_mut_ptr(), properties.len(), values.as_mut_ptr(), values.len(),
+            changes.as_mut_ptr(), changes.len(), out.as_mut_ptr(), out.len())
+    }
 }
 
 pub fn fits(h: &Held) -> u32 {

@@ -1,5 +1,5 @@
 //! The lines of docs/FROM-SGF-PARSE.md, "What is new", as they stand there.
-use ekimorepa::{Blocks, Board, BoardSize, Color, Counts, Entry, Error, Explanation, Feed, Move, NoPoint, Overlaid, Point, Record, Session, Simple, Step, Tally, Tokens, counts, escape, explain, parse, tag};
+use ekimorepa::{Blocks, Board, BoardSize, Change, Color, Counts, Entry, Error, Explanation, Feed, Move, NoPoint, Overlaid, Point, Record, Salvaged, Session, Simple, Step, Tally, Tokens, counts, escape, explain, parse, salvage, tag};
 
 #[test]
 fn what_is_new() -> Result<(), Error> {
@@ -40,6 +40,9 @@ fn what_is_new() -> Result<(), Error> {
     let why: Explanation = explain("(;)(;((;)))");
     let rows_needed: Counts = counts(text)?;
     let long: usize = record.written_len()?;
+    // a damaged text: one that `parse` accepts, and what was changed
+    let saved: Salvaged = salvage("(;B[aa];x[1];W[b")?;
+    let listed: &[Change] = &saved.changes;
     // a season: the tag of a record's writing, and its tally
     let tagged: u64 = record.tag()?;
     let tally: Tally = record.tally();
@@ -50,6 +53,7 @@ fn what_is_new() -> Result<(), Error> {
     assert_eq!((alone.as_str(), played), (text, Ok(Move::Move(Point { x: 2, y: 2 }))));
     assert!(why.to_string().contains("child"), "{why}");
     assert_eq!((rows_needed.nodes, long, tagged, tally.black), (2, text.len(), tag(text.as_bytes()), 1));
+    assert_eq!((saved.text.as_str(), listed), ("(;B[aa];;)", &[Change::NamelessRemoved { property: 1 }, Change::TailDropped { place: 13 }][..]));
     Ok(())
 }
 

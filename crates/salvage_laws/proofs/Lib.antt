@@ -1,6 +1,10 @@
+pub mod Empty
+pub mod Lists
 pub mod MendedNodes
 pub mod MendedProps
 pub mod Order
 pub mod Own
 pub mod Says
+pub mod Silent
+pub mod Tailless
 pub mod Theorem

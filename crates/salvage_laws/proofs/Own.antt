@@ -21,12 +21,12 @@ OwnTree t = (rootGame (t .nodes) ≡ is (t .game)) × All OwnNode (t .nodes)
 
 -- ---- such a record is its own mended record
 
-there-some : (w : List ℕ) → some w ≡ true → not (leb (length w) 0) ≡ true
+pub there-some : (w : List ℕ) → some w ≡ true → not (leb (length w) 0) ≡ true
 there-some [] h = h
 there-some (b ∷ bs) h = rw (lt-leb (length (b ∷ bs)) 0 (omega arith))
 
 module _ (p : Prop) (n : Named p) where
-  read-own : readIdentifier (p .name) ≡ p .name
+  pub read-own : readIdentifier (p .name) ≡ p .name
   read-own = letters-same (p .name) (n .1)
 
   own-stays : propStays false p ≡ true

@@ -14,7 +14,7 @@ use Rattle.why_blame.specs.Blame.{Blame, nowhere, found, blame, isStopped}
 use Rattle.why_blame.specs.Cuts.{slicedTokens}
 use Rattle.salvage_mend.specs.Mend.{rootGame, gmsBad, keptGame, mendNodes, mendTree, mended}
 use Rattle.salvage_mend.specs.Changes.{Change, nodesChanges, propsChanges, changeNodes, changeTrees, changed, gameKept}
-use Rattle.salvage_mend.specs.Listed.{cutOf, walkNodes, rootOf, treesChanges, tailOf, slicesChanges, utfChanges, changesOf}
+use Rattle.salvage_list.specs.Listed.{cutOf, walkNodes, rootOf, treesChanges, tailOf, slicesChanges, utfChanges, changesOf}
 use Rattle.salvage_mend.proofs.Told.{Silent, Below, Above, silent-append, props-above, props-below, tells-behind, tells-before, NodesTold, nodes-told, game-told, nodes-tell}
 
 -- ---- trees that a list tells of
@@ -96,15 +96,15 @@ trees-above i base k (s ∷ ss) j l =
 
 -- ---- the nodes of a walk, and of the tree that grew from it: an empty root where there are none
 
-record OneTree (ns ms : List Node) : Type 0 where
-  props : length (allProps ms) ≡ length (allProps ns)
-  nodes : length ms ≡ max 1 (length ns)
-  told : (cs : List Change) (k : ℕ) → NodesTold cs k ns → NodesTold cs k ms
+pub record OneTree (ns ms : List Node) : Type 0 where
+  pub props : length (allProps ms) ≡ length (allProps ns)
+  pub nodes : length ms ≡ max 1 (length ns)
+  pub told : (cs : List Change) (k : ℕ) → NodesTold cs k ns → NodesTold cs k ms
 
 one-some : (ns : List Node) → 0 < length ns → OneTree ns ns
 one-some ns l = record { props = refl; nodes = omega arith; told = λ cs k h. h }
 
-one-tree : (w : Walk) → OneTree (walkNodes w) (inOrder (nodesOf w))
+pub one-tree : (w : Walk) → OneTree (walkNodes w) (inOrder (nodesOf w))
 one-tree (walk cur st g []) = record { props = refl; nodes = omega arith; told = λ cs k h. (tt, tt) }
 one-tree (walk cur st g (n ∷ ns)) = one-some (reverse (n ∷ ns)) (omega (arith, length-reverse (n ∷ ns)))
 one-tree (halted []) = record { props = refl; nodes = omega arith; told = λ cs k h. (tt, tt) }
@@ -144,18 +144,18 @@ grew-told i base k (suc n) us (t ∷ ts) g =
 -- ---- of a text
 
 module _ (t : List ℕ) (ts : List Tree) (h : readLenient t ≡ accepted ts) where
-  abbrev r : Reading true t ts
+  abbrev pub r : Reading true t ts
   r = reading-is true t ts h
 
-  listed : changesOf t ≡ treesChanges 0 0 0 (firstSlices (r .k) (r .toks)) ++ tailOf (drop (length (slicedTokens (firstSlices (r .k) (r .toks)))) (tokenize (r .ink) t .toks)) (tokenize (r .ink) t .end)
-  listed = ap (λ (u : Utf). utfChanges u t) (r .valid) ∙ ap (λ (x : Slices). slicesChanges x (tokenize (r .ink) t)) (r .cuts)
+  pub list-is : changesOf t ≡ treesChanges 0 0 0 (firstSlices (r .k) (r .toks)) ++ tailOf (drop (length (slicedTokens (firstSlices (r .k) (r .toks)))) (tokenize (r .ink) t .toks)) (tokenize (r .ink) t .end)
+  list-is = ap (λ (u : Utf). utfChanges u t) (r .valid) ∙ ap (λ (x : Slices). slicesChanges x (tokenize (r .ink) t)) (r .cuts)
 
   -- the list applied to the lenient record is the mended record
   pub changes-say : changed (changesOf t) ts ≡ mended ts
   changes-say =
       let cs : List Change = treesChanges 0 0 0 (firstSlices (r .k) (r .toks)) in
       let ys : List Change = tailOf (drop (length (slicedTokens (firstSlices (r .k) (r .toks)))) (tokenize (r .ink) t .toks)) (tokenize (r .ink) t .end) in
-      ap (λ (z : List Change). changed z ts) listed
+      ap (λ (z : List Change). changed z ts) list-is
       ∙ trees-told (cs ++ ys) 0 ts
       (trees-before cs ys 0 ts (tail-silent (drop (length (slicedTokens (firstSlices (r .k) (r .toks)))) (tokenize (r .ink) t .toks)) (tokenize (r .ink) t .end))
       (grew-told 0 0 0 (r .k) (r .toks) ts (r .grew)))

@@ -75,7 +75,7 @@ lenient-form t ts h = mended-form true t ts (reading-is true t ts h) (props-prop
 
 -- a lenient reading; the writing of its mended record, within the text limit, is strictly read
 module _ (t : List ℕ) (ts : List Tree) (h : readLenient t ≡ accepted ts) (s : length (writing (mended ts)) ≤ textLimit) where
-  form : Form (mended ts)
+  pub form : Form (mended ts)
   form = lenient-form t ts h
 
   -- 9 where it is too deep
@@ -83,14 +83,14 @@ module _ (t : List ℕ) (ts : List Tree) (h : readLenient t ≡ accepted ts) (s 
   mended-too-deep = form-too-deep (mended ts) form s
 
   module _ (d : depthOf (writing (mended ts)) ≤ depthLimit) where
-    back : Back (map formTree (mended ts))
+    pub back : Back (map formTree (mended ts))
     back = shallow-back (map formTree (mended ts)) (normal-form (mended ts) form) s d
 
     -- else accepted, with the mended trees
     pub mended-reads : ReadsBack (mended ts)
     mended-reads = form-back-within (mended ts) form s d
 
-    own : All OwnTree (back .again)
+    pub own : All OwnTree (back .again)
     own =
         let f : Form (map formTree (mended ts)) = normal-form (mended ts) form in
         own-aside (back .again) (map formTree (mended ts)) (back .alike) (sound-own 0 (map formTree (mended ts)) (f .sound) (f .plain))

@@ -1,2 +1,4 @@
 pub mod Again
 pub mod MendedExamples
+pub mod Result
+pub mod Tail

@@ -13,9 +13,8 @@ use Rattle.go.specs.Value.{moveUnder, valueBy, goValue, pointsOf}
 use Rattle.fit_rule.specs.Rule.{ttPasses, ruleBy, sizeOfTree, ruleOf}
 use Rattle.go_size.specs.Root.{sizeIn}
 use Rattle.parser.specs.Examples.{bytes}
-use Rattle.parser.specs.Read.{Answer, refused, accepted, readLenient}
-use Rattle.serialize.specs.Form.{writing}
-use Rattle.salvage_mend.specs.Mend.{mended}
+use Rattle.parser.specs.Read.{readLenient}
+use Rattle.salvage_laws.specs.Result.{salvageOf}
 
 -- a text and its salvage (SCOPE 284)
 pub record Salvaged : Type 0 where
@@ -25,11 +24,6 @@ pub record Salvaged : Type 0 where
 -- a row of the table
 abbrev damaged : String → String → Salvaged
 damaged t w = record { text = t; result = w }
-
--- the writing of the mended record of a lenient reading
-abbrev pub salvageOf : Answer → List ℕ
-salvageOf (refused r p) = []
-salvageOf (accepted ts) = writing (mended ts)
 
 -- the game type of the kept GM; GM spelled otherwise; two GMs, and one that is no number, removed; GM below the root kept; cut, tail and empty roots
 abbrev pub salvaged : List Salvaged

@@ -1,0 +1,3 @@
+pub mod LocalsRecord
+pub mod Salvage
+pub mod Worth

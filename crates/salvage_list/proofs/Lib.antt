@@ -1,0 +1,13 @@
+-- `crates::proofs` meets its contract. Assumes nothing.
+pub mod Ends
+pub mod Few
+pub mod Gms
+pub mod Going
+pub mod Props
+pub mod Puts
+pub mod Rooted
+pub mod Slices
+pub mod Stacks
+pub mod Texts
+pub mod Trees
+pub mod Unique
