@@ -4,7 +4,7 @@ use Rattle.lists.specs.All.{All}
 use Rattle.text_chars.specs.Table.{BadFrom}
 use Rattle.values.specs.Read.{readValue}
 use Rattle.values.specs.Decimal.{decimalOf}
-use Rattle.lexer.specs.Token.{Val, Prop, Tok, start, end, prop}
+use Rattle.lexer.specs.Token.{Val, Prop, Tok, start, end, node, prop}
 use Rattle.lexer.specs.declared.Fault.the-variants.{MissingPropertyIdentifier, UnexpectedEndOfPropertyIdentifier, UnexpectedEndOfPropertyValue}
 use Rattle.tables.specs.Numbers.{textLimit, depthLimit}
 use Rattle.tables.specs.Record.{Node}
@@ -13,16 +13,22 @@ use Rattle.parser.specs.Walk.{walk, children}
 use Rattle.parser.specs.Balance.{starts, ends, Covered}
 use Rattle.reader_exactly.specs.Slicing.{slicesFrom, Deep}
 use Rattle.reader_exactly.specs.When.{tokensOf, FailsAt, First, games, Comes, Nodeless}
-use Rattle.why_blame.specs.Blame.{tokenPlace}
 use Rattle.why_blame.specs.declared.Fact.{Fact}
 use Rattle.why_blame.specs.declared.Fact.the-variants.{Length, BadSequence, NoBracket, Foreign, NotClosed, EndBeyond, StaysOpen, NoNode, NoEnd, TooDeep, EmptyList, SecondGm, Stray, GmValues, GmNumber}
 use Rattle.why_says.specs.Scans.{Crossed, MeetsForeign, StaysUnclosed}
 
 -- ---- splitting
 
+-- a token stands at p
+abbrev pub TokenAt : Tok → (p : ℕ) → Type 0
+TokenAt (start o) p = p ≡ o
+TokenAt (end o) p = p ≡ o
+TokenAt (node o) p = p ≡ o
+TokenAt (prop a e) p = p ≡ a .from
+
 -- the first token of a slice stands at p
 abbrev pub HeadAt : List Tok → (p : ℕ) → Type 0
-HeadAt s p = (t : Tok) × (rest : List Tok) × (s ≡ t ∷ rest) × (p ≡ tokenPlace t)
+HeadAt s p = (t : Tok) × (rest : List Tok) × (s ≡ t ∷ rest) × TokenAt t p
 
 -- 6: an end at p, before which starts and ends are equal in number, and in no prefix of the tokens before it are there more ends (SCOPE 264)
 pub record ExceedsAt (ts : List Tok) (p : ℕ) : Type 0 where
