@@ -5,17 +5,16 @@ use Rattle.text_chars.specs.Table.{BadFrom}
 use Rattle.values.specs.Read.{readValue}
 use Rattle.values.specs.Decimal.{decimalOf}
 use Rattle.lexer.specs.Token.{Val, Prop, Tok, start, end, node, prop}
-use Rattle.lexer.specs.declared.Fault.the-variants.{MissingPropertyIdentifier, UnexpectedEndOfPropertyIdentifier, UnexpectedEndOfPropertyValue}
 use Rattle.tables.specs.Numbers.{textLimit, depthLimit}
 use Rattle.tables.specs.Record.{Node}
 use Rattle.parser.specs.Game.{isI32}
 use Rattle.parser.specs.Walk.{walk, children}
 use Rattle.parser.specs.Balance.{starts, ends, Covered}
 use Rattle.reader_exactly.specs.Slicing.{slicesFrom, Deep}
-use Rattle.reader_exactly.specs.When.{tokensOf, FailsAt, First, games, Comes, Nodeless}
+use Rattle.reader_exactly.specs.When.{tokensOf, First, games, Comes, Nodeless}
 use Rattle.why_blame.specs.declared.Fact.{Fact}
 use Rattle.why_blame.specs.declared.Fact.the-variants.{Length, BadSequence, NoBracket, Foreign, NotClosed, EndBeyond, StaysOpen, NoNode, NoEnd, TooDeep, EmptyList, SecondGm, Stray, GmValues, GmNumber}
-use Rattle.why_says.specs.Scans.{Crossed, MeetsForeign, StaysUnclosed}
+use Rattle.why_says.specs.Scans.{PropertyAt, Crossed, MeetsForeign, StaysUnclosed}
 
 -- ---- splitting
 
@@ -96,9 +95,9 @@ NumberAt p base s =
 abbrev pub FactSays : List ℕ → Fact → (p : ℕ) → Type 0
 FactSays t (Length n) p = (n ≡ length t) × (textLimit < n) × (p ≡ 0)
 FactSays t BadSequence p = BadFrom t p
-FactSays t (NoBracket e) p = (x : FailsAt t MissingPropertyIdentifier p) × (e ≡ x .last) × All Crossed (drop p (take e t))
-FactSays t (Foreign e) p = (x : FailsAt t UnexpectedEndOfPropertyIdentifier p) × MeetsForeign (take (x .last) t) p e
-FactSays t (NotClosed e) p = (x : FailsAt t UnexpectedEndOfPropertyValue p) × (e ≡ x .last) × StaysUnclosed (take e t) p
+FactSays t (NoBracket e) p = (x : PropertyAt t p) × (e ≡ x .last) × All Crossed (drop p (take e t))
+FactSays t (Foreign e) p = (x : PropertyAt t p) × MeetsForeign (take (x .last) t) p e
+FactSays t (NotClosed e) p = (x : PropertyAt t p) × (e ≡ x .last) × StaysUnclosed (take e t) p
 FactSays t EndBeyond p = ExceedsAt (tokensOf t .toks) p
 FactSays t (StaysOpen d) p = OpenAt (tokensOf t .toks) d p
 FactSays t (NoNode n) p = InSlice n (NodelessAt p) (slicesFrom 0 (tokensOf t .toks))
