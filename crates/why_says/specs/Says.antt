@@ -1,17 +1,17 @@
 -- What a fact says of a text, with its number and its place, in the scope's words: without `read` and without `explained`.
-use Rattle.lists.specs.Prelude.{ℕ, _+_, _-_, _^_, _<_, _≡_, Bool, false, List, [], _∷_, _++_, length, take, drop}
+use Rattle.lists.specs.Prelude.{ℕ, _+_, _-_, _^_, _<_, _≡_, Bool, false, _⊎_, List, [], _∷_, _++_, length, take, drop}
 use Rattle.lists.specs.All.{All}
 use Rattle.text_chars.specs.Table.{BadFrom}
 use Rattle.values.specs.Read.{readValue}
 use Rattle.values.specs.Decimal.{decimalOf}
 use Rattle.lexer.specs.Token.{Val, Prop, Tok, start, end, node, prop}
-use Rattle.tables.specs.Numbers.{textLimit, depthLimit}
+use Rattle.tables.specs.Numbers.{textLimit, depthLimit, none}
 use Rattle.tables.specs.Record.{Node}
 use Rattle.parser.specs.Game.{isI32}
 use Rattle.parser.specs.Walk.{walk, children}
 use Rattle.parser.specs.Balance.{starts, ends, Covered}
 use Rattle.reader_exactly.specs.Slicing.{slicesFrom, Deep}
-use Rattle.reader_exactly.specs.When.{tokensOf, First, games, Comes, Nodeless}
+use Rattle.reader_exactly.specs.When.{tokensOf, First, games, Comes, nodes, Nodeless}
 use Rattle.why_blame.specs.declared.Fact.{Fact}
 use Rattle.why_blame.specs.declared.Fact.the-variants.{Length, BadSequence, NoBracket, Foreign, NotClosed, EndBeyond, StaysOpen, NoNode, NoEnd, TooDeep, EmptyList, SecondGm, Stray, GmValues, GmNumber}
 use Rattle.why_says.specs.Scans.{PropertyAt, Crossed, MeetsForeign, StaysUnclosed}
@@ -70,6 +70,10 @@ abbrev pub EmptyListAt : (q p base : ℕ) → List Tok → Type 0
 EmptyListAt q p base s =
     (front : List Tok) × (cur : ℕ) × (st : List ℕ) × (g : Bool) × (ns : List Node)
     × Comes base s front (start p) (walk cur (q ∷ st) g ns) × (children q ns ≡ false)
+
+-- 10: and q is "none", or the number of a node before that start: of the base nodes before the slice, or of those in its front (SCOPE 14, 267)
+abbrev pub NumberedListAt : (q p base : ℕ) → List Tok → Type 0
+NumberedListAt q p base s = (x : EmptyListAt q p base s) × ((q ≡ none) ⊎ (q < base + nodes (x .0)))
 
 -- 11: the walk comes to a property at p that is not directly after a node or its properties (SCOPE 269)
 abbrev pub StrayAt : (p base : ℕ) → List Tok → Type 0
