@@ -71,7 +71,7 @@ EmptyListAt q p base s =
     (front : List Tok) × (cur : ℕ) × (st : List ℕ) × (g : Bool) × (ns : List Node)
     × Comes base s front (start p) (walk cur (q ∷ st) g ns) × (children q ns ≡ false)
 
--- 10: and q is "none", or the number of a node before that start: of the base nodes before the slice, or of those in its front (SCOPE 14, 267)
+-- 10: and q is "none", or the number of a node before that start: of the base nodes before the slice, or of those in its front (SCOPE 267)
 abbrev pub NumberedListAt : (q p base : ℕ) → List Tok → Type 0
 NumberedListAt q p base s = (x : EmptyListAt q p base s) × ((q ≡ none) ⊎ (q < base + nodes (x .0)))
 

@@ -9,14 +9,14 @@ use Rattle.lexer_scan.specs.Scan.{skipAt, identAt, valueStepAt}
 use Rattle.lexer_scan.specs.declared.Ident.the-variants.{Opens}
 use Rattle.lexer_scan.specs.declared.ValueStep.the-variants.{Value}
 
--- the token that starts at p in u is a property: a byte stands there, and it is none of `(`, `)` and `;` (SCOPE 70)
+-- the token that starts at p in u is a property: a byte stands there, and it is none of `(`, `)` and `;` (SCOPE 263)
 pub record PropertyIn (u : List ℕ) (p : ℕ) : Type 0 where
   pub inside : p < length u
   pub no-start : getD u p 0 ≡ 0x28 → ⊥
   pub no-end : getD u p 0 ≡ 0x29 → ⊥
   pub no-node : getD u p 0 ≡ 0x3b → ⊥
 
--- trimming keeps the text from `first` to `last`; tokens reach `at` from there, white space follows up to p, and a property starts at p (SCOPE 68-70)
+-- trimming keeps the text from `first` to `last`; tokens reach `at` from there, white space follows up to p, and a property starts at p (SCOPE 263)
 pub record PropertyAt (t : List ℕ) (p : ℕ) : Type 0 where
   pub first : ℕ
   pub last : ℕ
