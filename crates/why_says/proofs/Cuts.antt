@@ -13,8 +13,24 @@ use Rattle.reader_exactly.proofs.Standing.{slices-are}
 use Rattle.why_blame.specs.Blame.{Blame, nowhere, found, blame, splitWrong, isDeep, tokenPlace, blamePlace}
 use Rattle.why_blame.specs.Cuts.{wrongAt, deepAt, firstPlace}
 use Rattle.why_blame.proofs.Found.{folds, First, Says, blame-says, split-folds}
-use Rattle.why_says.specs.Says.{HeadAt, ExceedsAt, OpenAt, DeepAt}
+use Rattle.why_says.specs.Says.{TokenAt, HeadAt, ExceedsAt, OpenAt, DeepAt}
 use Rattle.why_says.proofs.Counts.{Counted, Counts, counts, Some, slices-some}
+
+-- ---- where a token stands
+
+pub token-at : (t : Tok) {p : ℕ} → p ≡ tokenPlace t → TokenAt t p
+token-at (start o) e = e
+token-at (end o) e = e
+token-at (node o) e = e
+token-at (prop a o) e = e
+
+pub at-token : (t : Tok) {p : ℕ} → TokenAt t p → p ≡ tokenPlace t
+at-token (start o) e = e
+at-token (end o) e = e
+at-token (node o) e = e
+at-token (prop a o) e = e
+
+-- ---- splitting
 
 abbrev pub begun : Splitting
 begun = splitting 0 0 [] []
@@ -85,7 +101,7 @@ module _ (ts : List Tok) where
 
   pub head-at : (s : List Tok) → Some s → HeadAt s (firstPlace 0 s done)
   head-at [] h = absurd h
-  head-at (t ∷ s) h = (t, s, refl, refl)
+  head-at (t ∷ s) h = (t, s, refl, token-at t refl)
 
   pub open-found : (d m : ℕ) (cur : List Tok) (ss : List (List Tok)) → split false begun ts ≡ splitting (suc d) m cur ss → OpenAt ts (suc d) (firstPlace 0 (reverse cur) done)
   open-found d m cur ss e =

@@ -19,7 +19,7 @@ use Rattle.why_blame.proofs.Found.{folds, folds-append, split-folds}
 use Rattle.why_says.specs.Says.{HeadAt, ExceedsAt, OpenAt, DeepAt}
 use Rattle.why_says.proofs.Along.{found-at, right-back, NotDeep, deep-back}
 use Rattle.why_says.proofs.Counts.{Counted, Counts, counts, Going, going, Sliced, some-sliced}
-use Rattle.why_says.proofs.Cuts.{begun, open-found}
+use Rattle.why_says.proofs.Cuts.{at-token, begun, open-found}
 
 -- ---- where splitting comes to
 
@@ -56,7 +56,7 @@ snoc-last (x ∷ xs) (y ∷ ys) a b e = snoc-last xs ys a b (tail-eq-of-cons-eq 
 
 pub head-place : (s : List Tok) {p : ℕ} → HeadAt s p → p ≡ firstPlace 0 s done
 head-place [] (t, r, e, q) = never cc
-head-place (u ∷ s) (t, r, e, q) = q ∙ ap (λ (z : List Tok). firstPlace 0 z done) (sym e)
+head-place (u ∷ s) (t, r, e, q) = at-token t q ∙ ap (λ (z : List Tok). firstPlace 0 z done) (sym e)
 
 module _ (n : ℕ) (l : Lexed) where
   -- ---- 6

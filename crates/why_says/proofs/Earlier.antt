@@ -18,6 +18,7 @@ use Rattle.why_blame.specs.declared.Fact.the-variants.{Length, BadSequence, NoB
 use Rattle.why_blame.specs.declared.Cutting.the-variants.{Wrong, Slices}
 use Rattle.why_says.specs.Says.{FactSays}
 use Rattle.why_says.specs.Clear.{Clear, LenientClear, stageOf}
+use Rattle.why_says.proofs.Scanned.{missing-fails, foreign-fails, unclosed-fails}
 use Rattle.why_says.proofs.Counts.{Going, going}
 use Rattle.why_says.proofs.Cuts.{begun}
 use Rattle.why_says.proofs.CutsBack.{exceeds-wrong, deep-strict}
@@ -102,9 +103,9 @@ module _ (t : List ℕ) where
   refuted : (g : Fact) (q : ℕ) → FactSays t g q → stageOf g < 7 → Passed (suc (stageOf g)) → ⊥
   refuted (Length n) q (e, h, z) l s = omega (arith, e, h, s)
   refuted BadSequence q x l v = well-formed-trimmed t (v .formed) q (bad-trimmed t q x)
-  refuted (NoBracket e) q x l c = fault-refuted c (x .0)
-  refuted (Foreign e) q x l c = fault-refuted c (x .0)
-  refuted (NotClosed e) q x l c = fault-refuted c (x .0)
+  refuted (NoBracket e) q (x, h, y) l c = fault-refuted c (missing-fails t x h y)
+  refuted (Foreign e) q (x, y) l c = fault-refuted c (foreign-fails t x y)
+  refuted (NotClosed e) q (x, h, y) l c = fault-refuted c (unclosed-fails t x h y)
   refuted EndBeyond q x l c = subst Going (exceeds-wrong (length t) L x) (going false (L .toks) 0 0 [] [] (c .1))
   refuted (StaysOpen d) q x l c = omega (arith, x .more, x .some, c .2)
   refuted NoEnd q x l c = omega (arith, x .0, c .1 .some)

@@ -33,7 +33,7 @@ use Rattle.why_grounds.proofs.Trees.{Agree}
 use Rattle.why_grounds.proofs.Agrees.{text-agrees}
 use Rattle.why_says.specs.Says.{NodelessAt, EmptyListAt, StrayAt, SecondAt, ValuesAt, NumberAt, FactSays}
 use Rattle.why_says.specs.Clear.{Clear, LenientClear}
-use Rattle.why_says.proofs.Scanned.{foreign-met}
+use Rattle.why_says.proofs.Scanned.{missing-fails, foreign-met, foreign-fails, unclosed-fails}
 use Rattle.why_says.proofs.Cuts.{begun}
 use Rattle.why_says.proofs.CutsBack.{exceeds-cut, open-cut, none-cut, deep-lenient, deep-strict}
 use Rattle.why_says.proofs.SlicesBack.{second-blamed, values-blamed, number-blamed, empty-blamed, stray-blamed, nodeless-blamed}
@@ -107,9 +107,9 @@ module _ (t : List ℕ) where
   pub says-blamed : (f : Fact) (p : ℕ) → FactSays t f p → Clear t f → textBlame false t ≡ By f p
   says-blamed (Length n) p x c = long-blamed false x
   says-blamed BadSequence p x c = bad-blamed false c x
-  says-blamed (NoBracket e) p (x, h, y) c = fault-blamed c x ∙ ap (λ (k : ℕ). By (NoBracket k) p) (last-is c x ∙ sym h)
-  says-blamed (Foreign e) p (x, y) c = fault-blamed c x ∙ ap (λ (k : ℕ). By (Foreign k) p) (sym (foreign-met (take (x .last) t) y))
-  says-blamed (NotClosed e) p (x, h, y) c = fault-blamed c x ∙ ap (λ (k : ℕ). By (NotClosed k) p) (last-is c x ∙ sym h)
+  says-blamed (NoBracket e) p (x, h, y) c = let z = missing-fails t x h y in fault-blamed c z ∙ ap (λ (k : ℕ). By (NoBracket k) p) (last-is c z ∙ sym h)
+  says-blamed (Foreign e) p (x, y) c = fault-blamed c (foreign-fails t x y) ∙ ap (λ (k : ℕ). By (Foreign k) p) (sym (foreign-met (take (x .last) t) y))
+  says-blamed (NotClosed e) p (x, h, y) c = let z = unclosed-fails t x h y in fault-blamed c z ∙ ap (λ (k : ℕ). By (NotClosed k) p) (last-is c z ∙ sym h)
   says-blamed EndBeyond p x c = cut-blamed c (exceeds-cut (length t) L x)
   says-blamed (StaysOpen d) p x c = cut-blamed (c .0) (open-cut (length t) L (c .1) x)
   says-blamed (NoNode n) p (x, e) c =

@@ -7,6 +7,7 @@ pub mod Exactly
 pub mod Held
 pub mod Laws
 pub mod Loose
+pub mod Numbers
 pub mod Says
 pub mod Scanned
 pub mod Slices

@@ -1,5 +1,5 @@
 -- Where reading of an accepted text ended: at the first token behind the slices, or with the text. Assumes nothing.
-use Rattle.lists.proofs.Prelude.{ℕ, zero, suc, _+_, _≡_, refl, sym, ap, _∙_, subst, Bool, true, false, List, [], _∷_, _++_, reverse, arith, length, take, drop, drop-append-add, ltb, pick}
+use Rattle.lists.proofs.Prelude.{ℕ, zero, suc, _+_, _≡_, refl, sym, ap, _∙_, subst, Bool, true, false, List, [], _∷_, _++_, append-assoc, reverse, arith, length, take, drop, drop-append-add, ltb, pick}
 use Rattle.lists.proofs.Tests.{never}
 use Rattle.text_utf8.specs.Trim.{trimmed}
 use Rattle.text_utf8.specs.declared.Trimmed.{Trimmed}
@@ -26,8 +26,8 @@ use Rattle.why.specs.Why.{cutBlame, tokensBlame, trimBlame, textBlame, cutLoose
 use Rattle.why.specs.declared.Why.the-variants.{Accepted}
 use Rattle.why_grounds.proofs.Trees.{Agree}
 use Rattle.why_grounds.proofs.Agrees.{text-agrees, why-accepted}
-use Rattle.why_says.specs.Behind.{LooseAt}
-use Rattle.why_says.proofs.Cuts.{begun}
+use Rattle.why_says.specs.Behind.{SlicesThen, RestAt, LooseAt}
+use Rattle.why_says.proofs.Cuts.{token-at, at-token, begun}
 
 -- ---- slices are the first tokens, one after the other
 
@@ -48,6 +48,25 @@ slices-front (end o ∷ ts) (suc zero) = let h = slices-front ts 0 in (h .0, ap 
 slices-front (end o ∷ ts) (suc (suc d)) = front-on (end o) ts (slicesFrom (suc d) ts) (slices-front ts (suc d))
 slices-front (node o ∷ ts) d = front-on (node o) ts (slicesFrom d ts) (slices-front ts d)
 slices-front (prop p e ∷ ts) d = front-on (prop p e) ts (slicesFrom d ts) (slices-front ts d)
+
+-- the same, slice by slice
+then-sliced : (ss : List (List Tok)) (rest ts : List Tok) → SlicesThen ss rest ts → ts ≡ slicedTokens ss ++ rest
+then-sliced [] rest ts e = e
+then-sliced (s ∷ ss) rest ts (more, e, h) = e ∙ ap (λ (z : List Tok). s ++ z) (then-sliced ss rest more h) ∙ sym (append-assoc s (slicedTokens ss) rest)
+
+sliced-then : (ss : List (List Tok)) (rest ts : List Tok) → ts ≡ slicedTokens ss ++ rest → SlicesThen ss rest ts
+sliced-then [] rest ts e = e
+sliced-then (s ∷ ss) rest ts e = (slicedTokens ss ++ rest, e ∙ append-assoc s (slicedTokens ss) rest, sliced-then ss rest (slicedTokens ss ++ rest) refl)
+
+rest-place : (n : ℕ) (rest : List Tok) (e : End) {q : ℕ} → RestAt n rest e q → q ≡ firstPlace n rest e
+rest-place n (t ∷ ts) e h = at-token t h
+rest-place n [] (broken f s) h = h
+rest-place n [] done h = h
+
+place-rest : (n : ℕ) (rest : List Tok) (e : End) {q : ℕ} → q ≡ firstPlace n rest e → RestAt n rest e q
+place-rest n (t ∷ ts) e h = token-at t h
+place-rest n [] (broken f s) h = h
+place-rest n [] done h = h
 
 drop-front : (xs ys : List Tok) → drop (length xs) (xs ++ ys) ≡ ys
 drop-front xs ys = let e : length xs ≡ length xs + 0 = omega arith in ap (λ (k : ℕ). drop k (xs ++ ys)) e ∙ drop-append-add xs ys 0
@@ -108,8 +127,9 @@ module _ (len : Bool) (t : List ℕ) where
   trim-loose Blank k h =
       record {
         rest = [];
-        are = ap (λ (z : Trimmed). tokensIn t z .toks) k ∙ sym (ap (λ (z : Trimmed). slicedTokens (slicesFrom 0 (tokensIn t z .toks)) ++ []) k);
-        place = sym (ap (λ (z : Trimmed). firstPlace (length t) [] (tokensIn t z .end)) k);
+        are = sliced-then (slicesFrom 0 (tokensOf t .toks)) [] (tokensOf t .toks)
+            (ap (λ (z : Trimmed). tokensIn t z .toks) k ∙ sym (ap (λ (z : Trimmed). slicedTokens (slicesFrom 0 (tokensIn t z .toks)) ++ []) k));
+        place = place-rest (length t) [] (tokensOf t .end) (sym (ap (λ (z : Trimmed). firstPlace (length t) [] (tokensIn t z .end)) k));
       }
   trim-loose (Kept a l) k h =
       let x = lexAt (take l t) a in
@@ -118,8 +138,8 @@ module _ (len : Bool) (t : List ℕ) where
       let e : x ≡ tokensOf t = sym (ap (tokensIn t) k) in
       record {
         rest = z .0;
-        are = subst (λ (w : Lexed). w .toks ≡ slicedTokens (slicesFrom 0 (w .toks)) ++ z .0) e (z .1);
-        place = z .2 ∙ ap (λ (w : Lexed). firstPlace (length t) (z .0) (w .end)) e;
+        are = sliced-then (slicesFrom 0 (tokensOf t .toks)) (z .0) (tokensOf t .toks) (subst (λ (w : Lexed). w .toks ≡ slicedTokens (slicesFrom 0 (w .toks)) ++ z .0) e (z .1));
+        place = place-rest (length t) (z .0) (tokensOf t .end) (z .2 ∙ ap (λ (w : Lexed). firstPlace (length t) (z .0) (w .end)) e);
       }
 
   text-loose : textBlame len t ≡ No → LooseAt t (trimLoose len t (trimmed t))
@@ -141,11 +161,15 @@ module _ (len : Bool) (t : List ℕ) where
 
 -- and there is no second such place
 pub loose-once : (t : List ℕ) (p q : ℕ) → LooseAt t p → LooseAt t q → p ≡ q
-loose-once t p q x y = x .place ∙ ap (λ (z : List Tok). firstPlace (length t) z (tokensOf t .end)) (rest-is x ∙ sym (rest-is y)) ∙ sym (y .place)
+loose-once t p q x y = place-is x ∙ ap (λ (z : List Tok). firstPlace (length t) z (tokensOf t .end)) (rest-is x ∙ sym (rest-is y)) ∙ sym (place-is y)
   where
+    place-is : {r : ℕ} (z : LooseAt t r) → r ≡ firstPlace (length t) (z .rest) (tokensOf t .end)
+    place-is z = rest-place (length t) (z .rest) (tokensOf t .end) (z .place)
+
     rest-is : {r : ℕ} (z : LooseAt t r) → z .rest ≡ drop (length (slicedTokens (slicesFrom 0 (tokensOf t .toks)))) (tokensOf t .toks)
     rest-is z =
-        sym (ap (λ (w : List Tok). drop (length (slicedTokens (slicesFrom 0 (tokensOf t .toks)))) w) (z .are) ∙ drop-front (slicedTokens (slicesFrom 0 (tokensOf t .toks))) (z .rest))
+        sym (ap (λ (w : List Tok). drop (length (slicedTokens (slicesFrom 0 (tokensOf t .toks)))) w)
+        (then-sliced (slicesFrom 0 (tokensOf t .toks)) (z .rest) (tokensOf t .toks) (z .are)) ∙ drop-front (slicedTokens (slicesFrom 0 (tokensOf t .toks))) (z .rest))
 
 -- a text is explained by counts and a place exactly when it is accepted with them, and that is the place
 pub accepted-exactly : (len : Bool) (t : List ℕ) (c : Counts) (q : ℕ) → Iff (explained len t ≡ Accepted c q) ((ts : List Tree) × (read len t ≡ accepted ts) × (c ≡ countsOf (tables ts)) × LooseAt t q)

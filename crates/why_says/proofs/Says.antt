@@ -34,7 +34,7 @@ use Rattle.why_grounds.proofs.Agrees.{text-agrees}
 use Rattle.why_says.specs.Says.{FactSays}
 use Rattle.why_says.specs.Clear.{Clear, LenientClear}
 use Rattle.why_says.specs.Scans.{Crossed, StaysUnclosed}
-use Rattle.why_says.proofs.Scanned.{refused-scan, missing-crossed, meets-foreign, stays-unclosed}
+use Rattle.why_says.proofs.Scanned.{refused-scan, fails-property, missing-crossed, meets-foreign, stays-unclosed}
 use Rattle.why_says.proofs.Counts.{Counted, Counts, counts}
 use Rattle.why_says.proofs.Cuts.{begun, deep-found, wrong-found, open-found}
 use Rattle.why_says.proofs.Held.{ClearIn, Held}
@@ -61,14 +61,14 @@ module _ (t : List ℕ) where
       go : (f : Fault) → lexAt (take l t) a .end ≡ broken f s → Held false t (By (faultFact (take l t) f s) s)
       go MissingPropertyIdentifier q =
           let x = at-fault a l k MissingPropertyIdentifier s q in
-          ((x, kept, subst⁻¹ (λ (u : List ℕ). All Crossed (drop s u)) same (missing-crossed (take l t) s (refused-scan (take l t) (x .at) MissingPropertyIdentifier s (x .fails)))), v)
+          ((fails-property t x, kept, subst⁻¹ (λ (u : List ℕ). All Crossed (drop s u)) same (missing-crossed (take l t) s (refused-scan (take l t) (x .at) MissingPropertyIdentifier s (x .fails) .0))), v)
       go UnexpectedEndOfPropertyIdentifier q =
           let x = at-fault a l k UnexpectedEndOfPropertyIdentifier s q in
-          ((x, meets-foreign (take l t) s (refused-scan (take l t) (x .at) UnexpectedEndOfPropertyIdentifier s (x .fails))), v)
+          ((fails-property t x, meets-foreign (take l t) s (refused-scan (take l t) (x .at) UnexpectedEndOfPropertyIdentifier s (x .fails) .0)), v)
       go UnexpectedEndOfPropertyValue q =
           let x = at-fault a l k UnexpectedEndOfPropertyValue s q in
-          let y = refused-scan (take l t) (x .at) UnexpectedEndOfPropertyValue s (x .fails) in
-          ((x, kept, subst⁻¹ (λ (u : List ℕ). StaysUnclosed u s) same (stays-unclosed (take l t) s (y .0) (y .1) (y .2))), v)
+          let y = refused-scan (take l t) (x .at) UnexpectedEndOfPropertyValue s (x .fails) .0 in
+          ((fails-property t x, kept, subst⁻¹ (λ (u : List ℕ). StaysUnclosed u s) same (stays-unclosed (take l t) s (y .0) (y .1) (y .2))), v)
 
   -- ---- splitting
 

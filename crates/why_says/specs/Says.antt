@@ -1,28 +1,33 @@
 -- What a fact says of a text, with its number and its place, in the scope's words: without `read` and without `explained`.
-use Rattle.lists.specs.Prelude.{ℕ, _+_, _-_, _^_, _<_, _≡_, Bool, false, List, [], _∷_, _++_, length, take, drop}
+use Rattle.lists.specs.Prelude.{ℕ, _+_, _-_, _^_, _<_, _≡_, Bool, false, _⊎_, List, [], _∷_, _++_, length, take, drop}
 use Rattle.lists.specs.All.{All}
 use Rattle.text_chars.specs.Table.{BadFrom}
 use Rattle.values.specs.Read.{readValue}
 use Rattle.values.specs.Decimal.{decimalOf}
-use Rattle.lexer.specs.Token.{Val, Prop, Tok, start, end, prop}
-use Rattle.lexer.specs.declared.Fault.the-variants.{MissingPropertyIdentifier, UnexpectedEndOfPropertyIdentifier, UnexpectedEndOfPropertyValue}
-use Rattle.tables.specs.Numbers.{textLimit, depthLimit}
+use Rattle.lexer.specs.Token.{Val, Prop, Tok, start, end, node, prop}
+use Rattle.tables.specs.Numbers.{textLimit, depthLimit, none}
 use Rattle.tables.specs.Record.{Node}
 use Rattle.parser.specs.Game.{isI32}
 use Rattle.parser.specs.Walk.{walk, children}
 use Rattle.parser.specs.Balance.{starts, ends, Covered}
 use Rattle.reader_exactly.specs.Slicing.{slicesFrom, Deep}
-use Rattle.reader_exactly.specs.When.{tokensOf, FailsAt, First, games, Comes, Nodeless}
-use Rattle.why_blame.specs.Blame.{tokenPlace}
+use Rattle.reader_exactly.specs.When.{tokensOf, First, games, Comes, nodes, Nodeless}
 use Rattle.why_blame.specs.declared.Fact.{Fact}
 use Rattle.why_blame.specs.declared.Fact.the-variants.{Length, BadSequence, NoBracket, Foreign, NotClosed, EndBeyond, StaysOpen, NoNode, NoEnd, TooDeep, EmptyList, SecondGm, Stray, GmValues, GmNumber}
-use Rattle.why_says.specs.Scans.{Crossed, MeetsForeign, StaysUnclosed}
+use Rattle.why_says.specs.Scans.{PropertyAt, Crossed, MeetsForeign, StaysUnclosed}
 
 -- ---- splitting
 
+-- a token stands at p
+abbrev pub TokenAt : Tok → (p : ℕ) → Type 0
+TokenAt (start o) p = p ≡ o
+TokenAt (end o) p = p ≡ o
+TokenAt (node o) p = p ≡ o
+TokenAt (prop a e) p = p ≡ a .from
+
 -- the first token of a slice stands at p
 abbrev pub HeadAt : List Tok → (p : ℕ) → Type 0
-HeadAt s p = (t : Tok) × (rest : List Tok) × (s ≡ t ∷ rest) × (p ≡ tokenPlace t)
+HeadAt s p = (t : Tok) × (rest : List Tok) × (s ≡ t ∷ rest) × TokenAt t p
 
 -- 6: an end at p, before which starts and ends are equal in number, and in no prefix of the tokens before it are there more ends (SCOPE 264)
 pub record ExceedsAt (ts : List Tok) (p : ℕ) : Type 0 where
@@ -66,6 +71,10 @@ EmptyListAt q p base s =
     (front : List Tok) × (cur : ℕ) × (st : List ℕ) × (g : Bool) × (ns : List Node)
     × Comes base s front (start p) (walk cur (q ∷ st) g ns) × (children q ns ≡ false)
 
+-- 10: and q is "none", or the number of a node before that start: of the base nodes before the slice, or of those in its front (SCOPE 267)
+abbrev pub NumberedListAt : (q p base : ℕ) → List Tok → Type 0
+NumberedListAt q p base s = (x : EmptyListAt q p base s) × ((q ≡ none) ⊎ (q < base + nodes (x .0)))
+
 -- 11: the walk comes to a property at p that is not directly after a node or its properties (SCOPE 269)
 abbrev pub StrayAt : (p base : ℕ) → List Tok → Type 0
 StrayAt p base s =
@@ -90,9 +99,9 @@ NumberAt p base s =
 abbrev pub FactSays : List ℕ → Fact → (p : ℕ) → Type 0
 FactSays t (Length n) p = (n ≡ length t) × (textLimit < n) × (p ≡ 0)
 FactSays t BadSequence p = BadFrom t p
-FactSays t (NoBracket e) p = (x : FailsAt t MissingPropertyIdentifier p) × (e ≡ x .last) × All Crossed (drop p (take e t))
-FactSays t (Foreign e) p = (x : FailsAt t UnexpectedEndOfPropertyIdentifier p) × MeetsForeign (take (x .last) t) p e
-FactSays t (NotClosed e) p = (x : FailsAt t UnexpectedEndOfPropertyValue p) × (e ≡ x .last) × StaysUnclosed (take e t) p
+FactSays t (NoBracket e) p = (x : PropertyAt t p) × (e ≡ x .last) × All Crossed (drop p (take e t))
+FactSays t (Foreign e) p = (x : PropertyAt t p) × MeetsForeign (take (x .last) t) p e
+FactSays t (NotClosed e) p = (x : PropertyAt t p) × (e ≡ x .last) × StaysUnclosed (take e t) p
 FactSays t EndBeyond p = ExceedsAt (tokensOf t .toks) p
 FactSays t (StaysOpen d) p = OpenAt (tokensOf t .toks) d p
 FactSays t (NoNode n) p = InSlice n (NodelessAt p) (slicesFrom 0 (tokensOf t .toks))
