@@ -1,4 +1,6 @@
 pub mod Empty
+pub mod Entries
+pub mod EntriesAll
 pub mod Lists
 pub mod MendedNodes
 pub mod MendedProps

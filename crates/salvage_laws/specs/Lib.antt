@@ -1,3 +1,4 @@
 pub mod Again
+pub mod Entries
 pub mod MendedExamples
 pub mod Tail
