@@ -38,7 +38,7 @@ abbrev pub ownedNodes : List Node → List Owned
 ownedNodes [] = []
 ownedNodes (n ∷ ns) = ownedProps (gmsBad (rootGame (n ∷ ns))) (n .props) ++ ownedProps false (allProps ns)
 
--- those of a record, in the order of their numbers (SCOPE 8)
+-- those of a record, in the order of their numbers
 abbrev pub ownedTrees : List Tree → List Owned
 ownedTrees [] = []
 ownedTrees (t ∷ ts) = ownedNodes (t .nodes) ++ ownedTrees ts
@@ -68,8 +68,8 @@ abbrev pub walkOver : Tree → List Tok → Walk
 walkOver t s = walked true (t .root) (walk none [] false []) s
 
 -- it makes no node
-abbrev pub Nodeless : Tree → List Tok → Type 0
-Nodeless t s = walkNodes (walkOver t s) ≡ []
+abbrev pub WithoutNode : Tree → List Tok → Type 0
+WithoutNode t s = walkNodes (walkOver t s) ≡ []
 
 -- it halts at the token that stands at o, and not before
 pub record HaltsAt (o : ℕ) (t : Tree) (s : List Tok) : Type 0 where
@@ -82,7 +82,7 @@ pub record HaltsAt (o : ℕ) (t : Tree) (s : List Tok) : Type 0 where
   pub place : tokenPlace here ≡ o
 
 -- tree i of the record, slice i of the tokens, and what holds of them
-pub record TreeIs (ss : List (List Tok)) (ts : List Tree) (i : ℕ) (Is : Tree → List Tok → Type 0) : Type 0 where
+pub record SlicedTree (ss : List (List Tok)) (ts : List Tree) (i : ℕ) (Is : Tree → List Tok → Type 0) : Type 0 where
   pub tree : Tree
   pub slice : List Tok
   pub number : Nth ts i tree
@@ -107,11 +107,11 @@ pub record TailAt (o : ℕ) (l : Lexed) (ss : List (List Tok)) : Type 0 where
 
 -- of tokens, their slices and the record
 abbrev pub EntryOf : Lexed → List (List Tok) → List Tree → Change → Type 0
-EntryOf l ss ts (emptyRoot i) = TreeIs ss ts i Nodeless
+EntryOf l ss ts (emptyRoot i) = SlicedTree ss ts i WithoutNode
 EntryOf l ss ts (unnamed k) = PropertyIs ts k Nameless
 EntryOf l ss ts (removedGM k) = PropertyIs ts k BadGM
 EntryOf l ss ts (spelledAnew k) = PropertyIs ts k Misspelled
-EntryOf l ss ts (cutShort i o) = TreeIs ss ts i (HaltsAt o)
+EntryOf l ss ts (cutShort i o) = SlicedTree ss ts i (HaltsAt o)
 EntryOf l ss ts (tailDropped o) = TailAt o l ss
 
 -- the tokens of a text that is UTF-8
