@@ -1,10 +1,15 @@
 pub mod Empty
+pub mod Entries
+pub mod EntriesAll
+pub mod ListedProps
 pub mod Lists
 pub mod MendedNodes
 pub mod MendedProps
 pub mod Order
 pub mod Own
+pub mod Owned
 pub mod Says
 pub mod Silent
+pub mod Sliced
 pub mod Tailless
 pub mod Theorem

@@ -100,7 +100,7 @@ module _ (base : ℕ) where
 
 -- ---- properties and nodes with nothing to mend
 
-same-self : (w : List ℕ) → same w w ≡ true
+pub same-self : (w : List ℕ) → same w w ≡ true
 same-self [] = refl
 same-self (b ∷ w) = rw (eq-eqb b b refl) (same-self w)
 

@@ -1,4 +1,5 @@
 pub mod Again
+pub mod Entries
 pub mod MendedExamples
 pub mod Result
 pub mod Tail
