@@ -69,10 +69,14 @@ module _ (len : Bool) (t : List ℕ) (ts : List Tree) (r : Reading len t ts) whe
         few = few-trees 0 (map mendTree ts) pre;
       }
 
+-- the mended record of a lenient reading can be written and read back, the limits aside
+pub lenient-form : (t : List ℕ) (ts : List Tree) → readLenient t ≡ accepted ts → Form (mended ts)
+lenient-form t ts h = mended-form true t ts (reading-is true t ts h) (props-proper true t ts h)
+
 -- a lenient reading; the writing of its mended record, within the text limit, is strictly read
 module _ (t : List ℕ) (ts : List Tree) (h : readLenient t ≡ accepted ts) (s : length (writing (mended ts)) ≤ textLimit) where
   form : Form (mended ts)
-  form = mended-form true t ts (reading-is true t ts h) (props-proper true t ts h)
+  form = lenient-form t ts h
 
   -- 9 where it is too deep
   pub mended-too-deep : depthLimit < depthOf (writing (mended ts)) → readStrict (writing (mended ts)) ≡ refused TooDeep 0

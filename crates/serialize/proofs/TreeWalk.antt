@@ -80,14 +80,14 @@ module _ {nd : List ℕ} {n a b : ℕ} (linking : Linking nd n) (stretch : Stret
         true-false (onPath nd j p) on-path (off-on (linking .ruled) a j p low (omega (arith, in-n)) (omega arith) o))
         (λ l. l)
 
-    brackets-here : bracketed ps p ≡ inBrackets nd (suc j)
+    pub brackets-here : bracketed ps p ≡ inBrackets nd (suc j)
     brackets-here =
         let w = linking .ruled .most in
         let l = path-le nd j p on-path in
         ap (leb 2) (counted-here (linking .ruled) a b (omega arith) (stretch .inside) (stretch .next) p in-tree (omega arith))
         ∙ brackets-are nd n (suc j) w in-n has (linking .child p (omega (arith, in-n))) (linking .sibling (suc j) in-n)
 
-    path-next : (c : Bool) (xs : List Open) → c ≡ inBrackets nd (suc j) → PathFrom nd j xs → PathFrom nd (suc j) (record { num = suc j; brk = c } ∷ pathLeft p xs)
+    pub path-next : (c : Bool) (xs : List Open) → c ≡ inBrackets nd (suc j) → PathFrom nd j xs → PathFrom nd (suc j) (record { num = suc j; brk = c } ∷ pathLeft p xs)
     path-next c xs e h = go (pathLeft p xs) (left-path nd j p xs h on-path)
       where
         go : (ys : List Open) → PathFrom nd p ys → PathFrom nd (suc j) (record { num = suc j; brk = c } ∷ ys)
@@ -114,7 +114,7 @@ module _ {nd : List ℕ} {n a b : ℕ} (linking : Linking nd n) (stretch : Stret
       i
       ∙ sym (append-assoc (textOf nd body (suc j)) (joined (textOf nd body) (suc (suc j)) m) (endsBefore nd b none))
 
-  root-counted : bracketed ps none ≡ false
+  pub root-counted : bracketed ps none ≡ false
   unfolding tabulate
   root-counted =
       let e : b - a ≡ suc (b - suc a) = omega (arith, stretch .some) in

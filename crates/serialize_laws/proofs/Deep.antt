@@ -22,7 +22,7 @@ Sees n (wrong r) = Unit {0}
 sees-same : (n m : ℕ) (x : Splitting) → n ≡ m → Sees n x → Sees m x
 sees-same n m x e h = subst (λ (z : ℕ). Sees z x) e h
 
-at-least : (d : ℕ) (ts : List Tok) → d ≤ deepestFrom d ts
+pub at-least : (d : ℕ) (ts : List Tok) → d ≤ deepestFrom d ts
 at-least d [] = omega arith
 at-least d (start o ∷ ts) = omega arith
 at-least d (end o ∷ ts) = omega arith
@@ -57,16 +57,20 @@ deepest-places d (end o ∷ ts) = ap (max d) (deepest-places (d - 1) ts)
 deepest-places d (node o ∷ ts) = deepest-places d ts
 deepest-places d (prop p e ∷ ts) = deepest-places d ts
 
-pub written-depth : (ts : List Tree) → Form ts → depthOf (writeTrees ts) ≡ deepest (split false (splitting 0 0 [] []) (tokTrees ts))
-written-depth ts f =
+-- the lexer makes the tokens of the trees of a writing
+pub tokens-depth : (ts : List Tree) → Form ts → depthOf (writeTrees ts) ≡ deepestFrom 0 (tokTrees ts)
+tokens-depth ts f =
     let W : List ℕ = writeTrees ts in
     let n : ℕ = length W in
-    let x = split-trees ts 0 [] (f .few) in
-    let s : Sees (max 0 (deepestFrom 0 (tokTrees ts))) (splitting 0 (x .0) [] (reverseAux (map tokTree ts) [])) = subst (Sees (max 0 (deepestFrom 0 (tokTrees ts)))) (x .1) (sees-split (tokTrees ts) 0 0 [] [] (omega arith)) in
-    let e : x .0 ≡ max 0 (deepestFrom 0 (tokTrees ts)) = s in
-    let m : max 0 (deepestFrom 0 (tokTrees ts)) ≡ deepestFrom 0 (tokTrees ts) = omega arith in
     ap (λ (u : Utf). deepestFrom 0 (toksOf u W)) (written-ink ts (f .some) (f .plain) (f .valid))
     ∙ ap (λ (z : List ℕ). deepestFrom 0 (lexFrom 0 n z .toks)) (take-length W)
     ∙ sym (deepest-places 0 (lexFrom 0 n W .toks))
     ∙ ap (deepestFrom 0) (lex-written n ts (f .plain) .1)
-    ∙ sym m ∙ sym e ∙ sym (ap deepest (x .1))
+
+pub written-depth : (ts : List Tree) → Form ts → depthOf (writeTrees ts) ≡ deepest (split false (splitting 0 0 [] []) (tokTrees ts))
+written-depth ts f =
+    let x = split-trees ts 0 [] (f .few) in
+    let s : Sees (max 0 (deepestFrom 0 (tokTrees ts))) (splitting 0 (x .0) [] (reverseAux (map tokTree ts) [])) = subst (Sees (max 0 (deepestFrom 0 (tokTrees ts)))) (x .1) (sees-split (tokTrees ts) 0 0 [] [] (omega arith)) in
+    let e : x .0 ≡ max 0 (deepestFrom 0 (tokTrees ts)) = s in
+    let m : max 0 (deepestFrom 0 (tokTrees ts)) ≡ deepestFrom 0 (tokTrees ts) = omega arith in
+    tokens-depth ts f ∙ sym m ∙ sym e ∙ sym (ap deepest (x .1))

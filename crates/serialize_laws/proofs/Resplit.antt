@@ -22,15 +22,15 @@ reverseAux-append : {A : Type 0} (xs ys zs : List A) → reverseAux (xs ++ ys) z
 reverseAux-append [] ys zs = refl
 reverseAux-append (x ∷ xs) ys zs = reverseAux-append xs ys (x ∷ zs)
 
-abbrev up : Bool → ℕ → ℕ
+abbrev pub up : Bool → ℕ → ℕ
 up true n = suc n
 up false n = n
 
-abbrev brks : List Open → ℕ
+abbrev pub brks : List Open → ℕ
 brks [] = 0
 brks (x ∷ xs) = up (x .brk) (brks xs)
 
-abbrev Low : List Open → Type 0
+abbrev pub Low : List Open → Type 0
 Low [] = Unit {0}
 Low (x ∷ xs) = (x .num < none) × Low xs
 
@@ -47,11 +47,11 @@ split-ends p m (x ∷ xs) cur ss = go (eqb (x .num) p) (x .brk) refl (λ c. spli
     go false true e k = rw e (k (end 0 ∷ cur))
     go false false e k = rw e (k cur)
 
-left-none : (path : List Open) → Low path → brks (pathLeft none path) ≡ 0
+pub left-none : (path : List Open) → Low path → brks (pathLeft none path) ≡ 0
 left-none [] l = refl
 left-none (x ∷ xs) l = rw (ne-eqb (x .num) none (λ e. omega (arith, l .0))) (left-none xs (l .1))
 
-left-low : (p : ℕ) (path : List Open) → Low path → Low (pathLeft p path)
+pub left-low : (p : ℕ) (path : List Open) → Low path → Low (pathLeft p path)
 left-low p [] l = tt
 left-low p (x ∷ xs) l = go (eqb (x .num) p) (left-low p xs (l .1))
   where
