@@ -143,7 +143,7 @@ fn add(
 }
 
 // The place behind the slice in which so many trees are open.
-fn skip_slice(s: &[u8], from: usize, opened: usize) -> usize
+pub fn skip_slice(s: &[u8], from: usize, opened: usize) -> usize
     requires { ⌜ (length (now s) ≤ textLimit) × (from ≤ length (now s)) × (opened ≤ depthLimit) ⌝ }
     ensures { λ r. ⌜ BehindIs true (now (s .entry)) from opened r ⌝ }
 {

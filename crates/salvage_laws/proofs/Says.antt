@@ -14,7 +14,7 @@ use Rattle.why_blame.specs.Blame.{Blame, nowhere, found, blame, isStopped}
 use Rattle.why_blame.specs.Cuts.{slicedTokens}
 use Rattle.salvage_mend.specs.Mend.{rootGame, gmsBad, keptGame, mendNodes, mendTree, mended}
 use Rattle.salvage_mend.specs.Changes.{Change, nodesChanges, propsChanges, changeNodes, changeTrees, changed, gameKept}
-use Rattle.salvage_mend.specs.Listed.{cutOf, walkNodes, rootOf, treesChanges, tailOf, slicesChanges, utfChanges, changesOf}
+use Rattle.salvage_list.specs.Listed.{cutOf, walkNodes, rootOf, treesChanges, tailOf, slicesChanges, utfChanges, changesOf}
 use Rattle.salvage_mend.proofs.Told.{Silent, Below, Above, silent-append, props-above, props-below, tells-behind, tells-before, NodesTold, nodes-told, game-told, nodes-tell}
 
 -- ---- trees that a list tells of

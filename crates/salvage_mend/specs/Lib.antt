@@ -1,4 +1,2 @@
-pub mod ChangeExamples
 pub mod Changes
-pub mod Listed
 pub mod Mend

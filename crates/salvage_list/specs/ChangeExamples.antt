@@ -6,8 +6,8 @@ use Rattle.lexer_scan.specs.Scan.{space}
 use Rattle.values.specs.Read.{readFrom, readIdentifier}
 use Rattle.values.specs.Decimal.{decimalOf, digitsFrom, digitOf}
 use Rattle.parser.specs.Examples.{bytes}
 use Rattle.salvage_mend.specs.Changes.{Change, emptyRoot, unnamed, removedGM, spelledAnew, cutShort, tailDropped}
-use Rattle.salvage_mend.specs.Listed.{changesOf}
+use Rattle.salvage_list.specs.Listed.{changesOf}
 
 -- a text and what salvage lists of it
 pub record Lists : Type 0 where

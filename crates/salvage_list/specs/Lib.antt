@@ -1,0 +1,5 @@
+pub mod ChangeExamples
+pub mod ListRows
+pub mod Listed
+pub mod LocalsPuts
+pub mod LocalsWalk
