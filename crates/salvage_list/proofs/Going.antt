@@ -143,7 +143,7 @@ module _ {u : List ℕ} {from base : ℕ} {a : List ℕ} {at d cur n : ℕ} {g :
 
   module _ {i : ℕ} (lo : at ≤ i) (hi : i < length u) where
     module _ (q : lexAt u at ≡ lexed (start i ∷ []) (lexAt u (i + 1))) where
-      start-slice : sliceFrom d (lexAt u at .toks) ≡ start i ∷ sliceFrom (suc d) (lexAt u (i + 1) .toks)
+      pub start-slice : sliceFrom d (lexAt u at .toks) ≡ start i ∷ sliceFrom (suc d) (lexAt u (i + 1) .toks)
       unfolding sliceFrom
       start-slice = ap (λ (z : Lexed). sliceFrom d (z .toks)) q
 
@@ -152,7 +152,7 @@ module _ {u : List ℕ} {from base : ℕ} {a : List ℕ} {at d cur n : ℕ} {g :
       start-deep = subst (Shallow d) start-slice (x .shallow) .0
 
       module _ {b : Bool} (m : b ≡ mayOpen base n (stackOf a d)) where
-        start-walk : walks true base here (start i) ≡ pick b (walk cur (cur ∷ stackOf a d) false (x .ns)) (halted (x .ns))
+        pub start-walk : walks true base here (start i) ≡ pick b (walk cur (cur ∷ stackOf a d) false (x .ns)) (halted (x .ns))
         start-walk =
             line-may true (x .line)
             ∙ ap (λ (z : ℕ). pick (mayOpen base z (stackOf a d)) (walk cur (cur ∷ stackOf a d) false (x .ns)) (halted (x .ns))) (sym (x .count))
@@ -165,7 +165,7 @@ module _ {u : List ℕ} {from base : ℕ} {a : List ℕ} {at d cur n : ℕ} {g :
             stands y (stopped-nodes (start i) (sliceFrom (suc d) (lexAt u (i + 1) .toks)) start-slice w)
             (stops-here (start i) (sliceFrom (suc d) (lexAt u (i + 1) .toks)) start-slice w) (skipping-behind (x .skip) b) (b .on) (omega arith)
 
-        going-start : b ≡ true → {a′ : List ℕ} → a′ ≡ set a d cur → Going u from base a′ (i + 1) (d + 1) cur n false
+        pub going-start : b ≡ true → {a′ : List ℕ} → a′ ≡ set a d cur → Going u from base a′ (i + 1) (d + 1) cur n false
         unfolding Shallow
         going-start f {a′} ea =
             let dl = start-deep in
@@ -200,13 +200,13 @@ module _ {u : List ℕ} {from base : ℕ} {a : List ℕ} {at d cur n : ℕ} {g :
     -- ---- an end
 
     module _ (q : lexAt u at ≡ lexed (end i ∷ []) (lexAt u (i + 1))) where
-      last-slice : d ≤ 1 → sliceFrom d (lexAt u at .toks) ≡ end i ∷ []
+      pub last-slice : d ≤ 1 → sliceFrom d (lexAt u at .toks) ≡ end i ∷ []
       last-slice h = ap (λ (z : Lexed). sliceFrom d (z .toks)) q ∙ slice-last d i (lexAt u (i + 1) .toks) h
 
-      popped : (d ≡ 0 → ⊥) → walks true base here (end i) ≡ walk (getD a (d - 1) 0) (stackOf a (d - 1)) false (x .ns)
+      pub popped : (d ≡ 0 → ⊥) → walks true base here (end i) ≡ walk (getD a (d - 1) 0) (stackOf a (d - 1)) false (x .ns)
       popped h = ap (λ (st : List ℕ). closes true cur st (x .ns)) (stack-pop a d h)
 
-      going-end : (d ≡ 0 → ⊥) → (d ≡ 1 → ⊥) → {c : ℕ} → c ≡ getD a (d - 1) 0 → Going u from base a (i + 1) (d - 1) c n false
+      pub going-end : (d ≡ 0 → ⊥) → (d ≡ 1 → ⊥) → {c : ℕ} → c ≡ getD a (d - 1) 0 → Going u from base a (i + 1) (d - 1) c n false
       going-end h0 h1 {c} ec =
           let de = x .deep in
           let fe = x .few in

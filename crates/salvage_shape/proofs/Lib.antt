@@ -1,0 +1,10 @@
+-- `crates::proofs` meets its contract. Assumes nothing.
+pub mod Chains
+pub mod Depths
+pub mod Examples
+pub mod Shaping
+pub mod Siblings
+pub mod Spines
+pub mod Theorem
+pub mod Turns
+pub mod Walking
