@@ -1,12 +1,12 @@
 -- The height along the spine is the most brackets that are open at a node. Assumes nothing.
-use Rattle.lists.proofs.Prelude.{_≡_, refl, sym, ap, _∙_, subst, ℕ, zero, suc, _+_, _≤_, _<_, max, arith, Bool, true, false, true≢false, false≢true, List, [], _∷_, _++_, leb, le-leb, eqb, eqb-false, length, pick, ne-eqb, eq-eqb}
+use Rattle.lists.proofs.Prelude.{_≡_, refl, sym, ap, _∙_, subst, ℕ, zero, suc, _+_, _≤_, _<_, max, arith, Bool, true, false, true≢false, false≢true, List, [], _∷_, leb, le-leb, eqb, eqb-false, length, pick, ne-eqb}
 use Rattle.tables.specs.Numbers.{none}
 use Rattle.serialize.specs.LocalsWrite.{Open, times, bracketed, pathLeft}
 use Rattle.serialize.proofs.Branches.{opening}
 use Rattle.serialize_laws.proofs.Resplit.{up, brks}
 use Rattle.salvage_depth.proofs.Opened.{highest}
 use Rattle.salvage_shape.specs.LocalsShape.{Fork, heightBy, highWith, closedInto, shutFrom, shutTo, leaf, spineOf, Heads, Meets, heightFrom, heightOf, shapeDepth}
-use Rattle.salvage_shape.proofs.Spines.{Falls, Off, Opens, Counts, Unborn, falls-more, falls-shut, falls-push, falls-off, off-shut, gone, counts-shut, counts-push, unborn-push}
+use Rattle.salvage_shape.proofs.Spines.{Falls, Off, Counts, Unborn, falls-more, falls-shut, falls-push, falls-off, off-shut, gone, counts-shut, counts-push, unborn-push}
 
 -- what is below a node, in brackets or not
 abbrev below : (kids : ℕ) (b : Bool) (high : ℕ) → ℕ

@@ -2,6 +2,10 @@
 pub mod Chains
 pub mod Depths
 pub mod Examples
+pub mod Latest
+pub mod Lists
+pub mod Loads
+pub mod Nodes
 pub mod Shaping
 pub mod Siblings
 pub mod Spines

@@ -1,8 +1,8 @@
 -- The spine of open nodes: numbers fall along it, and each counts its children. Assumes nothing.
-use Rattle.lists.proofs.Prelude.{_≡_, refl, sym, ap, _∙_, subst, ℕ, zero, suc, _+_, _≤_, _<_, arith, Bool, true, false, List, [], _∷_, _++_, eqb, eqb-true, eqb-false, eq-eqb, ne-eqb, length, pick}
+use Rattle.lists.proofs.Prelude.{_≡_, refl, sym, ap, _∙_, subst, ℕ, suc, _≤_, _<_, arith, Bool, true, false, List, [], _∷_, eqb, eq-eqb, ne-eqb, pick}
 use Rattle.tables.specs.Numbers.{none}
 use Rattle.serialize.specs.LocalsWrite.{times}
-use Rattle.salvage_shape.specs.LocalsShape.{Fork, heightBy, highWith, closedInto, shutFrom, shutTo, leaf, spineOf, Heads, Meets, heightFrom, heightOf}
+use Rattle.salvage_shape.specs.LocalsShape.{Fork, closedInto, shutFrom, shutTo, leaf, Heads, Meets, heightFrom, heightOf}
 
 -- each number is below the one before it, the first below k; the last is none
 abbrev pub Falls : ℕ → List Fork → Type 0

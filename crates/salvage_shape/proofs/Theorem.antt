@@ -1,6 +1,5 @@
 -- The shape that `shape_of` gives is that of the tree's writing: its depth, and how many of its nodes stand in brackets. Assumes nothing.
-use Rattle.lists.proofs.Prelude.{ℕ, suc, _+_, _≤_, _≡_, refl, ap, _∙_, max, arith, List, [], _∷_, length}
-use Rattle.tables.specs.Numbers.{none}
+use Rattle.lists.proofs.Prelude.{ℕ, suc, _≡_, refl, ap, _∙_, max, arith, List, [], _∷_, length}
 use Rattle.tables.specs.Record.{Node}
 use Rattle.tables.specs.Rows.{parents}
 use Rattle.salvage_list.specs.LocalsWalk.{nodesFrom}

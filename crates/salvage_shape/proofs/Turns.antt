@@ -1,7 +1,7 @@
 -- What the small steps of the code give, and what the arrays hold. Assumes nothing.
-use Rattle.lists.proofs.Prelude.{_≡_, refl, sym, ap, ap₂, _∙_, subst, ℕ, zero, suc, _+_, _-_, _*_, _≤_, _<_, max, min, arith, add-one, Bool, true, false, List, [], _∷_, length, set, length-set, getD, getD-set-same, getD-set-other, pick}
+use Rattle.lists.proofs.Prelude.{_≡_, refl, sym, ap, ap₂, _∙_, ℕ, zero, suc, _+_, _-_, _*_, _≤_, _<_, max, arith, add-one, Bool, true, false, List, _∷_, length, set, length-set, getD, getD-set-same, getD-set-other, pick}
 use Rattle.salvage_shape.specs.LocalsShape.{highWith}
-use Rattle.salvage_shape.specs.LocalsChain.{sumIn, heightIn, chainHeight, noChain, longer, joinedTo, countUp, endedBy, bracketsMore, cellAt, chainPut, keptIn, cellsOf, marksOf, closeAll}
+use Rattle.salvage_shape.specs.LocalsChain.{sumIn, heightIn, chainHeight, noChain, longer, joinedTo, countUp, endedBy, bracketsMore, cellAt, chainPut, chainKept, cellsOf, freshOf, closeAll}
 use Rattle.salvage_shape.specs.declared.Chain.{Chain}
 
 module _ (k : ℕ) (h0 : k ≡ 0 → ⊥) (h1 : k ≡ 1 → ⊥) where
@@ -70,8 +70,8 @@ module _ {f : Bool} (c e : Chain) (z : f ≡ false) {h : ℕ} (q : h ≡ chainHe
 
 -- ---- the arrays
 
-pub marks-pop : (a : List Bool) (d : ℕ) → 0 < d → marksOf a d ≡ getD a (d - 1) false ∷ marksOf a (d - 1)
-unfolding marksOf
+pub marks-pop : (a : List Bool) (d : ℕ) → 0 < d → freshOf a d ≡ getD a (d - 1) false ∷ freshOf a (d - 1)
+unfolding freshOf
 marks-pop a zero h = absurd (omega arith)
 marks-pop a (suc d) h = let e : suc d - 1 ≡ d = omega arith in rw e
 
@@ -80,13 +80,13 @@ unfolding cellsOf
 cells-pop a zero h = absurd (omega arith)
 cells-pop a (suc d) h = let e : suc d - 1 ≡ d = omega arith in rw e
 
-marks-over : (a : List Bool) (d k : ℕ) (v : Bool) → d ≤ k → marksOf (set a k v) d ≡ marksOf a d
-unfolding marksOf
+marks-over : (a : List Bool) (d k : ℕ) (v : Bool) → d ≤ k → freshOf (set a k v) d ≡ freshOf a d
+unfolding freshOf
 marks-over a zero k v h = refl
 marks-over a (suc d) k v h = rw (getD-set-other a k d v false (λ e. omega arith), marks-over a d k v (omega arith))
 
-pub marks-push : (a : List Bool) (d : ℕ) (v : Bool) → d < length a → marksOf (set a d v) (d + 1) ≡ v ∷ marksOf a d
-unfolding marksOf
+pub marks-push : (a : List Bool) (d : ℕ) (v : Bool) → d < length a → freshOf (set a d v) (d + 1) ≡ v ∷ freshOf a d
+unfolding freshOf
 marks-push a d v h = rw (add-one, getD-set-same a d v false h, marks-over a d d v (omega arith))
 
 pub cells-push : (a : List ℕ) (d : ℕ) → cellsOf a (d + 1) ≡ cellAt a d ∷ cellsOf a d
@@ -151,22 +151,22 @@ pub cells-put : (a : List ℕ) (d : ℕ) (c : Chain) → 0 < d → (d - 1) * 4 +
 cells-put a d c h l =
     cells-pop (chainPut a ((d - 1) * 4) c) d h ∙ ap₂ (λ (x : Chain) (xs : List Chain). x ∷ xs) (cell-put a (d - 1) c l) (cells-over a (d - 1) (d - 1) c (omega arith))
 
-pub kept-put : {f : Bool} (a : List ℕ) (d : ℕ) (c : Chain) → f ≡ true → chainPut a ((d - 1) * 4) c ≡ keptIn f a d c
+pub kept-put : {f : Bool} (a : List ℕ) (d : ℕ) (c : Chain) → f ≡ true → chainPut a ((d - 1) * 4) c ≡ chainKept f a d c
 kept-put a d c e = sym (ap (λ (g : Bool). pick g (chainPut a ((d - 1) * 4) c) a) e)
 
-pub kept-not : {f : Bool} (a : List ℕ) (d : ℕ) (c : Chain) → f ≡ false → a ≡ keptIn f a d c
+pub kept-not : {f : Bool} (a : List ℕ) (d : ℕ) (c : Chain) → f ≡ false → a ≡ chainKept f a d c
 kept-not a d c e = sym (ap (λ (g : Bool). pick g (chainPut a ((d - 1) * 4) c) a) e)
 
 -- ---- all ends, one at a time
 
 pub finish-step : (ma : List Bool) (ca : List ℕ) (d : ℕ) (f : Bool) (c : Chain) → 0 < d → {e g : Chain} {m : Bool} → e ≡ cellAt ca (d - 1) → g ≡ endedBy f c e → m ≡ getD ma (d - 1) false
-    → closeAll m g (marksOf ma (d - 1)) (cellsOf ca (d - 1)) ≡ closeAll f c (marksOf ma d) (cellsOf ca d)
+    → closeAll m g (freshOf ma (d - 1)) (cellsOf ca (d - 1)) ≡ closeAll f c (freshOf ma d) (cellsOf ca d)
 finish-step ma ca d f c h {e} {g} {m} ee eg em =
-    ap (λ (x : Bool). closeAll x g (marksOf ma (d - 1)) (cellsOf ca (d - 1))) em
-    ∙ ap (λ (x : Chain). closeAll (getD ma (d - 1) false) x (marksOf ma (d - 1)) (cellsOf ca (d - 1))) (eg ∙ ap (endedBy f c) ee)
+    ap (λ (x : Bool). closeAll x g (freshOf ma (d - 1)) (cellsOf ca (d - 1))) em
+    ∙ ap (λ (x : Chain). closeAll (getD ma (d - 1) false) x (freshOf ma (d - 1)) (cellsOf ca (d - 1))) (eg ∙ ap (endedBy f c) ee)
     ∙ sym (ap₂ (closeAll f c) (marks-pop ma d h) (cells-pop ca d h))
 
-pub finish-last : (ma : List Bool) (ca : List ℕ) (d : ℕ) (f : Bool) (c : Chain) → d ≤ 0 → chainHeight c ≡ closeAll f c (marksOf ma d) (cellsOf ca d)
-unfolding marksOf cellsOf
+pub finish-last : (ma : List Bool) (ca : List ℕ) (d : ℕ) (f : Bool) (c : Chain) → d ≤ 0 → chainHeight c ≡ closeAll f c (freshOf ma d) (cellsOf ca d)
+unfolding freshOf cellsOf
 finish-last ma ca zero f c h = refl
 finish-last ma ca (suc d) f c h = absurd (omega arith)

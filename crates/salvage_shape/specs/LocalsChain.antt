@@ -61,8 +61,8 @@ abbrev pub chainPut : List ℕ → (at : ℕ) → Chain → List ℕ
 chainPut a i c = set (set (set (set a i (c .kids)) (i + 1) (c .high)) (i + 2) (c .plus)) (i + 3) (c .top)
 
 -- the numbers when the current chain is kept, where the list is new
-abbrev pub keptIn : (fresh : Bool) → List ℕ → (depth : ℕ) → Chain → List ℕ
-keptIn f a d c = pick f (chainPut a ((d - 1) * 4) c) a
+abbrev pub chainKept : (fresh : Bool) → List ℕ → (depth : ℕ) → Chain → List ℕ
+chainKept f a d c = pick f (chainPut a ((d - 1) * 4) c) a
 
 -- what is kept, the last first
 unfoldable pub cellsOf : List ℕ → ℕ → List Chain
@@ -70,9 +70,9 @@ cellsOf a zero = []
 cellsOf a (suc d) = cellAt a d ∷ cellsOf a d
 
 -- was each list new when the next began, the last first
-unfoldable pub marksOf : List Bool → ℕ → List Bool
-marksOf a zero = []
-marksOf a (suc d) = getD a d false ∷ marksOf a d
+unfoldable pub freshOf : List Bool → ℕ → List Bool
+freshOf a zero = []
+freshOf a (suc d) = getD a d false ∷ freshOf a d
 
 -- the height when all that is open ends
 abbrev pub closeAll : (fresh : Bool) → Chain → List Bool → List Chain → ℕ

@@ -3,7 +3,7 @@ ghost use mathlib.Core.Path.{_≡_};
 ghost use mathlib.Core.Bool.{true};
 ghost use Prim.Native.Nat.{_+_, _≤_, _<_, max};
 ghost use Rattle.parser_step.specs.LocalsActs.{stackOf, hasChild, mayOpen};
-ghost use Rattle.salvage_shape.specs.LocalsChain.{sumIn, heightIn, chainHeight, joinedTo, endedBy, bracketsMore, cellAt, keptIn, marksOf, cellsOf, closeAll};
+ghost use Rattle.salvage_shape.specs.LocalsChain.{sumIn, heightIn, chainHeight, joinedTo, endedBy, bracketsMore, cellAt, chainKept, freshOf, cellsOf, closeAll};
 ghost use Rattle.salvage_shape.specs.LocalsWalk.{ShapeReady, ShapeIs};
 use lexer::Step;
 use tables::NONE;
@@ -153,7 +153,7 @@ fn load(cells: &[usize; 4096], d: usize) -> Chain
 // Keeps the current node where a new list under it gets its first node.
 fn keep(cells: &mut [usize; 4096], depth: usize, fresh: bool, c: Chain)
     requires { ⌜ (depth ≤ 1024) × (fresh ≡ true → 0 < depth) ⌝ }
-    ensures { λ _. ⌜ now (cells .exit) ≡ keptIn fresh (now (cells .entry)) depth c ⌝ }
+    ensures { λ _. ⌜ now (cells .exit) ≡ chainKept fresh (now (cells .entry)) depth c ⌝ }
 {
     if fresh {
         let d = (depth - 1) * 4;
@@ -173,7 +173,7 @@ fn finish(
     c0: Chain,
 ) -> usize
     requires { ⌜ opened ≤ 1024 ⌝ }
-    ensures { λ r. ⌜ r ≡ closeAll fresh0 c0 (marksOf (now (marks .entry)) opened) (cellsOf (now (cells .entry)) opened) ⌝ }
+    ensures { λ r. ⌜ r ≡ closeAll fresh0 c0 (freshOf (now (marks .entry)) opened) (cellsOf (now (cells .entry)) opened) ⌝ }
 {
     let mut depth = opened;
     let mut fresh = fresh0;

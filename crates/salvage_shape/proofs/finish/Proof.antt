@@ -1,18 +1,13 @@
 -- `salvage_shape::finish` meets its contract. Assumes nothing.
 use borrow.Author.Needs.{needs}
-use Rattle.lists.proofs.Prelude.{_≡_, _≤_, refl, _∙_, ap, arith}
-use Rattle.salvage_shape.specs.LocalsChain.{closeAll, marksOf, cellsOf}
+use Rattle.lists.proofs.Prelude.{_≡_, _≤_, refl, _∙_, arith}
+use Rattle.salvage_shape.specs.LocalsChain.{closeAll, freshOf, cellsOf}
 use Rattle.salvage_shape.proofs.Turns.{finish-step, finish-last}
 use Rattle.salvage_shape.proofs.finish.Statement.{statement}
 use Rattle.salvage_shape.proofs.finish.Tie as tie
-use Rattle.salvage_shape.proofs.finish.Reads as reads
-use Rattle.salvage_shape.proofs.finish.Lts as lts
-use Rattle.salvage_shape.proofs.chain_height.Reads as chain-height-reads
-use Rattle.salvage_shape.proofs.ended.Reads as ended-reads
-use Rattle.salvage_shape.proofs.load.Reads as load-reads
 
 abbrev Inv-loop : tie.InvT-loop
-Inv-loop marks cells opened fresh0 depth₀ fresh₀ c₀ depth fresh c = (depth ≤ 1024) × (closeAll fresh c (marksOf marks depth) (cellsOf cells depth) ≡ closeAll fresh₀ c₀ (marksOf marks depth₀) (cellsOf cells depth₀))
+Inv-loop marks cells opened fresh0 depth₀ fresh₀ c₀ depth fresh c = (depth ≤ 1024) × (closeAll fresh c (freshOf marks depth) (cellsOf cells depth) ≡ closeAll fresh₀ c₀ (freshOf marks depth₀) (cellsOf cells depth₀))
 
 abbrev μ-loop : tie.MeasureT-loop
 μ-loop marks cells opened fresh0 depth₀ fresh₀ c₀ depth fresh c = depth
@@ -26,9 +21,6 @@ sub-depth c = c .loop-test .taken
 load-requires : tie.Need-load-requires Inv-loop μ-loop
 load-requires c κs = let h = c .before .loop .inv .0 in let l = c .loop-test .taken in omega (arith, h, l)
 
-ended-requires : tie.Need-ended-requires Inv-loop μ-loop
-ended-requires c κs = search needs
-
 element-copy-out-fresh : tie.Need-element-copy-out-fresh Inv-loop μ-loop
 element-copy-out-fresh c = let h = c .before .before .before .loop .inv .0 in let l = c .before .before .loop-test .taken in omega (arith, h, l)
 
@@ -37,9 +29,6 @@ loop-less c = let l = c .before .before .before .loop-test .taken in omega (arit
 
 loop-again : tie.Need-loop-again Inv-loop μ-loop
 loop-again c = (let h = c .before .before .before .before .loop .inv .0 in omega (arith, h), finish-step _ _ _ _ _ (c .before .before .before .loop-test .taken) (c .before .before .load .ensures) (c .before .ended .ensures) refl ∙ c .before .before .before .before .loop .inv .1)
-
-chain-height-requires : tie.Need-chain-height-requires Inv-loop μ-loop
-chain-height-requires c κs = search needs
 
 returns : tie.Need-returns Inv-loop μ-loop
 returns c = c .chain-height .ensures ∙ finish-last _ _ _ (c .before .before .loop .fresh) _ (c .before .loop-test .left) ∙ c .before .before .loop .inv .1
@@ -53,9 +42,9 @@ finish-spec =
     loop-holds
     sub-depth
     load-requires
-    ended-requires
+    (λ c κs. search needs)
     element-copy-out-fresh
     loop-less
     loop-again
-    chain-height-requires
+    (λ c κs. search needs)
     returns)

@@ -3,10 +3,6 @@ use Rattle.salvage_shape.proofs.Turns.{joined-new, joined-none, joined-
 use borrow.Author.Needs.{needs}
 use Rattle.salvage_shape.proofs.joined.Statement.{statement}
 use Rattle.salvage_shape.proofs.joined.Tie as tie
-use Rattle.salvage_shape.proofs.joined.Reads as reads
-use Rattle.salvage_shape.proofs.joined.Lts as lts
-use Rattle.salvage_shape.proofs.greater.Reads as greater-reads
-use Rattle.salvage_shape.proofs.sum.Reads as sum-reads
 
 returns : tie.Need-returns
 returns c = joined-new _ (c .if1 .taken)
@@ -14,18 +10,9 @@ returns c = joined-new _ (c .if1 .taken)
 returns-2 : tie.Need-returns-2
 returns-2 c = joined-none (c .before .before .before .args .c) (c .before .before .if1 .left) (c .if2 .taken)
 
-sum-requires : tie.Need-sum-requires
-sum-requires c κs = search needs
-
-sum-requires-2 : tie.Need-sum-requires-2
-sum-requires-2 c κs = search needs
-
-greater-requires : tie.Need-greater-requires
-greater-requires c κs = search needs
-
 returns-3 : tie.Need-returns-3
 returns-3 c = joined-some (c .before .before .before .before .before .before .args .c) (c .before .before .before .before .before .if1 .left) (c .before .before .before .if2 .left) (c .before .before .sum .ensures) (c .before .sum2 .ensures) (c .greater .ensures)
 
 pub joined-spec : {M : Type 1} → statement M
 joined-spec =
-    tie.close (tie.spec returns returns-2 sum-requires sum-requires-2 greater-requires returns-3)
+    tie.close (tie.spec returns returns-2 (λ c κs. search needs) (λ c κs. search needs) (λ c κs. search needs) returns-3)

@@ -7,20 +7,11 @@ use Rattle.lexer.proofs.Within.{found-within}
 use Rattle.parser.proofs.Meets.{meets}
 use Rattle.salvage_list.proofs.Going.{start-deep}
 use Rattle.salvage_shape.proofs.Turns.{more-least}
-use Rattle.salvage_shape.proofs.Walking.{Walking, walking-first, walking-few, walking-low, none-over, start-over, walking-start, end-over, walking-end, walking-open, walking-node, prop-over, walking-prop}
+use Rattle.salvage_shape.proofs.Walking.{Walking, walking-first, walking-few, walking-low, none-over}
+use Rattle.salvage_shape.proofs.Lists.{start-over, walking-start, end-over, walking-end}
+use Rattle.salvage_shape.proofs.Nodes.{walking-open, walking-node, prop-over, walking-prop}
 use Rattle.salvage_shape.proofs.shape_of.Statement.{statement}
 use Rattle.salvage_shape.proofs.shape_of.Tie as tie
-use Rattle.salvage_shape.proofs.shape_of.Reads as reads
-use Rattle.salvage_shape.proofs.shape_of.Lts as lts
-use Rattle.lexer.proofs.next_token.Reads as next-token-reads
-use Rattle.parser_tree.proofs.skip_slice.Reads as skip-slice-reads
-use Rattle.salvage_shape.proofs.ended.Reads as ended-reads
-use Rattle.salvage_shape.proofs.finish.Reads as finish-reads
-use Rattle.salvage_shape.proofs.joined.Reads as joined-reads
-use Rattle.salvage_shape.proofs.keep.Reads as keep-reads
-use Rattle.salvage_shape.proofs.load.Reads as load-reads
-use Rattle.salvage_shape.proofs.may_open.Reads as may-open-reads
-use Rattle.salvage_shape.proofs.more.Reads as more-reads
 
 abbrev Inv-loop : tie.InvT-loop
 Inv-loop s from base stack₀ marks₀ cells₀ at₀ depth₀ cur₀ n₀ follows₀ fresh₀ brackets₀ c₀ stack marks cells at depth cur n follows fresh brackets c = Walking s from base stack marks cells at depth cur n follows fresh brackets c
@@ -31,23 +22,8 @@ abbrev μ-loop : tie.MeasureT-loop
 loop-holds : tie.Need-loop-holds Inv-loop μ-loop
 loop-holds c = walking-first _ _ _ (c .before .pre) refl refl refl
 
-next-token-requires : tie.Need-next-token-requires Inv-loop μ-loop
-next-token-requires c κs = search needs
-
-enum-known-i : tie.Need-enum-known-i Inv-loop μ-loop
-enum-known-i c = search needs
-
-may-open-requires : tie.Need-may-open-requires Inv-loop μ-loop
-may-open-requires c κs = (c .before .before .before .before .before .loop .inv .go) .deep
-
 skip-slice-requires : tie.Need-skip-slice-requires Inv-loop μ-loop
 skip-slice-requires c κs = ((c .before .before .before .before .before .before .before .loop .inv .go) .short, (c .before .before .before .before .before .before .before .loop .inv .go) .skip .inside, (c .before .before .before .before .before .before .before .loop .inv .go) .deep)
-
-sub-t24 : tie.Need-sub-t24 Inv-loop μ-loop
-sub-t24 c = walking-few (c .before .before .before .before .before .before .before .before .loop .inv) .3
-
-finish-requires : tie.Need-finish-requires Inv-loop μ-loop
-finish-requires c κs = (c .before .before .before .before .before .before .before .before .before .before .loop .inv .go) .deep
 
 add-t28 : tie.Need-add-t28 Inv-loop μ-loop
 add-t28 c = let h = walking-low (c .before .before .before .before .before .before .before .before .before .before .before .loop .inv) (c .finish .ensures) in omega (arith, h)
@@ -55,17 +31,11 @@ add-t28 c = let h = walking-low (c .before .before .before .before .before .befo
 returns : tie.Need-returns Inv-loop μ-loop
 returns c = let w = (found-within (now (c .before .before .before .before .before .before .before .before .before .before .before .before .before .args .s)) _ _ _ (c .before .before .before .before .before .before .before .before .before .before .next-token .ensures) (c .before .before .before .before .before .before .before .before .i .given .1)) in start-over (c .before .before .before .before .before .before .before .before .before .before .before .loop .inv) (w .0) (w .1) (meets (now (c .before .before .before .before .before .before .before .before .before .before .before .before .before .args .s)) (c .before .before .before .before .before .before .before .before .before .before .before .loop .at) (c .before .before .before .before .before .before .before .before .before .before .next-token .ensures) (c .before .before .before .before .before .before .before .before .i .given .1)) (c .before .before .before .before .before .may-open .ensures) (not-true _ (c .before .before .before .before .if1 .taken)) (c .before .before .before .skip-slice .ensures) (c .finish .ensures)
 
-mul-stack : tie.Need-mul-stack Inv-loop μ-loop
-mul-stack c = let d = (c .before .before .before .before .before .before .before .loop .inv .go) .deep in omega arith
-
 array-write-stack : tie.Need-array-write-stack Inv-loop μ-loop
 array-write-stack c = let w = (found-within (now (c .before .before .before .before .before .before .before .before .before .args .s)) _ _ _ (c .before .before .before .before .before .before .next-token .ensures) (c .before .before .before .before .i .given .1)) in let d = start-deep (c .before .before .before .before .before .before .before .loop .inv .go) (w .0) (w .1) (meets (now (c .before .before .before .before .before .before .before .before .before .args .s)) (c .before .before .before .before .before .before .before .loop .at) (c .before .before .before .before .before .before .next-token .ensures) (c .before .before .before .before .i .given .1)) in let a = (c .before .before .before .before .before .before .before .loop .inv .go) .array in omega (arith, d, a)
 
 array-write-marks : tie.Need-array-write-marks Inv-loop μ-loop
 array-write-marks c = let w = (found-within (now (c .before .before .before .before .before .before .before .before .before .args .s)) _ _ _ (c .before .before .before .before .before .before .next-token .ensures) (c .before .before .before .before .i .given .1)) in let d = start-deep (c .before .before .before .before .before .before .before .loop .inv .go) (w .0) (w .1) (meets (now (c .before .before .before .before .before .before .before .before .before .args .s)) (c .before .before .before .before .before .before .before .loop .at) (c .before .before .before .before .before .before .next-token .ensures) (c .before .before .before .before .i .given .1)) in let a = (c .before .before .before .before .before .before .before .loop .inv) .marked in omega (arith, d, a)
-
-add-depth : tie.Need-add-depth Inv-loop μ-loop
-add-depth c = let d = (c .before .before .before .before .before .before .before .loop .inv .go) .deep in omega arith
 
 add-at : tie.Need-add-at Inv-loop μ-loop
 add-at c = let w = (found-within (now (c .before .before .before .before .before .before .before .before .before .args .s)) _ _ _ (c .before .before .before .before .before .before .next-token .ensures) (c .before .before .before .before .i .given .1)) in omega arith
@@ -76,17 +46,8 @@ loop-less c = let w = (found-within (now (c .before .before .before .before .bef
 loop-again : tie.Need-loop-again Inv-loop μ-loop
 loop-again c = let w = (found-within (now (c .before .before .before .before .before .before .before .before .before .args .s)) _ _ _ (c .before .before .before .before .before .before .next-token .ensures) (c .before .before .before .before .i .given .1)) in walking-start (c .before .before .before .before .before .before .before .loop .inv) (w .0) (w .1) (meets (now (c .before .before .before .before .before .before .before .before .before .args .s)) (c .before .before .before .before .before .before .before .loop .at) (c .before .before .before .before .before .before .next-token .ensures) (c .before .before .before .before .i .given .1)) (c .before .may-open .ensures) (not-false _ (c .if1 .left)) (start-deep (c .before .before .before .before .before .before .before .loop .inv .go) (w .0) (w .1) (meets (now (c .before .before .before .before .before .before .before .before .before .args .s)) (c .before .before .before .before .before .before .before .loop .at) (c .before .before .before .before .before .before .next-token .ensures) (c .before .before .before .before .i .given .1))) refl refl
 
-enum-known-i-2 : tie.Need-enum-known-i-2 Inv-loop μ-loop
-enum-known-i-2 c = search needs
-
 add-t35 : tie.Need-add-t35 Inv-loop μ-loop
 add-t35 c = let w = (found-within (now (c .before .before .before .before .before .before .before .args .s)) _ _ _ (c .before .before .before .before .next-token .ensures) (c .before .before .i2 .given .1)) in omega arith
-
-sub-t36 : tie.Need-sub-t36 Inv-loop μ-loop
-sub-t36 c = walking-few (c .before .before .before .before .before .loop .inv) .3
-
-finish-requires-2 : tie.Need-finish-requires-2 Inv-loop μ-loop
-finish-requires-2 c κs = (c .before .before .before .before .before .before .before .loop .inv .go) .deep
 
 add-t40 : tie.Need-add-t40 Inv-loop μ-loop
 add-t40 c = let h = walking-low (c .before .before .before .before .before .before .before .before .loop .inv) (c .finish2 .ensures) in omega (arith, h)
@@ -99,12 +60,6 @@ sub-depth c = let l = c .if2 .left in omega (arith, l)
 
 load-requires : tie.Need-load-requires Inv-loop μ-loop
 load-requires c κs = let l = c .before .if2 .left in let d = (c .before .before .before .before .before .before .loop .inv .go) .deep in omega (arith, l, d)
-
-ended-requires : tie.Need-ended-requires Inv-loop μ-loop
-ended-requires c κs = search needs
-
-mul-cur : tie.Need-mul-cur Inv-loop μ-loop
-mul-cur c = let d = (c .before .before .before .before .before .before .before .before .loop .inv .go) .deep in omega arith
 
 array-read-cur : tie.Need-array-read-cur Inv-loop μ-loop
 array-read-cur c = let l = c .before .before .before .if2 .left in let d = (c .before .before .before .before .before .before .before .before .loop .inv .go) .deep in let a = (c .before .before .before .before .before .before .before .before .loop .inv .go) .array in omega (arith, l, d, a)
@@ -121,26 +76,11 @@ loop-less-2 c = let w = (found-within (now (c .before .before .before .before .b
 loop-again-2 : tie.Need-loop-again-2 Inv-loop μ-loop
 loop-again-2 c = let w = (found-within (now (c .before .before .before .before .before .before .before .before .before .before .args .s)) _ _ _ (c .before .before .before .before .before .before .before .next-token .ensures) (c .before .before .before .before .before .i2 .given .1)) in walking-end (c .before .before .before .before .before .before .before .before .loop .inv) (w .0) (w .1) (meets (now (c .before .before .before .before .before .before .before .before .before .before .args .s)) (c .before .before .before .before .before .before .before .before .loop .at) (c .before .before .before .before .before .before .before .next-token .ensures) (c .before .before .before .before .before .i2 .given .1)) (c .before .before .before .if2 .left) refl (c .before .load .ensures) (c .ended .ensures) refl
 
-enum-known-i-3 : tie.Need-enum-known-i-3 Inv-loop μ-loop
-enum-known-i-3 c = search needs
-
 keep-requires : tie.Need-keep-requires Inv-loop μ-loop
 keep-requires c κs = ((c .before .before .before .before .before .loop .inv .go) .deep, walking-open (c .before .before .before .before .before .loop .inv))
 
-more-requires : tie.Need-more-requires Inv-loop μ-loop
-more-requires c κs = search needs
-
 add-brackets : tie.Need-add-brackets Inv-loop μ-loop
 add-brackets c = let f = walking-few (c .before .before .before .before .before .before .before .loop .inv) in let m = c .more .ensures in let l = more-least (c .before .before .before .before .before .before .before .loop .c .kids) in omega (arith, f .2, f .4, m, l)
-
-joined-requires : tie.Need-joined-requires Inv-loop μ-loop
-joined-requires c κs = search needs
-
-cast-cur : tie.Need-cast-cur Inv-loop μ-loop
-cast-cur c = let f = walking-few (c .before .before .before .before .before .before .before .before .loop .inv) in omega (arith, f .4)
-
-add-n : tie.Need-add-n Inv-loop μ-loop
-add-n c = let f = walking-few (c .before .before .before .before .before .before .before .before .loop .inv) in omega (arith, f .4)
 
 add-at-3 : tie.Need-add-at-3 Inv-loop μ-loop
 add-at-3 c = let w = (found-within (now (c .before .before .before .before .before .before .before .before .before .before .args .s)) _ _ _ (c .before .before .before .before .before .before .before .next-token .ensures) (c .before .before .before .before .before .i3 .given .1)) in omega arith
@@ -151,17 +91,8 @@ loop-less-3 c = let w = (found-within (now (c .before .before .before .before .b
 loop-again-3 : tie.Need-loop-again-3 Inv-loop μ-loop
 loop-again-3 c = let w = (found-within (now (c .before .before .before .before .before .before .before .before .before .before .args .s)) _ _ _ (c .before .before .before .before .before .before .before .next-token .ensures) (c .before .before .before .before .before .i3 .given .1)) in walking-node (c .before .before .before .before .before .before .before .before .loop .inv) (w .0) (w .1) (meets (now (c .before .before .before .before .before .before .before .before .before .before .args .s)) (c .before .before .before .before .before .before .before .before .loop .at) (c .before .before .before .before .before .before .before .next-token .ensures) (c .before .before .before .before .before .i3 .given .1)) refl (c .before .before .keep .ensures) (c .before .more .ensures) (c .joined .ensures)
 
-enum-known-next : tie.Need-enum-known-next Inv-loop μ-loop
-enum-known-next c = search needs
-
 skip-slice-requires-2 : tie.Need-skip-slice-requires-2 Inv-loop μ-loop
 skip-slice-requires-2 c κs = ((c .before .before .before .before .before .loop .inv .go) .short, (c .before .before .before .before .before .loop .inv .go) .skip .inside, (c .before .before .before .before .before .loop .inv .go) .deep)
-
-sub-t54 : tie.Need-sub-t54 Inv-loop μ-loop
-sub-t54 c = walking-few (c .before .before .before .before .before .before .loop .inv) .3
-
-finish-requires-3 : tie.Need-finish-requires-3 Inv-loop μ-loop
-finish-requires-3 c κs = (c .before .before .before .before .before .before .before .before .loop .inv .go) .deep
 
 add-t58 : tie.Need-add-t58 Inv-loop μ-loop
 add-t58 c = let h = walking-low (c .before .before .before .before .before .before .before .before .before .loop .inv) (c .finish3 .ensures) in omega (arith, h)
@@ -175,29 +106,11 @@ loop-less-4 c = let w = (found-within (now (c .before .before .before .before .b
 loop-again-4 : tie.Need-loop-again-4 Inv-loop μ-loop
 loop-again-4 c = let w = (found-within (now (c .before .before .before .before .before .before .before .args .s)) _ _ _ (c .before .before .before .before .next-token .ensures) (c .before .before .next .given .1)) in walking-prop (c .before .before .before .before .before .loop .inv) _ _ _ (meets (now (c .before .before .before .before .before .before .before .args .s)) (c .before .before .before .before .before .loop .at) (c .before .before .before .before .next-token .ensures) (c .before .before .next .given .1)) (omega arith) (w .4) (not-false _ (c .if3 .left))
 
-enum-told : tie.Need-enum-told Inv-loop μ-loop
-enum-told c = search needs
-
-sub-t59 : tie.Need-sub-t59 Inv-loop μ-loop
-sub-t59 c = walking-few (c .before .before .before .loop .inv) .3
-
-finish-requires-4 : tie.Need-finish-requires-4 Inv-loop μ-loop
-finish-requires-4 c κs = (c .before .before .before .before .before .loop .inv .go) .deep
-
 add-t63 : tie.Need-add-t63 Inv-loop μ-loop
 add-t63 c = let h = walking-low (c .before .before .before .before .before .before .loop .inv) (c .finish4 .ensures) in omega (arith, h)
 
 returns-4 : tie.Need-returns-4 Inv-loop μ-loop
 returns-4 c = none-over (c .before .before .before .before .before .before .loop .inv) (ap (λ (z : Lexed). z .toks) (meets (now (c .before .before .before .before .before .before .before .before .args .s)) (c .before .before .before .before .before .before .loop .at) (c .before .before .before .before .before .next-token .ensures) (c .before .before .before .enum-told .given .1))) (c .finish4 .ensures)
-
-enum-told-2 : tie.Need-enum-told-2 Inv-loop μ-loop
-enum-told-2 c = search needs
-
-sub-t64 : tie.Need-sub-t64 Inv-loop μ-loop
-sub-t64 c = walking-few (c .before .before .before .loop .inv) .3
-
-finish-requires-5 : tie.Need-finish-requires-5 Inv-loop μ-loop
-finish-requires-5 c κs = (c .before .before .before .before .before .loop .inv .go) .deep
 
 add-t68 : tie.Need-add-t68 Inv-loop μ-loop
 add-t68 c = let h = walking-low (c .before .before .before .before .before .before .loop .inv) (c .finish5 .ensures) in omega (arith, h)
@@ -212,61 +125,61 @@ shape-of-spec =
     Inv-loop
     μ-loop
     loop-holds
-    next-token-requires
-    enum-known-i
-    may-open-requires
+    (λ c κs. search needs)
+    (λ c. search needs)
+    (λ c κs. (c .before .before .before .before .before .loop .inv .go) .deep)
     skip-slice-requires
-    sub-t24
-    finish-requires
+    (λ c. walking-few (c .before .before .before .before .before .before .before .before .loop .inv) .3)
+    (λ c κs. (c .before .before .before .before .before .before .before .before .before .before .loop .inv .go) .deep)
     add-t28
     returns
-    mul-stack
+    (λ c. let d = (c .before .before .before .before .before .before .before .loop .inv .go) .deep in omega arith)
     array-write-stack
     array-write-marks
-    add-depth
+    (λ c. let d = (c .before .before .before .before .before .before .before .loop .inv .go) .deep in omega arith)
     add-at
     loop-less
     loop-again
-    enum-known-i-2
+    (λ c. search needs)
     add-t35
-    sub-t36
-    finish-requires-2
+    (λ c. walking-few (c .before .before .before .before .before .loop .inv) .3)
+    (λ c κs. (c .before .before .before .before .before .before .before .loop .inv .go) .deep)
     add-t40
     returns-2
     sub-depth
     load-requires
-    ended-requires
-    mul-cur
+    (λ c κs. search needs)
+    (λ c. let d = (c .before .before .before .before .before .before .before .before .loop .inv .go) .deep in omega arith)
     array-read-cur
     array-read-fresh
     add-at-2
     loop-less-2
     loop-again-2
-    enum-known-i-3
+    (λ c. search needs)
     keep-requires
-    more-requires
+    (λ c κs. search needs)
     add-brackets
-    joined-requires
-    cast-cur
-    add-n
+    (λ c κs. search needs)
+    (λ c. let f = walking-few (c .before .before .before .before .before .before .before .before .loop .inv) in omega (arith, f .4))
+    (λ c. let f = walking-few (c .before .before .before .before .before .before .before .before .loop .inv) in omega (arith, f .4))
     add-at-3
     loop-less-3
     loop-again-3
-    enum-known-next
+    (λ c. search needs)
     skip-slice-requires-2
-    sub-t54
-    finish-requires-3
+    (λ c. walking-few (c .before .before .before .before .before .before .loop .inv) .3)
+    (λ c κs. (c .before .before .before .before .before .before .before .before .loop .inv .go) .deep)
     add-t58
     returns-3
     loop-less-4
     loop-again-4
-    enum-told
-    sub-t59
-    finish-requires-4
+    (λ c. search needs)
+    (λ c. walking-few (c .before .before .before .loop .inv) .3)
+    (λ c κs. (c .before .before .before .before .before .loop .inv .go) .deep)
     add-t63
     returns-4
-    enum-told-2
-    sub-t64
-    finish-requires-5
+    (λ c. search needs)
+    (λ c. walking-few (c .before .before .before .loop .inv) .3)
+    (λ c κs. (c .before .before .before .before .before .loop .inv .go) .deep)
     add-t68
     returns-5)
