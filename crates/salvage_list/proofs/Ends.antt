@@ -14,10 +14,10 @@ use Rattle.salvage_list.proofs.Going.{Going, Put, Standing, here, blame
 module _ {u : List ℕ} {from base : ℕ} {a : List ℕ} {at d cur n : ℕ} {g : Bool} (x : Going u from base a at d cur n g) where
   module _ {i : ℕ} (lo : at ≤ i) (hi : i < length u) where
     module _ (q : lexAt u at ≡ lexed (end i ∷ []) (lexAt u (i + 1))) where
-      last-slice : d ≤ 1 → sliceFrom d (lexAt u at .toks) ≡ end i ∷ []
+      pub last-slice : d ≤ 1 → sliceFrom d (lexAt u at .toks) ≡ end i ∷ []
       last-slice h = ap (λ (z : Lexed). sliceFrom d (z .toks)) q ∙ slice-last d i (lexAt u (i + 1) .toks) h
 
-      popped : (d ≡ 0 → ⊥) → walks true base (here x) (end i) ≡ walk (getD a (d - 1) 0) (stackOf a (d - 1)) false (x .ns)
+      pub popped : (d ≡ 0 → ⊥) → walks true base (here x) (end i) ≡ walk (getD a (d - 1) 0) (stackOf a (d - 1)) false (x .ns)
       popped h = ap (λ (st : List ℕ). closes true cur st (x .ns)) (stack-pop a d h)
 
       going-end : (d ≡ 0 → ⊥) → (d ≡ 1 → ⊥) → {c : ℕ} → c ≡ getD a (d - 1) 0 → Going u from base a (i + 1) (d - 1) c n false

@@ -142,7 +142,7 @@ module _ {u : List ℕ} {from base : ℕ} {a : List ℕ} {at d cur n : ℕ} {g :
 
   module _ {i : ℕ} (lo : at ≤ i) (hi : i < length u) where
     module _ (q : lexAt u at ≡ lexed (start i ∷ []) (lexAt u (i + 1))) where
-      start-slice : sliceFrom d (lexAt u at .toks) ≡ start i ∷ sliceFrom (suc d) (lexAt u (i + 1) .toks)
+      pub start-slice : sliceFrom d (lexAt u at .toks) ≡ start i ∷ sliceFrom (suc d) (lexAt u (i + 1) .toks)
       unfolding sliceFrom
       start-slice = ap (λ (z : Lexed). sliceFrom d (z .toks)) q
 
@@ -151,7 +151,7 @@ module _ {u : List ℕ} {from base : ℕ} {a : List ℕ} {at d cur n : ℕ} {g :
       start-deep = subst (Shallow d) start-slice (x .shallow) .0
 
       module _ {b : Bool} (m : b ≡ mayOpen base n (stackOf a d)) where
-        start-walk : walks true base here (start i) ≡ pick b (walk cur (cur ∷ stackOf a d) false (x .ns)) (halted (x .ns))
+        pub start-walk : walks true base here (start i) ≡ pick b (walk cur (cur ∷ stackOf a d) false (x .ns)) (halted (x .ns))
         start-walk =
             line-may true (x .line)
             ∙ ap (λ (z : ℕ). pick (mayOpen base z (stackOf a d)) (walk cur (cur ∷ stackOf a d) false (x .ns)) (halted (x .ns))) (sym (x .count))

@@ -1,4 +1,3 @@
--- `crates::proofs` meets its contract. Assumes nothing.
 pub mod Ends
 pub mod Few
 pub mod Gms

@@ -25,14 +25,14 @@ module _ {u : List ℕ} {from base : ℕ} {a : List ℕ} {at d cur n : ℕ} {g :
   -- ---- a node
 
   module _ {i : ℕ} (lo : at ≤ i) (hi : i < length u) (q : lexAt u at ≡ lexed (node i ∷ []) (lexAt u (i + 1))) where
-    node-slice : sliceFrom d (lexAt u at .toks) ≡ node i ∷ sliceFrom d (lexAt u (i + 1) .toks)
+    pub node-slice : sliceFrom d (lexAt u at .toks) ≡ node i ∷ sliceFrom d (lexAt u (i + 1) .toks)
     unfolding sliceFrom
     node-slice = ap (λ (z : Lexed). sliceFrom d (z .toks)) q
 
     node-walk : {c : ℕ} → c ≡ n → walks true base (here x) (node i) ≡ walk c (stackOf a d) true (record { parent = cur; props = [] } ∷ x .ns)
     node-walk ec = ap (λ (z : ℕ). walk z (stackOf a d) true (record { parent = cur; props = [] } ∷ x .ns)) (sym (ec ∙ x .count))
 
-    going-node : {c : ℕ} → c ≡ n → Going u from base a (i + 1) d c (n + 1) true
+    pub going-node : {c : ℕ} → c ≡ n → Going u from base a (i + 1) d c (n + 1) true
     unfolding Shallow
     going-node {c} ec =
         let fe = x .few in
@@ -94,7 +94,7 @@ module _ {u : List ℕ} {from base : ℕ} {a : List ℕ} {at d cur n : ℕ} {g :
   -- ---- a property
 
   module _ (i k e : ℕ) (q : lexAt u at ≡ lexed (prop (propAt u i k) e ∷ []) (lexAt u e)) where
-    prop-slice : sliceFrom d (lexAt u at .toks) ≡ prop (propAt u i k) e ∷ sliceFrom d (lexAt u e .toks)
+    pub prop-slice : sliceFrom d (lexAt u at .toks) ≡ prop (propAt u i k) e ∷ sliceFrom d (lexAt u e .toks)
     unfolding sliceFrom
     prop-slice = ap (λ (z : Lexed). sliceFrom d (z .toks)) q
 

@@ -1,0 +1,185 @@
+-- `salvage_shape::shape_of` meets its contract. Assumes nothing.
+use borrow.Author.Needs.{needs}
+use denote.Ref.{now}
+use Rattle.lists.proofs.Prelude.{_-_, refl, ap, length, arith, not-true, not-false}
+use Rattle.lexer.specs.Token.{Lexed}
+use Rattle.lexer.proofs.Within.{found-within}
+use Rattle.parser.proofs.Meets.{meets}
+use Rattle.salvage_list.proofs.Going.{start-deep}
+use Rattle.salvage_shape.proofs.Turns.{more-least}
+use Rattle.salvage_shape.proofs.Walking.{Walking, walking-first, walking-few, walking-low, none-over}
+use Rattle.salvage_shape.proofs.Lists.{start-over, walking-start, end-over, walking-end}
+use Rattle.salvage_shape.proofs.Nodes.{walking-open, walking-node, prop-over, walking-prop}
+use Rattle.salvage_shape.proofs.shape_of.Statement.{statement}
+use Rattle.salvage_shape.proofs.shape_of.Tie as tie
+
+abbrev Inv-loop : tie.InvT-loop
+Inv-loop s from base stack₀ marks₀ cells₀ at₀ depth₀ cur₀ n₀ follows₀ fresh₀ brackets₀ c₀ stack marks cells at depth cur n follows fresh brackets c = Walking s from base stack marks cells at depth cur n follows fresh brackets c
+
+abbrev μ-loop : tie.MeasureT-loop
+μ-loop s from base stack₀ marks₀ cells₀ at₀ depth₀ cur₀ n₀ follows₀ fresh₀ brackets₀ c₀ stack marks cells at depth cur n follows fresh brackets c = length s - at
+
+loop-holds : tie.Need-loop-holds Inv-loop μ-loop
+loop-holds c = walking-first _ _ _ (c .before .pre) refl refl refl
+
+skip-slice-requires : tie.Need-skip-slice-requires Inv-loop μ-loop
+skip-slice-requires c κs = ((c .before .before .before .before .before .before .before .loop .inv .go) .short, (c .before .before .before .before .before .before .before .loop .inv .go) .skip .inside, (c .before .before .before .before .before .before .before .loop .inv .go) .deep)
+
+add-t28 : tie.Need-add-t28 Inv-loop μ-loop
+add-t28 c = let h = walking-low (c .before .before .before .before .before .before .before .before .before .before .before .loop .inv) (c .finish .ensures) in omega (arith, h)
+
+returns : tie.Need-returns Inv-loop μ-loop
+returns c = let w = (found-within (now (c .before .before .before .before .before .before .before .before .before .before .before .before .before .args .s)) _ _ _ (c .before .before .before .before .before .before .before .before .before .before .next-token .ensures) (c .before .before .before .before .before .before .before .before .i .given .1)) in start-over (c .before .before .before .before .before .before .before .before .before .before .before .loop .inv) (w .0) (w .1) (meets (now (c .before .before .before .before .before .before .before .before .before .before .before .before .before .args .s)) (c .before .before .before .before .before .before .before .before .before .before .before .loop .at) (c .before .before .before .before .before .before .before .before .before .before .next-token .ensures) (c .before .before .before .before .before .before .before .before .i .given .1)) (c .before .before .before .before .before .may-open .ensures) (not-true _ (c .before .before .before .before .if1 .taken)) (c .before .before .before .skip-slice .ensures) (c .finish .ensures)
+
+array-write-stack : tie.Need-array-write-stack Inv-loop μ-loop
+array-write-stack c = let w = (found-within (now (c .before .before .before .before .before .before .before .before .before .args .s)) _ _ _ (c .before .before .before .before .before .before .next-token .ensures) (c .before .before .before .before .i .given .1)) in let d = start-deep (c .before .before .before .before .before .before .before .loop .inv .go) (w .0) (w .1) (meets (now (c .before .before .before .before .before .before .before .before .before .args .s)) (c .before .before .before .before .before .before .before .loop .at) (c .before .before .before .before .before .before .next-token .ensures) (c .before .before .before .before .i .given .1)) in let a = (c .before .before .before .before .before .before .before .loop .inv .go) .array in omega (arith, d, a)
+
+array-write-marks : tie.Need-array-write-marks Inv-loop μ-loop
+array-write-marks c = let w = (found-within (now (c .before .before .before .before .before .before .before .before .before .args .s)) _ _ _ (c .before .before .before .before .before .before .next-token .ensures) (c .before .before .before .before .i .given .1)) in let d = start-deep (c .before .before .before .before .before .before .before .loop .inv .go) (w .0) (w .1) (meets (now (c .before .before .before .before .before .before .before .before .before .args .s)) (c .before .before .before .before .before .before .before .loop .at) (c .before .before .before .before .before .before .next-token .ensures) (c .before .before .before .before .i .given .1)) in let a = (c .before .before .before .before .before .before .before .loop .inv) .marked in omega (arith, d, a)
+
+add-at : tie.Need-add-at Inv-loop μ-loop
+add-at c = let w = (found-within (now (c .before .before .before .before .before .before .before .before .before .args .s)) _ _ _ (c .before .before .before .before .before .before .next-token .ensures) (c .before .before .before .before .i .given .1)) in omega arith
+
+loop-less : tie.Need-loop-less Inv-loop μ-loop
+loop-less c = let w = (found-within (now (c .before .before .before .before .before .before .before .before .before .args .s)) _ _ _ (c .before .before .before .before .before .before .next-token .ensures) (c .before .before .before .before .i .given .1)) in omega arith
+
+loop-again : tie.Need-loop-again Inv-loop μ-loop
+loop-again c = let w = (found-within (now (c .before .before .before .before .before .before .before .before .before .args .s)) _ _ _ (c .before .before .before .before .before .before .next-token .ensures) (c .before .before .before .before .i .given .1)) in walking-start (c .before .before .before .before .before .before .before .loop .inv) (w .0) (w .1) (meets (now (c .before .before .before .before .before .before .before .before .before .args .s)) (c .before .before .before .before .before .before .before .loop .at) (c .before .before .before .before .before .before .next-token .ensures) (c .before .before .before .before .i .given .1)) (c .before .may-open .ensures) (not-false _ (c .if1 .left)) (start-deep (c .before .before .before .before .before .before .before .loop .inv .go) (w .0) (w .1) (meets (now (c .before .before .before .before .before .before .before .before .before .args .s)) (c .before .before .before .before .before .before .before .loop .at) (c .before .before .before .before .before .before .next-token .ensures) (c .before .before .before .before .i .given .1))) refl refl
+
+add-t35 : tie.Need-add-t35 Inv-loop μ-loop
+add-t35 c = let w = (found-within (now (c .before .before .before .before .before .before .before .args .s)) _ _ _ (c .before .before .before .before .next-token .ensures) (c .before .before .i2 .given .1)) in omega arith
+
+add-t40 : tie.Need-add-t40 Inv-loop μ-loop
+add-t40 c = let h = walking-low (c .before .before .before .before .before .before .before .before .loop .inv) (c .finish2 .ensures) in omega (arith, h)
+
+returns-2 : tie.Need-returns-2 Inv-loop μ-loop
+returns-2 c = let w = (found-within (now (c .before .before .before .before .before .before .before .before .before .before .args .s)) _ _ _ (c .before .before .before .before .before .before .before .next-token .ensures) (c .before .before .before .before .before .i2 .given .1)) in end-over (c .before .before .before .before .before .before .before .before .loop .inv) (w .0) (w .1) (meets (now (c .before .before .before .before .before .before .before .before .before .before .args .s)) (c .before .before .before .before .before .before .before .before .loop .at) (c .before .before .before .before .before .before .before .next-token .ensures) (c .before .before .before .before .before .i2 .given .1)) (c .before .before .before .if2 .taken) (c .finish2 .ensures)
+
+sub-depth : tie.Need-sub-depth Inv-loop μ-loop
+sub-depth c = let l = c .if2 .left in omega (arith, l)
+
+load-requires : tie.Need-load-requires Inv-loop μ-loop
+load-requires c κs = let l = c .before .if2 .left in let d = (c .before .before .before .before .before .before .loop .inv .go) .deep in omega (arith, l, d)
+
+array-read-cur : tie.Need-array-read-cur Inv-loop μ-loop
+array-read-cur c = let l = c .before .before .before .if2 .left in let d = (c .before .before .before .before .before .before .before .before .loop .inv .go) .deep in let a = (c .before .before .before .before .before .before .before .before .loop .inv .go) .array in omega (arith, l, d, a)
+
+array-read-fresh : tie.Need-array-read-fresh Inv-loop μ-loop
+array-read-fresh c = let l = c .before .before .before .if2 .left in let d = (c .before .before .before .before .before .before .before .before .loop .inv .go) .deep in let a = (c .before .before .before .before .before .before .before .before .loop .inv) .marked in omega (arith, l, d, a)
+
+add-at-2 : tie.Need-add-at-2 Inv-loop μ-loop
+add-at-2 c = let w = (found-within (now (c .before .before .before .before .before .before .before .before .before .before .args .s)) _ _ _ (c .before .before .before .before .before .before .before .next-token .ensures) (c .before .before .before .before .before .i2 .given .1)) in omega arith
+
+loop-less-2 : tie.Need-loop-less-2 Inv-loop μ-loop
+loop-less-2 c = let w = (found-within (now (c .before .before .before .before .before .before .before .before .before .before .args .s)) _ _ _ (c .before .before .before .before .before .before .before .next-token .ensures) (c .before .before .before .before .before .i2 .given .1)) in omega arith
+
+loop-again-2 : tie.Need-loop-again-2 Inv-loop μ-loop
+loop-again-2 c = let w = (found-within (now (c .before .before .before .before .before .before .before .before .before .before .args .s)) _ _ _ (c .before .before .before .before .before .before .before .next-token .ensures) (c .before .before .before .before .before .i2 .given .1)) in walking-end (c .before .before .before .before .before .before .before .before .loop .inv) (w .0) (w .1) (meets (now (c .before .before .before .before .before .before .before .before .before .before .args .s)) (c .before .before .before .before .before .before .before .before .loop .at) (c .before .before .before .before .before .before .before .next-token .ensures) (c .before .before .before .before .before .i2 .given .1)) (c .before .before .before .if2 .left) refl (c .before .load .ensures) (c .ended .ensures) refl
+
+keep-requires : tie.Need-keep-requires Inv-loop μ-loop
+keep-requires c κs = ((c .before .before .before .before .before .loop .inv .go) .deep, walking-open (c .before .before .before .before .before .loop .inv))
+
+add-brackets : tie.Need-add-brackets Inv-loop μ-loop
+add-brackets c = let f = walking-few (c .before .before .before .before .before .before .before .loop .inv) in let m = c .more .ensures in let l = more-least (c .before .before .before .before .before .before .before .loop .c .kids) in omega (arith, f .2, f .4, m, l)
+
+add-at-3 : tie.Need-add-at-3 Inv-loop μ-loop
+add-at-3 c = let w = (found-within (now (c .before .before .before .before .before .before .before .before .before .before .args .s)) _ _ _ (c .before .before .before .before .before .before .before .next-token .ensures) (c .before .before .before .before .before .i3 .given .1)) in omega arith
+
+loop-less-3 : tie.Need-loop-less-3 Inv-loop μ-loop
+loop-less-3 c = let w = (found-within (now (c .before .before .before .before .before .before .before .before .before .before .args .s)) _ _ _ (c .before .before .before .before .before .before .before .next-token .ensures) (c .before .before .before .before .before .i3 .given .1)) in omega arith
+
+loop-again-3 : tie.Need-loop-again-3 Inv-loop μ-loop
+loop-again-3 c = let w = (found-within (now (c .before .before .before .before .before .before .before .before .before .before .args .s)) _ _ _ (c .before .before .before .before .before .before .before .next-token .ensures) (c .before .before .before .before .before .i3 .given .1)) in walking-node (c .before .before .before .before .before .before .before .before .loop .inv) (w .0) (w .1) (meets (now (c .before .before .before .before .before .before .before .before .before .before .args .s)) (c .before .before .before .before .before .before .before .before .loop .at) (c .before .before .before .before .before .before .before .next-token .ensures) (c .before .before .before .before .before .i3 .given .1)) refl (c .before .before .keep .ensures) (c .before .more .ensures) (c .joined .ensures)
+
+skip-slice-requires-2 : tie.Need-skip-slice-requires-2 Inv-loop μ-loop
+skip-slice-requires-2 c κs = ((c .before .before .before .before .before .loop .inv .go) .short, (c .before .before .before .before .before .loop .inv .go) .skip .inside, (c .before .before .before .before .before .loop .inv .go) .deep)
+
+add-t58 : tie.Need-add-t58 Inv-loop μ-loop
+add-t58 c = let h = walking-low (c .before .before .before .before .before .before .before .before .before .loop .inv) (c .finish3 .ensures) in omega (arith, h)
+
+returns-3 : tie.Need-returns-3 Inv-loop μ-loop
+returns-3 c = prop-over (c .before .before .before .before .before .before .before .before .before .loop .inv) _ _ _ (meets (now (c .before .before .before .before .before .before .before .before .before .before .before .args .s)) (c .before .before .before .before .before .before .before .before .before .loop .at) (c .before .before .before .before .before .before .before .before .next-token .ensures) (c .before .before .before .before .before .before .next .given .1)) (not-true _ (c .before .before .before .before .if3 .taken)) (c .before .before .before .skip-slice2 .ensures) (c .finish3 .ensures)
+
+loop-less-4 : tie.Need-loop-less-4 Inv-loop μ-loop
+loop-less-4 c = let w = (found-within (now (c .before .before .before .before .before .before .before .args .s)) _ _ _ (c .before .before .before .before .next-token .ensures) (c .before .before .next .given .1)) in omega arith
+
+loop-again-4 : tie.Need-loop-again-4 Inv-loop μ-loop
+loop-again-4 c = let w = (found-within (now (c .before .before .before .before .before .before .before .args .s)) _ _ _ (c .before .before .before .before .next-token .ensures) (c .before .before .next .given .1)) in walking-prop (c .before .before .before .before .before .loop .inv) _ _ _ (meets (now (c .before .before .before .before .before .before .before .args .s)) (c .before .before .before .before .before .loop .at) (c .before .before .before .before .next-token .ensures) (c .before .before .next .given .1)) (omega arith) (w .4) (not-false _ (c .if3 .left))
+
+add-t63 : tie.Need-add-t63 Inv-loop μ-loop
+add-t63 c = let h = walking-low (c .before .before .before .before .before .before .loop .inv) (c .finish4 .ensures) in omega (arith, h)
+
+returns-4 : tie.Need-returns-4 Inv-loop μ-loop
+returns-4 c = none-over (c .before .before .before .before .before .before .loop .inv) (ap (λ (z : Lexed). z .toks) (meets (now (c .before .before .before .before .before .before .before .before .args .s)) (c .before .before .before .before .before .before .loop .at) (c .before .before .before .before .before .next-token .ensures) (c .before .before .before .enum-told .given .1))) (c .finish4 .ensures)
+
+add-t68 : tie.Need-add-t68 Inv-loop μ-loop
+add-t68 c = let h = walking-low (c .before .before .before .before .before .before .loop .inv) (c .finish5 .ensures) in omega (arith, h)
+
+returns-5 : tie.Need-returns-5 Inv-loop μ-loop
+returns-5 c = none-over (c .before .before .before .before .before .before .loop .inv) (ap (λ (z : Lexed). z .toks) (meets (now (c .before .before .before .before .before .before .before .before .args .s)) (c .before .before .before .before .before .before .loop .at) (c .before .before .before .before .before .next-token .ensures) (c .before .before .before .enum-told2 .given .1))) (c .finish5 .ensures)
+
+pub shape-of-spec : {M : Type 1} → statement M
+shape-of-spec =
+    tie.close
+    (tie.spec
+    Inv-loop
+    μ-loop
+    loop-holds
+    (λ c κs. search needs)
+    (λ c. search needs)
+    (λ c κs. (c .before .before .before .before .before .loop .inv .go) .deep)
+    skip-slice-requires
+    (λ c. walking-few (c .before .before .before .before .before .before .before .before .loop .inv) .3)
+    (λ c κs. (c .before .before .before .before .before .before .before .before .before .before .loop .inv .go) .deep)
+    add-t28
+    returns
+    (λ c. let d = (c .before .before .before .before .before .before .before .loop .inv .go) .deep in omega arith)
+    array-write-stack
+    array-write-marks
+    (λ c. let d = (c .before .before .before .before .before .before .before .loop .inv .go) .deep in omega arith)
+    add-at
+    loop-less
+    loop-again
+    (λ c. search needs)
+    add-t35
+    (λ c. walking-few (c .before .before .before .before .before .loop .inv) .3)
+    (λ c κs. (c .before .before .before .before .before .before .before .loop .inv .go) .deep)
+    add-t40
+    returns-2
+    sub-depth
+    load-requires
+    (λ c κs. search needs)
+    (λ c. let d = (c .before .before .before .before .before .before .before .before .loop .inv .go) .deep in omega arith)
+    array-read-cur
+    array-read-fresh
+    add-at-2
+    loop-less-2
+    loop-again-2
+    (λ c. search needs)
+    keep-requires
+    (λ c κs. search needs)
+    add-brackets
+    (λ c κs. search needs)
+    (λ c. let f = walking-few (c .before .before .before .before .before .before .before .before .loop .inv) in omega (arith, f .4))
+    (λ c. let f = walking-few (c .before .before .before .before .before .before .before .before .loop .inv) in omega (arith, f .4))
+    add-at-3
+    loop-less-3
+    loop-again-3
+    (λ c. search needs)
+    skip-slice-requires-2
+    (λ c. walking-few (c .before .before .before .before .before .before .loop .inv) .3)
+    (λ c κs. (c .before .before .before .before .before .before .before .before .loop .inv .go) .deep)
+    add-t58
+    returns-3
+    loop-less-4
+    loop-again-4
+    (λ c. search needs)
+    (λ c. walking-few (c .before .before .before .loop .inv) .3)
+    (λ c κs. (c .before .before .before .before .before .loop .inv .go) .deep)
+    add-t63
+    returns-4
+    (λ c. search needs)
+    (λ c. walking-few (c .before .before .before .loop .inv) .3)
+    (λ c κs. (c .before .before .before .before .before .loop .inv .go) .deep)
+    add-t68
+    returns-5)

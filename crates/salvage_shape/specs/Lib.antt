@@ -1,0 +1,3 @@
+pub mod LocalsChain
+pub mod LocalsShape
+pub mod LocalsWalk

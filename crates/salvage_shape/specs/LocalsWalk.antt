@@ -1,0 +1,25 @@
+-- What the walk of a slice for its shape asks for and gives. Nothing public is stated by these.
+use Rattle.lists.specs.Prelude.{ℕ, _+_, _≤_, _≡_, true, List, [], _∷_, length}
+use Rattle.tables.specs.Numbers.{textLimit, none}
+use Rattle.tables.specs.Rows.{parents}
+use Rattle.parser.specs.LocalsSlice.{Shallow}
+use Rattle.parser_tree.specs.LocalsTurns.{BehindIs}
+use Rattle.salvage_list.specs.LocalsWalk.{tokensAt, nodesFrom}
+use Rattle.salvage_shape.specs.LocalsShape.{leaf, Meets, shapeDepth, bracketsOf}
+use Rattle.salvage_shape.specs.declared.Shape.{Shape}
+
+-- what the walk asks for
+pub record ShapeReady (u : List ℕ) (from base : ℕ) : Type 0 where
+  pub short : length u ≤ textLimit
+  pub inside : from ≤ length u
+  pub nodes : base ≤ textLimit + textLimit
+  pub shallow : Shallow 0 (tokensAt u from)
+
+-- what it gives
+pub record ShapeIs (u : List ℕ) (from base : ℕ) (r : Shape) : Type 0 where
+  pub nodes : r .nodes ≡ length (nodesFrom u from base)
+  pub brackets : r .brackets ≡ bracketsOf (parents (nodesFrom u from base))
+  pub depth : r .depth ≡ shapeDepth base (parents (nodesFrom u from base))
+  pub behind : BehindIs true u from 0 (r .next)
+  pub meets : Meets base (leaf none ∷ []) (parents (nodesFrom u from base))
+  pub node-bound : r .nodes + from ≤ r .next
