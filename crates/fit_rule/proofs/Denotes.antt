@@ -19,7 +19,7 @@ use Rattle.fit.proofs.RecordRows.{valsIn, propsIn, raws-at}
 use Rattle.fit.proofs.RootRows.{root-in}
 use Rattle.fit_rule.specs.Rule.{ruleBy, propertyOf, firstProps, sizeOfTree, ruleOf, rootPropertiesAt, ruleAt}
 
-tabulate-alike : {A : Type 0} (f g : ℕ → A) (a m : ℕ) → ((i : ℕ) → a ≤ i → i < a + m → f i ≡ g i) → tabulate f a m ≡ tabulate g a m
+pub tabulate-alike : {A : Type 0} (f g : ℕ → A) (a m : ℕ) → ((i : ℕ) → a ≤ i → i < a + m → f i ≡ g i) → tabulate f a m ≡ tabulate g a m
 unfolding tabulate
 tabulate-alike f g a zero h = refl
 tabulate-alike {A} f g a (suc m) h = ap₂ (λ (x : A) (l : List A). x ∷ l) (h a (omega arith) (omega arith)) (tabulate-alike f g (suc a) m (λ i b c. h i (omega arith) (omega arith)))
@@ -66,7 +66,7 @@ module _ {t : List ℕ} {c : Counts} {tr nd pr vl : List ℕ} (f : Clauses t c t
       ∙ ap (tabulate (propertyAt t pr vl) a) whole
 
   -- the properties of tree i's root
-  root-properties : (i : ℕ) → i < c .trees → map propertyOf (nodeFor (rootAt tr i) .props) ≡ rootPropertiesAt t tr nd pr vl i
+  pub root-properties : (i : ℕ) → i < c .trees → map propertyOf (nodeFor (rootAt tr i) .props) ≡ rootPropertiesAt t tr nd pr vl i
   unfolding rootPropertiesAt
   root-properties i h =
       let l = root-in tr nd (c .trees) (c .nodes) (f .roots) i h .0 in

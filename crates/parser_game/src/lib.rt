@@ -41,7 +41,7 @@ fn is_one(v: &[u8]) -> bool
 }
 
 // The game type that a value says.
-fn game_of(v: &[u8]) -> GameType
+pub fn game_of(v: &[u8]) -> GameType
     ensures { λ r. ⌜ r ≡ typeOf (gameOf (readValue (now (v .entry)))) ⌝ }
 {
     let Number::Bad = values::decimal::read_i32(v) else {

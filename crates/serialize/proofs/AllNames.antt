@@ -12,7 +12,9 @@ use Rattle.tables.specs.Each.{each, tabulate}
 use Rattle.tables.specs.Memory.{Memory}
 use Rattle.fit.specs.Fit.{Fit}
 use Rattle.fit.specs.Record.{propRow, propOf, textIn, recordIn}
-use Rattle.serialize.specs.LocalsWalk.{namesGood}
+use Rattle.lists.specs.Same.{same}
+use Rattle.parser.specs.Game.{GM}
+use Rattle.serialize.specs.LocalsWalk.{isKept, namesGood}
 use Rattle.serialize.specs.Branch.{nameless}
 
 -- ---- one name after another, from the first and from the last
@@ -49,3 +51,24 @@ names-are m h =
     let prop : PropRow → Prop = propOf u (valsIn u (m .values) (m .counts .values)) in
     names-below (λ p. prop (propRow (m .properties) p)) (m .counts .properties)
     ∙ ap (λ (z : List Prop). not (nameless z)) (sym (record-props (fit-clauses m h) u ∙ map-tabulate (propRow (m .properties)) prop 0 (m .counts .properties)))
+
+-- ---- which properties are written
+
+module _ {mends : Bool} (bad : Bool) (w : List ℕ) (m : mends ≡ true) {n : Bool} (e : n ≡ ltb 0 (length (readIdentifier w))) where
+  -- an empty identifier
+  pub kept-nameless : n ≡ false → false ≡ isKept mends bad (readIdentifier w)
+  kept-nameless h = rw (m, ← some-not (length (readIdentifier w)), ← e, h)
+
+module _ (mends : Bool) {bad : Bool} (w : List ℕ) {n : Bool} (e : n ≡ ltb 0 (length (readIdentifier w))) (h : n ≡ true) where
+  -- another one, where no GM is removed
+  pub kept-named : bad ≡ false → true ≡ isKept mends bad (readIdentifier w)
+  kept-named b = rw (b, ← some-not (length (readIdentifier w)), ← e, h) (sym (or-true (not mends)))
+    where
+      or-true : (x : Bool) → x || true ≡ true
+      or-true true = refl
+      or-true false = refl
+
+module _ {mends bad : Bool} (w : List ℕ) (m : mends ≡ true) {n : Bool} (e : n ≡ ltb 0 (length (readIdentifier w))) (h : n ≡ true) where
+  -- where one is
+  pub kept-other : bad ≡ true → {r : Bool} → r ≡ same (readIdentifier w) GM → not r ≡ isKept mends bad (readIdentifier w)
+  kept-other b q = rw (m, b, ← some-not (length (readIdentifier w)), ← e, h) (ap not q)

@@ -20,7 +20,7 @@ use Rattle.fit.proofs.Clauses.{Clauses, value-in}
 use Rattle.fit_spans.proofs.Ranges.{gapless-in}
 use Rattle.serialize_values.specs.LocalsForm.{rawsText}
 use Rattle.serialize_values.proofs.Plain.{corner-byte}
-use Rattle.serialize.specs.LocalsWalk.{texts, cornerEnd, readNameAt, valuesText, propText, propsText, startText, endsBefore, nodeBy}
+use Rattle.serialize.specs.LocalsWalk.{texts, cornerEnd, readNameAt, valuesText, propText, isKept, keptText, badAt, propsText, startText, endsBefore, nodeBy}
 
 -- a byte that a value ends with which reads as `tt`
 abbrev cornerByte : ℕ → Bool
@@ -161,12 +161,18 @@ module _ {t : List ℕ} {c : Counts} {tr nd pr vl : List ℕ} (f : Clauses t c t
       (normal-calm (readNameAt t pr p) (valuesAt t vl (firstValAt pr p) (valCountAt pr p))
       (values-calm (firstValAt pr p) (valCountAt pr p) (gapless-in (firstValAt pr) (valCountAt pr) (c .properties) (c .values) (f .prop-ranges) p h)))
 
-  pub node-calm : (k : ℕ) → k < c .nodes → nodeBy t nd pr vl 0 k ≡ nodeBy t nd pr vl 2 k
+  kept-calm : (mends bad : Bool) (p : ℕ) → p < c .properties → keptText mends bad t pr vl 0 p ≡ keptText mends bad t pr vl 2 p
+  unfolding keptText
+  kept-calm mends bad p h = ap (λ (z : List ℕ). pick (isKept mends bad (readNameAt t pr p)) z []) (prop-calm p h)
+
+  pub node-calm : (mends : Bool) (k : ℕ) → k < c .nodes → nodeBy mends t nd pr vl 0 k ≡ nodeBy mends t nd pr vl 2 k
   unfolding nodeBy propsText
-  node-calm k h =
+  node-calm mends k h =
       let r : firstPropAt nd k + propCountAt nd k ≤ c .properties = gapless-in (firstPropAt nd) (propCountAt nd) (c .nodes) (c .properties) (f .node-ranges) k h in
+      let bad : Bool = badAt mends t nd pr vl k in
       ap (λ (z : List ℕ). endsBefore nd k (parentAt nd k) ++ (startText nd k ++ (0x3b ∷ z)))
-      (texts-calm (λ i. propText t pr vl 0 (firstPropAt nd k + i)) (λ i. propText t pr vl 2 (firstPropAt nd k + i)) (propCountAt nd k) (λ i l. prop-calm (firstPropAt nd k + i) (omega arith)))
+      (texts-calm (λ i. keptText mends bad t pr vl 0 (firstPropAt nd k + i)) (λ i. keptText mends bad t pr vl 2 (firstPropAt nd k + i)) (propCountAt nd k)
+      (λ i l. kept-calm mends bad (firstPropAt nd k + i) (omega arith)))
 
 -- ---- the search
 

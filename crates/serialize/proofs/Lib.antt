@@ -1,13 +1,16 @@
 pub mod AllNames
 pub mod Branches
+pub mod Chained
 pub mod Climbs
 pub mod Corners
 pub mod Joined
 pub mod Linked
 pub mod Measured
+pub mod Mending
 pub mod OpenPath
 pub mod PropTexts
 pub mod Room
+pub mod Rules
 pub mod Siblings
 pub mod Texts
 pub mod TreeSlices

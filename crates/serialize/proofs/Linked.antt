@@ -1,142 +1,165 @@
--- The writing of the record that fitting tables denote is the walk along their links. Assumes nothing.
-use Rattle.lists.proofs.Prelude.{ℕ, zero, suc, _+_, _≤_, _<_, _-_, true, List, _∷_, _++_, map, append-assoc, append-nil, _≡_, refl, sym, ap, ap₂, _∙_, arith, take, drop}
+-- The writing of the record that fitting tables denote is the walk along their links; so is the writing of the mended record. Assumes nothing.
+use Rattle.lists.proofs.Prelude.{ℕ, suc, _+_, _≤_, _<_, _-_, Bool, true, false, List, [], _∷_, _++_, map, _≡_, refl, sym, ap, ap₂, _∙_, arith, eq-eqb}
 use Rattle.lexer.specs.Token.{Prop}
 use Rattle.tables.specs.Numbers.{none}
-use Rattle.tables.specs.Record.{Node}
+use Rattle.tables.specs.Record.{Node, Tree}
 use Rattle.tables.specs.declared.Counts.{Counts}
+use Rattle.parser.specs.Game.{Game}
 use Rattle.fit.proofs.Clauses.{Clauses, fit-clauses}
-use Rattle.fit.proofs.Parts.{map-tabulate, tabulate-drop, tabulate-part}
-use Rattle.fit.proofs.RecordRows.{propsIn, first-root, no-trees}
+use Rattle.fit.proofs.Parts.{map-tabulate}
 use Rattle.fit_spans.proofs.Ranges.{gapless-in}
 use Rattle.fit.proofs.RootRows.{root-in}
 use Rattle.tables.specs.Columns.{rootAt, gameAt, parentAt, firstPropAt, propCountAt, firstValAt, valCountAt}
 use Rattle.tables.specs.Each.{tabulate}
 use Rattle.tables.specs.Memory.{Memory}
+use Rattle.parts_props.specs.Props.{propertiesAt}
 use Rattle.fit.specs.Fit.{Fit}
-use Rattle.fit.specs.Record.{treeRow, nodeRow, nodeOf, treesOf, textIn, recordIn}
-use Rattle.fit_rule.specs.Rule.{ruleOf, ruleAt}
-use Rattle.fit_rule.proofs.Denotes.{rule-tree}
+use Rattle.fit.specs.Record.{textIn, recordIn}
+use Rattle.go_size.specs.Root.{sizeIn}
+use Rattle.fit_rule.specs.Rule.{ruleBy, sizeOfTree, ruleOf, ruleAt, rootPropertiesAt}
+use Rattle.fit_rule.proofs.Denotes.{tabulate-alike, properties-at, root-properties, rule-tree}
+use Rattle.salvage_mend.specs.Mend.{rootGame, keptGame, gmsBad, mendProps, mendNode, mendTree, mended}
+use Rattle.salvage_rows.specs.LocalsGM.{gameIn}
+use Rattle.salvage_rows.proofs.Again.{size-mended}
+use Rattle.salvage_rows.proofs.Denotes.{game-props}
 use Rattle.serialize.specs.Form.{formProp, formNode, formTree, writing}
-use Rattle.serialize.specs.LocalsWalk.{startText, endsBefore, nodeRule, propsText, nodeBy, nodeText, linksText}
-use Rattle.serialize.specs.Branch.{writeProps, treeText}
-use Rattle.serialize.proofs.Joined.{joined, joined-more, texts-joined}
-use Rattle.serialize.proofs.PropTexts.{node-text}
-use Rattle.serialize.proofs.TreeSlices.{linking, stretch-next, stretch-last, rule-here}
-use Rattle.serialize.proofs.TreeWalk.{Stretch, textOf, tree-is}
+use Rattle.serialize.specs.LocalsWalk.{treeRule, badAt, propsText, endsBefore, nodeBy, nodeText, linksText}
+use Rattle.serialize.specs.Branch.{writeProps, treeText, treesText}
+use Rattle.serialize.proofs.Chained.{nodeK, body, walkedTree, all-trees}
+use Rattle.serialize.proofs.Joined.{texts-joined}
+use Rattle.serialize.proofs.PropTexts.{node-text, node-mended}
+use Rattle.serialize.proofs.TreeSlices.{linking, rule-here}
+use Rattle.serialize.proofs.TreeWalk.{Stretch, tree-is}
+use Rattle.serialize.proofs.Walked.{bad-below}
 
--- a tree's text, its ends, and the text of the next tree
-regroup : (x j e y k z : List ℕ) → (x ++ (j ++ e)) ++ (y ++ (k ++ z)) ≡ x ++ ((j ++ ((e ++ y) ++ k)) ++ z)
-regroup x j e y k z =
-    append-assoc x (j ++ e) (y ++ (k ++ z))
-    ∙ ap (λ (v : List ℕ). x ++ v)
-    (append-assoc j e (y ++ (k ++ z))
-    ∙ ap (λ (v : List ℕ). j ++ v) (sym (append-assoc e y (k ++ z)) ∙ sym (append-assoc (e ++ y) k z))
-    ∙ sym (append-assoc j ((e ++ y) ++ k) z))
+module _ {t : List ℕ} {c : Counts} {tr nd pr vl : List ℕ} (fit : Clauses t c tr nd pr vl) (i b : ℕ) (l : i < c .trees) (x : Stretch nd (c .nodes) (rootAt tr i) b) where
+  abbrev R : ℕ
+  R = rootAt tr i
 
-module _ {t : List ℕ} {c : Counts} {tr nd pr vl : List ℕ} (fit : Clauses t c tr nd pr vl) where
-  abbrev m : ℕ
-  m = c .trees
+  abbrev nodeAt : ℕ → Node
+  nodeAt = nodeK fit
 
-  abbrev n : ℕ
-  n = c .nodes
+  values-in : (p : ℕ) → p < c .properties → firstValAt pr p + valCountAt pr p ≤ c .values
+  values-in = gapless-in (firstValAt pr) (valCountAt pr) (c .properties) (c .values) (fit .prop-ranges)
 
-  abbrev R : ℕ → ℕ
-  R = rootAt tr
+  props-in : (k : ℕ) → k < b → firstPropAt nd k + propCountAt nd k ≤ c .properties
+  props-in k v = gapless-in (firstPropAt nd) (propCountAt nd) (c .nodes) (c .properties) (fit .node-ranges) k (omega (arith, x .inside))
 
-  abbrev ps : List Prop
-  ps = propsIn t pr vl (c .properties) (c .values)
+  -- ---- a tree as it is
 
-  abbrev nodeK : ℕ → Node
-  nodeK k = nodeOf ps (nodeRow nd k)
+  abbrev rule : ℕ
+  rule = treeRule false t tr nd pr vl i
 
-  abbrev ns : List Node
-  ns = map (nodeOf ps) (tabulate (nodeRow nd) 0 n)
+  abbrev propsOf : ℕ → List Prop
+  propsOf k = map (formProp rule) (nodeAt k .props)
 
-  abbrev body : ℕ → List ℕ
-  body k = propsText t nd pr vl (nodeRule t tr nd pr vl k) k
+  body-is : (k : ℕ) → R ≤ k → k < b → writeProps (propsOf k) ≡ body fit false k
+  body-is k u v =
+      node-text t vl (c .values) (fit .held .values) pr (c .properties) values-in nd rule k (props-in k v)
+      ∙ ap (λ (z : ℕ). propsText false t nd pr vl z k) (sym (rule-here fit false i l x k u v))
 
-  abbrev head : ℕ → List ℕ
-  head k = startText nd k ++ (0x3b ∷ body k)
+  rule-is : ruleOf (record { root = R; game = gameAt tr i; nodes = tabulate nodeAt R (b - R) }) ≡ rule
+  unfolding ruleAt
+  rule-is = rule-tree fit i b l (x .some)
 
-  abbrev T : ℕ → List ℕ
-  T = textOf nd body
+  pub own-text : (us : List Node) → us ≡ tabulate nodeAt R (b - R)
+      → treeText (formTree (record { root = R; game = gameAt tr i; nodes = us })) ≡ walkedTree fit false i b
+  own-text us e =
+      ap (λ (z : List Node). treeText (formTree (record { root = R; game = gameAt tr i; nodes = z }))) e
+      ∙ ap (λ (z : ℕ). treeText (record { root = R; game = gameAt tr i; nodes = map (formNode z) (tabulate nodeAt R (b - R)) })) rule-is
+      ∙ ap (λ (z : List Node). treeText (record { root = R; game = gameAt tr i; nodes = z })) (map-tabulate nodeAt (formNode rule) R (b - R))
+      ∙ tree-is (linking fit) x propsOf (body fit false) body-is (gameAt tr i)
 
-  module _ (i b : ℕ) (l : i < m) (x : Stretch nd n (R i) b) where
-    abbrev rule : ℕ
-    rule = ruleAt t tr nd pr vl i
+  -- ---- a mended tree
 
-    abbrev propsOf : ℕ → List Prop
-    propsOf k = map (formProp rule) (take (propCountAt nd k) (drop (firstPropAt nd k) ps))
+  abbrev ruleM : ℕ
+  ruleM = treeRule true t tr nd pr vl i
 
-    body-is : (k : ℕ) → R i ≤ k → k < b → writeProps (propsOf k) ≡ body k
-    body-is k u v =
-        node-text t vl (c .values) (fit .held .values) pr (c .properties)
-        (gapless-in (firstValAt pr) (valCountAt pr) (c .properties) (c .values) (fit .prop-ranges)) nd rule k
-        (gapless-in (firstPropAt nd) (propCountAt nd) n (c .properties) (fit .node-ranges) k (omega (arith, x .inside)))
-        ∙ ap (λ (z : ℕ). propsText t nd pr vl z k) (sym (rule-here fit i l x k u v))
+  abbrev badK : ℕ → Bool
+  badK k = badAt true t nd pr vl k
 
-    tree-text : (us : List Node) → us ≡ tabulate nodeK (R i) (b - R i)
-        → treeText (formTree (record { root = R i; game = gameAt tr i; nodes = us })) ≡ head (R i) ++ (joined T (suc (R i)) (b - suc (R i)) ++ endsBefore nd b none)
-    tree-text us e =
-        ap (λ (z : List Node). treeText (formTree (record { root = R i; game = gameAt tr i; nodes = z }))) e
-        ∙ ap (λ (z : ℕ). treeText (record { root = R i; game = gameAt tr i; nodes = map (formNode z) (tabulate nodeK (R i) (b - R i)) })) (rule-tree fit i b l (x .some))
-        ∙ ap (λ (z : List Node). treeText (record { root = R i; game = gameAt tr i; nodes = z })) (map-tabulate nodeK (formNode rule) (R i) (b - R i))
-        ∙ tree-is (linking fit) x propsOf body body-is (gameAt tr i)
+  abbrev mendedOf : ℕ → List Prop
+  mendedOf k = map (formProp ruleM) (mendProps (badK k) (nodeAt k .props))
 
-  nodes-are : ns ≡ tabulate nodeK 0 n
-  nodes-are = map-tabulate (nodeRow nd) (nodeOf ps) 0 n
+  mended-body : (k : ℕ) → R ≤ k → k < b → writeProps (mendedOf k) ≡ body fit true k
+  mended-body k u v =
+      node-mended t vl (c .values) (fit .held .values) pr (c .properties) values-in nd ruleM k (props-in k v)
+      ∙ ap (λ (z : ℕ). propsText true t nd pr vl z k) (sym (rule-here fit true i l x k u v))
 
-  from-root : (a : ℕ) → drop a ns ≡ tabulate nodeK a (n - a)
-  from-root a =
-      let e : 0 + a ≡ a = omega arith in
-      ap (drop a) nodes-are ∙ tabulate-drop nodeK a 0 n ∙ ap (λ (z : ℕ). tabulate nodeK z (n - a)) e
+  -- its nodes behind the root
+  abbrev later : List Node
+  later = tabulate nodeAt (suc R) (b - suc R)
 
-  to-root : (a b : ℕ) → a ≤ b → b ≤ n → take (b - a) (drop a ns) ≡ tabulate nodeK a (b - a)
-  to-root a b h l = ap (λ (z : List Node). take (b - a) (drop a z)) nodes-are ∙ tabulate-part nodeK a (b - a) n (omega arith)
+  abbrev game : Game
+  game = rootGame (nodeAt R ∷ later)
 
-  joins : (a b : ℕ) → parentAt nd b ≡ none → n - suc a ≡ (b - suc a) + suc (n - suc b) → suc a + (b - suc a) ≡ b
-      → joined T (suc a) (n - suc a) ≡ joined T (suc a) (b - suc a) ++ ((endsBefore nd b none ++ head b) ++ joined T (suc b) (n - suc b))
-  unfolding joined
-  joins a b p q r =
-      ap (joined T (suc a)) q ∙ joined-more T (b - suc a) (suc (n - suc b)) (suc a)
-      ∙ ap (λ (z : ℕ). joined T (suc a) (b - suc a) ++ joined T z (suc (n - suc b))) r
-      ∙ ap (λ (z : ℕ). joined T (suc a) (b - suc a) ++ ((endsBefore nd b z ++ head b) ++ joined T (suc b) (n - suc b))) p
+  abbrev whole : Tree
+  whole = record { root = R; game = gameAt tr i; nodes = nodeAt R ∷ later }
 
-  trees-from : (j i : ℕ) → i + suc j ≡ m → writing (treesOf ns (tabulate (treeRow tr) i (suc j))) ≡ head (R i) ++ (joined T (suc (R i)) (n - suc (R i)) ++ endsBefore nd n none)
+  root-first : tabulate nodeAt R (b - R) ≡ nodeAt R ∷ later
   unfolding tabulate
-  trees-from zero i e =
-      append-nil (treeText (formTree (record { root = R i; game = gameAt tr i; nodes = drop (R i) ns })))
-      ∙ tree-text i n (omega arith) (stretch-last fit i (omega arith)) (drop (R i) ns) (from-root (R i))
-  trees-from (suc j) i e =
-      let x = stretch-next fit i (omega arith) in
-      let a : ℕ = R i in
-      let b : ℕ = R (suc i) in
-      let s = x .some in
-      let v : b < n = root-in tr nd m n (fit .roots) (suc i) (omega arith) .0 in
-      let p : parentAt nd b ≡ none = x .next v in
-      let q : n - suc a ≡ (b - suc a) + suc (n - suc b) = omega arith in
-      let r : suc a + (b - suc a) ≡ b = omega arith in
-      ap₂ (λ (y z : List ℕ). y ++ z)
-      (tree-text i b (omega arith) x (take (b - a) (drop a ns)) (to-root a b (omega arith) (omega arith)))
-      (trees-from j (suc i) (omega arith))
-      ∙ regroup (head a) (joined T (suc a) (b - suc a)) (endsBefore nd b none) (head b) (joined T (suc b) (n - suc b)) (endsBefore nd n none)
-      ∙ ap (λ (z : List ℕ). head a ++ (z ++ endsBefore nd n none)) (sym (joins a b p q r))
+  root-first = let e : b - R ≡ suc (b - suc R) = omega (arith, x .some) in ap (tabulate nodeAt R) e
 
-  all-trees : (j : ℕ) → j ≡ m → joined T 0 n ++ endsBefore nd n none ≡ writing (treesOf ns (tabulate (treeRow tr) 0 j))
-  unfolding tabulate joined endsBefore
-  all-trees zero e = rw (no-trees fit (sym e))
-  all-trees (suc j) e =
-      let f = first-root fit (omega arith) in
-      let g = root-in tr nd m n (fit .roots) 0 (omega arith) .0 in
-      let q : n ≡ suc (n - 1) = omega arith in
-      let r : ℕ → List ℕ = λ a. head a ++ (joined T (suc a) (n - suc a) ++ endsBefore nd n none) in
-      ap (λ (z : ℕ). joined T 0 z ++ endsBefore nd n none) q
-      ∙ append-assoc (head 0) (joined T 1 (n - 1)) (endsBefore nd n none)
-      ∙ sym (trees-from j 0 (omega arith) ∙ ap r f)
+  bad-is : gmsBad game ≡ badK R
+  unfolding badAt
+  bad-is =
+      rw (eq-eqb (parentAt nd R) none (x .root))
+      (ap gmsBad (sym (game-props (nodeAt R .props)) ∙ ap gameIn (properties-at fit R (root-in tr nd (c .trees) (c .nodes) (fit .roots) i l .0))))
 
-pub linked-is : (m : Memory) → Fit m ≡ true
-    → linksText (textIn m) (m .trees) (m .nodes) (m .properties) (m .values) (m .counts .nodes) ≡ writing (recordIn m)
-unfolding linksText nodeBy
-linked-is m h =
-    let f = fit-clauses m h in
-    ap (λ (z : List ℕ). z ++ endsBefore (m .nodes) (m .counts .nodes) none) (texts-joined (nodeText (textIn m) (m .trees) (m .nodes) (m .properties) (m .values)) (m .counts .nodes)) ∙ all-trees f (m .counts .trees) refl
+  rule-mended : ruleOf (mendTree whole) ≡ ruleM
+  unfolding ruleOf sizeOfTree
+  rule-mended =
+      ap₂ ruleBy (ap keptGame (sym (game-props (nodeAt R .props)) ∙ ap gameIn (root-properties fit i l)))
+      (size-mended (gmsBad game) (nodeAt R .props) ∙ ap sizeIn (root-properties fit i l))
+
+  abbrev nodeM : ℕ → Node
+  nodeM k = record { parent = parentAt nd k; props = mendedOf k }
+
+  later-is : map (formNode ruleM) (map (mendNode false) later) ≡ tabulate nodeM (suc R) (b - suc R)
+  later-is =
+      ap (map (formNode ruleM)) (map-tabulate nodeAt (mendNode false) (suc R) (b - suc R))
+      ∙ map-tabulate (λ k. mendNode false (nodeAt k)) (formNode ruleM) (suc R) (b - suc R)
+      ∙ tabulate-alike (λ k. formNode ruleM (mendNode false (nodeAt k))) nodeM (suc R) (b - suc R)
+      (λ k u v.
+      ap (λ (z : Bool). record { parent = parentAt nd k; props = map (formProp ruleM) (mendProps z (nodeAt k .props)) })
+      (bad-below true t nd pr vl k (x .others k (omega arith) (omega arith))))
+
+  nodes-are : formNode ruleM (mendNode (gmsBad game) (nodeAt R)) ∷ map (formNode ruleM) (map (mendNode false) later) ≡ tabulate nodeM R (b - R)
+  unfolding tabulate
+  nodes-are =
+      let e : b - R ≡ suc (b - suc R) = omega (arith, x .some) in
+      ap₂ (λ (z : Bool) (w : List Node). record { parent = parentAt nd R; props = map (formProp ruleM) (mendProps z (nodeAt R .props)) } ∷ w) bad-is later-is
+      ∙ sym (ap (tabulate nodeM R) e)
+
+  pub mended-text : (us : List Node) → us ≡ tabulate nodeAt R (b - R)
+      → treeText (formTree (mendTree (record { root = R; game = gameAt tr i; nodes = us }))) ≡ walkedTree fit true i b
+  mended-text us e =
+      ap (λ (z : List Node). treeText (formTree (mendTree (record { root = R; game = gameAt tr i; nodes = z })))) (e ∙ root-first)
+      ∙ ap (λ (z : ℕ). treeText (record { root = R; game = keptGame game; nodes = map (formNode z) (mendTree whole .nodes) })) rule-mended
+      ∙ ap (λ (z : List Node). treeText (record { root = R; game = keptGame game; nodes = z })) nodes-are
+      ∙ tree-is (linking fit) x mendedOf (body fit true) mended-body (keptGame game)
+
+-- ---- all trees
+
+forms-mended : (ts : List Tree) → treesText (map (λ (t : Tree). formTree (mendTree t)) ts) ≡ writing (mended ts)
+forms-mended [] = refl
+forms-mended (t ∷ ts) = ap (λ (z : List ℕ). treeText (formTree (mendTree t)) ++ z) (forms-mended ts)
+
+module _ (m : Memory) (h : Fit m ≡ true) where
+  abbrev walked : Bool → List ℕ
+  walked mends = linksText mends (textIn m) (m .trees) (m .nodes) (m .properties) (m .values) (m .counts .nodes)
+
+  pub linked-is : walked false ≡ writing (recordIn m)
+  unfolding linksText nodeBy
+  linked-is =
+      let f = fit-clauses m h in
+      ap (λ (z : List ℕ). z ++ endsBefore (m .nodes) (m .counts .nodes) none) (texts-joined (nodeText false (textIn m) (m .trees) (m .nodes) (m .properties) (m .values)) (m .counts .nodes))
+      ∙ all-trees f false formTree (own-text f) (m .counts .trees) refl
+
+  pub mended-is : walked true ≡ writing (mended (recordIn m))
+  unfolding linksText nodeBy
+  mended-is =
+      let f = fit-clauses m h in
+      ap (λ (z : List ℕ). z ++ endsBefore (m .nodes) (m .counts .nodes) none) (texts-joined (nodeText true (textIn m) (m .trees) (m .nodes) (m .properties) (m .values)) (m .counts .nodes))
+      ∙ all-trees f true (λ (t : Tree). formTree (mendTree t)) (mended-text f) (m .counts .trees) refl
+      ∙ forms-mended (recordIn m)

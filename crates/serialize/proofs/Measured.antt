@@ -38,7 +38,7 @@ module _ (m : Memory) where
     length-nameless h = decided (not-false blank (sym names ∙ h)) refl
 
     module _ (good : namesGood (textIn m) (m .properties) (m .counts .properties) ≡ true) {e : List ℕ} {need : ℕ}
-        (x : Wrote (linksText (textIn m) (m .trees) (m .nodes) (m .properties) (m .values) (m .counts .nodes)) [] 0 e need) where
+        (x : Wrote (linksText false (textIn m) (m .trees) (m .nodes) (m .properties) (m .values) (m .counts .nodes)) [] 0 e need) where
       named : blank ≡ false
       named = not-true blank (sym names ∙ good)
 

@@ -1,5 +1,5 @@
 -- The walk: names, rules, properties and nodes. Assumes nothing.
-use Rattle.lists.proofs.Prelude.{ℕ, zero, suc, _+_, _/_, _^_, _≤_, _<_, _-_, Bool, true, false, _&&_, List, [], _∷_, _++_, _≡_, refl, sym, ap, ap₂, _∙_, subst, add-one, arith, leb, ltb, eqb, length, getD, take, drop, eq-eqb, ne-eqb, lt-ltb, pick}
+use Rattle.lists.proofs.Prelude.{ℕ, zero, suc, _+_, _/_, _^_, _≤_, _<_, _-_, Bool, true, false, _&&_, List, [], _∷_, _++_, _≡_, refl, sym, ap, ap₂, _∙_, subst, add-one, arith, leb, ltb, eqb, length, getD, take, drop, eq-eqb, ne-eqb, lt-ltb, and-false, pick}
 use Rattle.values.specs.Read.{readIdentifier}
 use Rattle.store_bytes.specs.LocalsWrote.{Wrote}
 use Rattle.store_bytes.proofs.Written.{wrote-more}
@@ -8,20 +8,18 @@ use Rattle.go.specs.Normal.{normal}
 use Rattle.parts.specs.Rows.{valuesAt}
 use Rattle.go_shape.proofs.Identifiers.{letter-past, letter-here}
 use Rattle.tables.specs.Columns.{gameAt, parentAt, firstPropAt, propCountAt, nameFromAt, nameToAt, firstValAt, valCountAt}
-use Rattle.lists.proofs.Tests.{same-or}
 use Rattle.tables.proofs.Each.{each-at, each-all}
 use Rattle.fit_spans.proofs.Lists.{part-slice}
 use Rattle.fit_nodes.proofs.Rule.{rule-at, rule-before}
 use Rattle.fit_nodes.specs.Nodes.{parentRight}
 use Rattle.fit_nodes.specs.Locals.{Ruled}
 use Rattle.serialize.specs.Locals.{Placed, Above, NodesHeld}
-use Rattle.serialize.specs.LocalsWalk.{texts, rootsBelow, ruleTold, readNameAt, valuesText, propText, propsText, startText, endsBefore, nodeBy, nodeText, linksText, hasName}
-use Rattle.lists.proofs.Pick.{pick-elim}
-use Rattle.go_size.specs.declared.RootSize.the-variants.{Absent}
-use Rattle.fit_rule.specs.Rule.{ttPasses, ruleBy, sizeAt, ruleAt}
+use Rattle.serialize.specs.LocalsWalk.{texts, rootsBelow, ruleTold, readNameAt, valuesText, propText, isKept, keptText, badAt, propsText, startText, endsBefore, nodeBy, nodeText, linksText, hasName}
+use Rattle.salvage_rows.specs.LocalsGM.{badIn}
 use Rattle.serialize_values.specs.LocalsForm.{rawsText}
 use Rattle.serialize_values.proofs.Writing.{writing-first, writing-is, writing-next, writing-last}
 use Rattle.tables.specs.LocalsNames.{NameHeld}
+use Rattle.serialize.proofs.Rules.{told-writes}
 
 -- the rule of the parents holds of fewer nodes too
 ruled-up : {nd : List ℕ} {n : ℕ} → Ruled nd n → (k : ℕ) → k ≤ n → Ruled nd k
@@ -62,68 +60,41 @@ module _ (t pr vl : List ℕ) (rule p : ℕ) {a e first count : ℕ} (ea : a ≡
   property-wrote s b x y =
       writing-last y (writing-next x (writing-is (sym (ap₂ (λ (u v : List ℕ). u ++ v) (name-part t pr p ea ee) values-are)) (writing-first (propText t pr vl rule p) _ _ s b)))
 
-pub properties-are : (t nd pr vl : List ℕ) (rule k : ℕ) {first count : ℕ} → first ≡ firstPropAt nd k → count ≡ propCountAt nd k
-    → texts (λ i. propText t pr vl rule (first + i)) count ≡ propsText t nd pr vl rule k
+-- whether it is written
+module _ (mends bad : Bool) (t pr vl : List ℕ) (rule p : ℕ) {a e : ℕ} (ea : a ≡ nameFromAt pr p) (ee : e ≡ nameToAt pr p) {b : Bool}
+    (h : b ≡ isKept mends bad (readIdentifier (take (e - a) (drop a t)))) where
+  kept-is : b ≡ isKept mends bad (readNameAt t pr p)
+  kept-is = h ∙ ap (isKept mends bad) (name-part t pr p ea ee)
+
+  pub kept-here : b ≡ true → propText t pr vl rule p ≡ keptText mends bad t pr vl rule p
+  unfolding keptText
+  kept-here k = ap (λ (z : Bool). pick z (propText t pr vl rule p) []) (sym k ∙ kept-is)
+
+  pub kept-not : b ≡ false → [] ≡ keptText mends bad t pr vl rule p
+  unfolding keptText
+  kept-not k = ap (λ (z : Bool). pick z (propText t pr vl rule p) []) (sym k ∙ kept-is)
+
+-- a root whose GMs are removed
+module _ (mends : Bool) (t nd pr vl : List ℕ) (k : ℕ) where
+  pub bad-never : mends ≡ false → false ≡ badAt mends t nd pr vl k
+  unfolding badAt
+  bad-never h = rw h
+
+  pub bad-below : (parentAt nd k ≡ none → ⊥) → false ≡ badAt mends t nd pr vl k
+  unfolding badAt
+  bad-below h = rw (ne-eqb (parentAt nd k) none h, and-false)
+
+  pub bad-root : mends ≡ true → parentAt nd k ≡ none → {f n : ℕ} {b : Bool} → f ≡ firstPropAt nd k → n ≡ propCountAt nd k
+      → b ≡ badIn t pr vl f n → b ≡ badAt mends t nd pr vl k
+  unfolding badAt
+  bad-root m h ef en e = rw (m, eq-eqb (parentAt nd k) none h, ← ef, ← en) e
+
+pub properties-are : (mends : Bool) (t nd pr vl : List ℕ) (rule k : ℕ) {bad : Bool} {first count : ℕ} → bad ≡ badAt mends t nd pr vl k → first ≡ firstPropAt nd k
+    → count ≡ propCountAt nd k → texts (λ i. keptText mends bad t pr vl rule (first + i)) count ≡ propsText mends t nd pr vl rule k
 unfolding propsText
-properties-are t nd pr vl rule k ef ec = ap₂ (λ (f c : ℕ). texts (λ i. propText t pr vl rule (f + i)) c) ef ec
-
--- ---- rules
-
-module _ (nd : List ℕ) (k : ℕ) {r : ℕ} (e : r ≡ rootsBelow nd k) where
-  pub roots-more : parentAt nd k ≡ none → r + 1 ≡ rootsBelow nd (suc k)
-  unfolding rootsBelow
-  roots-more h = rw (eq-eqb (parentAt nd k) none h, ← e) (omega arith)
-
-  pub roots-same : (parentAt nd k ≡ none → ⊥) → r ≡ rootsBelow nd (suc k)
-  unfolding rootsBelow
-  roots-same h = rw (ne-eqb (parentAt nd k) none h) e
-
-pub roots-next : (nd : List ℕ) (k : ℕ) {r : ℕ} → r ≡ rootsBelow nd (suc k) → r ≡ rootsBelow nd (k + 1)
-roots-next nd k e = e ∙ ap (rootsBelow nd) (sym (add-one k))
-
--- what is asked at a root, and kept for the nodes behind it
-module _ (ask : ℕ → ℕ) (nd : List ℕ) (k : ℕ) where
-  pub rule-asked : (roots rule : ℕ) {r : ℕ} → parentAt nd k ≡ none → r ≡ ask roots → r ≡ pick (eqb (parentAt nd k) none) (ask roots) rule
-  rule-asked roots rule h e = rw (eq-eqb (parentAt nd k) none h) e
-
-  pub rule-stays : (roots rule : ℕ) → (parentAt nd k ≡ none → ⊥) → rule ≡ pick (eqb (parentAt nd k) none) (ask roots) rule
-  rule-stays roots rule h = rw (ne-eqb (parentAt nd k) none h)
-
-  -- node 0 is a root
-  pub rule-kept : {roots rule r : ℕ} → Ruled nd (suc k) → roots ≡ rootsBelow nd k → (0 < k → rule ≡ ask (rootsBelow nd k - 1))
-      → r ≡ pick (eqb (parentAt nd k) none) (ask roots) rule → r ≡ ask (rootsBelow nd (suc k) - 1)
-  rule-kept {roots} {rule} {r} x e before h =
-      same-or (parentAt nd k) none
-      (λ p.
-      let a : r ≡ ask roots = h ∙ rw (eq-eqb (parentAt nd k) none p) in
-      let b : roots ≡ rootsBelow nd (suc k) - 1 = omega (arith, roots-more nd k e p) in
-      a ∙ ap ask b)
-      (λ p.
-      let a : r ≡ rule = h ∙ rw (ne-eqb (parentAt nd k) none p) in
-      let z : 0 < k = rule-at x k (omega arith) p .0 in
-      let b : rootsBelow nd k ≡ rootsBelow nd (suc k) = roots-same nd k refl p in
-      a ∙ before z ∙ ap (λ (n : ℕ). ask (n - 1)) b)
-
-  pub rule-next : {r : ℕ} → r ≡ ask (rootsBelow nd (suc k) - 1) → 0 < k + 1 → r ≡ ask (rootsBelow nd (k + 1) - 1)
-  rule-next e h = e ∙ ap (λ (n : ℕ). ask (rootsBelow nd n - 1)) (sym (add-one k))
-
-module _ (t tr nd pr vl : List ℕ) (r : ℕ) where
-  pub told-asked : {b : Bool} {k : ℕ} → b ≡ true → k ≡ ruleAt t tr nd pr vl r → k ≡ ruleTold b t tr nd pr vl r
-  unfolding ruleTold
-  told-asked h e = rw h e
-
-  pub told-game : {b : Bool} {g k : ℕ} → b ≡ false → g ≡ gameAt tr r → k ≡ ruleBy g Absent → k ≡ ruleTold b t tr nd pr vl r
-  unfolding ruleTold
-  told-game h e f = rw (h, ← e) f
-
-  -- what is written by it, of a node that both rules of Go write the same
-  pub told-writes : (b : Bool) (w : ℕ → List ℕ) → (b ≡ false → w 0 ≡ w 2) → w (ruleTold b t tr nd pr vl r) ≡ w (ruleAt t tr nd pr vl r)
-  unfolding ruleTold ruleAt ruleBy ttPasses
-  told-writes true w h = refl
-  told-writes false w h =
-      same-or (gameAt tr r) 0
-      (λ e. rw (eq-eqb (gameAt tr r) 0 e) (pick-elim (λ (n : ℕ). w 0 ≡ w n) (ttPasses (sizeAt t tr nd pr vl r)) (λ z. refl) (λ z. h refl)))
-      (λ e. rw (ne-eqb (gameAt tr r) 0 e))
+properties-are mends t nd pr vl rule k {bad} {first} {count} eb ef ec =
+    ap (λ (b : Bool). texts (λ i. keptText mends b t pr vl rule (first + i)) count) eb
+    ∙ ap₂ (λ (f c : ℕ). texts (λ i. keptText mends (badAt mends t nd pr vl k) t pr vl rule (f + i)) c) ef ec
 
 -- ---- a node
 
@@ -157,19 +128,19 @@ nodes-up x k h =
 pub nodes-above : {t nd pr : List ℕ} {n : ℕ} → NodesHeld t nd pr n → Above nd n none
 nodes-above x = record { lent = x .lent; ruled = x .ruled; above = λ s z. absurd (z refl) }
 
-pub node-wrote : (t nd pr vl : List ℕ) (rule k : ℕ) {o : List ℕ} {at : ℕ} {o1 : List ℕ} {r1 : ℕ} {o2 : List ℕ} {r2 : ℕ} {o3 : List ℕ} {r3 : ℕ} {o4 : List ℕ} {r4 : ℕ} → length o < 2 ^ 64 → at < 2 ^ 64
-    → Wrote (endsBefore nd k (parentAt nd k)) o at o1 r1 → Wrote (startText nd k) o1 r1 o2 r2 → Wrote (0x3b ∷ []) o2 r2 o3 r3 → Wrote (propsText t nd pr vl rule k) o3 r3 o4 r4
-    → Wrote (nodeBy t nd pr vl rule k) o at o4 r4
+pub node-wrote : (mends : Bool) (t nd pr vl : List ℕ) (rule k : ℕ) {o : List ℕ} {at : ℕ} {o1 : List ℕ} {r1 : ℕ} {o2 : List ℕ} {r2 : ℕ} {o3 : List ℕ} {r3 : ℕ} {o4 : List ℕ} {r4 : ℕ} → length o < 2 ^ 64 → at < 2 ^ 64
+    → Wrote (endsBefore nd k (parentAt nd k)) o at o1 r1 → Wrote (startText nd k) o1 r1 o2 r2 → Wrote (0x3b ∷ []) o2 r2 o3 r3 → Wrote (propsText mends t nd pr vl rule k) o3 r3 o4 r4
+    → Wrote (nodeBy mends t nd pr vl rule k) o at o4 r4
 unfolding nodeBy
-node-wrote t nd pr vl rule k s l a b c d = writing-last d (writing-next c (writing-next b (writing-next a (writing-first (nodeBy t nd pr vl rule k) _ _ s l))))
+node-wrote mends t nd pr vl rule k s l a b c d = writing-last d (writing-next c (writing-next b (writing-next a (writing-first (nodeBy mends t nd pr vl rule k) _ _ s l))))
 
 -- its rule is that of its tree
-pub node-ruled : (b : Bool) (t tr nd pr vl : List ℕ) (k : ℕ) {rule : ℕ} → (b ≡ false → nodeBy t nd pr vl 0 k ≡ nodeBy t nd pr vl 2 k)
-    → rule ≡ ruleTold b t tr nd pr vl (rootsBelow nd (suc k) - 1) → nodeBy t nd pr vl rule k ≡ nodeText t tr nd pr vl k
-node-ruled b t tr nd pr vl k calm h =
-    ap (λ (z : ℕ). nodeBy t nd pr vl z k) h ∙ told-writes t tr nd pr vl (rootsBelow nd (suc k) - 1) b (λ z. nodeBy t nd pr vl z k) calm
+pub node-ruled : (b mends : Bool) (t tr nd pr vl : List ℕ) (k : ℕ) {rule : ℕ} → (b ≡ false → nodeBy mends t nd pr vl 0 k ≡ nodeBy mends t nd pr vl 2 k)
+    → rule ≡ ruleTold b mends t tr nd pr vl (rootsBelow nd (suc k) - 1) → nodeBy mends t nd pr vl rule k ≡ nodeText mends t tr nd pr vl k
+node-ruled b mends t tr nd pr vl k calm h =
+    ap (λ (z : ℕ). nodeBy mends t nd pr vl z k) h ∙ told-writes mends t tr nd pr vl (rootsBelow nd (suc k) - 1) b (λ z. nodeBy mends t nd pr vl z k) calm
 
-pub linked-wrote : (t tr nd pr vl : List ℕ) (n : ℕ) {o : List ℕ} {at : ℕ} {o1 : List ℕ} {r1 : ℕ} {o2 : List ℕ} {r2 : ℕ} → length o < 2 ^ 64
-    → Wrote (texts (nodeText t tr nd pr vl) n) o at o1 r1 → Wrote (endsBefore nd n none) o1 r1 o2 r2 → Wrote (linksText t tr nd pr vl n) o at o2 r2
+pub linked-wrote : (mends : Bool) (t tr nd pr vl : List ℕ) (n : ℕ) {o : List ℕ} {at : ℕ} {o1 : List ℕ} {r1 : ℕ} {o2 : List ℕ} {r2 : ℕ} → length o < 2 ^ 64
+    → Wrote (texts (nodeText mends t tr nd pr vl) n) o at o1 r1 → Wrote (endsBefore nd n none) o1 r1 o2 r2 → Wrote (linksText mends t tr nd pr vl n) o at o2 r2
 unfolding linksText
-linked-wrote t tr nd pr vl n s a b = wrote-more s a b
+linked-wrote mends t tr nd pr vl n s a b = wrote-more s a b

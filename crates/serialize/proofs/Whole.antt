@@ -75,9 +75,9 @@ module _ (m : Memory) (out : List ℕ) where
         let b = boxed-after (textIn m) (valFromAt (m .values) v) (valToAt (m .values) v) (each-at (valueRight (textIn m) (m .values)) (m .counts .values) v (clauses .values) h) in
         record { row = omega (arith, clauses .held .values); some = omega (arith, i, b); rises = i .0; inside = i .1 }
 
-    pub fit-calm : {b : Bool} → (b ≡ false → (v : ℕ) → v < m .counts .values → cornerEnd (textIn m) (m .values) v ≡ false)
-        → b ≡ false → (k : ℕ) → k < m .counts .nodes → nodeBy (textIn m) (m .nodes) (m .properties) (m .values) 0 k ≡ nodeBy (textIn m) (m .nodes) (m .properties) (m .values) 2 k
-    fit-calm f e k h = node-calm clauses (f e) k h
+    pub fit-calm : (mends : Bool) {b : Bool} → (b ≡ false → (v : ℕ) → v < m .counts .values → cornerEnd (textIn m) (m .values) v ≡ false)
+        → b ≡ false → (k : ℕ) → k < m .counts .nodes → nodeBy mends (textIn m) (m .nodes) (m .properties) (m .values) 0 k ≡ nodeBy mends (textIn m) (m .nodes) (m .properties) (m .values) 2 k
+    fit-calm mends f e k h = node-calm clauses (f e) mends k h
 
     -- the answer, where the names and the room are known
     decided : {b s : Bool} → blank ≡ b → short ≡ s → writeAnswer true b s (writing trees) ≡ written m (length out)
@@ -92,7 +92,7 @@ module _ (m : Memory) (out : List ℕ) where
 
     module _ (good : namesGood (textIn m) (m .properties) (m .counts .properties) ≡ true) (small : length out < 2 ^ 63) where
       abbrev walked : List ℕ
-      walked = linksText (textIn m) (m .trees) (m .nodes) (m .properties) (m .values) (m .counts .nodes)
+      walked = linksText false (textIn m) (m .trees) (m .nodes) (m .properties) (m .values) (m .counts .nodes)
 
       same : walked ≡ writing trees
       same = linked-is m fit

@@ -3,3 +3,4 @@ pub mod Form
 pub mod Locals
 pub mod LocalsWalk
 pub mod LocalsWrite
+pub mod Mended

@@ -1,4 +1,4 @@
-// The writer: a record in memory as text, points in one fixed order.
+// The writer: a record in memory as text, points in one fixed order; as it is, or mended.
 mod brackets; // brackets.rt: the starts and ends of nodes
 mod names; // names.rt: identifiers
 mod property; // property.rt: the properties of a node
@@ -6,6 +6,7 @@ mod walk; // walk.rt: node by node along the links
 
 ghost use mathlib.Core.Path.{_≡_};
 ghost use Rattle.serialize.specs.Form.{writtenLength, WriteIs};
+ghost use Rattle.serialize.specs.Mended.{mendedLength, MendedIs};
 ghost use Rattle.tables.specs.Memory.{memory};
 use tables::Reason;
 
@@ -48,11 +49,22 @@ pub fn write(
         properties,
         values,
         corners,
+        false,
     );
     if out.len() < need {
         return Written::Refused(Reason::NoRoom);
     }
-    let length = walk::put_all(out, used_text, trees, nodes, n, properties, values, corners);
+    let length = walk::put_all(
+        out,
+        used_text,
+        trees,
+        nodes,
+        n,
+        properties,
+        values,
+        corners,
+        false,
+    );
     Written::Wrote(length)
 }
 
@@ -87,9 +99,99 @@ pub fn write_length(
         properties,
         values,
         corners,
+        false,
     );
     if need == 0xffff_ffff_ffff_ffff {
         return Written::Refused(Reason::NoRoom);
     }
     Written::Wrote(need)
+}
+
+// The writing of the mended record into `out`, measured before its first byte is written.
+pub fn write_mended(
+    text: &[u8],
+    used: usize,
+    counts: tables::Counts,
+    trees: &[u32],
+    nodes: &[u32],
+    properties: &[u32],
+    values: &[u32],
+    out: &mut [u8],
+) -> Written
+    ensures { λ r. ⌜ MendedIs
+        (memory (now (text .entry)) used counts (now (trees .entry)) (now (nodes .entry)) (now (properties .entry)) (now (values .entry)))
+        (now (out .entry)) (now (out .exit)) r ⌝ }
+{
+    if !fit::fits(text, used, counts, trees, nodes, properties, values) {
+        return Written::Refused(Reason::NotFitting);
+    }
+    let used_text = &text[..used];
+    let n = counts.nodes;
+    let corners = walk::any_corner(used_text, values, counts.values);
+    let nowhere = &mut out[..0];
+    let need = walk::put_all(
+        nowhere,
+        used_text,
+        trees,
+        nodes,
+        n,
+        properties,
+        values,
+        corners,
+        true,
+    );
+    if tables::TEXT_LIMIT < need {
+        return Written::Refused(Reason::TextTooLong);
+    }
+    if out.len() < need {
+        return Written::Refused(Reason::NoRoom);
+    }
+    let length = walk::put_all(
+        out,
+        used_text,
+        trees,
+        nodes,
+        n,
+        properties,
+        values,
+        corners,
+        true,
+    );
+    Written::Wrote(length)
+}
+
+// The length of that writing without an output: what `write_mended` answers where there is room for anything.
+pub fn mended_length(
+    text: &[u8],
+    used: usize,
+    counts: tables::Counts,
+    trees: &[u32],
+    nodes: &[u32],
+    properties: &[u32],
+    values: &[u32],
+) -> Written
+    ensures { λ r. ⌜ r ≡ mendedLength
+        (memory (now (text .entry)) used counts (now (trees .entry)) (now (nodes .entry)) (now (properties .entry)) (now (values .entry))) ⌝ }
+{
+    if !fit::fits(text, used, counts, trees, nodes, properties, values) {
+        return Written::Refused(Reason::NotFitting);
+    }
+    let used_text = &text[..used];
+    let corners = walk::any_corner(used_text, values, counts.values);
+    let mut none = [0u8; 1];
+    let count = walk::put_all(
+        &mut none[..0],
+        used_text,
+        trees,
+        nodes,
+        counts.nodes,
+        properties,
+        values,
+        corners,
+        true,
+    );
+    if tables::TEXT_LIMIT < count {
+        return Written::Refused(Reason::TextTooLong);
+    }
+    Written::Wrote(count)
 }

@@ -6,7 +6,7 @@ ghost use lib.ListN.{length};
 ghost use Rattle.values.specs.Read.{readIdentifier};
 ghost use Rattle.store_bytes.specs.LocalsWrote.{Wrote};
 ghost use Rattle.tables.specs.LocalsNames.{NameHeld};
-ghost use Rattle.serialize.specs.LocalsWalk.{namesGood};
+ghost use Rattle.serialize.specs.LocalsWalk.{isKept, namesGood};
 use store_bytes::put_byte;
 
 // The uppercase letters of an identifier.
@@ -40,7 +40,23 @@ fn is_named(name: &[u8]) -> bool
     false
 }
 
-// Whether each of n identifiers has one.
+// Whether a property with this identifier is written: any is; where the record is mended, one that stays.
+pub fn is_kept(mends: bool, bad: bool, name: &[u8]) -> bool
+    ensures { λ r. ⌜ r ≡ isKept mends bad (readIdentifier (now (name .entry))) ⌝ }
+{
+    if !mends {
+        return true;
+    }
+    if !is_named(name) {
+        return false;
+    }
+    if !bad {
+        return true;
+    }
+    !parts_props::reads_as(name, b"GM")
+}
+
+// Whether each of n identifiers has an uppercase letter.
 pub fn names_good(text: &[u8], properties: &[u32], n: usize) -> bool
     requires { ⌜ ((p : ℕ) → p < n → NameHeld (now text) (now properties) p) ⌝ }
     ensures { λ r. ⌜ r ≡ namesGood (now (text .entry)) (now (properties .entry)) n ⌝ }

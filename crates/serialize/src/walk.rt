@@ -9,7 +9,7 @@ ghost use Rattle.lists.specs.Pick.{pick};
 ghost use Rattle.tables.specs.Numbers.{none};
 ghost use Rattle.tables.specs.Columns.{nodeStride, parentAt};
 ghost use Rattle.serialize.specs.Locals.{EndHeld, NodeHeld, NodesHeld};
-ghost use Rattle.serialize.specs.LocalsWalk.{rootsBelow, cornerEnd, ruleTold, nodeBy, linksText};
+ghost use Rattle.serialize.specs.LocalsWalk.{rootsBelow, cornerEnd, typeTold, ruleTold, nodeBy, linksText};
 use go_size::RootSize;
 
 // How many of the first k + 1 nodes have no parent, where `roots` of the first k have none.
@@ -52,9 +52,9 @@ pub fn any_corner(text: &[u8], values: &[u32], n: usize) -> bool
     false
 }
 
-// The rule of tree r, asked where one of the values may read as `tt`.
-fn rule_told(
-    corners: bool,
+// The game type of tree r; where the record is mended, the one that its root keeps.
+fn type_told(
+    mends: bool,
     text: &[u8],
     trees: &[u32],
     nodes: &[u32],
@@ -62,33 +62,57 @@ fn rule_told(
     values: &[u32],
     r: usize,
 ) -> u32
-    ensures { λ k. ⌜ k ≡ ruleTold corners
+    ensures { λ k. ⌜ k ≡ typeTold mends
         (now (text .entry)) (now (trees .entry)) (now (nodes .entry)) (now (properties .entry)) (now (values .entry)) r ⌝ }
 {
-    if corners {
-        return fit_rule::rule_at(text, trees, nodes, properties, values, r);
+    if mends {
+        return salvage_rows::kept_type(text, trees, nodes, properties, values, r);
     }
-    fit_rule::rule_of(fit_rule::game_at(trees, r), RootSize::Absent)
+    fit_rule::game_at(trees, r)
 }
 
-// The rule at node k: asked at a root, which is that of the tree behind `roots` others; else that of the node before.
+// The rule of tree r: its size is asked where one of the values may read as `tt`.
+fn rule_told(
+    corners: bool,
+    mends: bool,
+    text: &[u8],
+    trees: &[u32],
+    nodes: &[u32],
+    properties: &[u32],
+    values: &[u32],
+    r: usize,
+) -> u32
+    ensures { λ k. ⌜ k ≡ ruleTold corners mends
+        (now (text .entry)) (now (trees .entry)) (now (nodes .entry)) (now (properties .entry)) (now (values .entry)) r ⌝ }
+{
+    let game = type_told(mends, text, trees, nodes, properties, values, r);
+    if corners {
+        let size = fit_rule::size_at(text, trees, nodes, properties, values, r);
+        return fit_rule::rule_of(game, size);
+    }
+    fit_rule::rule_of(game, RootSize::Absent)
+}
+
+// The rule at node k: asked at a root, which is that of this tree; else that of the node before.
 fn rule_with(
     corners: bool,
+    mends: bool,
     text: &[u8],
     trees: &[u32],
     nodes: &[u32],
     properties: &[u32],
     values: &[u32],
     k: usize,
-    roots: usize,
+    tree: usize,
     rule: u32,
 ) -> u32
     requires { ⌜ k < length (now nodes) / nodeStride ⌝ }
     ensures { λ r. ⌜ r ≡ pick (eqb (parentAt (now (nodes .entry)) k) none)
-        (ruleTold corners (now (text .entry)) (now (trees .entry)) (now (nodes .entry)) (now (properties .entry)) (now (values .entry)) roots) rule ⌝ }
+        (ruleTold corners mends
+        (now (text .entry)) (now (trees .entry)) (now (nodes .entry)) (now (properties .entry)) (now (values .entry)) tree) rule ⌝ }
 {
     if nodes[k * tables::NODE_STRIDE] == tables::NONE {
-        return rule_told(corners, text, trees, nodes, properties, values, roots);
+        return rule_told(corners, mends, text, trees, nodes, properties, values, tree);
     }
     rule
 }
@@ -102,19 +126,20 @@ fn put_node(
     properties: &[u32],
     values: &[u32],
     rule: u32,
+    mends: bool,
     k: usize,
 ) -> usize
     requires { ⌜ NodeHeld (now text) (now nodes) (now properties) k ⌝ }
-    ensures { λ r. ⌜ Wrote (nodeBy (now (text .entry)) (now (nodes .entry)) (now (properties .entry)) (now (values .entry)) rule k)
+    ensures { λ r. ⌜ Wrote (nodeBy mends (now (text .entry)) (now (nodes .entry)) (now (properties .entry)) (now (values .entry)) rule k)
         (now (out .entry)) at (now (out .exit)) r ⌝ }
 {
     let ended = crate::brackets::put_ends(out, at, nodes, k, nodes[k * tables::NODE_STRIDE]);
     let started = crate::brackets::put_start(out, ended, nodes, k);
     let to = store_bytes::put_byte(out, started, b';');
-    crate::property::put_properties(out, to, text, nodes, properties, values, rule, k)
+    crate::property::put_properties(out, to, text, nodes, properties, values, rule, mends, k)
 }
 
-// All n nodes.
+// All n nodes of a record, or of the mended one.
 pub fn put_all(
     out: &mut [u8],
     text: &[u8],
@@ -124,10 +149,12 @@ pub fn put_all(
     properties: &[u32],
     values: &[u32],
     corners: bool,
+    mends: bool,
 ) -> usize
     requires { ⌜ NodesHeld (now text) (now nodes) (now properties) n × (corners ≡ false → (k : ℕ) → k < n
-        → nodeBy (now text) (now nodes) (now properties) (now values) 0 k ≡ nodeBy (now text) (now nodes) (now properties) (now values) 2 k) ⌝ }
-    ensures { λ r. ⌜ Wrote (linksText (now (text .entry)) (now (trees .entry)) (now (nodes .entry)) (now (properties .entry)) (now (values .entry)) n)
+        → nodeBy mends (now text) (now nodes) (now properties) (now values) 0 k ≡ nodeBy mends (now text) (now nodes) (now properties) (now values) 2 k) ⌝ }
+    ensures { λ r. ⌜ Wrote
+        (linksText mends (now (text .entry)) (now (trees .entry)) (now (nodes .entry)) (now (properties .entry)) (now (values .entry)) n)
         (now (out .entry)) 0 (now (out .exit)) r ⌝ }
 {
     let mut to: usize = 0;
@@ -137,6 +164,7 @@ pub fn put_all(
     while k < n {
         rule = rule_with(
             corners,
+            mends,
             text,
             trees,
             nodes,
@@ -147,7 +175,7 @@ pub fn put_all(
             rule,
         );
         roots = roots_with(nodes, k, roots);
-        to = put_node(out, to, text, nodes, properties, values, rule, k);
+        to = put_node(out, to, text, nodes, properties, values, rule, mends, k);
         k += 1;
     }
     crate::brackets::put_ends(out, to, nodes, n, tables::NONE)

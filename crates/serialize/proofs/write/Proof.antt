@@ -1,5 +1,5 @@
 -- `serialize::write` meets its contract. Assumes nothing.
-use Rattle.lists.proofs.Prelude.{arith, needs, not-true}
+use Rattle.lists.proofs.Prelude.{false, arith, needs, not-true}
 use Rattle.tables.proofs.Cases.{passed, refused}
 use Rattle.serialize.proofs.Whole.{fit-used, fit-property, fit-nodes, fit-ends, fit-calm, write-unfit, write-nameless, write-short, write-done}
 use Rattle.serialize.proofs.write.Statement.{statement}
@@ -36,7 +36,7 @@ put-all-requires : tie.Need-put-all-requires
 put-all-requires c κs =
     let args = c .before .before .before .before .before .before .before .before .before .before .before .before .before .args in
     let fit = passed (c .before .before .before .before .before .before .fits2 .ensures) (c .before .before .before .before .before .if1 .left) in
-    (fit-nodes (memory (args .text .now) (args .used) (args .counts) (args .trees .now) (args .nodes .now) (args .properties .now) (args .values .now)) (args .out .now) fit, fit-calm (memory (args .text .now) (args .used) (args .counts) (args .trees .now) (args .nodes .now) (args .properties .now) (args .values .now)) (args .out .now) fit (c .before .any-corner .ensures))
+    (fit-nodes (memory (args .text .now) (args .used) (args .counts) (args .trees .now) (args .nodes .now) (args .properties .now) (args .values .now)) (args .out .now) fit, fit-calm (memory (args .text .now) (args .used) (args .counts) (args .trees .now) (args .nodes .now) (args .properties .now) (args .values .now)) (args .out .now) fit false (c .before .any-corner .ensures))
 
 returns-3 : tie.Need-returns-3
 returns-3 c =
@@ -47,7 +47,7 @@ put-all-requires-2 : tie.Need-put-all-requires-2
 put-all-requires-2 c κs =
     let args = c .before .before .before .before .before .before .before .before .before .before .before .before .before .before .before .before .before .before .args in
     let fit = passed (c .before .before .before .before .before .before .before .before .before .before .before .fits2 .ensures) (c .before .before .before .before .before .before .before .before .before .before .if1 .left) in
-    (fit-nodes (memory (args .text .now) (args .used) (args .counts) (args .trees .now) (args .nodes .now) (args .properties .now) (args .values .now)) (args .out .now) fit, fit-calm (memory (args .text .now) (args .used) (args .counts) (args .trees .now) (args .nodes .now) (args .properties .now) (args .values .now)) (args .out .now) fit (c .before .before .before .before .before .before .any-corner .ensures))
+    (fit-nodes (memory (args .text .now) (args .used) (args .counts) (args .trees .now) (args .nodes .now) (args .properties .now) (args .values .now)) (args .out .now) fit, fit-calm (memory (args .text .now) (args .used) (args .counts) (args .trees .now) (args .nodes .now) (args .properties .now) (args .values .now)) (args .out .now) fit false (c .before .before .before .before .before .before .any-corner .ensures))
 
 returns-4 : tie.Need-returns-4
 returns-4 c =

@@ -3,7 +3,7 @@ use Rattle.serialize.proofs.Whole.{fit-used, fit-property, fit-nodes, f
 use Rattle.serialize.proofs.Measured.{length-unfit, length-nameless, length-beyond, length-done}
 use Rattle.tables.specs.Memory.{memory}
 use Rattle.tables.proofs.Cases.{passed, refused}
-use Rattle.lists.proofs.Prelude.{[], needs, not-true}
+use Rattle.lists.proofs.Prelude.{[], false, needs, not-true}
 use Rattle.serialize.proofs.write_length.Statement.{statement}
 use Rattle.serialize.proofs.write_length.Tie as tie
 
@@ -35,7 +35,7 @@ any-corner-requires c κs =
 put-all-requires : tie.Need-put-all-requires
 put-all-requires c κs =
     let args = c .before .before .before .before .before .before .before .before .before .before .before .before .args in
-    (fit-nodes (memory (args .text .now) (args .used) (args .counts) (args .trees .now) (args .nodes .now) (args .properties .now) (args .values .now)) [] (passed (c .before .before .before .before .before .before .fits2 .ensures) (c .before .before .before .before .before .if1 .left)), fit-calm (memory (args .text .now) (args .used) (args .counts) (args .trees .now) (args .nodes .now) (args .properties .now) (args .values .now)) [] (passed (c .before .before .before .before .before .before .fits2 .ensures) (c .before .before .before .before .before .if1 .left)) (c .before .any-corner .ensures))
+    (fit-nodes (memory (args .text .now) (args .used) (args .counts) (args .trees .now) (args .nodes .now) (args .properties .now) (args .values .now)) [] (passed (c .before .before .before .before .before .before .fits2 .ensures) (c .before .before .before .before .before .if1 .left)), fit-calm (memory (args .text .now) (args .used) (args .counts) (args .trees .now) (args .nodes .now) (args .properties .now) (args .values .now)) [] (passed (c .before .before .before .before .before .before .fits2 .ensures) (c .before .before .before .before .before .if1 .left)) false (c .before .any-corner .ensures))
 
 returns-3 : tie.Need-returns-3
 returns-3 c =

@@ -14,7 +14,7 @@ returns : tie.Need-returns
 returns c =
     let args = c .before .before .before .before .before .before .before .before .before .before .before .before .before .before .before .before .before .before .before .before .before .before .args in
     let good = c .before .before .before .before .before .before .before .before .before .before .before .before .before .before .before .before .before .before .before .before .before .before .good in
-    node-wrote (args .text .now) (args .nodes .now) (args .properties .now) (args .values .now) (args .rule) (args .k) (omega (arith, good)) (omega (arith, good)) (c .before .before .before .before .before .before .before .before .before .before .before .before .before .before .put-ends .ensures) (c .before .before .before .before .before .before .before .before .before .before .put-start .ensures) (c .before .before .before .before .before .before .put-byte .ensures) (c .before .before .put-properties .ensures)
+    node-wrote (args .mends) (args .text .now) (args .nodes .now) (args .properties .now) (args .values .now) (args .rule) (args .k) (omega (arith, good)) (omega (arith, good)) (c .before .before .before .before .before .before .before .before .before .before .before .before .before .before .put-ends .ensures) (c .before .before .before .before .before .before .before .before .before .before .put-start .ensures) (c .before .before .before .before .before .before .put-byte .ensures) (c .before .before .put-properties .ensures)
 
 pub put-node-spec : {M : Type 1} → statement M
 put-node-spec =

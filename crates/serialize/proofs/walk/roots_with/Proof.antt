@@ -1,6 +1,6 @@
 -- `walk::roots_with` meets its contract. Assumes nothing.
 use Rattle.lists.proofs.Prelude.{arith, needs}
-use Rattle.serialize.proofs.Walked.{roots-more, roots-same}
+use Rattle.serialize.proofs.Rules.{roots-more, roots-same}
 use Rattle.serialize.proofs.walk.roots_with.Statement.{statement}
 use Rattle.serialize.proofs.walk.roots_with.Tie as tie
 

@@ -1,0 +1,69 @@
+-- `serialize::write_mended` meets its contract. Assumes nothing.
+use Rattle.lists.proofs.Prelude.{true, arith, needs, not-true}
+use Rattle.tables.proofs.Cases.{passed}
+use Rattle.tables.specs.Memory.{memory}
+use Rattle.serialize.proofs.Whole.{fit-used, fit-nodes, fit-ends, fit-calm}
+use Rattle.serialize.proofs.Mending.{mended-unfit, mended-long, mended-short, mended-done}
+use Rattle.serialize.proofs.write_mended.Statement.{statement}
+use Rattle.serialize.proofs.write_mended.Tie as tie
+
+returns : tie.Need-returns
+returns c =
+    let args = c .before .before .before .before .before .before .before .before .args in
+    mended-unfit (memory (args .text .now) (args .used) (args .counts) (args .trees .now) (args .nodes .now) (args .properties .now) (args .values .now)) (args .out .now) (c .before .fits2 .ensures) (not-true (c .before .fits2 .result) (c .if1 .taken))
+
+slice-aggregate-used-text : tie.Need-slice-aggregate-used-text
+slice-aggregate-used-text c =
+    let args = c .before .before .before .before .before .before .before .before .before .args in
+    fit-used (memory (args .text .now) (args .used) (args .counts) (args .trees .now) (args .nodes .now) (args .properties .now) (args .values .now)) (args .out .now) (passed (c .before .before .fits2 .ensures) (c .before .if1 .left))
+
+any-corner-requires : tie.Need-any-corner-requires
+any-corner-requires c κs =
+    let args = c .before .before .before .before .before .before .before .before .before .args in
+    fit-ends (memory (args .text .now) (args .used) (args .counts) (args .trees .now) (args .nodes .now) (args .properties .now) (args .values .now)) (args .out .now) (passed (c .before .before .fits2 .ensures) (c .before .if1 .left))
+
+put-all-requires : tie.Need-put-all-requires
+put-all-requires c κs =
+    let args = c .before .before .before .before .before .before .before .before .before .before .before .args in
+    let fit = passed (c .before .before .before .before .fits2 .ensures) (c .before .before .before .if1 .left) in
+    (fit-nodes (memory (args .text .now) (args .used) (args .counts) (args .trees .now) (args .nodes .now) (args .properties .now) (args .values .now)) (args .out .now) fit, fit-calm (memory (args .text .now) (args .used) (args .counts) (args .trees .now) (args .nodes .now) (args .properties .now) (args .values .now)) (args .out .now) fit true (c .before .any-corner .ensures))
+
+returns-2 : tie.Need-returns-2
+returns-2 c =
+    let args = c .before .before .before .before .before .before .before .before .before .before .before .before .before .before .before .args in
+    mended-long (memory (args .text .now) (args .used) (args .counts) (args .trees .now) (args .nodes .now) (args .properties .now) (args .values .now)) (passed (c .before .before .before .before .before .before .before .before .fits2 .ensures) (c .before .before .before .before .before .before .before .if1 .left)) (c .before .before .before .put-all .ensures) (args .out .now) (omega (arith, c .before .before .before .before .before .before .before .before .before .before .before .before .before .before .before .good)) (c .if2 .taken)
+
+returns-3 : tie.Need-returns-3
+returns-3 c =
+    let args = c .before .before .before .before .before .before .before .before .before .before .before .before .before .before .before .before .args in
+    mended-short (memory (args .text .now) (args .used) (args .counts) (args .trees .now) (args .nodes .now) (args .properties .now) (args .values .now)) (passed (c .before .before .before .before .before .before .before .before .before .fits2 .ensures) (c .before .before .before .before .before .before .before .before .if1 .left)) (c .before .before .before .before .put-all .ensures) (args .out .now) (omega (arith, c .before .before .before .before .before .before .before .before .before .before .before .before .before .before .before .before .good)) (c .before .if2 .left) (c .if3 .taken)
+
+put-all-requires-2 : tie.Need-put-all-requires-2
+put-all-requires-2 c κs =
+    let args = c .before .before .before .before .before .before .before .before .before .before .before .before .before .before .before .before .before .args in
+    let fit = passed (c .before .before .before .before .before .before .before .before .before .before .fits2 .ensures) (c .before .before .before .before .before .before .before .before .before .if1 .left) in
+    (fit-nodes (memory (args .text .now) (args .used) (args .counts) (args .trees .now) (args .nodes .now) (args .properties .now) (args .values .now)) (args .out .now) fit, fit-calm (memory (args .text .now) (args .used) (args .counts) (args .trees .now) (args .nodes .now) (args .properties .now) (args .values .now)) (args .out .now) fit true (c .before .before .before .before .before .before .before .any-corner .ensures))
+
+returns-4 : tie.Need-returns-4
+returns-4 c =
+    let args = c .before .before .before .before .before .before .before .before .before .before .before .before .before .before .before .before .before .before .before .before .args in
+    mended-done (memory (args .text .now) (args .used) (args .counts) (args .trees .now) (args .nodes .now) (args .properties .now) (args .values .now)) (passed (c .before .before .before .before .before .before .before .before .before .before .before .before .before .fits2 .ensures) (c .before .before .before .before .before .before .before .before .before .before .before .before .if1 .left)) (c .before .before .before .before .before .before .before .before .put-all .ensures) (args .out .now) (omega (arith, c .before .before .before .before .before .before .before .before .before .before .before .before .before .before .before .before .before .before .before .before .good)) (c .before .before .before .before .before .if2 .left) (c .before .before .before .before .if3 .left) (c .before .before .put-all2 .ensures)
+
+pub write-mended-spec : {M : Type 1} → statement M
+write-mended-spec =
+    tie.close
+    (tie.spec
+    (λ c κs. search needs)
+    returns
+    slice-aggregate-used-text
+    any-corner-requires
+    (λ c. search needs)
+    (λ c. search needs)
+    put-all-requires
+    (λ c. search needs)
+    returns-2
+    (λ c. search needs)
+    returns-3
+    put-all-requires-2
+    (λ c. search needs)
+    returns-4)
