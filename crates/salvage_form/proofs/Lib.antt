@@ -1,0 +1,2 @@
+-- `crates::proofs` meets its contract. Assumes nothing.
+pub mod Lengths

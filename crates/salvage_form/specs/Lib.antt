@@ -1,0 +1,2 @@
+pub mod LocalsMeasured
+pub mod Measured
