@@ -23,6 +23,7 @@ use Rattle.go_points.proofs.Value as value
 use Rattle.go_shape.specs.declared.Shape.{Shape}
 use Rattle.go_shape.specs.declared.Shape.the-variants.{OneMove, OneNumber, ManyPoints, Unread}
 use Rattle.go.specs.Normal.{pointText, pointsFrom, normalBy, normal}
+use Rattle.go.proofs.Choosing.{by-alone}
 use Rattle.go.specs.Value.{unmarked, marked, pointsOf, valueBy}
 use Rattle.serialize_values.specs.LocalsForm.{formBy, rawsText}
 use Rattle.serialize_values.proofs.Forms.{set-raw, set-points, one-pass, one-point, one-stones, one-raw}
@@ -83,9 +84,12 @@ module _ {s : List ℕ} {k n at : ℕ} (y : Summing s k n at) {x : ValueStep} (e
 
 -- ---- one value by a row of its own
 
-pub row-one : (v : List ℕ) {n : ℕ} → n ≡ length v → valuesAt v (0 ∷ n ∷ []) 0 1 ≡ v ∷ []
+row-one : (v : List ℕ) {n : ℕ} → n ≡ length v → valuesAt v (0 ∷ n ∷ []) 0 1 ≡ v ∷ []
 unfolding valuesAt valueAt
 row-one v {n} e = let q : n - 0 ≡ length v = omega arith in ap (λ (z : ℕ). take z v ∷ []) q ∙ ap (λ (z : List ℕ). z ∷ []) (take-length v)
+
+pub row-value : (rule : ℕ) (s : Shape) (v : List ℕ) {n : ℕ} {x : Read} → (s ≡ ManyPoints → ⊥) → n ≡ length v → x ≡ valueBy rule s (valuesAt v (0 ∷ n ∷ []) 0 1) .value → unmarked x ≡ valueBy rule s (v ∷ [])
+row-value rule s v h e q = by-alone rule s (v ∷ []) h (q ∙ ap (λ (z : List (List ℕ)). valueBy rule s z .value) (row-one v e))
 
 abbrev written : List (List ℕ) → ℕ
 written vs = length (rawsText vs)

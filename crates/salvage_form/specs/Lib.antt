@@ -1,2 +1,3 @@
 pub mod LocalsMeasured
 pub mod Measured
+pub mod Rooted

@@ -1,4 +1,6 @@
-// The length of a property as it is written, found over the text: its values are scanned, and no rows are made.
+// What measuring a mended text asks of its properties, found over the text without rows: the length of each as it is written, and the rule of a tree.
+pub mod root; // root.rt: the rule of a tree
+
 ghost use mathlib.Core.Path.{_≡_};
 ghost use mathlib.Core.Bool.{true};
 ghost use mathlib.Core.List.{[], _∷_};
