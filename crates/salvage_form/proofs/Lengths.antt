@@ -215,7 +215,7 @@ unfolding rawsText
 boxes-vals [] = refl
 boxes-vals (v ∷ vs) = ap (λ (z : List ℕ). 0x5b ∷ (v ++ (0x5d ∷ z))) (boxes-vals vs)
 
-form-length : (s : List ℕ) (rule i k : ℕ) → formLength s rule i k ≡ lengthOf rule (propAt s i k)
+pub form-length : (s : List ℕ) (rule i k : ℕ) → formLength s rule i k ≡ lengthOf rule (propAt s i k)
 unfolding formLength propAt
 form-length s rule i k =
     let w : List ℕ = readIdentifier (slice i k s) in

@@ -15,6 +15,10 @@ rawsAt s k = map rawOf (valsAt s k)
 abbrev pub lengthOf : (rule : ℕ) → Prop → ℕ
 lengthOf rule p = length (writeProps (formProp rule p ∷ []))
 
+-- no property of a text within the limit is written longer: a set has at most 2,704 points
+abbrev pub lengthLimit : ℕ
+lengthLimit = 3145728
+
 -- of the property that starts at i, whose first `[` is at k; 0 where the text is too long, or has no such places
 unfoldable pub propertyLength : (s : List ℕ) (rule i k : ℕ) → ℕ
 propertyLength s rule i k = pick (leb (length s) textLimit && (leb k (length s) && leb i k)) (lengthOf rule (propAt s i k)) 0

@@ -12,7 +12,7 @@ ghost use Rattle.tables.specs.Numbers.{textLimit};
 ghost use Rattle.go.specs.Normal.{pointsFrom, normal};
 ghost use Rattle.go_shape.specs.declared.Shape.the-variants.{ManyPoints};
 ghost use Rattle.serialize_values.specs.LocalsForm.{formBy, rawsText};
-ghost use Rattle.salvage_form.specs.Measured.{rawsAt, propertyLength};
+ghost use Rattle.salvage_form.specs.Measured.{rawsAt, lengthLimit, propertyLength};
 ghost use Rattle.salvage_form.specs.LocalsMeasured.{formLimit, formLength};
 use go_points::Value;
 use go_shape::Shape;
@@ -140,7 +140,7 @@ fn values_length(s: &[u8], k: usize, rule: u32, name: &[u8]) -> usize
 // The length of the property that starts at i and whose first `[` is at k, as it is written in a tree with this rule.
 fn form_length(s: &[u8], rule: u32, i: usize, k: usize) -> usize
     requires { ⌜ (length (now s) ≤ textLimit) × (i ≤ k) × (k ≤ length (now s)) ⌝ }
-    ensures { λ r. ⌜ r ≡ formLength (now (s .entry)) rule i k ⌝ }
+    ensures { λ r. ⌜ (r ≡ formLength (now (s .entry)) rule i k) × (r ≤ lengthLimit) ⌝ }
 {
     let letters = count_letters(&s[i..k]);
     letters + values_length(s, k, rule, &s[i..k])
@@ -148,7 +148,7 @@ fn form_length(s: &[u8], rule: u32, i: usize, k: usize) -> usize
 
 // The same at any places of any text: 0 where the text is too long or has no such places.
 pub fn property_length(s: &[u8], rule: u32, i: usize, k: usize) -> usize
-    ensures { λ r. ⌜ r ≡ propertyLength (now (s .entry)) rule i k ⌝ }
+    ensures { λ r. ⌜ (r ≡ propertyLength (now (s .entry)) rule i k) × (r ≤ lengthLimit) ⌝ }
 {
     if tables::TEXT_LIMIT < s.len() {
         return 0;

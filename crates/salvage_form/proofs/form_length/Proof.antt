@@ -18,7 +18,7 @@ add-result c = let p = c .before .before .before .before .before .pre .0 in let 
 
 returns : tie.Need-returns
 unfolding formLength
-returns c = ap₂ (λ (x y : ℕ). x + y) (c .before .before .count-letters .ensures .0 ∙ ap (λ (z : List ℕ). length (readIdentifier z)) (part-is (now (c .before .before .before .before .before .args .s)) (c .before .before .before .before .before .args .i) (c .before .before .before .before .before .args .k) (c .before .before .before .before .before .pre .1) (c .before .before .before .before .before .pre .2))) (c .values-length .ensures .0 ∙ ap (λ (z : List ℕ). length (rawsText (normal (c .before .before .before .before .before .args .rule) (readIdentifier z) (rawsAt (now (c .before .before .before .before .before .args .s)) (c .before .before .before .before .before .args .k))))) (part-is (now (c .before .before .before .before .before .args .s)) (c .before .before .before .before .before .args .i) (c .before .before .before .before .before .args .k) (c .before .before .before .before .before .pre .1) (c .before .before .before .before .before .pre .2)))
+returns c = let p = c .before .before .before .before .before .pre .0 in let q = ap length (part-is (now (c .before .before .before .before .before .args .s)) (c .before .before .before .before .before .args .i) (c .before .before .before .before .before .args .k) (c .before .before .before .before .before .pre .1) (c .before .before .before .before .before .pre .2)) in let l = length-slice (c .before .before .before .before .before .args .i) (c .before .before .before .before .before .args .k) (now (c .before .before .before .before .before .args .s)) (c .before .before .before .before .before .pre .2) in let a = c .before .before .count-letters .ensures .1 in let b = c .values-length .ensures .1 in let r = c .before .before .before .before .before .pre .2 in (ap₂ (λ (x y : ℕ). x + y) (c .before .before .count-letters .ensures .0 ∙ ap (λ (z : List ℕ). length (readIdentifier z)) (part-is (now (c .before .before .before .before .before .args .s)) (c .before .before .before .before .before .args .i) (c .before .before .before .before .before .args .k) (c .before .before .before .before .before .pre .1) (c .before .before .before .before .before .pre .2))) (c .values-length .ensures .0 ∙ ap (λ (z : List ℕ). length (rawsText (normal (c .before .before .before .before .before .args .rule) (readIdentifier z) (rawsAt (now (c .before .before .before .before .before .args .s)) (c .before .before .before .before .before .args .k))))) (part-is (now (c .before .before .before .before .before .args .s)) (c .before .before .before .before .before .args .i) (c .before .before .before .before .before .args .k) (c .before .before .before .before .before .pre .1) (c .before .before .before .before .before .pre .2))), omega arith)
 
 pub form-length-spec : {M : Type 1} → statement M
 form-length-spec =
