@@ -31,7 +31,7 @@ use Rattle.salvage_rows.proofs.Kept.{good-told, bad-told, type-told, none-told}
 use Rattle.salvage_form.specs.Measured.{rawsAt}
 use Rattle.salvage_form.specs.Rooted.{rootRule}
 use Rattle.salvage_form.specs.declared.root.RootRule.{RootRule}
-use Rattle.salvage_form.proofs.Lengths.{raws-more, raws-shut}
+use Rattle.salvage_form.proofs.Scanned.{raws-more, raws-shut}
 
 -- ---- what is picked of the properties of l is xs, and then what is picked of those of r
 

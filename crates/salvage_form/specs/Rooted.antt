@@ -12,6 +12,6 @@ use Rattle.salvage_form.specs.declared.root.RootRule.{RootRule}
 abbrev pub rootAlone : List Prop → Tree
 rootAlone ps = record { root = 0; game = 0; nodes = record { parent = none; props = ps } ∷ [] }
 
--- the rule of the mended tree, which no other node changes; and whether the root's GMs are removed (SCOPE 280, 281)
+-- the rule of the mended tree, which no other node changes; and whether the root's GMs are removed
 unfoldable pub rootRule : List Prop → RootRule
 rootRule ps = record { rule = ruleOf (mendTree (rootAlone ps)); bad = gmsBad (gameProps (gmsAmong ps)) }

@@ -1,6 +1,6 @@
 -- `salvage_form::count_digits` meets its contract. Assumes nothing.
 use Rattle.lists.proofs.Prelude.{arith, needs}
-use Rattle.salvage_form.proofs.Lengths.{digits-few}
+use Rattle.salvage_form.proofs.Counted.{digits-few}
 use Rattle.salvage_form.proofs.count_digits.Statement.{statement}
 use Rattle.salvage_form.proofs.count_digits.Tie as tie
 

@@ -1,6 +1,6 @@
 -- `salvage_form::count_marks` meets its contract. Assumes nothing.
 use Rattle.lists.proofs.Prelude.{_-_, arith, needs}
-use Rattle.salvage_form.proofs.Lengths.{Counting, counting-first, counting-marked, counting-other, counting-end}
+use Rattle.salvage_form.proofs.Counted.{Counting, counting-first, counting-marked, counting-other, counting-end}
 use Rattle.salvage_form.proofs.count_marks.Statement.{statement}
 use Rattle.salvage_form.proofs.count_marks.Tie as tie
 

@@ -4,7 +4,8 @@ use denote.Ref.{now}
 use Rattle.lexer_scan.proofs.Bounds.{value-is}
 use Rattle.parser_game.proofs.GameValues.{part-is}
 use Rattle.serialize_values.specs.LocalsForm.{formBy, rawsText}
-use Rattle.salvage_form.proofs.Lengths.{raws-more, raws-shut, length-none, length-many}
+use Rattle.salvage_form.proofs.Scanned.{raws-more, raws-shut}
+use Rattle.salvage_form.proofs.Lengths.{length-none, length-many}
 use Rattle.salvage_form.proofs.one_length.Statement.{statement}
 use Rattle.salvage_form.proofs.one_length.Tie as tie
 

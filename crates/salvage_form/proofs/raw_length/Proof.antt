@@ -2,7 +2,7 @@
 use Rattle.lists.proofs.Prelude.{_-_, sym, _∙_, arith, length, needs}
 use denote.Ref.{now}
 use Rattle.lexer_scan.proofs.Bounds.{value-is}
-use Rattle.salvage_form.proofs.Lengths.{Summing, summing-first, summing-next, summing-end}
+use Rattle.salvage_form.proofs.Scanned.{Summing, summing-first, summing-next, summing-end}
 use Rattle.salvage_form.proofs.raw_length.Statement.{statement}
 use Rattle.salvage_form.proofs.raw_length.Tie as tie
 

@@ -5,7 +5,8 @@ use Rattle.lexer_scan.proofs.Bounds.{value-is}
 use Rattle.parser_game.proofs.GameValues.{part-is}
 use Rattle.go.proofs.Marked.{Gathering, gather-first, gather-end, gather-bad, gather-next}
 use Rattle.salvage_form.specs.Measured.{rawsAt}
-use Rattle.salvage_form.proofs.Lengths.{raws-more, raws-shut, set-bad, set-good}
+use Rattle.salvage_form.proofs.Scanned.{raws-more, raws-shut}
+use Rattle.salvage_form.proofs.Lengths.{set-bad, set-good}
 use Rattle.salvage_form.proofs.set_length.Statement.{statement}
 use Rattle.salvage_form.proofs.set_length.Tie as tie
 
