@@ -53,7 +53,7 @@ pub record Twice {X : Type 0} (xs : List X) : Type 0 where
 
 module _ {X : Type 0} {f : List Prop → List X} {of : Prop → X} {s : List ℕ} {l r : List Tok} {found : Bool} {k : ℕ} (x : Gathered f of s l r found k) where
   module _ (w : List ℕ) (step : (p : Prop) (ps : List Prop) → f (p ∷ ps) ≡ pick (same (readIdentifier (p .name)) w) (of p ∷ f ps) (f ps))
-    (i j e : ℕ) (r′ : List Tok) (q : r ≡ prop (propAt s i j) e ∷ r′) {b : Bool} (eb : b ≡ same (readIdentifier (propAt s i j .name)) w) where
+      (i j e : ℕ) (r′ : List Tok) (q : r ≡ prop (propAt s i j) e ∷ r′) {b : Bool} (eb : b ≡ same (readIdentifier (propAt s i j .name)) w) where
     picked : (c : Bool) → b ≡ c → f (props l) ≡ x .xs ++ pick c (of (propAt s i j) ∷ f (props r′)) (f (props r′))
     picked c h =
         x .all
