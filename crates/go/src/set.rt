@@ -40,7 +40,7 @@ fn mark_rect(marks: &mut [bool; 2704], x: u8, y: u8, x2: u8, y2: u8)
 }
 
 // Marks what one value stands for; nothing where it stands for nothing.
-fn mark_value(marks: &mut [bool; 2704], value: &[u8]) -> bool
+pub fn mark_value(marks: &mut [bool; 2704], value: &[u8]) -> bool
     requires { ⌜ length (now marks) ≡ 2704 ⌝ }
     ensures { λ r. ⌜ (r ≡ good (areaOf (readValue (now (value .entry)))))
         × Adds (inArea (areaOf (readValue (now (value .entry))))) (now (marks .entry)) (now (marks .exit)) ⌝ }

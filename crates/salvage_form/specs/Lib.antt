@@ -1,0 +1,3 @@
+pub mod LocalsMeasured
+pub mod Measured
+pub mod Rooted
