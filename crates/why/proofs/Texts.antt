@@ -1,18 +1,26 @@
 -- From splitting that is accepted to the slices, and from a text to its tokens. Assumes nothing.
-use Rattle.lists.proofs.Prelude.{ℕ, zero, suc, _+_, _≤_, _<_, _≡_, refl, sym, ap, _∙_, subst, Bool, true, false, List, [], _∷_, reverse, arith, length, take, ltb, ltb-true, ltb-false, lt-ltb, le-ltb, pick}
+use Rattle.lists.proofs.Prelude.{ℕ, zero, suc, _+_, _≤_, _<_, _≡_, refl, sym, ap, _∙_, subst, Bool, true, false, List, [], _∷_, reverse, arith, length, take, drop, ltb, ltb-true, ltb-false, lt-ltb, le-ltb, pick}
 use Rattle.lists.specs.All.{All}
 use Rattle.lists.proofs.Tests.{never}
 use Rattle.text_utf8.specs.Trim.{trimmed}
 use Rattle.text_utf8.specs.declared.Trimmed.{Trimmed}
 use Rattle.text_utf8.specs.declared.Trimmed.the-variants.{NotUtf8, Blank, Kept}
-use Rattle.lexer.specs.Token.{Tok, End, done, broken, Lexed, lexAt}
+use Rattle.text_utf8.proofs.Extent.{trim-bounds}
+use Rattle.lexer.specs.Token.{Tok, End, done, broken, Lexed, lexFrom, lexAt}
 use Rattle.lexer.specs.declared.Fault.{Fault}
-use Rattle.tables.specs.Numbers.{textLimit, depthLimit}
-use Rattle.tables.specs.declared.Reason.the-variants.{TooDeep as tooDeep}
+use Rattle.lexer.specs.declared.Fault.the-variants.{MissingPropertyIdentifier as no-identifier, UnexpectedEndOfPropertyIdentifier as foreign, UnexpectedEndOfPropertyValue as unclosed}
+use Rattle.tables.specs.Numbers.{textLimit, depthLimit, numberOf, reasonOf}
+use Rattle.tables.specs.declared.Reading.{Reading}
+use Rattle.tables.specs.declared.Reading.the-variants.{Refused as unread}
+use Rattle.tables.specs.declared.Reason.{Reason}
+use Rattle.tables.specs.declared.Reason.the-variants.{TextTooLong, TooDeep as tooDeep}
 use Rattle.parser.specs.Split.{Splitting, splitting, over, wrong, split, no, slices, deep, filled, sliced, splitByGametree}
+use Rattle.parser.specs.Read.{Answer, refused, accepted, lexing, read}
 use Rattle.parser.specs.LocalsSlice.{restFrom, firstSlices, Shallow}
 use Rattle.parser.proofs.Cuts.{standing, deepest, Right, cut-first, deep-first, split-cut}
+use Rattle.parser.proofs.Texts.{lex-prefix, text-long as reading-long, onTrimmed, text-trimmed as reading-trimmed}
 use Rattle.parser.proofs.Tokens.{tokens-few}
+use Rattle.reader.specs.Lent.{rowsCounted}
 use Rattle.reader.specs.LocalsSlices.{SlicesReady}
 use Rattle.why_blame.specs.Cuts.{deepAt, loose, cutDeep, cutting, cutTokens}
 use Rattle.why_blame.specs.declared.Fact.the-variants.{TooDeep, Length}
@@ -21,7 +29,7 @@ use Rattle.why_blame.specs.declared.Blamed.the-variants.{By}
 use Rattle.why_blame.specs.declared.Cutting.{Cutting}
 use Rattle.why_blame.specs.declared.Cutting.the-variants.{Wrong, Slices}
 use Rattle.why.specs.Why.{acceptedSlices, cutBlame, trimBlame, textBlame}
-use Rattle.why.specs.LocalsTrees.{endingOf, wrongOf}
+use Rattle.why.specs.LocalsTrees.{endingOf, wrongOf, Calm}
 use Rattle.why.specs.declared.Ending.{Ending}
 use Rattle.why.specs.declared.Ending.the-variants.{Whole, Broken}
 
@@ -104,3 +112,50 @@ ending-broken (broken g o) p {f} {s} q =
     let a : g ≡ f = cc in
     let b : o ≡ s = cc in
     ap (λ (y : Fault). broken y o) a ∙ ap (broken f) b
+
+-- ---- what the reading told
+
+pub blank-calm : lexAt [] 0 .end ≡ done
+unfolding lexAt
+blank-calm = refl
+
+-- a reading that names a fault has a number up to 5
+number-fault : (f : Fault) → numberOf (reasonOf f) ≤ 5
+number-fault no-identifier = omega arith
+number-fault foreign = omega arith
+number-fault unclosed = omega arith
+
+answered-calm : (e : End) (ts : List Tok) {r : Reason} {p : ℕ} → lexing false e ts ≡ refused r p → 5 < numberOf r → e ≡ done
+answered-calm done ts q h = refl
+answered-calm (broken f s) ts {r} {p} q h =
+    let z : reasonOf f ≡ r = cc in
+    let w = number-fault f in
+    let y : numberOf (reasonOf f) ≡ numberOf r = ap numberOf z in
+    never (omega arith)
+
+module _ (t : List ℕ) {r : Reason} {p : ℕ} (e : read false t ≡ refused r p) (h : 5 < numberOf r) where
+  within-limit : length t ≤ textLimit
+  within-limit = go (ltb textLimit (length t)) refl
+    where
+      go : (b : Bool) → ltb textLimit (length t) ≡ b → length t ≤ textLimit
+      go true q =
+          let z : refused TextTooLong 0 ≡ refused r p = sym (reading-long false t (ltb-true textLimit (length t) q)) ∙ e in
+          let w : TextTooLong ≡ r = cc in
+          let y : 1 ≡ numberOf r = ap numberOf w in
+          never (omega arith)
+      go false q = ltb-false textLimit (length t) q
+
+  -- a reading that is refused by a number above 5 has met no fault
+  pub calm-refused : Calm t
+  calm-refused f l k =
+      ap (λ (z : Lexed). z .end) (sym (lex-prefix t f l (trim-bounds t f l k .1)))
+      ∙ answered-calm (lexFrom f l (drop f (take l t)) .end) (lexFrom f l (drop f (take l t)) .toks) (sym (reading-trimmed false t within-limit ∙ ap (onTrimmed false t) k) ∙ e) h
+
+pub calm-counted : (t : List ℕ) {x : Reading} {r : Reason} {p : ℕ} → x ≡ rowsCounted (read false t) → x ≡ unread r p → 5 < numberOf r → Calm t
+calm-counted t {x} {r} {p} c q h = go (read false t) refl (sym c ∙ q)
+  where
+    go : (a : Answer) → read false t ≡ a → rowsCounted a ≡ unread r p → Calm t
+    go (accepted ts) e z = never cc
+    go (refused s o) e z =
+        let y : s ≡ r = cc in
+        calm-refused t e (subst (λ (m : Reason). 5 < numberOf m) (sym y) h)

@@ -1,6 +1,8 @@
 -- The walk of a slice that looks for the token to blame, and the slices one after the other, in the code's own terms. Nothing public is stated by these.
-use Rattle.lists.specs.Prelude.{ℕ, _+_, _-_, _≤_, _<_, _≡_, Bool, true, false, List, [], length}
+use Rattle.lists.specs.Prelude.{ℕ, _+_, _-_, _≤_, _<_, _≡_, Bool, true, false, List, [], length, take}
 use Rattle.lists.specs.All.{All}
+use Rattle.text_utf8.specs.Trim.{trimmed}
+use Rattle.text_utf8.specs.declared.Trimmed.the-variants.{Kept}
 use Rattle.lexer.specs.Token.{Tok, End, done, broken, lexAt}
 use Rattle.tables.specs.Numbers.{textLimit, depthLimit, none}
 use Rattle.tables.specs.Record.{Node}
@@ -26,6 +28,10 @@ endingOf (broken f s) = Broken f s
 abbrev pub wrongOf : Cutting → Blamed
 wrongOf (Wrong f p) = By f p
 wrongOf (Slices k q) = No
+
+-- the tokens of what trimming keeps end with the text
+abbrev pub Calm : List ℕ → Type 0
+Calm t = (f l : ℕ) → trimmed t ≡ Kept f l → lexAt (take l t) f .end ≡ done
 
 -- the slice from a place on
 abbrev pub sliceAt : List ℕ → ℕ → List Tok

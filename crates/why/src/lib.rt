@@ -13,7 +13,7 @@ ghost use Prim.Native.Nat.{_≤_};
 ghost use Rattle.why.specs.Trees.{slicesBlame};
 ghost use Rattle.why_blame.specs.Cuts.{cutTokens};
 ghost use Rattle.why.specs.Why.{cutBlame, tokensBlame, textBlame, trimLoose, refusedBy, explained};
-ghost use Rattle.why.specs.LocalsTrees.{endingOf, wrongOf};
+ghost use Rattle.why.specs.LocalsTrees.{endingOf, wrongOf, Calm};
 use tables::Counts;
 use tables::Lenient;
 use tables::Reading;
@@ -52,6 +52,17 @@ fn first_fault(s: &[u8], from: usize) -> Ending
             }
         }
     }
+}
+
+// How the tokens from a place on end. Where they are known to end with the text, no token is looked at.
+fn how_ended(s: &[u8], from: usize, calm: bool) -> Ending
+    requires { ⌜ (calm ≡ true → lexAt (now s) from .end ≡ done) ⌝ }
+    ensures { λ r. ⌜ r ≡ endingOf (lexAt (now (s .entry)) from .end) ⌝ }
+{
+    if calm {
+        return Ending::Whole;
+    }
+    first_fault(s, from)
 }
 
 // The slices from a place on, one after the other: game type, tree, nodes.
@@ -107,22 +118,23 @@ fn in_calm(s: &[u8], from: usize, size: usize) -> Blamed
     }
 }
 
-// The tokens from a place on, in a text of `size` bytes.
-fn in_tokens(s: &[u8], from: usize, size: usize, lenient: bool) -> Blamed
-    requires { ⌜ (length (now s) ≤ textLimit) × (from ≤ length (now s)) ⌝ }
+// The tokens from a place on, in a text of `size` bytes; calm: it is known that none has a fault.
+fn in_tokens(s: &[u8], from: usize, size: usize, lenient: bool, calm: bool) -> Blamed
+    requires { ⌜ (length (now s) ≤ textLimit) × (from ≤ length (now s)) × (calm ≡ true → lexAt (now s) from .end ≡ done) ⌝ }
     ensures { λ r. ⌜ r ≡ tokensBlame lenient size (now (s .entry)) (lexAt (now (s .entry)) from) (lexAt (now (s .entry)) from .end) ⌝ }
 {
     if lenient {
         return in_cut(why_blame::split::in_split(s, from, size, true));
     }
-    match first_fault(s, from) {
+    match how_ended(s, from, calm) {
         Ending::Broken(fault, i) => Blamed::By(why_blame::in_token(s, fault, i), i),
         Ending::Whole => in_calm(s, from, size),
     }
 }
 
 // A text: nothing, or the fact and the place.
-fn in_text(text: &[u8], lenient: bool) -> Blamed
+fn in_text(text: &[u8], lenient: bool, calm: bool) -> Blamed
+    requires { ⌜ (calm ≡ true → Calm (now text)) ⌝ }
     ensures { λ r. ⌜ r ≡ textBlame lenient (now (text .entry)) ⌝ }
 {
     if tables::TEXT_LIMIT < text.len() {
@@ -130,8 +142,8 @@ fn in_text(text: &[u8], lenient: bool) -> Blamed
     }
     match text_utf8::trim(text) {
         Trimmed::NotUtf8(place) => Blamed::By(Fact::BadSequence, place),
-        Trimmed::Blank => in_tokens(&text[..0], 0, text.len(), lenient),
-        Trimmed::Kept(first, last) => in_tokens(&text[..last], first, text.len(), lenient),
+        Trimmed::Blank => in_tokens(&text[..0], 0, text.len(), lenient, calm),
+        Trimmed::Kept(first, last) => in_tokens(&text[..last], first, text.len(), lenient, calm),
     }
 }
 
@@ -152,22 +164,23 @@ fn first_loose(text: &[u8], lenient: bool) -> usize
 }
 
 // A text that is refused.
-fn refused(text: &[u8], lenient: bool) -> Why
+fn refused(text: &[u8], lenient: bool, calm: bool) -> Why
+    requires { ⌜ (calm ≡ true → Calm (now text)) ⌝ }
     ensures { λ r. ⌜ r ≡ refusedBy (textBlame lenient (now (text .entry))) ⌝ }
 {
-    match in_text(text, lenient) {
+    match in_text(text, lenient, calm) {
         Blamed::No => Why::Refused(Fact::NoEnd, 0),
         Blamed::By(fact, place) => Why::Refused(fact, place),
     }
 }
 
-// Why a text is refused where it is read strictly.
+// Why a text is refused where it is read strictly. A reading looks for faults of tokens, 3 to 5, before it looks for what has a greater number.
 pub fn strict(text: &[u8]) -> Why
     ensures { λ r. ⌜ r ≡ explained false (now (text .entry)) ⌝ }
 {
     match reader::count_strict(text) {
         Reading::Accepted(counts) => Why::Accepted(counts, first_loose(text, false)),
-        Reading::Refused(_, _) => refused(text, false),
+        Reading::Refused(reason, _) => refused(text, false, 5 < tables::number(reason)),
     }
 }
 
@@ -177,9 +190,9 @@ pub fn lenient(text: &[u8]) -> Why
 {
     match reader::count_lenient(text) {
         Lenient::Accepted(counts) => Why::Accepted(counts, first_loose(text, true)),
-        Lenient::TextTooLong => refused(text, true),
-        Lenient::NotUtf8(_) => refused(text, true),
-        Lenient::TooDeep => refused(text, true),
-        Lenient::NoRoom => refused(text, true),
+        Lenient::TextTooLong => refused(text, true, false),
+        Lenient::NotUtf8(_) => refused(text, true, false),
+        Lenient::TooDeep => refused(text, true, false),
+        Lenient::NoRoom => refused(text, true, false),
     }
 }

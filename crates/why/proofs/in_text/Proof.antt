@@ -2,18 +2,21 @@
 use Rattle.lists.proofs.Prelude.{arith, sym, _∙_, length-take-le, needs}
 use denote.Ref.{now}
 use Rattle.text_utf8.proofs.Extent.{trim-bounds}
-use Rattle.why.proofs.Texts.{text-long, text-short}
+use Rattle.why.proofs.Texts.{text-long, text-short, blank-calm}
 use Rattle.why.proofs.in_text.Statement.{statement}
 use Rattle.why.proofs.in_text.Tie as tie
 
 returns : tie.Need-returns
 returns c = text-long (c .before .before .args .lenient) (now (c .before .before .args .text)) (c .if1 .taken)
 
+in-tokens-requires : tie.Need-in-tokens-requires
+in-tokens-requires c κs = (omega arith, omega arith, λ e. blank-calm)
+
 slice-aggregate-in-tokens-2 : tie.Need-slice-aggregate-in-tokens-2
 slice-aggregate-in-tokens-2 c = let w = trim-bounds (now (c .before .before .before .before .before .before .before .args .text)) (c .before .before .first .given .0 .0) (c .before .before .first .given .0 .1 .0) (sym (c .before .before .before .before .trim .ensures) ∙ c .before .before .first .given .1) in let l = length-take-le (c .before .before .first .given .0 .1 .0) (now (c .before .before .before .before .before .before .before .args .text)) (w .1) in omega arith
 
 in-tokens-requires-2 : tie.Need-in-tokens-requires-2
-in-tokens-requires-2 c κs = let w = trim-bounds (now (c .before .before .before .before .before .before .before .args .text)) (c .before .before .first .given .0 .0) (c .before .before .first .given .0 .1 .0) (sym (c .before .before .before .before .trim .ensures) ∙ c .before .before .first .given .1) in let l = length-take-le (c .before .before .first .given .0 .1 .0) (now (c .before .before .before .before .before .before .before .args .text)) (w .1) in let h = c .before .before .before .before .before .if1 .left in (omega arith, omega arith)
+in-tokens-requires-2 c κs = let w = trim-bounds (now (c .before .before .before .before .before .before .before .args .text)) (c .before .before .first .given .0 .0) (c .before .before .first .given .0 .1 .0) (sym (c .before .before .before .before .trim .ensures) ∙ c .before .before .first .given .1) in let l = length-take-le (c .before .before .first .given .0 .1 .0) (now (c .before .before .before .before .before .before .before .args .text)) (w .1) in let h = c .before .before .before .before .before .if1 .left in (omega arith, omega arith, λ e. c .before .before .before .before .before .before .before .pre e (c .before .before .first .given .0 .0) (c .before .before .first .given .0 .1 .0) (sym (c .before .before .before .before .trim .ensures) ∙ c .before .before .first .given .1))
 
 returns-2 : tie.Need-returns-2
 returns-2 c = text-short (c .before .before .before .before .before .before .args .lenient) (now (c .before .before .before .before .before .before .args .text)) (c .before .before .before .before .if1 .left) (c .before .before .before .trim .ensures) (c .before .place .given .1)
@@ -33,7 +36,7 @@ in-text-spec =
     (λ c. search needs)
     (λ c. search needs)
     (λ c. search needs)
-    (λ c κs. search needs)
+    in-tokens-requires
     (λ c. search needs)
     slice-aggregate-in-tokens-2
     in-tokens-requires-2

@@ -1,5 +1,5 @@
 -- `why::lenient` meets its contract. Assumes nothing.
-use Rattle.lists.proofs.Prelude.{true, sym, ap, _∙_, needs}
+use Rattle.lists.proofs.Prelude.{true, false≢true, sym, ap, _∙_, needs}
 use denote.Ref.{now}
 use Rattle.text_utf8.specs.Trim.{trimmed}
 use Rattle.tables.specs.Lenient.{asReading}
@@ -32,13 +32,13 @@ lenient-spec =
     (λ c. search needs)
     (λ c κs. search needs)
     (λ c. search needs)
-    (λ c κs. search needs)
+    (λ c κs e. absurd (false≢true e))
     (λ c. search needs)
-    (λ c κs. search needs)
+    (λ c κs e. absurd (false≢true e))
     (λ c. search needs)
-    (λ c κs. search needs)
+    (λ c κs e. absurd (false≢true e))
     (λ c. search needs)
-    (λ c κs. search needs)
+    (λ c κs e. absurd (false≢true e))
     returns
     returns-2
     returns-3

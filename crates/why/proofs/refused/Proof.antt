@@ -14,7 +14,7 @@ pub refused-spec : {M : Type 1} → statement M
 refused-spec =
     tie.close
     (tie.spec
-    (λ c κs. search needs)
+    (λ c κs. c .before .pre)
     (λ c. search needs)
     (λ c. search needs)
     returns
