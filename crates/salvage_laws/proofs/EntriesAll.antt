@@ -1,5 +1,7 @@
 -- What is true of a text and its record is listed: the list leaves nothing out. Assumes nothing.
 use Rattle.lists.proofs.Prelude.{_≡_, refl, sym, ap, _∙_, subst, subst⁻¹, ℕ, zero, suc, _+_, max, arith, Bool, true, false, false≢true, List, [], _∷_, _++_, List·Memᴰ, List·Memᴰ·head, List·Memᴰ·tail, length, drop, drop-append-add}
+use Rattle.lists.specs.All.{All}
+use Rattle.lists.proofs.All.{all-mem}
 use Rattle.lexer.specs.Token.{Tok, End, done, broken, Lexed}
 use Rattle.tables.specs.Numbers.{none}
 use Rattle.tables.specs.Record.{Node, Tree, allProps}
@@ -14,7 +16,7 @@ use Rattle.salvage_mend.specs.Changes.{Change, emptyRoot, unnamed, removedGM, s
 use Rattle.salvage_list.specs.Listed.{cutOf, walkNodes, rootOf, treesChanges, tailOf, changesOf}
 use Rattle.salvage_laws.specs.Entries.{Nth, Owned, ownedTrees, walkOver, WithoutNode, HaltsAt, FirstAt, EntryOf, EntryTrue}
 use Rattle.salvage_laws.proofs.Says.{OneTree, one-tree, list-is}
-use Rattle.salvage_laws.proofs.Entries.{L, SS, r, of-text}
+use Rattle.salvage_laws.proofs.Entries.{L, SS, r, of-text, entries-true}
 use Rattle.salvage_laws.proofs.ListedProps.{mem-left, mem-right, Lists, lists-unnamed, lists-removed, lists-anew, props-listed}
 
 -- ---- the trees
@@ -140,3 +142,8 @@ module _ (t : List ℕ) (ts : List Tree) (h : readLenient t ≡ accepted ts) whe
   -- an entry that is true is in the list
   pub entries-all : (c : Change) → EntryTrue t ts c → List·Memᴰ c (changesOf t)
   entries-all = of-text t ts h (λ (l : Lexed) (ss : List (List Tok)). (c : Change) → EntryOf l ss ts c → List·Memᴰ c (changesOf t)) (λ c x. subst⁻¹ (List·Memᴰ c) (list-is t ts h) (all-of c x))
+
+  -- a list of which both hold has the same entries
+  pub entries-exactly : (cs : List Change) → All (EntryTrue t ts) cs → ((c : Change) → EntryTrue t ts c → List·Memᴰ c cs)
+      → (c : Change) → (List·Memᴰ c cs → List·Memᴰ c (changesOf t)) × (List·Memᴰ c (changesOf t) → List·Memᴰ c cs)
+  entries-exactly cs a b c = (λ m. entries-all c (all-mem (EntryTrue t ts) cs m a), λ m. b c (all-mem (EntryTrue t ts) (changesOf t) m (entries-true t ts h)))

@@ -1,6 +1,8 @@
+pub mod Apart
 pub mod Empty
 pub mod Entries
 pub mod EntriesAll
+pub mod EntriesOnce
 pub mod ListedProps
 pub mod Lists
 pub mod MendedNodes
