@@ -1,5 +1,5 @@
 -- Where no value ends as one that reads as `tt`, both rules of Go write the same. Assumes nothing.
-use Rattle.lists.proofs.Prelude.{ℕ, zero, suc, _+_, _-_, _/_, _≤_, _<_, Bool, true, false, _&&_, _||_, List, [], _∷_, _++_, _≡_, refl, sym, ap, ap₂, _∙_, arith, leb, eqb, length, getD, take, drop, getD-take, getD-drop, length-drop, length-take-le, lt-ltb, lt-leb, le-leb, leb-true, eq-eqb, ne-eqb, false≢true, and-false, pick}
+use Rattle.lists.proofs.Prelude.{ℕ, zero, suc, _+_, _-_, _/_, _≤_, _<_, Bool, true, false, _&&_, _||_, List, [], _∷_, _++_, _≡_, refl, sym, ap, ap₂, _∙_, arith, leb, eqb, length, getD, take, drop, getD-take, getD-drop, length-drop, length-take-le, lt-ltb, le-leb, leb-true, eq-eqb, ne-eqb, false≢true, and-false, and-true, pick}
 use Rattle.lists.proofs.Pick.{pick-elim}
 use Rattle.lists.proofs.Tests.{and-both, same-or}
 use Rattle.values.specs.Read.{readFrom, readValue, readIdentifier}
@@ -177,11 +177,15 @@ module _ {t : List ℕ} {c : Counts} {tr nd pr vl : List ℕ} (f : Clauses t c t
 -- ---- the search
 
 module _ (t vl : List ℕ) (v : ℕ) where
-  pub corner-long : {a e : ℕ} → a ≡ valFromAt vl v → e ≡ valToAt vl v → 5 < e - a → false ≡ cornerEnd t vl v
-  corner-long p q h = rw (lt-leb (valToAt vl v - valFromAt vl v) 5 (omega arith))
+  pub corner-other : {e : ℕ} → e ≡ valToAt vl v → cornerByte (getD t (e - 1) 0) ≡ false → false ≡ cornerEnd t vl v
+  corner-other q h =
+      let b : cornerByte (getD t (valToAt vl v - 1) 0) ≡ false = ap (λ (z : ℕ). cornerByte (getD t (z - 1) 0)) (sym q) ∙ h in
+      sym (ap (λ (x : Bool). leb (valToAt vl v - valFromAt vl v) 5 && x) b ∙ and-false (leb (valToAt vl v - valFromAt vl v) 5))
 
-  pub corner-seen : {a e : ℕ} → a ≡ valFromAt vl v → e ≡ valToAt vl v → e - a ≤ 5 → cornerByte (getD t (e - 1) 0) ≡ cornerEnd t vl v
-  corner-seen p q h = rw (le-leb (valToAt vl v - valFromAt vl v) 5 (omega arith)) (ap (λ (z : ℕ). cornerByte (getD t (z - 1) 0)) q)
+  pub corner-seen : {a e : ℕ} → a ≡ valFromAt vl v → e ≡ valToAt vl v → cornerByte (getD t (e - 1) 0) ≡ true → leb (e - a) 5 ≡ cornerEnd t vl v
+  corner-seen p q h =
+      let b : cornerByte (getD t (valToAt vl v - 1) 0) ≡ true = ap (λ (z : ℕ). cornerByte (getD t (z - 1) 0)) (sym q) ∙ h in
+      ap₂ (λ (x y : ℕ). leb (y - x) 5) p q ∙ sym (ap (λ (x : Bool). leb (valToAt vl v - valFromAt vl v) 5 && x) b ∙ and-true (leb (valToAt vl v - valFromAt vl v) 5))
 
   pub corners-more : ((i : ℕ) → i < v → cornerEnd t vl i ≡ false) → cornerEnd t vl v ≡ false → (i : ℕ) → i < v + 1 → cornerEnd t vl i ≡ false
   corners-more f h i l = same-or i v (λ e. ap (cornerEnd t vl) e ∙ h) (λ e. f i (omega arith))

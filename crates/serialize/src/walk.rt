@@ -23,18 +23,18 @@ fn roots_with(nodes: &[u32], k: usize, roots: usize) -> usize
     roots
 }
 
-// Whether value v may read as `tt`, by its length and its last byte.
+// Whether value v may read as `tt`, by its last byte and its length. Few end so: the last byte is asked first.
 fn may_corner(text: &[u8], values: &[u32], v: usize) -> bool
     requires { ⌜ EndHeld (now text) (now values) v ⌝ }
     ensures { λ r. ⌜ r ≡ cornerEnd (now (text .entry)) (now (values .entry)) v ⌝ }
 {
-    let start = lists::wide(values[v * tables::VALUE_STRIDE]);
     let end = lists::wide(values[v * tables::VALUE_STRIDE + tables::VALUE_END]);
-    if 5 < end - start {
-        return false;
-    }
     let last = text[end - 1];
-    (last == b't') | (last == b'\\')
+    if (last == b't') | (last == b'\\') {
+        let start = lists::wide(values[v * tables::VALUE_STRIDE]);
+        return end - start <= 5;
+    }
+    false
 }
 
 // Whether one of n values may. Where none may, both rules of Go write the same.
