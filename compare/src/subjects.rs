@@ -406,7 +406,7 @@ type Subject = fn(&Scale) -> bool;
 /// Compares one subject, or all; true if nothing differed.
 pub fn compare(scale: &Scale, subject: Option<&str>) -> bool {
     println!("library: {}", library::NAME);
-    let subjects: [(&str, Subject); 16] = [
+    let subjects: [(&str, Subject); 17] = [
         ("tokens", compare_tokens),
         ("places", compare_places),
         ("examples", |_| examples::hold()),
