@@ -236,7 +236,8 @@ typedef struct {
  * game type that changes with nothing removed. Salvaged again the result stays as it is, with an empty list.
  * Numbers: 1, 2, 9 of the text, 14 of the tables, and nothing lent changes; then, the tables holding the lenient reading,
  * 1 and 9 of the result, then 14 of list and output together, and list and output do not change. After 0 the tables hold
- * the lenient reading, whose numbers the changes name.
+ * the lenient reading, whose numbers the changes name. sgf_count_lenient gives 1 and 9 where they are the text's own, and
+ * the counts of the tables after 14 of list and output.
  * Memory: beside the tables SGF_CHANGES_FOR(n) rows of the list and up to SGF_TEXT_LIMIT bytes of output; with less it
  * may be 14. It is meant for an archive, not for a box. */
 SgfSalvage sgf_salvage(const uint8_t *text, size_t text_len, uint32_t *trees, size_t trees_len,
