@@ -2,6 +2,9 @@
 ghost use mathlib.Core.Path.{_≡_};
 ghost use mathlib.Core.Bool.{true};
 ghost use Prim.Native.Nat.{_+_, _≤_, _<_, max};
+ghost use lib.ListN.{length};
+ghost use Rattle.tables.specs.Numbers.{textLimit, depthLimit};
+ghost use Rattle.parser_tree.specs.LocalsTurns.{BehindIs};
 ghost use Rattle.parser_step.specs.LocalsActs.{stackOf, hasChild, mayOpen};
 ghost use Rattle.salvage_shape.specs.LocalsChain.{sumIn, heightIn, chainHeight, joinedTo, endedBy, bracketsMore, cellAt, chainKept, freshOf, cellsOf, closeAll};
 ghost use Rattle.salvage_shape.specs.LocalsWalk.{ShapeReady, ShapeIs};
@@ -207,6 +210,38 @@ fn may_open(stack: &[u32; 1024], depth: usize, base: usize, n: usize) -> bool
     has_child(stack[depth - 1], base, n)
 }
 
+// The place behind the slice in which so many trees are open.
+fn skip_slice(s: &[u8], from: usize, opened: usize) -> usize
+    requires { ⌜ (length (now s) ≤ textLimit) × (from ≤ length (now s)) × (opened ≤ depthLimit) ⌝ }
+    ensures { λ r. ⌜ BehindIs true (now (s .entry)) from opened r ⌝ }
+{
+    let mut at = from;
+    let mut depth = opened;
+    loop {
+        match lexer::next_token(s, at) {
+            Step::Start(i) => {
+                depth += 1;
+                at = i + 1;
+            }
+            Step::End(i) => {
+                if depth <= 1 {
+                    return i + 1;
+                }
+                depth -= 1;
+                at = i + 1;
+            }
+            Step::Node(i) => {
+                at = i + 1;
+            }
+            Step::Property(_, _, e) => {
+                at = e;
+            }
+            Step::Refused(_, _) => return at,
+            Step::Done => return at,
+        }
+    }
+}
+
 // The shape of the tree of the slice that starts at a place, its first node numbered `base`.
 pub fn shape_of(s: &[u8], from: usize, base: usize) -> Shape
     requires { ⌜ ShapeReady (now s) from base ⌝ }
@@ -233,7 +268,7 @@ pub fn shape_of(s: &[u8], from: usize, base: usize) -> Shape
             Step::Start(i) => {
                 if !may_open(&stack, depth, base, n) {
                     return Shape {
-                        next: parser_tree::skip_slice(s, at, depth),
+                        next: skip_slice(s, at, depth),
                         nodes: n - base,
                         brackets: brackets,
                         depth: finish(&marks, &cells, depth, fresh, c) + 1,
@@ -275,7 +310,7 @@ pub fn shape_of(s: &[u8], from: usize, base: usize) -> Shape
             Step::Property(_, _, next) => {
                 if !follows {
                     return Shape {
-                        next: parser_tree::skip_slice(s, at, depth),
+                        next: skip_slice(s, at, depth),
                         nodes: n - base,
                         brackets: brackets,
                         depth: finish(&marks, &cells, depth, fresh, c) + 1,
