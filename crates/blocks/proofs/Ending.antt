@@ -7,16 +7,16 @@ use Rattle.blocks_step.specs.declared.Utf8.{Utf8}
 use Rattle.blocks_step.specs.declared.Utf8.the-variants.{Whole}
 use Rattle.blocks_step.specs.declared.Phase.{Phase}
 use Rattle.blocks_step.specs.Lean.{machineOf}
-use Rattle.blocks.specs.declared.Known.{Known}
+use Rattle.blocks.specs.declared.BlocksKnown.{BlocksKnown}
 use Rattle.blocks.specs.declared.Closing.{Closing}
 use Rattle.blocks.specs.declared.Closing.the-variants.{Refused, Rows, Last}
-use Rattle.blocks.specs.declared.State.{State}
+use Rattle.blocks.specs.declared.BlocksState.{BlocksState}
 use Rattle.blocks.specs.declared.Closed.{Closed}
 use Rattle.blocks.specs.State.{stateSays}
 use Rattle.blocks.specs.Room.{tokenRow}
 use Rattle.blocks.specs.Close.{closingBy, closingAt, closing, clearedRows, refusedAt, acceptedWith, closedBy, cellsBy, closedBefore, CloseIs}
 
-module _ (k : Known) where
+module _ (k : BlocksKnown) where
   pub ends-long : textLimit < k .total → Refused 1 0 ≡ closing k
   unfolding closing
   ends-long h = rw (lt-ltb textLimit (k .total) h)
@@ -51,7 +51,7 @@ clears t first n e h =
 
 -- ---- the answers
 
-module _ (s : State) (t : List ℕ) where
+module _ (s : BlocksState) (t : List ℕ) where
   pub closes-after : (s .closed ≡ 0 → ⊥) → CloseIs s t (closedBefore s) t
   closes-after h = record { answer = rw (ne-eqb (s .closed) 0 h); rows = rw (ne-eqb (s .closed) 0 h) }
 

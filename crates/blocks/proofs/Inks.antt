@@ -11,7 +11,7 @@ use Rattle.blocks_step.specs.declared.Tokens.the-variants.{Silent, Single, Prop
 use Rattle.blocks_step.specs.declared.Moved.{Moved}
 use Rattle.blocks_step.specs.Lean.{moves, kindOf, propertyPhase}
 use Rattle.blocks_step.proofs.Moving.{moved, single, skipped, started, after-skips, after-opens, after-both, after-property}
-use Rattle.blocks.specs.declared.Known.{Known}
+use Rattle.blocks.specs.declared.BlocksKnown.{BlocksKnown}
 use Rattle.blocks.specs.State.{phaseNumber, phaseFrom, phaseBy}
 use Rattle.blocks.specs.Room.{Filled, rowsAt, addRows}
 use Rattle.blocks.specs.LocalsSteady.{quietMove, WhiteStays, steadyAt, Steady}
@@ -156,7 +156,7 @@ phase-back (Escaped s) = refl
 phase-back (After s) = refl
 phase-back (Foreign s) = refl
 
-pub steady-known : (k : Known) → (k .last ≡ 0 → ⊥) → k .held ≡ k .count → phaseNumber (k .now) ≡ phaseNumber (k .kept) → phaseFrom (k .now) ≡ phaseFrom (k .kept) → k .utf8 ≡ Whole → Steady k
+pub steady-known : (k : BlocksKnown) → (k .last ≡ 0 → ⊥) → k .held ≡ k .count → phaseNumber (k .now) ≡ phaseNumber (k .kept) → phaseFrom (k .now) ≡ phaseFrom (k .kept) → k .utf8 ≡ Whole → Steady k
 unfolding steadyAt
 steady-known k l h n f u =
     let e : k .kept ≡ k .now = sym (phase-back (k .kept)) ∙ ap₂ phaseBy (sym n) (sym f) ∙ phase-back (k .now) in

@@ -14,7 +14,7 @@ use Rattle.blocks_step.specs.declared.Moved.{Moved}
 use Rattle.blocks_step.specs.Decode.{decodes}
 use Rattle.blocks_step.specs.Lean.{moves}
 use Rattle.blocks_step.proofs.Decoding.{bytes-ascii}
-use Rattle.blocks.specs.declared.Known.{Known}
+use Rattle.blocks.specs.declared.BlocksKnown.{BlocksKnown}
 use Rattle.blocks.specs.Room.{Room, room, gone, withTokens, goes, keeps, takesByte, takesAll}
 use Rattle.blocks.specs.LocalsSteady.{PlainByte, PlainRun, PointByte, quietMove}
 use Rattle.blocks.proofs.Taking.{took-ink, took-white}
@@ -24,21 +24,21 @@ takes-append [] ys w = refl
 takes-append (b ∷ xs) ys w = takes-append xs ys (takesByte w b)
 
 -- what is known n bytes on, where the last of them is no white space and the token rules stand so
-unfoldable pub quietly : Known → ℕ → Phase → Known
+unfoldable pub quietly : BlocksKnown → ℕ → Phase → BlocksKnown
 quietly k n q = record { total = k .total + n; utf8 = Whole; last = k .total + n; now = q; count = k .count; kept = q; held = k .count }
 
 -- what is known behind it
-abbrev onward : Known → Phase → Known
+abbrev onward : BlocksKnown → Phase → BlocksKnown
 onward k q = record { total = suc (k .total); utf8 = Whole; last = k .last; now = q; count = k .count; kept = k .kept; held = k .held }
 
-pub silent-goes : (k : Known) (t : List ℕ) (b : ℕ) (q : Phase) → moves (k .now) (k .total) b ≡ quietMove q → goes Whole (room k t) b ≡ room (onward k q) t
+pub silent-goes : (k : BlocksKnown) (t : List ℕ) (b : ℕ) (q : Phase) → moves (k .now) (k .total) b ≡ quietMove q → goes Whole (room k t) b ≡ room (onward k q) t
 unfolding goes
 silent-goes k t b q e = ap (λ (m : Moved). gone Whole k m (withTokens (room k t) m)) e
 
-pub ends-ascii : (k : Known) (b : ℕ) → k .utf8 ≡ Whole → b < 128 → (w : Bool) → white b ≡ w → Ended w ≡ decodes (k .utf8) (k .total) b
+pub ends-ascii : (k : BlocksKnown) (b : ℕ) → k .utf8 ≡ Whole → b < 128 → (w : Bool) → white b ≡ w → Ended w ≡ decodes (k .utf8) (k .total) b
 ends-ascii k b u a w e = bytes-ascii (k .total) b (omega (arith, a)) (sym e) ∙ ap (λ (z : Utf8). decodes z (k .total) b) (sym u)
 
-pub quiet-byte : (k : Known) (t : List ℕ) (b : ℕ) (q : Phase) → k .utf8 ≡ Whole → k .total < textLimit → b < 128 → 32 < b → moves (k .now) (k .total) b ≡ quietMove q → takesByte (room k t) b ≡ room (quietly k 1 q) t
+pub quiet-byte : (k : BlocksKnown) (t : List ℕ) (b : ℕ) (q : Phase) → k .utf8 ≡ Whole → k .total < textLimit → b < 128 → 32 < b → moves (k .now) (k .total) b ≡ quietMove q → takesByte (room k t) b ≡ room (quietly k 1 q) t
 unfolding keeps quietly
 quiet-byte k t b q u h a d e =
     sym (took-ink k t b h false refl (ends-ascii k b u a false (ascii-dark b d a)))
@@ -56,8 +56,8 @@ unfolding moves
 close-silent s o = refl
 
 -- what is known behind it, white space or not
-record Onward (k : Known) (t : List ℕ) (b s : ℕ) : Type 0 where
-  k′ : Known
+record Onward (k : BlocksKnown) (t : List ℕ) (b s : ℕ) : Type 0 where
+  k′ : BlocksKnown
   is : takesByte (room k t) b ≡ room k′ t
   utf8 : k′ .utf8 ≡ Whole
   last : 0 < k′ .last
@@ -65,7 +65,7 @@ record Onward (k : Known) (t : List ℕ) (b s : ℕ) : Type 0 where
   total : k′ .total ≡ k .total + 1
   count : k′ .count ≡ k .count
 
-plain-on : (k : Known) (t : List ℕ) (b s : ℕ) → k .utf8 ≡ Whole → 0 < k .last → k .now ≡ Value s → k .total < textLimit → PlainByte b → Onward k t b s
+plain-on : (k : BlocksKnown) (t : List ℕ) (b s : ℕ) → k .utf8 ≡ Whole → 0 < k .last → k .now ≡ Value s → k .total < textLimit → PlainByte b → Onward k t b s
 unfolding keeps
 plain-on k t b s u l n h p = go (white b) refl
   where
@@ -99,11 +99,11 @@ plain-on k t b s u l n h p = go (white b) refl
 pub take-next : (s : List ℕ) (i n : ℕ) → i < length s → take (suc n) (drop i s) ≡ getD s i 0 ∷ take n (drop (i + 1) s)
 take-next s i n h = ap (take (suc n)) (drop-next s i h)
 
-same-quiet : (k k′ : Known) (n m : ℕ) (q : Phase) → k′ .total + m ≡ k .total + n → k′ .count ≡ k .count → quietly k′ m q ≡ quietly k n q
+same-quiet : (k k′ : BlocksKnown) (n m : ℕ) (q : Phase) → k′ .total + m ≡ k .total + n → k′ .count ≡ k .count → quietly k′ m q ≡ quietly k n q
 unfolding quietly
 same-quiet k k′ n m q e c = ap₂ (λ (x y : ℕ). record { total = x; utf8 = Whole; last = x; now = q; count = y; kept = q; held = y }) e c
 
-pub values-over : (n : ℕ) (s : List ℕ) (i : ℕ) → PlainRun s i (suc n) → (k : Known) (t : List ℕ) (a : ℕ) → k .utf8 ≡ Whole → 0 < k .last → k .now ≡ Value a → k .total + suc n ≤ textLimit
+pub values-over : (n : ℕ) (s : List ℕ) (i : ℕ) → PlainRun s i (suc n) → (k : BlocksKnown) (t : List ℕ) (a : ℕ) → k .utf8 ≡ Whole → 0 < k .last → k .now ≡ Value a → k .total + suc n ≤ textLimit
     → takesAll (room k t) (take (suc n) (drop i s)) ≡ room (quietly k (suc n) (Value a)) t
 values-over zero s i p k t a u l w h =
     let r = p .room in
@@ -126,7 +126,7 @@ values-over (suc n) s i p k t a u l w h =
     ap (takesAll (room k t)) (take-next s i (suc n) (omega arith))
     ∙ ap (λ (z : Room). takesAll z (take (suc n) (drop (i + 1) s))) (o .is)
     ∙ values-over n s (i + 1) rest (o .k′) t a (o .utf8) (o .last) (o .now) (omega (arith, o .total))
-    ∙ ap (λ (z : Known). room z t) (same-quiet k (o .k′) (suc (suc n)) (suc n) (Value a) (omega (arith, o .total)) (o .count))
+    ∙ ap (λ (z : BlocksKnown). room z t) (same-quiet k (o .k′) (suc (suc n)) (suc n) (Value a) (omega (arith, o .total)) (o .count))
 
 -- ---- the tests
 

@@ -9,7 +9,7 @@ use Rattle.blocks_step.specs.declared.Utf8.the-variants.{Whole}
 use Rattle.blocks_step.specs.declared.Phase.{Phase}
 use Rattle.blocks_step.specs.declared.Phase.the-variants.{Value, After}
 use Rattle.blocks_step.specs.Lean.{moves}
-use Rattle.blocks.specs.declared.Known.{Known}
+use Rattle.blocks.specs.declared.BlocksKnown.{BlocksKnown}
 use Rattle.blocks.specs.Room.{filledWith, rowsAt, addRows, Room, room, goes, keeps, takesByte, takesAll}
 use Rattle.blocks.specs.declared.Ran.{Ran}
 use Rattle.blocks.specs.LocalsSteady.{ValueRun, PointByte, PairFrom, WhiteStays, quietMove, steadyAt, Steady, ranTo, RanIs}
@@ -95,10 +95,10 @@ module _ (o l : ℕ) (p : Phase) (c : ℕ) (t bs : List ℕ) (i : ℕ) (q : Phas
 
 -- ---- in a block
 
-pub block-ran : (bs : List ℕ) (i : ℕ) (k k′ : Known) (t t′ : List ℕ) (r : Ran) (z : Room) → Steady k → RanIs (steadyAt (k .total) (k .last) (k .now) (k .count)) bs i t r t′ → k′ ≡ ranTo r
+pub block-ran : (bs : List ℕ) (i : ℕ) (k k′ : BlocksKnown) (t t′ : List ℕ) (r : Ran) (z : Room) → Steady k → RanIs (steadyAt (k .total) (k .last) (k .now) (k .count)) bs i t r t′ → k′ ≡ ranTo r
     → takesAll (room k t) (drop i bs) ≡ z → takesAll (room k′ t′) (drop (r .to) bs) ≡ z
 block-ran bs i k k′ t t′ r z s q e y =
-    ap (λ (x : Known). takesAll (room x t′) (drop (r .to) bs)) e
+    ap (λ (x : BlocksKnown). takesAll (room x t′) (drop (r .to) bs)) e
     ∙ q .rest
-    ∙ ap (λ (x : Known). takesAll (room x t) (drop i bs)) (sym (s .same))
+    ∙ ap (λ (x : BlocksKnown). takesAll (room x t) (drop i bs)) (sym (s .same))
     ∙ y

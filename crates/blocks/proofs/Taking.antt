@@ -10,8 +10,8 @@ use Rattle.blocks_step.specs.declared.Char.the-variants.{Ended, Goes}
 use Rattle.blocks_step.specs.declared.Moved.{Moved}
 use Rattle.blocks_step.specs.Decode.{decodes}
 use Rattle.blocks_step.specs.Lean.{moves}
-use Rattle.blocks.specs.declared.Known.{Known}
-use Rattle.blocks.specs.declared.State.{State}
+use Rattle.blocks.specs.declared.BlocksKnown.{BlocksKnown}
+use Rattle.blocks.specs.declared.BlocksState.{BlocksState}
 use Rattle.blocks.specs.declared.Blocked.{Blocked}
 use Rattle.blocks.specs.State.{stateSays, stateOf}
 use Rattle.blocks.specs.Block.{afterBlock, BlockIs}
@@ -37,7 +37,7 @@ row-single f k o = ap (λ (z : ℕ). addRow f (tokenRow k o z)) (add-one o)
 
 -- ---- a byte
 
-module _ (k : Known) (t : List ℕ) (b : ℕ) where
+module _ (k : BlocksKnown) (t : List ℕ) (b : ℕ) where
   pub went : (u : Utf8) (m : Moved) (n : ℕ) (t′ : List ℕ) → m ≡ moves (k .now) (k .total) b → filledWith n t′ ≡ addRows (filledWith (k .count) t) (rowsAt (m .tokens) (k .total))
       → room (record { total = k .total + 1; utf8 = u; last = k .last; now = m .next; count = n; kept = k .kept; held = k .held }) t′ ≡ goes u (room k t) b
   unfolding goes
@@ -74,18 +74,18 @@ pub block-more : (bs : List ℕ) (i : ℕ) (w v z : Room) → i < length bs → 
 block-more bs i w v z h e q = ap (λ (x : Room). takesAll x (drop (i + 1) bs)) e ∙ sym (ap (takesAll w) (drop-next bs i h)) ∙ q
 
 -- number 0, and the state
-abbrev taken : State → Blocked
+abbrev taken : BlocksState → Blocked
 taken s = record { number = 0; state = s }
 
-module _ (s : State) (bs t : List ℕ) where
+module _ (s : BlocksState) (bs t : List ℕ) where
   pub blocked-after : (s .closed ≡ 0 → ⊥) → BlockIs s bs t (record { number = 20; state = s }) t
   blocked-after h = record { answer = rw (ne-eqb (s .closed) 0 h); rows = rw (ne-eqb (s .closed) 0 h) }
 
-  pub blocked : s .closed ≡ 0 → (k : Known) (t′ : List ℕ) (k₀ : Known) (i : ℕ) → length bs ≤ i → takesAll (room k t′) (drop i bs) ≡ takesAll (room k₀ t) bs → k₀ ≡ stateSays s
-      → (x : State) → x ≡ stateOf k → BlockIs s bs t (record { number = 0; state = x }) t′
+  pub blocked : s .closed ≡ 0 → (k : BlocksKnown) (t′ : List ℕ) (k₀ : BlocksKnown) (i : ℕ) → length bs ≤ i → takesAll (room k t′) (drop i bs) ≡ takesAll (room k₀ t) bs → k₀ ≡ stateSays s
+      → (x : BlocksState) → x ≡ stateOf k → BlockIs s bs t (record { number = 0; state = x }) t′
   blocked h k t′ k₀ i l e q x y =
       let z : room k t′ ≡ afterBlock s bs t =
-      sym (ap (takesAll (room k t′)) (drop-of-length-le bs l)) ∙ e ∙ ap (λ (w : Known). takesAll (room w t) bs) q in
+      sym (ap (takesAll (room k t′)) (drop-of-length-le bs l)) ∙ e ∙ ap (λ (w : BlocksKnown). takesAll (room w t) bs) q in
       record {
         answer = rw (eq-eqb (s .closed) 0 h) (ap taken (y ∙ ap (λ (w : Room). stateOf (w .known)) z));
         rows = rw (eq-eqb (s .closed) 0 h) (ap (λ (w : Room). w .cells) z);

@@ -7,8 +7,8 @@ use Rattle.blocks_step.specs.declared.Utf8.{Utf8}
 use Rattle.blocks_step.specs.declared.Utf8.the-variants.{Whole, Within, Bad}
 use Rattle.blocks_step.specs.declared.Phase.{Phase}
 use Rattle.blocks_step.specs.Lean.{machineOf, tokenFrom}
-use Rattle.blocks.specs.declared.State.{State}
-use Rattle.blocks.specs.declared.Known.{Known}
+use Rattle.blocks.specs.declared.BlocksState.{BlocksState}
+use Rattle.blocks.specs.declared.BlocksKnown.{BlocksKnown}
 use Rattle.blocks.specs.declared.Closing.{Closing}
 use Rattle.blocks.specs.declared.Closing.the-variants.{Refused, Rows, Last}
 use Rattle.blocks.specs.declared.Closed.{Closed}
@@ -34,7 +34,7 @@ closingAt (Within left s code) p n l = Refused 2 s
 closingAt (Bad q) p n l = Refused 2 q
 
 -- 1, then 2, then 3 to 5 (SCOPE 183)
-unfoldable pub closing : Known → Closing
+unfoldable pub closing : BlocksKnown → Closing
 closing k = pick (ltb textLimit (k .total)) (Refused 1 0) (closingAt (k .utf8) (k .kept) (k .held) (k .last))
 
 -- ---- the answer
@@ -44,7 +44,7 @@ unfoldable pub clearedRows : List ℕ → ℕ → List ℕ
 clearedRows t n = take (n * 3) t ++ (replicate (length t / 3 * 3 - n * 3) 0 ++ drop (length t / 3 * 3) t)
 
 -- closed, else as it was
-abbrev pub shutOf : State → State
+abbrev pub shutOf : BlocksState → BlocksState
 shutOf s =
     record {
       total = s .total;
@@ -62,15 +62,15 @@ shutOf s =
     }
 
 -- refused with a number and a place
-abbrev pub refusedAt : State → (n p : ℕ) → Closed
+abbrev pub refusedAt : BlocksState → (n p : ℕ) → Closed
 refusedAt s n p = record { number = n; place = p; tokens = 0; state = shutOf s }
 
 -- so many tokens
-abbrev pub acceptedWith : State → ℕ → Closed
+abbrev pub acceptedWith : BlocksState → ℕ → Closed
 acceptedWith s n = record { number = 0; place = 0; tokens = n; state = shutOf s }
 
 -- by how the tokens end and the rows lent; 14 comes last
-abbrev pub closedBy : Closing → State → ℕ → Closed
+abbrev pub closedBy : Closing → BlocksState → ℕ → Closed
 closedBy (Refused n p) s rows = refusedAt s n p
 closedBy (Rows n) s rows = pick (ltb rows n) (refusedAt s 14 0) (acceptedWith s n)
 closedBy (Last n f l) s rows = pick (ltb rows (n + 1)) (refusedAt s 14 0) (acceptedWith s (n + 1))
@@ -82,10 +82,10 @@ cellsBy (Rows n) t = pick (ltb (length t / 3) n) (clearedRows t 0) (clearedRows 
 cellsBy (Last n f l) t = pick (ltb (length t / 3) (n + 1)) (clearedRows t 0) (clearedRows (putAt t (n * 3) (tokenRow 4 f l)) (n + 1))
 
 -- 20: nothing changes
-abbrev pub closedBefore : State → Closed
+abbrev pub closedBefore : BlocksState → Closed
 closedBefore s = record { number = 20; place = 0; tokens = 0; state = s }
 
 -- close; a second one is refused and nothing changes (SCOPE 184)
-pub record CloseIs (s : State) (t : List ℕ) (r : Closed) (t′ : List ℕ) : Type 0 where
+pub record CloseIs (s : BlocksState) (t : List ℕ) (r : Closed) (t′ : List ℕ) : Type 0 where
   pub answer : r ≡ pick (eqb (s .closed) 0) (closedBy (closing (stateSays s)) s (length t / 3)) (closedBefore s)
   pub rows : t′ ≡ pick (eqb (s .closed) 0) (cellsBy (closing (stateSays s)) t) t

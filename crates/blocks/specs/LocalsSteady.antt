@@ -7,7 +7,7 @@ use Rattle.blocks_step.specs.declared.Phase.the-variants.{Value, After}
 use Rattle.blocks_step.specs.declared.Tokens.the-variants.{Silent}
 use Rattle.blocks_step.specs.declared.Moved.{Moved}
 use Rattle.blocks_step.specs.Lean.{moves}
-use Rattle.blocks.specs.declared.Known.{Known}
+use Rattle.blocks.specs.declared.BlocksKnown.{BlocksKnown}
 use Rattle.blocks.specs.declared.Pair.{Pair}
 use Rattle.blocks.specs.declared.Pair.the-variants.{Past, Other}
 use Rattle.blocks.specs.declared.Ran.{Ran}
@@ -72,26 +72,26 @@ WhiteStays p = (o b : ℕ) → space b ≡ true → moves p o b ≡ quietMove p
 -- ---- what is known
 
 -- o bytes so far, the last character that is no white space ended at l, and since then nothing but the place has changed
-unfoldable pub steadyAt : (o l : ℕ) → Phase → (count : ℕ) → Known
+unfoldable pub steadyAt : (o l : ℕ) → Phase → (count : ℕ) → BlocksKnown
 steadyAt o l p n = record { total = o; utf8 = Whole; last = l; now = p; count = n; kept = p; held = n }
 
 -- it is so known
-pub record Steady (k : Known) : Type 0 where
+pub record Steady (k : BlocksKnown) : Type 0 where
   pub same : k ≡ steadyAt (k .total) (k .last) (k .now) (k .count)
   pub inked : 0 < k .last
 
 -- what is known where a run ends
-abbrev pub ranTo : Ran → Known
+abbrev pub ranTo : Ran → BlocksKnown
 ranTo r = steadyAt (r .total) (r .last) (r .stands) (r .count)
 
 -- bytes taken from a place on: what is left to take gives the same
-pub record RanIs (k : Known) (bs : List ℕ) (from : ℕ) (t : List ℕ) (r : Ran) (t′ : List ℕ) : Type 0 where
+pub record RanIs (k : BlocksKnown) (bs : List ℕ) (from : ℕ) (t : List ℕ) (r : Ran) (t′ : List ℕ) : Type 0 where
   pub low : from ≤ r .to
   pub high : r .to ≤ length bs
   pub rest : takesAll (room (ranTo r) t′) (drop (r .to) bs) ≡ takesAll (room k t) (drop from bs)
 
 -- the same, from anything that is known
-pub record WentIs (k : Known) (bs : List ℕ) (from : ℕ) (t : List ℕ) (r : Went) (t′ : List ℕ) : Type 0 where
+pub record WentIs (k : BlocksKnown) (bs : List ℕ) (from : ℕ) (t : List ℕ) (r : Went) (t′ : List ℕ) : Type 0 where
   pub low : from ≤ r .to
   pub high : r .to ≤ length bs
   pub rest : takesAll (room (r .known) t′) (drop (r .to) bs) ≡ takesAll (room k t) (drop from bs)

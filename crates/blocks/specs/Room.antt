@@ -11,7 +11,7 @@ use Rattle.blocks_step.specs.declared.Tokens.the-variants.{Silent, Single, Prop
 use Rattle.blocks_step.specs.declared.Moved.{Moved}
 use Rattle.blocks_step.specs.Decode.{decodes}
 use Rattle.blocks_step.specs.Lean.{moves}
-use Rattle.blocks.specs.declared.Known.{Known}
+use Rattle.blocks.specs.declared.BlocksKnown.{BlocksKnown}
 
 -- ---- rows
 
@@ -53,11 +53,11 @@ addRows f (r ∷ rs) = addRows (addRow f r) rs
 
 -- what is known, and what is lent for rows
 pub record Room : Type 0 where
-  pub known : Known
+  pub known : BlocksKnown
   pub cells : List ℕ
 
 -- these
-abbrev pub room : Known → List ℕ → Room
+abbrev pub room : BlocksKnown → List ℕ → Room
 room k t = record { known = k; cells = t }
 
 -- nothing but white space so far: as it was
@@ -74,7 +74,7 @@ goesBack w =
     }) (w .cells)
 
 -- what is known with these rows and this byte done
-abbrev pub gone : Utf8 → Known → Moved → Filled → Room
+abbrev pub gone : Utf8 → BlocksKnown → Moved → Filled → Room
 gone u k m f =
     room (record { total = suc (k .total); utf8 = u; last = k .last; now = m .next; count = f .count; kept = k .kept; held = k .held }) (f .cells)
 

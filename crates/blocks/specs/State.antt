@@ -6,8 +6,8 @@ use Rattle.blocks_step.specs.declared.Utf8.{Utf8}
 use Rattle.blocks_step.specs.declared.Utf8.the-variants.{Whole, Within, Bad}
 use Rattle.blocks_step.specs.declared.Phase.{Phase}
 use Rattle.blocks_step.specs.declared.Phase.the-variants.{Between, Ident, Value, Escaped, After, Foreign}
-use Rattle.blocks.specs.declared.State.{State}
-use Rattle.blocks.specs.declared.Known.{Known}
+use Rattle.blocks.specs.declared.BlocksState.{BlocksState}
+use Rattle.blocks.specs.declared.BlocksKnown.{BlocksKnown}
 
 -- what is to come of a character
 abbrev pub leftNumber : Left → ℕ
@@ -74,7 +74,7 @@ phaseBy n s =
     (pick (eqb n 1) (Ident s) (pick (eqb n 2) (Value s) (pick (eqb n 3) (Escaped s) (pick (eqb n 4) (After s) (Foreign s)))))
 
 -- what a state says
-abbrev pub stateSays : State → Known
+abbrev pub stateSays : BlocksState → BlocksKnown
 stateSays s =
     record {
       total = s .total;
@@ -87,7 +87,7 @@ stateSays s =
     }
 
 -- the state of what is known, not closed
-abbrev pub stateOf : Known → State
+abbrev pub stateOf : BlocksKnown → BlocksState
 stateOf k =
     record {
       total = k .total;

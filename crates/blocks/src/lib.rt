@@ -22,7 +22,7 @@ use blocks_step::Utf8;
 
 // What is known between two blocks, as numbers; all zero is the start.
 #[repr(C)]
-pub struct State {
+pub struct BlocksState {
     pub total: u32,
     pub utf: u32,
     pub utf_from: u32,
@@ -39,7 +39,7 @@ pub struct State {
 
 // The same: the bytes so far and UTF-8; the end of the last character that is no white space, or 0;
 // the token rules and the rows after all of them, and after that character.
-pub struct Known {
+pub struct BlocksKnown {
     pub total: u32,
     pub utf8: Utf8,
     pub last: u32,
@@ -184,13 +184,13 @@ fn phase_by(n: u32, from: u32) -> Phase
 }
 
 // What the numbers of a state say.
-fn known_of(s: State) -> Known
+fn known_of(s: BlocksState) -> BlocksKnown
     ensures { λ r. ⌜ r ≡ stateSays s ⌝ }
 {
     let utf8 = utf8_by(s.utf, s.utf_from, s.code);
     let now = phase_by(s.now, s.now_from);
     let kept = phase_by(s.kept, s.kept_from);
-    Known {
+    BlocksKnown {
         total: s.total,
         utf8: utf8,
         last: s.last,
@@ -202,13 +202,13 @@ fn known_of(s: State) -> Known
 }
 
 // The numbers of what is known; not closed.
-fn state_of(k: Known) -> State
+fn state_of(k: BlocksKnown) -> BlocksState
     ensures { λ r. ⌜ r ≡ stateOf k ⌝ }
 {
     let u = k.utf8;
     let now = k.now;
     let kept = k.kept;
-    State {
+    BlocksState {
         total: k.total,
         utf: utf8_number(u),
         utf_from: utf8_from(u),
@@ -273,7 +273,7 @@ fn put_tokens(rows: &mut [u32], count: u32, at: u32, tokens: Tokens) -> u32
 // ---- one byte
 
 // The token rules go on, and UTF-8 stands so.
-fn go_on(k: Known, utf8: Utf8, b: u8, rows: &mut [u32]) -> Known
+fn go_on(k: BlocksKnown, utf8: Utf8, b: u8, rows: &mut [u32]) -> BlocksKnown
     requires { ⌜ k .total < textLimit ⌝ }
     ensures { λ r. ⌜ room r (now (rows .exit)) ≡ goes utf8 (room k (now (rows .entry))) b ⌝ }
 {
@@ -284,7 +284,7 @@ fn go_on(k: Known, utf8: Utf8, b: u8, rows: &mut [u32]) -> Known
     let tokens = m.tokens;
     let next = m.next;
     let count = put_tokens(rows, k.count, at, tokens);
-    Known {
+    BlocksKnown {
         total: at + 1,
         utf8: utf8,
         last: k.last,
@@ -296,7 +296,7 @@ fn go_on(k: Known, utf8: Utf8, b: u8, rows: &mut [u32]) -> Known
 }
 
 // One byte more.
-fn take_byte(k: Known, b: u8, rows: &mut [u32]) -> Known
+fn take_byte(k: BlocksKnown, b: u8, rows: &mut [u32]) -> BlocksKnown
     ensures { λ r. ⌜ room r (now (rows .exit)) ≡ takesByte (room k (now (rows .entry))) b ⌝ }
 {
     let at = k.total;
@@ -304,7 +304,7 @@ fn take_byte(k: Known, b: u8, rows: &mut [u32]) -> Known
     let kept = k.kept;
     if LIMIT <= at {
         let now = k.now;
-        return Known {
+        return BlocksKnown {
             total: LIMIT + 1,
             utf8: utf8,
             last: k.last,
@@ -318,7 +318,7 @@ fn take_byte(k: Known, b: u8, rows: &mut [u32]) -> Known
         Char::Ended(white) => {
             if white {
                 if k.last == 0 {
-                    return Known {
+                    return BlocksKnown {
                         total: at + 1,
                         utf8: Utf8::Whole,
                         last: k.last,
@@ -333,7 +333,7 @@ fn take_byte(k: Known, b: u8, rows: &mut [u32]) -> Known
             let g = go_on(k, Utf8::Whole, b, rows);
             let stands = g.utf8;
             let now = g.now;
-            Known {
+            BlocksKnown {
                 total: g.total,
                 utf8: stands,
                 last: g.total,
@@ -559,7 +559,7 @@ pub struct Ran {
 }
 
 // Does no byte since the last character that is no white space matter, with no character begun.
-fn is_steady(k: Known) -> bool
+fn is_steady(k: BlocksKnown) -> bool
     ensures { λ r. ⌜ (r ≡ true → Steady k) ⌝ }
 {
     if k.last == 0 {
@@ -655,11 +655,11 @@ fn steady_run(
 }
 
 // What is known there.
-fn known_there(r: Ran) -> Known
+fn known_there(r: Ran) -> BlocksKnown
     ensures { λ k. ⌜ k ≡ ranTo r ⌝ }
 {
     let stands = r.stands;
-    Known {
+    BlocksKnown {
         total: r.total,
         utf8: Utf8::Whole,
         last: r.last,
@@ -673,11 +673,11 @@ fn known_there(r: Ran) -> Known
 // How far bytes were taken, and what is known there.
 pub struct Went {
     pub to: usize,
-    pub known: Known,
+    pub known: BlocksKnown,
 }
 
 // Takes ASCII bytes where what is known is steady, else none.
-fn run_on(k: Known, bytes: &[u8], from: usize, rows: &mut [u32]) -> Went
+fn run_on(k: BlocksKnown, bytes: &[u8], from: usize, rows: &mut [u32]) -> Went
     requires { ⌜ from ≤ length (now bytes) ⌝ }
     ensures { λ r. ⌜ WentIs k (now (bytes .entry)) from (now (rows .entry)) r (now (rows .exit)) ⌝ }
 {
@@ -694,7 +694,7 @@ fn run_on(k: Known, bytes: &[u8], from: usize, rows: &mut [u32]) -> Went
 }
 
 // The same, and one byte more where there is one.
-fn step_on(k: Known, bytes: &[u8], from: usize, rows: &mut [u32]) -> Went
+fn step_on(k: BlocksKnown, bytes: &[u8], from: usize, rows: &mut [u32]) -> Went
     requires { ⌜ from < length (now bytes) ⌝ }
     ensures { λ r. ⌜ (from < r .to) × WentIs k (now (bytes .entry)) from (now (rows .entry)) r (now (rows .exit)) ⌝ }
 {
@@ -717,11 +717,11 @@ fn step_on(k: Known, bytes: &[u8], from: usize, rows: &mut [u32]) -> Went
 #[repr(C)]
 pub struct Blocked {
     pub number: u32,
-    pub state: State,
+    pub state: BlocksState,
 }
 
 // A block of the text; 20 after close.
-pub fn block(state: State, bytes: &[u8], rows: &mut [u32]) -> Blocked
+pub fn block(state: BlocksState, bytes: &[u8], rows: &mut [u32]) -> Blocked
     ensures { λ r. ⌜ BlockIs state (now (bytes .entry)) (now (rows .entry)) r (now (rows .exit)) ⌝ }
 {
     if state.closed != 0 {
@@ -755,7 +755,7 @@ pub enum Closing {
 }
 
 // How the tokens end, after the last character that is no white space.
-fn closing_of(k: Known) -> Closing
+fn closing_of(k: BlocksKnown) -> Closing
     ensures { λ r. ⌜ r ≡ closing k ⌝ }
 {
     if LIMIT < k.total {
@@ -803,14 +803,14 @@ pub struct Closed {
     pub number: u32,
     pub place: usize,
     pub tokens: usize,
-    pub state: State,
+    pub state: BlocksState,
 }
 
 // The same, closed.
-fn shut(s: State) -> State
+fn shut(s: BlocksState) -> BlocksState
     ensures { λ r. ⌜ r ≡ shutOf s ⌝ }
 {
-    State {
+    BlocksState {
         total: s.total,
         utf: s.utf,
         utf_from: s.utf_from,
@@ -827,7 +827,7 @@ fn shut(s: State) -> State
 }
 
 // What is refused leaves no row.
-fn refuse(state: State, number: u32, place: u32, rows: &mut [u32]) -> Closed
+fn refuse(state: BlocksState, number: u32, place: u32, rows: &mut [u32]) -> Closed
     ensures { λ r. ⌜ (r ≡ refusedAt state number place) × (now (rows .exit) ≡ clearedRows (now (rows .entry)) 0) ⌝ }
 {
     clear(rows, 0);
@@ -841,7 +841,7 @@ fn refuse(state: State, number: u32, place: u32, rows: &mut [u32]) -> Closed
 }
 
 // So many tokens.
-fn accept(state: State, tokens: usize) -> Closed
+fn accept(state: BlocksState, tokens: usize) -> Closed
     ensures { λ r. ⌜ r ≡ acceptedWith state tokens ⌝ }
 {
     let s = shut(state);
@@ -854,7 +854,7 @@ fn accept(state: State, tokens: usize) -> Closed
 }
 
 // The end of the text; 20 after close.
-pub fn close(state: State, rows: &mut [u32]) -> Closed
+pub fn close(state: BlocksState, rows: &mut [u32]) -> Closed
     ensures { λ r. ⌜ CloseIs state (now (rows .entry)) r (now (rows .exit)) ⌝ }
 {
     if state.closed != 0 {

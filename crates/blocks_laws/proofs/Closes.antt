@@ -1,7 +1,7 @@
 -- What close leaves in lent memory, by the rows that stand there. Assumes nothing.
 use Rattle.lists.proofs.Prelude.{_≡_, refl, sym, ap, ap₂, _∙_, subst, ℕ, zero, suc, _+_, _-_, _*_, _/_, _≤_, _<_, arith, Bool, true, false, List, [], _∷_, _++_, length, take, drop, replicate, length-append, take-all, eqb, leb, ltb, lt-ltb, le-ltb, le-leb, ltb-true, ltb-false, pick}
 use Rattle.lists.specs.Put.{putAt}
-use Rattle.blocks.specs.declared.State.{State}
+use Rattle.blocks.specs.declared.BlocksState.{BlocksState}
 use Rattle.blocks.specs.declared.Closed.{Closed}
 use Rattle.blocks.specs.declared.Closing.{Closing}
 use Rattle.blocks.specs.declared.Closing.the-variants.{Refused, Rows, Last}
@@ -19,7 +19,7 @@ cleared-left t t′ rs l s h =
     ap₂ (λ (x y : List ℕ). x ++ (replicate (length t′ / 3 * 3 - length rs * 3) 0 ++ y)) e r
     ∙ ap (λ (n : ℕ). flatRows rs ++ (replicate (n / 3 * 3 - length rs * 3) 0 ++ drop (length t / 3 * 3) t)) (l .len)
 
-module _ (t t′ : List ℕ) (l : Lent t t′) (s : State) (r : Closed) (t″ : List ℕ) where
+module _ (t t′ : List ℕ) (l : Lent t t′) (s : BlocksState) (r : Closed) (t″ : List ℕ) where
   none-left : t″ ≡ clearedRows t′ 0 → t″ ≡ rowsLeft [] t
   none-left e = e ∙ cleared-left t t′ [] l (stored-none t′) (omega arith)
 

@@ -8,8 +8,8 @@ use Rattle.blocks_step.specs.declared.Utf8.the-variants.{Whole}
 use Rattle.blocks_step.specs.declared.Phase.{Phase}
 use Rattle.blocks_step.specs.declared.Phase.the-variants.{Between, Ident, Value, Escaped, After, Foreign}
 use Rattle.blocks_step.specs.Lean.{machineOf}
-use Rattle.blocks.specs.declared.State.{State}
-use Rattle.blocks.specs.declared.Known.{Known}
+use Rattle.blocks.specs.declared.BlocksState.{BlocksState}
+use Rattle.blocks.specs.declared.BlocksKnown.{BlocksKnown}
 use Rattle.blocks.specs.declared.Closed.{Closed}
 use Rattle.blocks.specs.declared.Closing.{Closing}
 use Rattle.blocks.specs.declared.Closing.the-variants.{Refused, Rows, Last}
@@ -22,7 +22,7 @@ use Rattle.blocks_laws.proofs.Stored.{Stored, stored-none, stored-less}
 use Rattle.blocks_laws.proofs.Closes.{refused-as, rows-as, last-as}
 use Rattle.blocks_laws.proofs.Follows.{listedOf, Sim}
 
-module _ (t t′ : List ℕ) (k : Known) (s : State) (r : Closed) (t″ : List ℕ) where
+module _ (t t′ : List ℕ) (k : BlocksKnown) (s : BlocksState) (r : Closed) (t″ : List ℕ) where
   -- the answer and the rows are these
   abbrev Answers : Closing → Type 0
   Answers c = (r ≡ closedBy c s (length t′ / 3)) × (t″ ≡ cellsBy c t′)

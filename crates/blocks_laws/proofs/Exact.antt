@@ -7,7 +7,7 @@ use Rattle.text_utf8.specs.Trim.{trimOf, trimmed}
 use Rattle.lexer.specs.declared.Fault.{Fault}
 use Rattle.lexer.specs.declared.Fault.the-variants.{MissingPropertyIdentifier, UnexpectedEndOfPropertyIdentifier, UnexpectedEndOfPropertyValue}
 use Rattle.lexer.specs.Token.{End, done, broken, lexFrom, faultNumber}
-use Rattle.blocks.specs.declared.State.{State}
+use Rattle.blocks.specs.declared.BlocksState.{BlocksState}
 use Rattle.blocks.specs.declared.Blocked.{Blocked}
 use Rattle.blocks.specs.declared.Closed.{Closed}
 use Rattle.blocks.specs.State.{stateOf}
@@ -21,14 +21,14 @@ use Rattle.blocks_laws.proofs.Joined.{blocks-joined}
 -- ---- a block
 
 -- number 0, and the state then
-abbrev taken : State → (bs t : List ℕ) → Blocked
+abbrev taken : BlocksState → (bs t : List ℕ) → Blocked
 taken s bs t = record { number = 0; state = stateOf (afterBlock s bs t .known) }
 
 -- number 20, and the state as it was
-abbrev after : State → Blocked
+abbrev after : BlocksState → Blocked
 after s = record { number = 20; state = s }
 
-pub block-exactly : (s : State) (bs t : List ℕ) (r : Blocked) (t′ : List ℕ) → BlockIs s bs t r t′ → BlockNumbered (s .closed) (r .number)
+pub block-exactly : (s : BlocksState) (bs t : List ℕ) (r : Blocked) (t′ : List ℕ) → BlockIs s bs t r t′ → BlockNumbered (s .closed) (r .number)
 block-exactly s bs t r t′ b =
     let by : (d : Bool) → eqb (s .closed) 0 ≡ d → r ≡ pick d (taken s bs t) (after s) = λ d e. b .answer ∙ ap (λ (y : Bool). pick y (taken s bs t) (after s)) e in
     same-or (s .closed) 0
@@ -106,7 +106,7 @@ numbered (notRead i o) m n p g h q =
     same-number i o j u e = cc
 
 -- after blocks from the start on
-pub close-exactly : (t : List ℕ) (bs : List (List ℕ)) (s : State) (t′ : List ℕ) (r : Closed) (t″ : List ℕ) → BlockCalls atStart t bs s t′ → CloseIs s t′ r t″
+pub close-exactly : (t : List ℕ) (bs : List (List ℕ)) (s : BlocksState) (t′ : List ℕ) (r : Closed) (t″ : List ℕ) → BlockCalls atStart t bs s t′ → CloseIs s t′ r t″
     → CloseNumbered (readTokens (joinedText bs)) (length t / 3) (r .number) (r .place)
 close-exactly t bs s t′ r t″ b c =
     let x = blocks-joined t bs s t′ r t″ b c in

@@ -9,7 +9,7 @@ use Rattle.blocks_step.specs.declared.Char.the-variants.{Ended, Goes}
 use Rattle.blocks_step.specs.declared.Moved.{Moved}
 use Rattle.blocks_step.specs.Decode.{leftBy, decodes}
 use Rattle.blocks_step.specs.Lean.{moves}
-use Rattle.blocks.specs.declared.Known.{Known}
+use Rattle.blocks.specs.declared.BlocksKnown.{BlocksKnown}
 use Rattle.blocks.specs.Room.{filledWith, rowsAt, addRows, Room, room, goesBack, goes, keeps, settled, takesByte}
 use Rattle.blocks_laws.specs.LocalsListed.{Listed, settles, lists}
 use Rattle.blocks_laws.proofs.Owed.{owed, moves-owed, rows-threes}
@@ -17,7 +17,7 @@ use Rattle.blocks_laws.proofs.Stored.{Stored, Lent, lent-both, stored-l
 use Rattle.blocks_laws.proofs.Utf8.{Begun, Steps, space, ink, partly, broken, whole-steps, part-steps}
 
 -- the same with its rows as lists
-abbrev pub listedOf : Known → Utf → (rs hs : List (List ℕ)) → Listed
+abbrev pub listedOf : BlocksKnown → Utf → (rs hs : List (List ℕ)) → Listed
 listedOf k v rs hs = record { total = k .total; utf8 = v; now = k .now; rows = rs; kept = k .kept; held = hs }
 
 -- the end of the last character that is no white space

@@ -4,8 +4,8 @@ use Rattle.lists.proofs.Tests.{same-or}
 use Rattle.tables.specs.Numbers.{textLimit}
 use Rattle.text_utf8.specs.Text.{Utf, whole, blank}
 use Rattle.text_utf8.specs.Trim.{trimmed}
-use Rattle.blocks.specs.declared.State.{State}
-use Rattle.blocks.specs.declared.Known.{Known}
+use Rattle.blocks.specs.declared.BlocksState.{BlocksState}
+use Rattle.blocks.specs.declared.BlocksKnown.{BlocksKnown}
 use Rattle.blocks.specs.declared.Blocked.{Blocked}
 use Rattle.blocks.specs.declared.Closed.{Closed}
 use Rattle.blocks.specs.declared.Closing.{Closing}
@@ -122,11 +122,11 @@ follows-all t xs w (b ∷ bs) f =
 -- ---- calls
 
 -- open, and what is known
-pub record Open (t xs : List ℕ) (s : State) (t′ : List ℕ) : Type 0 where
+pub record Open (t xs : List ℕ) (s : BlocksState) (t′ : List ℕ) : Type 0 where
   pub closed : s .closed ≡ 0
   pub follows : Follows t xs (room (stateSays s) t′)
 
-block-open : (t xs : List ℕ) (s : State) (t′ bs : List ℕ) (r : Blocked) (t″ : List ℕ) → Open t xs s t′ → BlockIs s bs t′ r t″ → Open t (xs ++ bs) (r .state) t″
+block-open : (t xs : List ℕ) (s : BlocksState) (t′ bs : List ℕ) (r : Blocked) (t″ : List ℕ) → Open t xs s t′ → BlockIs s bs t′ r t″ → Open t (xs ++ bs) (r .state) t″
 block-open t xs s t′ bs r t″ o h =
     let c = eq-eqb (s .closed) 0 (o .closed) in
     let e : r .state ≡ stateOf (afterBlock s bs t′ .known) =
@@ -135,18 +135,18 @@ block-open t xs s t′ bs r t″ o h =
     let q : t″ ≡ afterBlock s bs t′ .cells = h .rows ∙ ap (λ (z : Bool). pick z (afterBlock s bs t′ .cells) t′) c in
     let k : stateSays (r .state) ≡ afterBlock s bs t′ .known = ap stateSays e ∙ says-state (afterBlock s bs t′ .known) in
     record {
-      closed = ap (λ (z : State). z .closed) e;
+      closed = ap (λ (z : BlocksState). z .closed) e;
       follows = subst⁻¹ (λ (z : Room). Follows t (xs ++ bs) z) (ap₂ room k q) (follows-all t xs (room (stateSays s) t′) bs (o .follows));
     }
 
-calls-open : (t xs : List ℕ) {s s′ : State} {t1 t2 : List ℕ} {bs : List (List ℕ)} → BlockCalls s t1 bs s′ t2 → Open t xs s t1 → Open t (xs ++ joinedText bs) s′ t2
+calls-open : (t xs : List ℕ) {s s′ : BlocksState} {t1 t2 : List ℕ} {bs : List (List ℕ)} → BlockCalls s t1 bs s′ t2 → Open t xs s t1 → Open t (xs ++ joinedText bs) s′ t2
 calls-open t xs {s} {s′} {t1} {t2} noMore o = subst⁻¹ (λ (z : List ℕ). Open t z s t1) (append-nil xs) o
 calls-open t xs {s} {s′} {t1} {t2} (oneMore {x = x} {t1 = t3} {r = r} {xs = bs} h rest) o =
     subst (λ (z : List ℕ). Open t z s′ t2) (append-assoc xs x (joinedText bs)) (calls-open t (xs ++ x) rest (block-open t xs s t1 x r t3 o h))
 
 -- ---- close
 
-open-read : (t xs : List ℕ) (s : State) (t′ : List ℕ) (r : Closed) (t″ : List ℕ) → Open t xs s t′ → CloseIs s t′ r t″ → ReadAs (readTokens xs) t r t″
+open-read : (t xs : List ℕ) (s : BlocksState) (t′ : List ℕ) (r : Closed) (t″ : List ℕ) → Open t xs s t′ → CloseIs s t′ r t″ → ReadAs (readTokens xs) t r t″
 unfolding readTokens
 open-read t xs s t′ r t″ o h = go (ltb textLimit (length xs)) refl
   where
@@ -171,5 +171,5 @@ open-read t xs s t′ r t″ o h = go (ltb textLimit (length xs)) refl
         (ended-as t t′ (stateSays s) s r t″ (i .v) (i .rs) (i .hs) (i .sim) (omega (arith, l, i .tracked .total)) (a, b))
 
 -- blocks of any length, however the text was cut
-pub blocks-joined : (t : List ℕ) (bs : List (List ℕ)) (s : State) (t′ : List ℕ) (r : Closed) (t″ : List ℕ) → BlockCalls atStart t bs s t′ → CloseIs s t′ r t″ → ReadAs (readTokens (joinedText bs)) t r t″
+pub blocks-joined : (t : List ℕ) (bs : List (List ℕ)) (s : BlocksState) (t′ : List ℕ) (r : Closed) (t″ : List ℕ) → BlockCalls atStart t bs s t′ → CloseIs s t′ r t″ → ReadAs (readTokens (joinedText bs)) t r t″
 blocks-joined t bs s t′ r t″ c h = open-read t (joinedText bs) s t′ r t″ (calls-open t [] c (record { closed = refl; follows = follows-none t })) h

@@ -9,8 +9,8 @@ use Rattle.blocks_step.specs.declared.Utf8.the-variants.{Whole, Within, Bad}
 use Rattle.blocks_step.specs.declared.Phase.{Phase}
 use Rattle.blocks_step.specs.declared.Phase.the-variants.{Between, Ident, Value, Escaped, After, Foreign}
 use Rattle.blocks_step.specs.Lean.{machineOf}
-use Rattle.blocks.specs.declared.State.{State}
-use Rattle.blocks.specs.declared.Known.{Known}
+use Rattle.blocks.specs.declared.BlocksState.{BlocksState}
+use Rattle.blocks.specs.declared.BlocksKnown.{BlocksKnown}
 use Rattle.blocks.specs.declared.Closed.{Closed}
 use Rattle.blocks.specs.declared.Closing.{Closing}
 use Rattle.blocks.specs.declared.Closing.the-variants.{Refused, Rows, Last}
@@ -24,7 +24,7 @@ no-rows : (t : List ℕ) → clearedRows t 0 ≡ replicate (length t / 3 * 3) 0 
 unfolding clearedRows
 no-rows t = let e : length t / 3 * 3 - 0 * 3 ≡ length t / 3 * 3 = omega arith in ap (λ (n : ℕ). replicate n 0 ++ drop (length t / 3 * 3) t) e
 
-refused-by : (s : State) (t : List ℕ) (c : Closing) (r : Closed) (t′ : List ℕ) → r ≡ closedBy c s (length t / 3) → t′ ≡ cellsBy c t → (r .number ≡ 0 → ⊥) → NoRows t t′
+refused-by : (s : BlocksState) (t : List ℕ) (c : Closing) (r : Closed) (t′ : List ℕ) → r ≡ closedBy c s (length t / 3) → t′ ≡ cellsBy c t → (r .number ≡ 0 → ⊥) → NoRows t t′
 refused-by s t (Refused n p) r t′ a b h = b ∙ no-rows t
 refused-by s t (Rows n) r t′ a b h = go (ltb (length t / 3) n) refl
   where
@@ -38,7 +38,7 @@ refused-by s t (Last n f l) r t′ a b h = go (ltb (length t / 3) (n + 1)) refl
     go false e = absurd (h (ap (λ (z : Closed). z .number) (a ∙ ap (λ (z : Bool). pick z (refusedAt s 14 0) (acceptedWith s (n + 1))) e)))
 
 -- a first close that is refused leaves no row
-pub close-refused : (s : State) (t : List ℕ) (r : Closed) (t′ : List ℕ) → s .closed ≡ 0 → CloseIs s t r t′ → (r .number ≡ 0 → ⊥) → NoRows t t′
+pub close-refused : (s : BlocksState) (t : List ℕ) (r : Closed) (t′ : List ℕ) → s .closed ≡ 0 → CloseIs s t r t′ → (r .number ≡ 0 → ⊥) → NoRows t t′
 close-refused s t r t′ h c n =
     let e = eq-eqb (s .closed) 0 h in
     refused-by s t (closing (stateSays s)) r t′
@@ -65,7 +65,7 @@ utf-some Whole p m l n q e z = inked-some (eqb l 0) p m l n q e z
 utf-some (Within left s c) p m l n q e z = let x : 2 ≡ n = cc in omega (arith, x, z)
 utf-some (Bad s) p m l n q e z = let x : 2 ≡ n = cc in omega (arith, x, z)
 
-closing-some : (k : Known) (n q : ℕ) → closing k ≡ Refused n q → n ≡ 0 → ⊥
+closing-some : (k : BlocksKnown) (n q : ℕ) → closing k ≡ Refused n q → n ≡ 0 → ⊥
 unfolding closing
 closing-some k n q = go (ltb textLimit (k .total))
   where
@@ -77,7 +77,7 @@ zeros-behind : (t : List ℕ) (n : ℕ) → n ≤ length t / 3 → ZerosBehind n
 unfolding clearedRows
 zeros-behind t n h = drop-at (take (n * 3) t) (replicate (length t / 3 * 3 - n * 3) 0 ++ drop (length t / 3 * 3) t) (n * 3) (length-take-le (n * 3) t (omega (arith, h)))
 
-accepted-by : (s : State) (t : List ℕ) (c : Closing) (r : Closed) (t′ : List ℕ) → ((n q : ℕ) → c ≡ Refused n q → n ≡ 0 → ⊥) → r ≡ closedBy c s (length t / 3) → t′ ≡ cellsBy c t → r .number ≡ 0 → ZerosBehind (r .tokens) t t′
+accepted-by : (s : BlocksState) (t : List ℕ) (c : Closing) (r : Closed) (t′ : List ℕ) → ((n q : ℕ) → c ≡ Refused n q → n ≡ 0 → ⊥) → r ≡ closedBy c s (length t / 3) → t′ ≡ cellsBy c t → r .number ≡ 0 → ZerosBehind (r .tokens) t t′
 accepted-by s t (Refused n p) r t′ k a b h = absurd (k n p refl (sym (ap (λ (z : Closed). z .number) a) ∙ h))
 accepted-by s t (Rows n) r t′ k a b h = go (ltb (length t / 3) n) refl
   where
@@ -104,7 +104,7 @@ accepted-by s t (Last n f l) r t′ k a b h = go (ltb (length t / 3) (n + 1)) re
         ∙ ap (λ (w : List ℕ). replicate (length t / 3 * 3 - (n + 1) * 3) 0 ++ w) v)
 
 -- a close that is accepted leaves zeros behind its rows
-pub close-accepted : (s : State) (t : List ℕ) (r : Closed) (t′ : List ℕ) → s .closed ≡ 0 → CloseIs s t r t′ → r .number ≡ 0 → ZerosBehind (r .tokens) t t′
+pub close-accepted : (s : BlocksState) (t : List ℕ) (r : Closed) (t′ : List ℕ) → s .closed ≡ 0 → CloseIs s t r t′ → r .number ≡ 0 → ZerosBehind (r .tokens) t t′
 close-accepted s t r t′ h c n =
     let e = eq-eqb (s .closed) 0 h in
     accepted-by s t (closing (stateSays s)) r t′ (closing-some (stateSays s))

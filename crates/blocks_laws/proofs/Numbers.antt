@@ -4,7 +4,7 @@ use Rattle.blocks_step.specs.declared.Left.{Left}
 use Rattle.blocks_step.specs.declared.Left.the-variants.{One, TwoFromA0, TwoTo9f, Two, ThreeFrom90, Three, ThreeTo8f}
 use Rattle.blocks_step.specs.declared.Utf8.{Utf8}
 use Rattle.blocks_step.specs.declared.Utf8.the-variants.{Whole, Within, Bad}
-use Rattle.blocks.specs.declared.Known.{Known}
+use Rattle.blocks.specs.declared.BlocksKnown.{BlocksKnown}
 use Rattle.blocks.specs.State.{utf8Number, utf8From, utf8Code, utf8By, stateSays, stateOf}
 use Rattle.blocks.proofs.Inks.{phase-back}
 
@@ -20,5 +20,5 @@ utf8-back (Within Three s c) = refl
 utf8-back (Within ThreeTo8f s c) = refl
 utf8-back (Bad p) = refl
 
-pub says-state : (k : Known) → stateSays (stateOf k) ≡ k
+pub says-state : (k : BlocksKnown) → stateSays (stateOf k) ≡ k
 says-state k = rw (utf8-back (k .utf8), phase-back (k .now), phase-back (k .kept))

@@ -1,13 +1,13 @@
 -- Calls one after another: blocks, with the same rows lent, from the start on; and what a close must answer then.
 use Rattle.lists.specs.Prelude.{ℕ, _/_, _≡_, List, [], _∷_, _++_, length, ltb, pick}
-use Rattle.blocks.specs.declared.State.{State}
+use Rattle.blocks.specs.declared.BlocksState.{BlocksState}
 use Rattle.blocks.specs.declared.Blocked.{Blocked}
 use Rattle.blocks.specs.declared.Closed.{Closed}
 use Rattle.blocks.specs.Block.{BlockIs}
 use Rattle.blocks_laws.specs.Reading.{TokenReading, tokensRead, notRead, rowsLeft}
 
 -- all zero: the start
-abbrev pub atStart : State
+abbrev pub atStart : BlocksState
 atStart =
     record {
       total = 0;
@@ -25,9 +25,9 @@ atStart =
     }
 
 -- blocks taken one after another: each call gets the state and the rows that the one before left
-pub data BlockCalls : State → List ℕ → List (List ℕ) → State → List ℕ → Type 0 where
-  noMore : {s : State} {t : List ℕ} → BlockCalls s t [] s t
-  oneMore : {s : State} {t x t1 : List ℕ} {r : Blocked} {xs : List (List ℕ)} {s′ : State} {t′ : List ℕ}
+pub data BlockCalls : BlocksState → List ℕ → List (List ℕ) → BlocksState → List ℕ → Type 0 where
+  noMore : {s : BlocksState} {t : List ℕ} → BlockCalls s t [] s t
+  oneMore : {s : BlocksState} {t x t1 : List ℕ} {r : Blocked} {xs : List (List ℕ)} {s′ : BlocksState} {t′ : List ℕ}
       → BlockIs s x t r t1 → BlockCalls (r .state) t1 xs s′ t′ → BlockCalls s t (x ∷ xs) s′ t′
 
 -- the joined text

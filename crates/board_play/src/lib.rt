@@ -3,7 +3,7 @@ ghost use mathlib.Core.Path.{_≡_};
 ghost use Rattle.board_play.specs.Play.{SetIs, playable, Plays, PlaysNear, PlayIs};
 
 // What stood at the point, how many stones of the other colour went, and how many of the mover's.
-pub struct Played {
+pub struct StonePlayed {
     pub stood: u8,
     pub taken: usize,
     pub lost: usize,
@@ -35,7 +35,7 @@ pub fn play_stone(
     rows: usize,
     p: usize,
     colour: u8,
-) -> Played
+) -> StonePlayed
     ensures { λ r. ⌜ PlayIs (Plays columns rows colour p (now (stones .entry)) (now (stones .exit)) (r .taken) (r .lost)) columns rows colour p
         (now (stones .entry)) (now (stones .exit)) (r .stood) (r .taken) (r .lost) ⌝ }
 {
@@ -43,7 +43,7 @@ pub fn play_stone(
         return play_near(stones, columns, rows, p, colour);
     }
     if !can_play(columns, rows, p, colour) {
-        return Played {
+        return StonePlayed {
             stood: 0,
             taken: 0,
             lost: 0,
@@ -53,7 +53,7 @@ pub fn play_stone(
     let stood = set_stone(stones, p, colour);
     let taken = board_take::take_all(stones, columns, rows, other);
     let lost = board_take::take_all(stones, columns, rows, colour);
-    Played {
+    StonePlayed {
         stood: stood,
         taken: taken,
         lost: lost,
@@ -67,12 +67,12 @@ pub fn play_near(
     rows: usize,
     p: usize,
     colour: u8,
-) -> Played
+) -> StonePlayed
     ensures { λ r. ⌜ PlayIs (PlaysNear columns rows colour p (now (stones .entry)) (now (stones .exit)) (r .taken) (r .lost)) columns rows colour p
         (now (stones .entry)) (now (stones .exit)) (r .stood) (r .taken) (r .lost) ⌝ }
 {
     if !can_play(columns, rows, p, colour) {
-        return Played {
+        return StonePlayed {
             stood: 0,
             taken: 0,
             lost: 0,
@@ -82,7 +82,7 @@ pub fn play_near(
     let stood = set_stone(stones, p, colour);
     let taken = board_take::take_beside(stones, columns, rows, p, other);
     let lost = board_take::take_group(stones, columns, rows, p, colour);
-    Played {
+    StonePlayed {
         stood: stood,
         taken: taken,
         lost: lost,

@@ -3,13 +3,13 @@ ghost use Prim.Native.Nat.{_≤_};
 ghost use lib.ListN.{length};
 
 // A number in decimal, and where it ends.
-pub struct Decimal {
+pub struct BlockNumber {
     pub value: usize,
     pub end: usize,
 }
 
 // The number of at most three digits at the head of a line.
-pub fn number_at(line: &[u8]) -> Decimal {
+pub fn number_at(line: &[u8]) -> BlockNumber {
     let mut value: usize = 0;
     let mut i: usize = 0;
     while i < line.len() {
@@ -26,7 +26,7 @@ pub fn number_at(line: &[u8]) -> Decimal {
         value = value * 10 + (b - 48) as usize;
         i += 1;
     }
-    Decimal {
+    BlockNumber {
         value: value,
         end: i,
     }

@@ -2,7 +2,7 @@
 mod line; // line.rt: the input
 mod say; // say.rt: the output
 
-use blocks::State;
+use blocks::BlocksState;
 use line::decode;
 use line::fill;
 use line::line_end;
@@ -15,8 +15,8 @@ ghost use Prim.Native.Nat.{_≤_};
 ghost use lib.ListN.{length};
 
 // The start: all zero.
-fn start() -> State {
-    State {
+fn start() -> BlocksState {
+    BlocksState {
         total: 0,
         utf: 0,
         utf_from: 0,
@@ -33,7 +33,7 @@ fn start() -> State {
 }
 
 // A block.
-fn on_block(state: State, bytes: &[u8], rows: &mut [u32]) -> State {
+fn on_block(state: BlocksState, bytes: &[u8], rows: &mut [u32]) -> BlocksState {
     let taken = blocks::block(state, bytes, rows);
     say_blocked(taken.number);
     let known = taken.state;
@@ -41,7 +41,7 @@ fn on_block(state: State, bytes: &[u8], rows: &mut [u32]) -> State {
 }
 
 // The close.
-fn on_close(state: State, rows: &mut [u32]) -> State {
+fn on_close(state: BlocksState, rows: &mut [u32]) -> BlocksState {
     let answer = blocks::close(state, rows);
     say_closed(answer.number, answer.place, answer.tokens);
     let known = answer.state;
@@ -49,7 +49,7 @@ fn on_close(state: State, rows: &mut [u32]) -> State {
 }
 
 // A word of a line.
-fn on_word(word: &[u8], state: State, rows: &mut [u32]) -> State {
+fn on_word(word: &[u8], state: BlocksState, rows: &mut [u32]) -> BlocksState {
     if word.len() < 1 {
         return state;
     }

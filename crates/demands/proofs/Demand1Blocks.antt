@@ -1,7 +1,7 @@
 -- Demand 1 for sgf_block and sgf_close, its listed exception: lent rows are working room until the close. Number 20 changes nothing; after a close that is accepted the rows past the count are 0,
 -- after one that is refused all rows are; a rest that is no row stays. Any state, also one that no call gave, has an answer: the contracts have no premise. Assumes nothing.
 use Rattle.lists.proofs.Prelude.{_≡_, ℕ, List}
-use Rattle.blocks.specs.declared.State.{State}
+use Rattle.blocks.specs.declared.BlocksState.{BlocksState}
 use Rattle.blocks.specs.declared.Blocked.{Blocked}
 use Rattle.blocks.specs.declared.Closed.{Closed}
 use Rattle.blocks.specs.Block.{BlockIs}
@@ -19,17 +19,17 @@ pub use Rattle.blocks_laws.proofs.Exact.{block-exactly, close-exactly}
 pub use Rattle.blocks_laws.proofs.Strict.{strict-begins}
 
 -- a block after the close is 20 and changes nothing
-pub block-refused : (s : State) (bs t : List ℕ) (r : Blocked) (t′ : List ℕ) → (s .closed ≡ 0 → ⊥) → BlockIs s bs t r t′ → (r ≡ record { number = 20; state = s }) × (t′ ≡ t)
+pub block-refused : (s : BlocksState) (bs t : List ℕ) (r : Blocked) (t′ : List ℕ) → (s .closed ≡ 0 → ⊥) → BlockIs s bs t r t′ → (r ≡ record { number = 20; state = s }) × (t′ ≡ t)
 block-refused = blocks.block-after-close
 
 -- a close after the close is 20 and changes nothing
-pub close-refused-20 : (s : State) (t : List ℕ) (r : Closed) (t′ : List ℕ) → (s .closed ≡ 0 → ⊥) → CloseIs s t r t′ → (r ≡ closedBefore s) × (t′ ≡ t)
+pub close-refused-20 : (s : BlocksState) (t : List ℕ) (r : Closed) (t′ : List ℕ) → (s .closed ≡ 0 → ⊥) → CloseIs s t r t′ → (r ≡ closedBefore s) × (t′ ≡ t)
 close-refused-20 = blocks.close-after-close
 
 -- a first close that is refused leaves no row
-pub close-refused : (s : State) (t : List ℕ) (r : Closed) (t′ : List ℕ) → s .closed ≡ 0 → CloseIs s t r t′ → (r .number ≡ 0 → ⊥) → NoRows t t′
+pub close-refused : (s : BlocksState) (t : List ℕ) (r : Closed) (t′ : List ℕ) → s .closed ≡ 0 → CloseIs s t r t′ → (r .number ≡ 0 → ⊥) → NoRows t t′
 close-refused = leaves.close-refused
 
 -- a close that is accepted leaves zeros behind its rows
-pub close-accepted : (s : State) (t : List ℕ) (r : Closed) (t′ : List ℕ) → s .closed ≡ 0 → CloseIs s t r t′ → r .number ≡ 0 → ZerosBehind (r .tokens) t t′
+pub close-accepted : (s : BlocksState) (t : List ℕ) (r : Closed) (t′ : List ℕ) → s .closed ≡ 0 → CloseIs s t r t′ → r .number ≡ 0 → ZerosBehind (r .tokens) t t′
 close-accepted = leaves.close-accepted

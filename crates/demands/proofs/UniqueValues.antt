@@ -14,7 +14,7 @@ use Rattle.parts.specs.Rows.{valueAt, valuesAt}
 use Rattle.values.specs.Decimal.{decimalOf}
 use Rattle.values.specs.Read.{readValue, nextRead, readIdentifier}
 use Rattle.values.specs.declared.decimal.Number.{Number}
-use Rattle.values.specs.declared.read.Step.{Step}
+use Rattle.values.specs.declared.read.ReadStep.{ReadStep}
 use Rattle.value_display.specs.Display.{displayed, displayedIn}
 use Rattle.value_display.specs.declared.Displayed.{Displayed}
 use Rattle.go_points.specs.Area.{letterOf, moveOf, areaOf}
@@ -109,7 +109,7 @@ module _ (text vals : List ℕ) (first n : ℕ) where
 
 -- values
 
-pub next-read-once : (s : List ℕ) (at : ℕ) → Once (λ (r : Step). r ≡ nextRead s at)
+pub next-read-once : (s : List ℕ) (at : ℕ) → Once (λ (r : ReadStep). r ≡ nextRead s at)
 next-read-once s at = once-is (nextRead s at)
 
 -- of decimal_within, read_i64 and read_i32, whatever the bound

@@ -2,8 +2,8 @@
 use Rattle.lists.proofs.Prelude.{ℕ, suc, zero, _+_, _<_, _≡_, refl, sym, ap, _∙_, Bool, true, false, _&&_, _||_, not, and-false, List, [], _∷_, eqb, pick, drop, arith, eq-eqb, ne-eqb}
 use Rattle.lists.specs.Same.{same}
 use Rattle.values.specs.Read.{readValue}
-use Rattle.values.specs.declared.read.Step.{Step}
-use Rattle.values.specs.declared.read.Step.the-variants.{Byte, End}
+use Rattle.values.specs.declared.read.ReadStep.{ReadStep}
+use Rattle.values.specs.declared.read.ReadStep.the-variants.{Byte, End}
 use Rattle.values.proofs.Steps.{Steps, read-cons}
 use Rattle.parts.specs.Rows.{valueAt, valuesAt}
 use Rattle.ff4_index.specs.Kinds.{kindNumber, unknown, none, number, double, color}

@@ -6,7 +6,7 @@ ghost use Rattle.ff4_values.specs.Simple.{noneOf, doubleOf, colorOf, num
 ghost use Rattle.go.specs.Value.{isGo};
 ghost use Rattle.ff4_values.specs.Locals.{onlyByte};
 use values::decimal::Number;
-use values::read::Step;
+use values::read::ReadStep;
 
 // What the values of a property are: not of these kinds; not as their kind wants; none; a Double; a Color; a number by its sign and its size.
 pub enum Simple {
@@ -44,10 +44,10 @@ fn wide(x: u8) -> u32
 fn only_byte(raw: &[u8]) -> u32
     ensures { λ r. ⌜ r ≡ onlyByte (readValue (now (raw .entry))) ⌝ }
 {
-    let Step::Byte(b, at) = values::read::next_read(raw, 0) else {
+    let ReadStep::Byte(b, at) = values::read::next_read(raw, 0) else {
         return 256;
     };
-    let Step::Byte(_, _) = values::read::next_read(raw, at) else {
+    let ReadStep::Byte(_, _) = values::read::next_read(raw, at) else {
         return wide(b);
     };
     256
@@ -58,8 +58,8 @@ fn read_none(raw: &[u8]) -> Simple
     ensures { λ r. ⌜ r ≡ noneOf (readValue (now (raw .entry))) ⌝ }
 {
     match values::read::next_read(raw, 0) {
-        Step::End => Simple::Nothing,
-        Step::Byte(_, _) => Simple::Invalid,
+        ReadStep::End => Simple::Nothing,
+        ReadStep::Byte(_, _) => Simple::Invalid,
     }
 }
 

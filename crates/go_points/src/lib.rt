@@ -8,7 +8,7 @@ ghost use Rattle.values.specs.Decimal.{decimalOf};
 ghost use Rattle.go_points.specs.Area.{letterOf, moveTo, moveOf, cornered, areaOf};
 ghost use Rattle.go_points.specs.Handicap.{handicapOf};
 use values::decimal::Number;
-use values::read::Step;
+use values::read::ReadStep;
 
 // What a property stands for.
 pub enum Value {
@@ -53,13 +53,13 @@ fn move_to(x: u8, y: u8) -> Value
 pub fn read_move(s: &[u8]) -> Value
     ensures { λ r. ⌜ r ≡ moveOf (readValue (now (s .entry))) ⌝ }
 {
-    let Step::Byte(a, at1) = values::read::next_read(s, 0) else {
+    let ReadStep::Byte(a, at1) = values::read::next_read(s, 0) else {
         return Value::Pass;
     };
-    let Step::Byte(b, at2) = values::read::next_read(s, at1) else {
+    let ReadStep::Byte(b, at2) = values::read::next_read(s, at1) else {
         return Value::Invalid;
     };
-    let Step::Byte(_, _) = values::read::next_read(s, at2) else {
+    let ReadStep::Byte(_, _) = values::read::next_read(s, at2) else {
         return move_to(letter_of(a), letter_of(b));
     };
     Value::Invalid
@@ -104,13 +104,13 @@ fn area_of(a: u8, b: u8, d: u8, e: u8) -> Area
 fn area_to(a: u8, b: u8, s: &[u8], at: usize) -> Area
     ensures { λ r. ⌜ r ≡ areaOf (a ∷ b ∷ 0x3a ∷ readValue (drop at (now (s .entry)))) ⌝ }
 {
-    let Step::Byte(d, at1) = values::read::next_read(s, at) else {
+    let ReadStep::Byte(d, at1) = values::read::next_read(s, at) else {
         return Area::Bad;
     };
-    let Step::Byte(e, at2) = values::read::next_read(s, at1) else {
+    let ReadStep::Byte(e, at2) = values::read::next_read(s, at1) else {
         return Area::Bad;
     };
-    let Step::Byte(_, _) = values::read::next_read(s, at2) else {
+    let ReadStep::Byte(_, _) = values::read::next_read(s, at2) else {
         return area_of(a, b, d, e);
     };
     Area::Bad
@@ -120,13 +120,13 @@ fn area_to(a: u8, b: u8, s: &[u8], at: usize) -> Area
 pub fn read_area(s: &[u8]) -> Area
     ensures { λ r. ⌜ r ≡ areaOf (readValue (now (s .entry))) ⌝ }
 {
-    let Step::Byte(a, at1) = values::read::next_read(s, 0) else {
+    let ReadStep::Byte(a, at1) = values::read::next_read(s, 0) else {
         return Area::Bad;
     };
-    let Step::Byte(b, at2) = values::read::next_read(s, at1) else {
+    let ReadStep::Byte(b, at2) = values::read::next_read(s, at1) else {
         return Area::Bad;
     };
-    let Step::Byte(colon, at3) = values::read::next_read(s, at2) else {
+    let ReadStep::Byte(colon, at3) = values::read::next_read(s, at2) else {
         return area_of(a, b, a, b);
     };
     if colon != b':' {

@@ -4,7 +4,7 @@ ghost use mathlib.Core.List.{[], _∷_};
 ghost use Rattle.values.specs.Read.{readIdentifier};
 ghost use Rattle.go_shape.specs.LocalsIdentifier.{Letters};
 ghost use Rattle.go_shape.specs.Shape.{shapeOf};
-use values::read::Step;
+use values::read::ReadStep;
 
 // What a property takes, by its identifier.
 pub enum Shape {
@@ -15,7 +15,7 @@ pub enum Shape {
 }
 
 // The next uppercase letter of an identifier.
-fn next_letter(s: &[u8], from: usize) -> Step
+fn next_letter(s: &[u8], from: usize) -> ReadStep
     ensures { λ r. ⌜ Letters (now (s .entry)) from r ⌝ }
 {
     let mut at = from;
@@ -23,10 +23,10 @@ fn next_letter(s: &[u8], from: usize) -> Step
         let b = s[at];
         at += 1;
         if (b'A' <= b) & (b <= b'Z') {
-            return Step::Byte(b, at);
+            return ReadStep::Byte(b, at);
         }
     }
-    Step::End
+    ReadStep::End
 }
 
 // What an identifier of one letter takes.
@@ -58,13 +58,13 @@ fn shape_of_two(a: u8, b: u8) -> Shape
 pub fn shape_of(identifier: &[u8]) -> Shape
     ensures { λ r. ⌜ r ≡ shapeOf (readIdentifier (now (identifier .entry))) ⌝ }
 {
-    let Step::Byte(a, at1) = next_letter(identifier, 0) else {
+    let ReadStep::Byte(a, at1) = next_letter(identifier, 0) else {
         return Shape::Unread;
     };
-    let Step::Byte(b, at2) = next_letter(identifier, at1) else {
+    let ReadStep::Byte(b, at2) = next_letter(identifier, at1) else {
         return shape_of_one(a);
     };
-    let Step::Byte(_, _) = next_letter(identifier, at2) else {
+    let ReadStep::Byte(_, _) = next_letter(identifier, at2) else {
         return shape_of_two(a, b);
     };
     Shape::Unread

@@ -111,6 +111,13 @@ lexed ts l = record { toks = ts ++ l .toks; end = l .end }
 abbrev pub lexFrom : ℕ → ℕ → List ℕ → Lexed
 lexFrom f l bs = lexed (emits between f bs) (finish (stateAfter between f bs) l)
 
+-- the place of a token
+abbrev pub tokenPlace : Tok → ℕ
+tokenPlace (start o) = o
+tokenPlace (end o) = o
+tokenPlace (node o) = o
+tokenPlace (prop p e) = p .from
+
 -- the number of a fault
 abbrev pub faultNumber : Fault → ℕ
 faultNumber MissingPropertyIdentifier = 3

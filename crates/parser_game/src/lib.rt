@@ -27,14 +27,14 @@ fn is_one(v: &[u8]) -> bool
     ensures { λ r. ⌜ r ≡ same (readValue (now (v .entry))) (0x31 ∷ []) ⌝ }
 {
     match values::read::next_read(v, 0) {
-        values::read::Step::End => false,
-        values::read::Step::Byte(b, next) => {
+        values::read::ReadStep::End => false,
+        values::read::ReadStep::Byte(b, next) => {
             if b != b'1' {
                 return false;
             }
             match values::read::next_read(v, next) {
-                values::read::Step::End => true,
-                values::read::Step::Byte(_, _) => false,
+                values::read::ReadStep::End => true,
+                values::read::ReadStep::Byte(_, _) => false,
             }
         }
     }

@@ -2,14 +2,14 @@
 use Rattle.lists.proofs.Prelude.{_≡_, refl, sym, ap, _∙_, subst, subst⁻¹, ℕ, zero, suc, _+_, max, arith, Bool, true, false, false≢true, List, [], _∷_, _++_, List·Memᴰ, List·Memᴰ·head, List·Memᴰ·tail, length, drop, drop-append-add}
 use Rattle.lists.specs.All.{All}
 use Rattle.lists.proofs.All.{all-mem}
-use Rattle.lexer.specs.Token.{Tok, End, done, broken, Lexed}
+use Rattle.lexer.specs.Token.{Tok, End, done, broken, Lexed, tokenPlace}
 use Rattle.tables.specs.Numbers.{none}
 use Rattle.tables.specs.Record.{Node, Tree, allProps}
 use Rattle.parser.specs.LocalsSlice.{sliceFrom, restFrom, firstSlices}
 use Rattle.parser.specs.Walk.{Walk, walk, walks, walked}
 use Rattle.parser.specs.Read.{accepted, readLenient}
 use Rattle.reader_laws.proofs.Grown.{Grew}
-use Rattle.why_blame.specs.Blame.{blame, isStopped, tokenPlace}
+use Rattle.why_blame.specs.Blame.{blame, isStopped}
 use Rattle.why_blame.specs.Cuts.{slicedTokens}
 use Rattle.why_blame.proofs.Found.{blame-here, blame-on, stopped-stays}
 use Rattle.salvage_mend.specs.Changes.{Change, emptyRoot, unnamed, removedGM, spelledAnew, cutShort, tailDropped, nodesChanges}

@@ -1,7 +1,7 @@
 -- When an entry of the list of changes is true of a text and the record that is leniently read from it.
 use Rattle.lists.specs.Prelude.{ℕ, zero, suc, _≡_, Bool, true, false, List, [], _∷_, _++_}
 use Rattle.text_utf8.specs.Text.{Utf, whole, part, bad, blank, utfs}
-use Rattle.lexer.specs.Token.{Prop, Tok, End, done, broken, Lexed}
+use Rattle.lexer.specs.Token.{Prop, Tok, End, done, broken, Lexed, tokenPlace}
 use Rattle.values.specs.Read.{readIdentifier}
 use Rattle.tables.specs.Numbers.{none}
 use Rattle.tables.specs.Record.{Node, Tree, allProps}
@@ -9,7 +9,7 @@ use Rattle.parser.specs.Game.{GM}
 use Rattle.parser.specs.Split.{Slices, no, slices, splitByGametree}
 use Rattle.parser.specs.Walk.{Walk, walk, walked}
 use Rattle.parser.specs.Read.{tokenize}
-use Rattle.why_blame.specs.Blame.{isStopped, tokenPlace}
+use Rattle.why_blame.specs.Blame.{isStopped}
 use Rattle.why_blame.specs.Cuts.{slicedTokens}
 use Rattle.salvage_mend.specs.Mend.{rootGame, gmsBad}
 use Rattle.salvage_mend.specs.Changes.{Change, emptyRoot, unnamed, removedGM, spelledAnew, cutShort, tailDropped}

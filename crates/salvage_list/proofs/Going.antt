@@ -1,6 +1,6 @@
 -- The walk of a slice for its entries, one token a turn: the state, and a start. Assumes nothing.
 use Rattle.lists.proofs.Prelude.{ℕ, suc, _+_, _≤_, _<_, _≡_, refl, sym, ap, _∙_, subst, subst⁻¹, Bool, true, false, false≢true, List, [], _∷_, _++_, reverse, arith, add-one, length, length-reverse, set, length-set, pick}
-use Rattle.lexer.specs.Token.{Tok, start, node, Lexed, lexed, lexAt}
+use Rattle.lexer.specs.Token.{Tok, start, node, Lexed, lexed, lexAt, tokenPlace}
 use Rattle.tables.specs.Numbers.{textLimit, depthLimit, none}
 use Rattle.tables.specs.Record.{Node, allProps}
 use Rattle.parser.specs.Walk.{Walk, walk, halted, walks, walked}
@@ -10,7 +10,7 @@ use Rattle.parser_tree.specs.LocalsTurns.{BehindIs}
 use Rattle.parser_tree.proofs.Stacks.{stack-push}
 use Rattle.parser_tree.proofs.Lines.{Line, line-first, line-open, line-may}
 use Rattle.parser_tree.proofs.Behind.{Skipping, skipping-first, skipping-start, skipping-behind}
-use Rattle.why_blame.specs.Blame.{blame, isStopped, tokenPlace}
+use Rattle.why_blame.specs.Blame.{blame, isStopped}
 use Rattle.why_blame.proofs.Found.{blame-on, blame-here}
 use Rattle.salvage_mend.specs.Mend.{rootGame, gmsBad}
 use Rattle.salvage_mend.specs.Changes.{cutShort}

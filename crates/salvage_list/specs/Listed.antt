@@ -1,13 +1,13 @@
 -- The list of what salvage changed: tree by tree an empty root, the properties by number, a cut; at the end the tail.
 use Rattle.lists.specs.Prelude.{ℕ, suc, _+_, true, false, List, [], _∷_, _++_, reverse, length, drop, max}
 use Rattle.text_utf8.specs.Text.{Utf, whole, part, bad, blank, utfs}
-use Rattle.lexer.specs.Token.{Tok, End, done, broken, Lexed}
+use Rattle.lexer.specs.Token.{Tok, End, done, broken, Lexed, tokenPlace}
 use Rattle.tables.specs.Numbers.{none}
 use Rattle.tables.specs.Record.{Node, allProps}
 use Rattle.parser.specs.Split.{Slices, no, slices, splitByGametree}
 use Rattle.parser.specs.Walk.{Walk, walk, halted, stopped, walks, walked}
 use Rattle.parser.specs.Read.{tokenize}
-use Rattle.why_blame.specs.Blame.{Blame, nowhere, found, blame, isStopped, tokenPlace}
+use Rattle.why_blame.specs.Blame.{Blame, nowhere, found, blame, isStopped}
 use Rattle.why_blame.specs.Cuts.{slicedTokens}
 use Rattle.salvage_mend.specs.Changes.{Change, emptyRoot, cutShort, tailDropped, nodesChanges}
 

@@ -5,7 +5,7 @@ use Rattle.tables.specs.Rows.{parents}
 use Rattle.salvage_list.specs.LocalsWalk.{nodesFrom}
 use Rattle.salvage_depth.proofs.Opened.{highest}
 use Rattle.salvage_shape.specs.LocalsWalk.{ShapeReady, ShapeIs}
-use Rattle.salvage_shape.specs.declared.Shape.{Shape}
+use Rattle.salvage_shape.specs.declared.TreeShape.{TreeShape}
 use Rattle.salvage_shape.proofs.Depths.{shape-highest}
 
 parents-many : (ns : List Node) → length (parents ns) ≡ length ns
@@ -13,7 +13,7 @@ parents-many [] = refl
 parents-many (n ∷ ns) = ap suc (parents-many ns)
 
 -- the most brackets that are open at a node, the tree's own among them; 1 of no node
-pub shape-depth : {u : List ℕ} {from base : ℕ} {r : Shape} → ShapeReady u from base → ShapeIs u from base r
+pub shape-depth : {u : List ℕ} {from base : ℕ} {r : TreeShape} → ShapeReady u from base → ShapeIs u from base r
     → r .depth ≡ max 1 (highest (parents (nodesFrom u from base)) base [] (parents (nodesFrom u from base)))
 shape-depth {u} {from} {base} {r} h x =
     let a = h .short in

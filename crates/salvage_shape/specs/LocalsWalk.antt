@@ -6,7 +6,7 @@ use Rattle.parser.specs.LocalsSlice.{Shallow}
 use Rattle.parser_tree.specs.LocalsTurns.{BehindIs}
 use Rattle.salvage_list.specs.LocalsWalk.{tokensAt, nodesFrom}
 use Rattle.salvage_shape.specs.LocalsShape.{leaf, Meets, shapeDepth, bracketsOf}
-use Rattle.salvage_shape.specs.declared.Shape.{Shape}
+use Rattle.salvage_shape.specs.declared.TreeShape.{TreeShape}
 
 -- what the walk asks for
 pub record ShapeReady (u : List ℕ) (from base : ℕ) : Type 0 where
@@ -16,7 +16,7 @@ pub record ShapeReady (u : List ℕ) (from base : ℕ) : Type 0 where
   pub shallow : Shallow 0 (tokensAt u from)
 
 -- what it gives
-pub record ShapeIs (u : List ℕ) (from base : ℕ) (r : Shape) : Type 0 where
+pub record ShapeIs (u : List ℕ) (from base : ℕ) (r : TreeShape) : Type 0 where
   pub nodes : r .nodes ≡ length (nodesFrom u from base)
   pub brackets : r .brackets ≡ bracketsOf (parents (nodesFrom u from base))
   pub depth : r .depth ≡ shapeDepth base (parents (nodesFrom u from base))

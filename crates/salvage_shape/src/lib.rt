@@ -24,7 +24,7 @@ struct Chain {
 }
 
 // The place behind a slice; how many nodes its tree has, how many stand in brackets; the depth, 1 where there is no node.
-pub struct Shape {
+pub struct TreeShape {
     pub next: usize,
     pub nodes: usize,
     pub brackets: usize,
@@ -243,7 +243,7 @@ fn skip_slice(s: &[u8], from: usize, opened: usize) -> usize
 }
 
 // The shape of the tree of the slice that starts at a place, its first node numbered `base`.
-pub fn shape_of(s: &[u8], from: usize, base: usize) -> Shape
+pub fn shape_of(s: &[u8], from: usize, base: usize) -> TreeShape
     requires { ⌜ ShapeReady (now s) from base ⌝ }
     ensures { λ r. ⌜ ShapeIs (now (s .entry)) from base r ⌝ }
 {
@@ -267,7 +267,7 @@ pub fn shape_of(s: &[u8], from: usize, base: usize) -> Shape
         match lexer::next_token(s, at) {
             Step::Start(i) => {
                 if !may_open(&stack, depth, base, n) {
-                    return Shape {
+                    return TreeShape {
                         next: skip_slice(s, at, depth),
                         nodes: n - base,
                         brackets: brackets,
@@ -283,7 +283,7 @@ pub fn shape_of(s: &[u8], from: usize, base: usize) -> Shape
             }
             Step::End(i) => {
                 if depth <= 1 {
-                    return Shape {
+                    return TreeShape {
                         next: i + 1,
                         nodes: n - base,
                         brackets: brackets,
@@ -309,7 +309,7 @@ pub fn shape_of(s: &[u8], from: usize, base: usize) -> Shape
             }
             Step::Property(_, _, next) => {
                 if !follows {
-                    return Shape {
+                    return TreeShape {
                         next: skip_slice(s, at, depth),
                         nodes: n - base,
                         brackets: brackets,
@@ -319,7 +319,7 @@ pub fn shape_of(s: &[u8], from: usize, base: usize) -> Shape
                 at = next;
             }
             Step::Refused(_, _) => {
-                return Shape {
+                return TreeShape {
                     next: at,
                     nodes: n - base,
                     brackets: brackets,
@@ -327,7 +327,7 @@ pub fn shape_of(s: &[u8], from: usize, base: usize) -> Shape
                 };
             }
             Step::Done => {
-                return Shape {
+                return TreeShape {
                     next: at,
                     nodes: n - base,
                     brackets: brackets,

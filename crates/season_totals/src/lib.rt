@@ -59,19 +59,19 @@ pub fn line_sums(line: Line) -> Totals
 }
 
 // One column added, if the sum is below 2^64.
-enum Checked {
+enum CheckedSum {
     Is(u64),
     Over,
 }
 
 // The sum of two numbers, if it is below 2^64.
-fn plus(a: u64, b: u64) -> Checked
+fn plus(a: u64, b: u64) -> CheckedSum
     ensures { λ r. ⌜ r ≡ checked a b ⌝ }
 {
     if 0xffff_ffff_ffff_ffff - a < b {
-        return Checked::Over;
+        return CheckedSum::Over;
     }
-    Checked::Is(a + b)
+    CheckedSum::Is(a + b)
 }
 
 // The sums of two, column by column, where each is below 2^64.
@@ -84,13 +84,13 @@ pub fn added(left: Totals, right: Totals) -> Sum
     let mut i = 0;
     while i < 38 {
         match plus(x[i], y[i]) {
-            Checked::Over => {
+            CheckedSum::Over => {
                 return Sum {
                     fits: false,
                     totals: left,
                 };
             }
-            Checked::Is(n) => {
+            CheckedSum::Is(n) => {
                 sums[i] = n;
             }
         }

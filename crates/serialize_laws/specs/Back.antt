@@ -2,7 +2,7 @@
 use Rattle.lists.specs.Prelude.{ℕ, _≡_, Bool, true, false, _&&_, List, [], _∷_, getD, leb}
 use Rattle.lists.specs.All.{All}
 use Rattle.text_utf8.specs.Text.{Utf, whole, part, bad, blank, utfs}
-use Rattle.lexer.specs.Token.{Prop, Tok, start, end, node, prop}
+use Rattle.lexer.specs.Token.{Prop, Tok, tokenPlace}
 use Rattle.lexer.specs.Move.{moveProp, moveTok}
 use Rattle.tables.specs.Record.{Node, Tree}
 use Rattle.tables.specs.Move.{moveNode, moveTree}
@@ -33,17 +33,10 @@ toksOf (bad p) t = []
 abbrev pub slicesIn : List ℕ → Slices
 slicesIn t = splitByGametree false (toksOf (utfs (whole blank) 0 t) t)
 
--- where a token stands
-abbrev pub placeOf : Tok → ℕ
-placeOf (start o) = o
-placeOf (end o) = o
-placeOf (node o) = o
-placeOf (prop p e) = p .from
-
 -- the byte at the first of a tree's tokens is `(`
 abbrev pub Begins : List ℕ → List Tok → Type 0
 Begins t [] = ⊥
-Begins t (x ∷ xs) = getD t (placeOf x) 0 ≡ 0x28
+Begins t (x ∷ xs) = getD t (tokenPlace x) 0 ≡ 0x28
 
 -- of each slice
 abbrev pub Each : (List Tok → Type 0) → Slices → Type 0

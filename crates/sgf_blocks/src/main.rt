@@ -1,5 +1,5 @@
 // The tokens of the text on standard input, one a line with its span; then `done`, or the refusal alone. The text is taken in blocks of 4,096 bytes, and no more of it is held. At most 1,048,576 bytes and 65,536 tokens.
-use blocks::State;
+use blocks::BlocksState;
 ghost use mathlib.Core.Path.{_≡_};
 ghost use lib.ListN.{replicate};
 
@@ -55,8 +55,8 @@ fn say_rows(rows: &[u32], tokens: usize) {
 }
 
 // The start: all zero.
-fn start() -> State {
-    State {
+fn start() -> BlocksState {
+    BlocksState {
         total: 0,
         utf: 0,
         utf_from: 0,
@@ -80,7 +80,7 @@ fn token_rows() -> [u32; 196608]
 }
 
 // Takes standard input, 4,096 bytes at a time; one block more than the longest text has suffices.
-fn take_input(rows: &mut [u32]) -> State {
+fn take_input(rows: &mut [u32]) -> BlocksState {
     let mut block = io::buffer();
     let mut state = start();
     let mut left: usize = 257;

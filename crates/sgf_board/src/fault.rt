@@ -9,7 +9,7 @@ use go_size::RootSize;
 use tables::Counts;
 
 // What is wrong with a node: nothing; a place off the board; a place that is set twice.
-enum Fault {
+enum BoardFault {
     Nothing,
     Off(usize),
     Twice(usize),
@@ -21,21 +21,26 @@ fn on_board(columns: usize, rows: usize, place: usize) -> bool {
 }
 
 // The first marked place that is off the board or was set before; the others are set now.
-fn set_fault(marks: &[bool; 2704], seen: &mut [bool; 2704], columns: usize, rows: usize) -> Fault {
+fn set_fault(
+    marks: &[bool; 2704],
+    seen: &mut [bool; 2704],
+    columns: usize,
+    rows: usize,
+) -> BoardFault {
     let mut place: usize = 0;
     while place < 2704 {
         if marks[place] {
             if !on_board(columns, rows, place) {
-                return Fault::Off(place);
+                return BoardFault::Off(place);
             }
             if seen[place] {
-                return Fault::Twice(place);
+                return BoardFault::Twice(place);
             }
             seen[place] = true;
         }
         place += 1;
     }
-    Fault::Nothing
+    BoardFault::Nothing
 }
 
 // Is it a setup property.
@@ -53,10 +58,10 @@ fn setup_fault(
     seen: &mut [bool; 2704],
     columns: usize,
     rows: usize,
-) -> Fault {
+) -> BoardFault {
     let identifier = parts_props::identifier_at(text, properties, property);
     if !is_setup(identifier) {
-        return Fault::Nothing;
+        return BoardFault::Nothing;
     }
     let first = property_cell(properties, property, 2);
     let count = property_cell(properties, property, 3);
@@ -73,20 +78,20 @@ fn setups_fault(
     to: usize,
     columns: usize,
     rows: usize,
-) -> Fault {
+) -> BoardFault {
     let mut seen = [false; 2704];
     for property in from..to {
         match setup_fault(text, properties, values, property, &mut seen, columns, rows) {
-            Fault::Nothing => {}
-            Fault::Off(place) => {
-                return Fault::Off(place);
+            BoardFault::Nothing => {}
+            BoardFault::Off(place) => {
+                return BoardFault::Off(place);
             }
-            Fault::Twice(place) => {
-                return Fault::Twice(place);
+            BoardFault::Twice(place) => {
+                return BoardFault::Twice(place);
             }
         }
     }
-    Fault::Nothing
+    BoardFault::Nothing
 }
 
 // What is wrong with the moves of the properties from one to another.
@@ -98,16 +103,16 @@ fn moves_fault(
     to: usize,
     columns: usize,
     rows: usize,
-) -> Fault {
+) -> BoardFault {
     for property in from..to {
         let place = played(text, properties, values, property, columns, rows);
         if place < 2704 {
             if !on_board(columns, rows, place) {
-                return Fault::Off(place);
+                return BoardFault::Off(place);
             }
         }
     }
-    Fault::Nothing
+    BoardFault::Nothing
 }
 
 // The letters of a place.
@@ -124,14 +129,14 @@ fn say_place(node: usize, place: usize, words: &[u8]) {
 }
 
 // Says what is wrong; whether anything is.
-fn say_one(fault: Fault, node: usize) -> bool {
+fn say_one(fault: BoardFault, node: usize) -> bool {
     match fault {
-        Fault::Nothing => false,
-        Fault::Off(place) => {
+        BoardFault::Nothing => false,
+        BoardFault::Off(place) => {
             say_place(node, place, b" is off the board");
             true
         }
-        Fault::Twice(place) => {
+        BoardFault::Twice(place) => {
             say_place(node, place, b" is set twice");
             true
         }

@@ -8,7 +8,7 @@ pub struct Stream {
 }
 
 // A line without its line feed: whether there is one, how many of its bytes were kept, and the stream behind it.
-pub struct Taken {
+pub struct LineTaken {
     pub some: bool,
     pub kept: usize,
     pub stream: Stream,
@@ -68,7 +68,7 @@ fn keep(line: &mut [u8], n: usize, b: u8) -> usize {
 }
 
 // The next line: its first bytes, as many as there is room for. The last line may lack its line feed.
-pub fn take_line(stream: Stream, block: &mut [u8], line: &mut [u8]) -> Taken {
+pub fn take_line(stream: Stream, block: &mut [u8], line: &mut [u8]) -> LineTaken {
     let mut now = stream;
     let mut kept: usize = 0;
     let mut some = false;
@@ -76,7 +76,7 @@ pub fn take_line(stream: Stream, block: &mut [u8], line: &mut [u8]) -> Taken {
     while 0 < turns {
         now = ready(now, block);
         if now.end <= now.at {
-            return Taken {
+            return LineTaken {
                 some: some,
                 kept: kept,
                 stream: now,
@@ -86,7 +86,7 @@ pub fn take_line(stream: Stream, block: &mut [u8], line: &mut [u8]) -> Taken {
         now = behind(now);
         some = true;
         if b == b'\n' {
-            return Taken {
+            return LineTaken {
                 some: true,
                 kept: kept,
                 stream: now,
@@ -95,7 +95,7 @@ pub fn take_line(stream: Stream, block: &mut [u8], line: &mut [u8]) -> Taken {
         kept = keep(line, kept, b);
         turns -= 1;
     }
-    Taken {
+    LineTaken {
         some: some,
         kept: kept,
         stream: now,

@@ -10,14 +10,14 @@ pub struct Report {
 }
 
 // A number below 2^64, and the place behind it.
-struct Number {
+struct ReportNumber {
     good: bool,
     value: u64,
     at: usize,
 }
 
-fn no_number(at: usize) -> Number {
-    Number {
+fn no_number(at: usize) -> ReportNumber {
+    ReportNumber {
         good: false,
         value: 0,
         at: at,
@@ -69,14 +69,14 @@ fn longer(value: u64, d: u64) -> u64 {
 }
 
 // The number whose digits begin at a place.
-fn number_at(line: &[u8], at: usize) -> Number {
+fn number_at(line: &[u8], at: usize) -> ReportNumber {
     let mut good = false;
     let mut value: u64 = 0;
     let mut i = at;
     while i < line.len() {
         let b = line[i];
         if !is_digit(b) {
-            return Number {
+            return ReportNumber {
                 good: good,
                 value: value,
                 at: i,
@@ -89,7 +89,7 @@ fn number_at(line: &[u8], at: usize) -> Number {
         good = true;
         i += 1;
     }
-    Number {
+    ReportNumber {
         good: good,
         value: value,
         at: i,
@@ -97,7 +97,7 @@ fn number_at(line: &[u8], at: usize) -> Number {
 }
 
 // A tab and a number.
-fn column_at(line: &[u8], at: usize) -> Number {
+fn column_at(line: &[u8], at: usize) -> ReportNumber {
     if line.len() <= at {
         return no_number(at);
     }

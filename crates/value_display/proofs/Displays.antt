@@ -6,13 +6,13 @@ use Rattle.value_display.specs.LocalsShowing.{DisplaysAt}
 use Rattle.store_bytes.specs.LocalsWrote.{Wrote}
 use Rattle.value_display.specs.declared.Kind.{Kind}
 use Rattle.value_display.specs.declared.Kind.the-variants.{Text, SimpleText}
-use Rattle.values.specs.declared.read.Step.{Step}
-use Rattle.values.specs.declared.read.Step.the-variants.{Byte, End}
+use Rattle.values.specs.declared.read.ReadStep.{ReadStep}
+use Rattle.values.specs.declared.read.ReadStep.the-variants.{Byte, End}
 use Rattle.value_display.specs.declared.Displayed.the-variants.{Length, NoRoom}
 use Rattle.store_bytes.proofs.Lists.{sets-out}
 use Rattle.store_bytes.proofs.Written.{wrote-none, wrote-more, wrote-is, wrote-all}
 
-module _ (s : List ℕ) (at : ℕ) (r : Step) {kind : Kind} where
+module _ (s : List ℕ) (at : ℕ) (r : ReadStep) {kind : Kind} where
   pub shows-text : kind ≡ Text → DisplaysAt formatText s at r → DisplaysAt (displayText kind) s at r
   unfolding displayText
   shows-text e h = subst (λ k. DisplaysAt (displayText k) s at r) (sym e) h

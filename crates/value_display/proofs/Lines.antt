@@ -3,7 +3,7 @@ use Rattle.lists.proofs.Prelude.{ℕ, _≡_, sym, ap, _∙_, List, _∷_, arith
 use Rattle.values.specs.Read.{readValue}
 use Rattle.value_display.specs.Display.{formatText, oneLine}
 use Rattle.value_display.specs.LocalsShowing.{DisplaysAt, Peeks, otherBreak}
-use Rattle.values.specs.declared.read.Step.the-variants.{Byte, End}
+use Rattle.values.specs.declared.read.ReadStep.the-variants.{Byte, End}
 use Rattle.value_display.proofs.OneLine.{line-empty, break-line, line-other, line-cr-lf, line-cr, line-lf, line-lf-cr-lf, line-lf-cr}
 
 -- what `format_text` shows from a place on

@@ -3,7 +3,7 @@ use Rattle.lists.proofs.Prelude.{ℕ, _≤_, _≡_, refl, sym, ap, _∙_, Bool,
 use Rattle.values.specs.Read.{readValue}
 use Rattle.value_display.specs.Display.{blank1, blank2, blank3, formatText}
 use Rattle.value_display.specs.LocalsShowing.{DisplaysAt, Peeks, FormatsAt, Past}
-use Rattle.values.specs.declared.read.Step.the-variants.{Byte, End}
+use Rattle.values.specs.declared.read.ReadStep.the-variants.{Byte, End}
 use Rattle.value_display.proofs.Formats.{format-blank1, format-blank2, format-blank3, format-plain}
 
 module _ (f : List ℕ → List ℕ) (s : List ℕ) (at : ℕ) where

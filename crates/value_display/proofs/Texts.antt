@@ -3,7 +3,7 @@ use Rattle.lists.proofs.Prelude.{ℕ, _≤_, _≡_, sym, ap, _∙_, List, _∷_
 use Rattle.values.specs.Read.{readValue}
 use Rattle.value_display.specs.Display.{formatText}
 use Rattle.value_display.specs.LocalsShowing.{DisplaysAt, FormatsAt, otherBreak, Past}
-use Rattle.values.specs.declared.read.Step.the-variants.{Byte, End}
+use Rattle.values.specs.declared.read.ReadStep.the-variants.{Byte, End}
 use Rattle.values.proofs.Steps.{Steps}
 use Rattle.value_display.proofs.Formats.{format-empty, format-last, format-shown, format-removed}
 

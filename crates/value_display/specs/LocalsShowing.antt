@@ -2,11 +2,11 @@
 use Rattle.lists.specs.Prelude.{ℕ, _≤_, _<_, _≡_, List, [], _∷_, eqb, length, getD, drop, pick}
 use Rattle.value_display.specs.Display.{formatText}
 use Rattle.values.specs.Read.{readValue}
-use Rattle.values.specs.declared.read.Step.{Step}
-use Rattle.values.specs.declared.read.Step.the-variants.{Byte, End}
+use Rattle.values.specs.declared.read.ReadStep.{ReadStep}
+use Rattle.values.specs.declared.read.ReadStep.the-variants.{Byte, End}
 
 -- a byte is the first that f shows of the read value from `at` on, and the next place is further on
-abbrev pub DisplaysAt : (List ℕ → List ℕ) → List ℕ → ℕ → Step → Type 0
+abbrev pub DisplaysAt : (List ℕ → List ℕ) → List ℕ → ℕ → ReadStep → Type 0
 DisplaysAt f s at (Byte b n) = (f (readValue (drop at s)) ≡ b ∷ f (readValue (drop n s))) × (at < n) × (n ≤ length s)
 DisplaysAt f s at End = f (readValue (drop at s)) ≡ []
 

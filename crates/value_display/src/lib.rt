@@ -7,7 +7,7 @@ ghost use Rattle.values.specs.Read.{readValue};
 ghost use Rattle.value_display.specs.Display.{blank1, blank2, blank3, formatText, oneLine, displayText, displayed, displayedIn};
 ghost use Rattle.value_display.specs.LocalsShowing.{DisplaysAt, Peeks, FormatsAt, otherBreak, Past};
 ghost use Rattle.store_bytes.specs.LocalsWrote.{Wrote};
-use values::read::Step;
+use values::read::ReadStep;
 
 pub enum Kind {
     Text,
@@ -56,7 +56,7 @@ fn is_blank3(a: u8, b: u8, c: u8) -> bool
 fn peek(s: &[u8], at: usize) -> Ahead
     ensures { λ r. ⌜ Peeks (λ z. z) (now (s .entry)) at (r .byte) (r .next) ⌝ }
 {
-    let Step::Byte(b, n) = values::read::next_read(s, at) else {
+    let ReadStep::Byte(b, n) = values::read::next_read(s, at) else {
         return Ahead { byte: 0, next: at };
     };
     Ahead { byte: b, next: n }
@@ -118,24 +118,24 @@ fn past(s: &[u8], at: usize, other: u8) -> usize
 }
 
 // The next byte that `format_text` shows.
-fn next_text(s: &[u8], from: usize) -> Step
+fn next_text(s: &[u8], from: usize) -> ReadStep
     ensures { λ r. ⌜ DisplaysAt formatText (now (s .entry)) from r ⌝ }
 {
     let mut at = from;
     loop {
-        let Step::Byte(b, n) = values::read::next_read(s, at) else {
-            return Step::End;
+        let ReadStep::Byte(b, n) = values::read::next_read(s, at) else {
+            return ReadStep::End;
         };
         if b != b'\\' {
             let p = plain_byte(s, b, n);
-            return Step::Byte(p.byte, p.next);
+            return ReadStep::Byte(p.byte, p.next);
         }
-        let Step::Byte(c, m) = values::read::next_read(s, n) else {
-            return Step::Byte(b, n);
+        let ReadStep::Byte(c, m) = values::read::next_read(s, n) else {
+            return ReadStep::Byte(b, n);
         };
         let other = other_break(c);
         if other == 0 {
-            return Step::Byte(c, m);
+            return ReadStep::Byte(c, m);
         }
         at = past(s, m, other);
     }
@@ -145,41 +145,41 @@ fn next_text(s: &[u8], from: usize) -> Step
 fn peek_text(s: &[u8], at: usize) -> Ahead
     ensures { λ r. ⌜ Peeks formatText (now (s .entry)) at (r .byte) (r .next) ⌝ }
 {
-    let Step::Byte(b, n) = next_text(s, at) else {
+    let ReadStep::Byte(b, n) = next_text(s, at) else {
         return Ahead { byte: 0, next: at };
     };
     Ahead { byte: b, next: n }
 }
 
 // The next byte that `SimpleText` shows: of line breaks CR LF is one space first, then LF CR, then each.
-fn next_simple(s: &[u8], at: usize) -> Step
+fn next_simple(s: &[u8], at: usize) -> ReadStep
     ensures { λ r. ⌜ DisplaysAt (λ z. oneLine (formatText z)) (now (s .entry)) at r ⌝ }
 {
-    let Step::Byte(b, n) = next_text(s, at) else {
-        return Step::End;
+    let ReadStep::Byte(b, n) = next_text(s, at) else {
+        return ReadStep::End;
     };
     if other_break(b) == 0 {
-        return Step::Byte(b, n);
+        return ReadStep::Byte(b, n);
     }
     let second = peek_text(s, n);
     if b == b'\r' {
         if second.byte == b'\n' {
-            return Step::Byte(b' ', second.next);
+            return ReadStep::Byte(b' ', second.next);
         }
-        return Step::Byte(b' ', n);
+        return ReadStep::Byte(b' ', n);
     }
     if second.byte != b'\r' {
-        return Step::Byte(b' ', n);
+        return ReadStep::Byte(b' ', n);
     }
     let third = peek_text(s, second.next);
     if third.byte == b'\n' {
-        return Step::Byte(b' ', n);
+        return ReadStep::Byte(b' ', n);
     }
-    Step::Byte(b' ', second.next)
+    ReadStep::Byte(b' ', second.next)
 }
 
 // The next byte of what is shown, by the kind.
-fn next_shown(kind: Kind, s: &[u8], at: usize) -> Step
+fn next_shown(kind: Kind, s: &[u8], at: usize) -> ReadStep
     ensures { λ r. ⌜ DisplaysAt (displayText kind) (now (s .entry)) at r ⌝ }
 {
     match kind {
@@ -195,7 +195,7 @@ fn put_shown(kind: Kind, raw: &[u8], out: &mut [u8]) -> usize
     let mut at: usize = 0;
     let mut to: usize = 0;
     loop {
-        let Step::Byte(b, n) = next_shown(kind, raw, at) else {
+        let ReadStep::Byte(b, n) = next_shown(kind, raw, at) else {
             return to;
         };
         to = store_bytes::put_byte(out, to, b);

@@ -4,7 +4,7 @@ use Rattle.values.specs.Read.{readValue}
 use Rattle.values.specs.Decimal.{signed, digitOf, digitsFrom, decimalOf}
 use Rattle.values.specs.declared.decimal.Number.{Number}
 use Rattle.values.specs.declared.decimal.Number.the-variants.{Bad}
-use Rattle.values.specs.declared.read.Step.the-variants.{Byte, End}
+use Rattle.values.specs.declared.read.ReadStep.the-variants.{Byte, End}
 use Rattle.values.proofs.Steps.{Steps}
 
 pick-same : (b : Bool) (n : Number) → pick b n n ≡ n

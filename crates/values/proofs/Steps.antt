@@ -2,11 +2,11 @@
 use Rattle.lists.proofs.Prelude.{ℕ, suc, _+_, _≤_, _<_, _≡_, sym, ap, _∙_, subst, true, false, List, [], _∷_, add-one, add-two, arith, ltb, eqb, length, getD, drop, drop-of-length-le, drop-cons, ltb-true, ltb-false, pick}
 use Rattle.lists.proofs.Pick.{pick-elim}
 use Rattle.values.specs.Read.{readFrom, readValue, nextRead}
-use Rattle.values.specs.declared.read.Step.{Step}
-use Rattle.values.specs.declared.read.Step.the-variants.{Byte, End}
+use Rattle.values.specs.declared.read.ReadStep.{ReadStep}
+use Rattle.values.specs.declared.read.ReadStep.the-variants.{Byte, End}
 
 -- a byte is the first of the read value from `at` on, and the next place is further on
-abbrev pub Steps : List ℕ → ℕ → Step → Type 0
+abbrev pub Steps : List ℕ → ℕ → ReadStep → Type 0
 Steps s at (Byte b n) = (readValue (drop at s) ≡ b ∷ readValue (drop n s)) × (at < n) × (n ≤ length s)
 Steps s at End = readValue (drop at s) ≡ []
 
@@ -41,7 +41,7 @@ module _ (s : List ℕ) (at : ℕ) where
       (λ l. read-past (ltb-false at (length s) l))
 
   -- what a call of `next_read` gave
-  pub stepped : {r q : Step} → r ≡ nextRead s at → r ≡ q → Steps s at q
+  pub stepped : {r q : ReadStep} → r ≡ nextRead s at → r ≡ q → Steps s at q
   stepped e f = subst (Steps s at) (sym e ∙ f) next-read-steps
 
 -- a byte, and what is read behind it

@@ -5,7 +5,7 @@ ghost use Prim.Native.Nat.{_-_, _^_, min};
 ghost use lib.ListN.{drop};
 ghost use Rattle.values.specs.Read.{readValue};
 ghost use Rattle.values.specs.Decimal.{digitOf, digitsFrom, decimalOf};
-use crate::read::Step;
+use crate::read::ReadStep;
 
 // A number by its sign and its size, or none.
 pub enum Number {
@@ -36,8 +36,8 @@ fn digits_at(s: &[u8], from: usize, minus: bool, most: u64) -> Number
     let mut any = false;
     loop {
         match crate::read::next_read(s, at) {
-            Step::End => break,
-            Step::Byte(b, next) => {
+            ReadStep::End => break,
+            ReadStep::Byte(b, next) => {
                 let d = digit_of(b);
                 if 9 < d {
                     return Number::Bad;
@@ -80,8 +80,8 @@ pub fn decimal_within(s: &[u8], most: u64) -> Number
 {
     let bound = bound_of(most);
     match crate::read::next_read(s, 0) {
-        Step::End => Number::Bad,
-        Step::Byte(b, next) => {
+        ReadStep::End => Number::Bad,
+        ReadStep::Byte(b, next) => {
             if b == b'+' {
                 return digits_at(s, next, false, bound);
             }

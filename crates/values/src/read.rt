@@ -3,24 +3,24 @@ ghost use mathlib.Core.Path.{_≡_};
 ghost use Rattle.values.specs.Read.{nextRead};
 
 // What stands at a place of raw bytes: the next read byte and the place after it, or the end.
-pub enum Step {
+pub enum ReadStep {
     Byte(u8, usize),
     End,
 }
 
 // The next byte of the read value.
-pub fn next_read(s: &[u8], at: usize) -> Step
+pub fn next_read(s: &[u8], at: usize) -> ReadStep
     ensures { λ r. ⌜ r ≡ nextRead (now (s .entry)) at ⌝ }
 {
     if s.len() <= at {
-        return Step::End;
+        return ReadStep::End;
     }
     let b = s[at];
     if b != b'\\' {
-        return Step::Byte(b, at + 1);
+        return ReadStep::Byte(b, at + 1);
     }
     if s.len() <= at + 1 {
-        return Step::End;
+        return ReadStep::End;
     }
-    Step::Byte(s[at + 1], at + 2)
+    ReadStep::Byte(s[at + 1], at + 2)
 }

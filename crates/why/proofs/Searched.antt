@@ -14,8 +14,8 @@ use Rattle.why_blame.specs.declared.Blamed.{Blamed}
 use Rattle.why_blame.specs.declared.Blamed.the-variants.{No, By}
 use Rattle.why.specs.Trees.{orBlame, treeBlame, nodesIn, emptyBlame, sliceBlame, slicesBlame}
 use Rattle.why.specs.LocalsTrees.{sliceAt, SliceReady, SoundSlice, FoundIn, Searching}
-use Rattle.why.specs.declared.tree.Walked.{Walked}
-use Rattle.why.specs.declared.tree.Walked.the-variants.{Stopped, Tree}
+use Rattle.why.specs.declared.tree.TreeWalked.{TreeWalked}
+use Rattle.why.specs.declared.tree.TreeWalked.the-variants.{Stopped, Tree}
 
 pub searching-first : {u : List ℕ} {from count : ℕ} → SlicesReady false u from count → Searching u from count from 0 0
 searching-first {u} {from} {count} x =
@@ -71,7 +71,7 @@ module _ {u : List ℕ} {from count at base k : ℕ} (x : Searching u from count
         typed : slicesBlame 0 0 (firstSlices count (lexAt u from .toks)) ≡ orBlame (orBlame (treeBlame base (sliceAt u at)) (emptyBlame k (nodesIn base (sliceAt u at)) (sliceAt u at))) Rest
         typed = whole ∙ ap (λ (z : Blamed). orBlame (orBlame z (orBlame (treeBlame base (sliceAt u at)) (emptyBlame k (nodesIn base (sliceAt u at)) (sliceAt u at)))) Rest) (sym e ∙ q)
 
-        module _ {w : Walked} (y : FoundIn u at base w) where
+        module _ {w : TreeWalked} (y : FoundIn u at base w) where
           pub searched-stop : {f : Fact} {p : ℕ} → w ≡ Stopped f p → By f p ≡ slicesBlame 0 0 (firstSlices count (lexAt u from .toks))
           searched-stop g =
               sym (typed ∙ ap (λ (z : Blamed). orBlame (orBlame z (emptyBlame k (nodesIn base (sliceAt u at)) (sliceAt u at))) Rest) (subst (FoundIn u at base) g y))

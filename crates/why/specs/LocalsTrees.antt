@@ -16,8 +16,8 @@ use Rattle.why_blame.specs.declared.Blamed.the-variants.{No, By}
 use Rattle.why.specs.Trees.{treeBlame, nodesIn, slicesBlame}
 use Rattle.why.specs.declared.Ending.{Ending}
 use Rattle.why.specs.declared.Ending.the-variants.{Whole, Broken}
-use Rattle.why.specs.declared.tree.Walked.{Walked}
-use Rattle.why.specs.declared.tree.Walked.the-variants.{Stopped, Tree}
+use Rattle.why.specs.declared.tree.TreeWalked.{TreeWalked}
+use Rattle.why.specs.declared.tree.TreeWalked.the-variants.{Stopped, Tree}
 
 -- how the tokens end
 abbrev pub endingOf : End → Ending
@@ -52,7 +52,7 @@ pub record SoundSlice (u : List ℕ) (from base next n : ℕ) : Type 0 where
   pub bound : n ≤ next
 
 -- what the walk finds
-abbrev pub FoundIn : (u : List ℕ) (from base : ℕ) → Walked → Type 0
+abbrev pub FoundIn : (u : List ℕ) (from base : ℕ) → TreeWalked → Type 0
 FoundIn u from base (Stopped f p) = treeBlame base (sliceAt u from) ≡ By f p
 FoundIn u from base (Tree next n) = SoundSlice u from base next n
 

@@ -18,7 +18,7 @@ use tables::Counts;
 use tables::Lenient;
 use tables::Reading;
 use text_utf8::Trimmed;
-use tree::Walked;
+use tree::TreeWalked;
 use why_blame::Blamed;
 use why_blame::Cutting;
 use why_blame::Fact;
@@ -78,8 +78,8 @@ fn in_slices(s: &[u8], from: usize, count: usize) -> Blamed
             Blamed::By(fact, place) => return Blamed::By(fact, place),
             Blamed::No => {
                 match tree::walk_slice(s, at, base) {
-                    Walked::Stopped(fact, place) => return Blamed::By(fact, place),
-                    Walked::Tree(next, n) => {
+                    TreeWalked::Stopped(fact, place) => return Blamed::By(fact, place),
+                    TreeWalked::Tree(next, n) => {
                         if n == base {
                             return Blamed::By(
                                 Fact::NoNode(k),

@@ -9,7 +9,7 @@ use tables::NONE;
 use why_blame::Fact;
 
 // Where the tree stops, and why; or the place behind the slice and the number of the next node.
-pub enum Walked {
+pub enum TreeWalked {
     Stopped(Fact, usize),
     Tree(usize, usize),
 }
@@ -47,7 +47,7 @@ fn may_open(stack: &[u32; 1024], depth: usize, base: usize, n: usize) -> bool
 }
 
 // The slice that starts at a place, its first node numbered `base`.
-pub fn walk_slice(s: &[u8], from: usize, base: usize) -> Walked
+pub fn walk_slice(s: &[u8], from: usize, base: usize) -> TreeWalked
     requires { ⌜ SliceReady (now s) from base ⌝ }
     ensures { λ r. ⌜ FoundIn (now (s .entry)) from base r ⌝ }
 {
@@ -61,7 +61,7 @@ pub fn walk_slice(s: &[u8], from: usize, base: usize) -> Walked
         match lexer::next_token(s, at) {
             Step::Start(i) => {
                 if !may_open(&stack, depth, base, n) {
-                    return Walked::Stopped(Fact::EmptyList(top(&stack, depth)), i);
+                    return TreeWalked::Stopped(Fact::EmptyList(top(&stack, depth)), i);
                 }
                 stack[depth] = cur;
                 depth += 1;
@@ -70,10 +70,10 @@ pub fn walk_slice(s: &[u8], from: usize, base: usize) -> Walked
             }
             Step::End(i) => {
                 if depth == 0 {
-                    return Walked::Stopped(Fact::EndBeyond, i);
+                    return TreeWalked::Stopped(Fact::EndBeyond, i);
                 }
                 if depth == 1 {
-                    return Walked::Tree(i + 1, n);
+                    return TreeWalked::Tree(i + 1, n);
                 }
                 depth -= 1;
                 cur = stack[depth];
@@ -88,12 +88,12 @@ pub fn walk_slice(s: &[u8], from: usize, base: usize) -> Walked
             }
             Step::Property(i, _, e) => {
                 if !follows {
-                    return Walked::Stopped(Fact::Stray, i);
+                    return TreeWalked::Stopped(Fact::Stray, i);
                 }
                 at = e;
             }
-            Step::Refused(_, _) => return Walked::Tree(at, n),
-            Step::Done => return Walked::Tree(at, n),
+            Step::Refused(_, _) => return TreeWalked::Tree(at, n),
+            Step::Done => return TreeWalked::Tree(at, n),
         }
     }
 }

@@ -1,11 +1,11 @@
 -- Splitting, one token a turn, with the places to blame. Assumes nothing.
 use Rattle.lists.proofs.Prelude.{ℕ, zero, suc, _+_, _-_, _≤_, _<_, max, _≡_, refl, sym, ap, _∙_, Bool, true, false, List, [], _∷_, _++_, append-assoc, append-nil, reverse, reverse-cons, arith, add-one, length, ltb, ltb-true, ltb-false, le-ltb, lt-ltb, pick}
 use Rattle.lists.proofs.Tests.{never}
-use Rattle.lexer.specs.Token.{Prop, Tok, start, end, node, prop, Lexed, lexed, lexAt}
+use Rattle.lexer.specs.Token.{Prop, Tok, start, end, node, prop, Lexed, lexed, lexAt, tokenPlace}
 use Rattle.tables.specs.Numbers.{depthLimit}
 use Rattle.parser.specs.Split.{Splitting, splitting, splits, split}
 use Rattle.parser.proofs.Cuts.{shift}
-use Rattle.why_blame.specs.Blame.{blame, splitWrong, isDeep, tokenPlace, blamePlace}
+use Rattle.why_blame.specs.Blame.{blame, splitWrong, isDeep, blamePlace}
 use Rattle.why_blame.specs.Cuts.{deepAt, slicedTokens}
 use Rattle.why_blame.specs.LocalsCuts.{unsplit, Seen}
 use Rattle.why_blame.proofs.Found.{blame-on, blame-here}

@@ -15,8 +15,8 @@ use Rattle.parser_game.specs.declared.GameType.the-variants.{Is, Refused}
 use Rattle.parser_game.proofs.Gather.{two-less}
 use Rattle.why_blame.specs.Games.{valuesFact, valuesBlame, gameBlame}
 use Rattle.why_blame.specs.LocalsGames.{FoundIs}
-use Rattle.why_blame.specs.declared.game.Found.{Found}
-use Rattle.why_blame.specs.declared.game.Found.the-variants.{None, Gm}
+use Rattle.why_blame.specs.declared.game.FoundGm.{FoundGm}
+use Rattle.why_blame.specs.declared.game.FoundGm.the-variants.{None, Gm}
 use Rattle.why_blame.specs.declared.Fact.the-variants.{SecondGm, GmValues, GmNumber}
 use Rattle.why_blame.specs.declared.Blamed.{Blamed}
 use Rattle.why_blame.specs.declared.Blamed.the-variants.{No, By}
@@ -96,7 +96,7 @@ module _ (u : List ℕ) (at k : ℕ) {t : GameType} (e : t ≡ typeOf (gameVals 
 
 -- ---- the slice
 
-module _ (u : List ℕ) (from a b n : ℕ) (ea : lexAt u a .toks ≡ behindOf (lexAt u from .toks)) (eb : lexAt u b .toks ≡ behindOf (lexAt u a .toks)) (x : Found) (f : FoundIs u (lexAt u b .toks) x) where
+module _ (u : List ℕ) (from a b n : ℕ) (ea : lexAt u a .toks ≡ behindOf (lexAt u from .toks)) (eb : lexAt u b .toks ≡ behindOf (lexAt u a .toks)) (x : FoundGm) (f : FoundIs u (lexAt u b .toks) x) where
   abbrev Slice : Blamed
   Slice = gameBlame n (propsNamed GM (props (drop 2 (sliceFrom 0 (lexAt u from .toks)))))
 
@@ -106,7 +106,7 @@ module _ (u : List ℕ) (from a b n : ℕ) (ea : lexAt u a .toks ≡ behindOf (l
   pub game-none : x ≡ None → No ≡ Slice
   game-none q = sym (slice-as ∙ ap (gameBlame n) (subst (FoundIs u (lexAt u b .toks)) q f))
 
-  module _ {i k e : ℕ} (q : x ≡ Gm i k e) (y : Found) (g : FoundIs u (lexAt u e .toks) y) where
+  module _ {i k e : ℕ} (q : x ≡ Gm i k e) (y : FoundGm) (g : FoundIs u (lexAt u e .toks) y) where
     first : propsNamed GM (props (lexAt u b .toks)) ≡ propAt u i k ∷ propsNamed GM (props (lexAt u e .toks))
     first = subst (FoundIs u (lexAt u b .toks)) q f
 

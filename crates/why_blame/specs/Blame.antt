@@ -1,6 +1,6 @@
 -- The first token at which a fold over tokens goes wrong.
 use Rattle.lists.specs.Prelude.{ℕ, Bool, true, false, List, [], _∷_, _++_, ltb, pick}
-use Rattle.lexer.specs.Token.{Tok, start, end, node, prop}
+use Rattle.lexer.specs.Token.{Tok, tokenPlace}
 use Rattle.tables.specs.Numbers.{depthLimit}
 use Rattle.parser.specs.Split.{Splitting, splitting, over, wrong, splits}
 use Rattle.parser.specs.Walk.{Walk, walk, halted, stopped, walks}
@@ -32,13 +32,6 @@ abbrev pub isStopped : Walk → Bool
 isStopped (walk cur st g ns) = false
 isStopped (halted ns) = true
 isStopped (stopped r) = true
-
--- the place of a token
-abbrev pub tokenPlace : Tok → ℕ
-tokenPlace (start o) = o
-tokenPlace (end o) = o
-tokenPlace (node o) = o
-tokenPlace (prop p e) = p .from
 
 -- the place of the token to blame
 abbrev pub blamePlace : {S : Type 0} → Blame S → ℕ

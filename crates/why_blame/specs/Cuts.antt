@@ -1,11 +1,11 @@
 -- Tokens and splitting, explained: the fact that refuses them, and the place of the token to blame.
 use Rattle.lists.specs.Prelude.{ℕ, zero, suc, _+_, Bool, true, false, List, [], _∷_, _++_, reverse, length, drop, leb, ltb, pick}
-use Rattle.lexer.specs.Token.{Tok, End, done, broken, Lexed}
+use Rattle.lexer.specs.Token.{Tok, End, done, broken, Lexed, tokenPlace}
 use Rattle.lexer.specs.declared.Fault.{Fault}
 use Rattle.lexer.specs.declared.Fault.the-variants.{MissingPropertyIdentifier, UnexpectedEndOfPropertyIdentifier, UnexpectedEndOfPropertyValue}
 use Rattle.tables.specs.Numbers.{depthLimit}
 use Rattle.parser.specs.Split.{Splitting, splitting, over, wrong, splits, split}
-use Rattle.why_blame.specs.Blame.{blame, splitWrong, isDeep, tokenPlace, blamePlace}
+use Rattle.why_blame.specs.Blame.{blame, splitWrong, isDeep, blamePlace}
 use Rattle.why_blame.specs.declared.Fact.{Fact}
 use Rattle.why_blame.specs.declared.Fact.the-variants.{NoBracket, Foreign, NotClosed, EndBeyond, StaysOpen, NoEnd, TooDeep}
 use Rattle.why_blame.specs.declared.Cutting.{Cutting}

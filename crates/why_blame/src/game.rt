@@ -19,7 +19,7 @@ use lexer_scan::ValueStep;
 use parser_game::GameType;
 
 // A property named GM: where it starts, its first `[`, where it ends; or none.
-enum Found {
+enum FoundGm {
     None,
     Gm(usize, usize, usize),
 }
@@ -50,7 +50,7 @@ fn is_gm(s: &[u8], i: usize, k: usize) -> bool
 }
 
 // The first GM of the properties that stand from a place on.
-fn find_gm(s: &[u8], from: usize) -> Found
+fn find_gm(s: &[u8], from: usize) -> FoundGm
     ensures { λ r. ⌜ FoundIs (now (s .entry)) (lexAt (now (s .entry)) from .toks) r ⌝ }
 {
     let mut at = from;
@@ -59,11 +59,11 @@ fn find_gm(s: &[u8], from: usize) -> Found
             break;
         };
         if is_gm(s, i, k) {
-            return Found::Gm(i, k, e);
+            return FoundGm::Gm(i, k, e);
         }
         at = e;
     }
-    Found::None
+    FoundGm::None
 }
 
 // How many values stand from a place on.
@@ -104,11 +104,11 @@ pub fn in_game(s: &[u8], from: usize, n: usize) -> Blamed
 {
     let second = behind(s, from);
     match find_gm(s, behind(s, second)) {
-        Found::None => Blamed::No,
-        Found::Gm(i, k, e) => {
+        FoundGm::None => Blamed::No,
+        FoundGm::Gm(i, k, e) => {
             match find_gm(s, e) {
-                Found::None => in_values(s, i, k),
-                Found::Gm(j, _, _) => Blamed::By(Fact::SecondGm(n), j),
+                FoundGm::None => in_values(s, i, k),
+                FoundGm::Gm(j, _, _) => Blamed::By(Fact::SecondGm(n), j),
             }
         }
     }

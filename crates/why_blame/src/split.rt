@@ -16,7 +16,7 @@ use lexer::Step;
 use tables::DEPTH_LIMIT;
 
 // Where splitting stops: the depth, the greatest depth, how many slices, the place behind the last of them, where the depth came above the limit, where the next token is looked for, and whether that is an end at depth 0.
-struct Split {
+struct BlameSplit {
     depth: usize,
     deepest: usize,
     slices: usize,
@@ -44,7 +44,7 @@ fn first_deep(deepest: usize, depth: usize, deep: usize, here: usize) -> usize
 }
 
 // The tokens from a place on, split as far as an end at depth 0.
-fn split_tokens(s: &[u8], from: usize) -> Split
+fn split_tokens(s: &[u8], from: usize) -> BlameSplit
     ensures { λ r. ⌜ Seen (now (s .entry)) from (r .at) (r .depth) (r .deepest) (r .slices) (r .behind) (r .deep)
         × StopsBy (r .beyond) (now (s .entry)) (r .at) (r .depth) ⌝ }
 {
@@ -64,7 +64,7 @@ fn split_tokens(s: &[u8], from: usize) -> Split
             }
             Step::End(i) => {
                 if depth == 0 {
-                    return Split {
+                    return BlameSplit {
                         depth: 0,
                         deepest: deepest,
                         slices: n,
@@ -84,7 +84,7 @@ fn split_tokens(s: &[u8], from: usize) -> Split
             Step::Node(i) => at = i + 1,
             Step::Property(_, _, e) => at = e,
             Step::Refused(_, _) => {
-                return Split {
+                return BlameSplit {
                     depth: depth,
                     deepest: deepest,
                     slices: n,
@@ -95,7 +95,7 @@ fn split_tokens(s: &[u8], from: usize) -> Split
                 };
             }
             Step::Done => {
-                return Split {
+                return BlameSplit {
                     depth: depth,
                     deepest: deepest,
                     slices: n,

@@ -3,14 +3,14 @@ use Rattle.lists.proofs.Prelude.{ℕ, zero, suc, _+_, _≤_, _<_, max, _≡_, r
 use Rattle.lists.proofs.Tests.{never}
 use Rattle.lists.specs.All.{All}
 use Rattle.lists.proofs.All.{all-right}
-use Rattle.lexer.specs.Token.{Tok, start, end, node, prop, done}
+use Rattle.lexer.specs.Token.{Tok, start, end, node, prop, done, tokenPlace}
 use Rattle.tables.specs.Numbers.{depthLimit}
 use Rattle.parser.specs.Split.{Splitting, splitting, over, wrong, splits, split}
 use Rattle.parser.specs.Balance.{starts, ends, Covered}
 use Rattle.parser.proofs.Cuts.{standing, Right}
 use Rattle.reader_exactly.specs.Slicing.{slicesFrom, Deep}
 use Rattle.reader_exactly.proofs.Standing.{slices-are}
-use Rattle.why_blame.specs.Blame.{Blame, nowhere, found, blame, splitWrong, isDeep, tokenPlace, blamePlace}
+use Rattle.why_blame.specs.Blame.{Blame, nowhere, found, blame, splitWrong, isDeep, blamePlace}
 use Rattle.why_blame.specs.Cuts.{wrongAt, deepAt, firstPlace}
 use Rattle.why_blame.proofs.Found.{folds, First, Says, blame-says, split-folds}
 use Rattle.why_says.specs.Says.{TokenAt, HeadAt, ExceedsAt, OpenAt, DeepAt}

@@ -2,7 +2,7 @@
 use Rattle.lists.proofs.Prelude.{_-_, _≤_, _≡_, refl, sym, ap, _∙_, false, arith, needs, not-true, not-false, length, drop}
 use Rattle.values.specs.Read.{readValue}
 use Rattle.values.specs.Decimal.{signed, digitsFrom}
-use Rattle.values.specs.declared.read.Step.the-variants.{Byte, End}
+use Rattle.values.specs.declared.read.ReadStep.the-variants.{Byte, End}
 use Rattle.values.proofs.Steps.{Steps, stepped}
 use Rattle.values.proofs.Digits.{Head, digits-end, digits-none, digits-bad, digits-large, digits-on}
 use Rattle.values.proofs.decimal.digits_at.Statement.{statement}
