@@ -12,7 +12,8 @@ use Rattle.fit.proofs.Clauses.{Clauses, fit-clauses, name-in}
 use Rattle.fit.proofs.RootRows.{root-in}
 use Rattle.ask.specs.Ask.{given, refuses, goAnswer}
 use Rattle.ask.specs.Locals.{Rooted, treeFrom, nameAt}
-use Rattle.ask.proofs.Goes.{trees-some, go-of-rows}
+use Rattle.ask.proofs.ByNumber.{trees-some}
+use Rattle.ask.proofs.Goes.{go-of-rows}
 use Rattle.fit.specs.Record.{textIn}
 use Rattle.fit_rule.specs.Rule.{ruleAt}
 use Rattle.tables.specs.LocalsNames.{NameHeld}

@@ -1,4 +1,5 @@
 pub mod Answers
+pub mod ByNumber
 pub mod Goes
 pub mod Search
 pub mod Shows

@@ -5,16 +5,15 @@ use Rattle.parts.specs.Rows.{valuesAt}
 use Rattle.ff4_values.specs.Simple.{simpleValue}
 use Rattle.ff4_values.specs.declared.Simple.{Simple}
 use Rattle.tables.specs.declared.Reason.the-variants.{NoSuchNumber, NotFitting}
-use Rattle.tables.specs.Columns.{nameFromAt, nameToAt, firstValAt, valCountAt}
+use Rattle.tables.specs.Columns.{gameAt, nameFromAt, nameToAt, firstValAt, valCountAt}
 use Rattle.tables.specs.Memory.{Memory}
 use Rattle.fit_spans.proofs.Lists.{part-slice}
 use Rattle.fit.specs.Fit.{Fit}
 use Rattle.fit.specs.Record.{textIn}
 use Rattle.fit.proofs.Clauses.{fit-clauses}
-use Rattle.ask.specs.Locals.{nameAt}
+use Rattle.ask.specs.Locals.{treeFrom, nameAt}
 use Rattle.ask_simple.specs.declared.SimpleAnswer.the-variants.{Given, NoSimple}
 use Rattle.ask_simple.specs.AskSimple.{simpleAnswer}
-use Rattle.ask_simple.specs.Locals.{gameHolding}
 use Rattle.ask_simple.proofs.Simples.{simple-of-rows}
 
 -- the simple value of property p, whose row is read into a, e, f, n
@@ -33,7 +32,7 @@ module _ (m : Memory) (p : ℕ) where
     unfolding simpleAnswer
     simple-no l = rw (h, le-ltb p (m .counts .properties) l)
 
-    pub simple-yes : p < m .counts .properties → {k : ℕ} {g : Simple} → k ≡ gameHolding (m .trees) (m .nodes) p 0 (m .counts .trees - 1)
+    pub simple-yes : p < m .counts .properties → {k : ℕ} {g : Simple} → k ≡ gameAt (m .trees) (treeFrom (m .trees) (m .nodes) p 0 (m .counts .trees - 1))
         → g ≡ simpleValue k (readIdentifier (nameAt (textIn m) (m .properties) p)) (valuesAt (textIn m) (m .values) (firstValAt (m .properties) p) (valCountAt (m .properties) p))
         → Given g ≡ simpleAnswer m p
     unfolding simpleAnswer

@@ -1,5 +1,3 @@
 pub mod Answers
-pub mod Game
 pub mod Simples
 pub mod Unique
-pub mod Values

@@ -1,2 +1,1 @@
 pub mod AskSimple
-pub mod Locals

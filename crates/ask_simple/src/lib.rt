@@ -7,12 +7,11 @@ ghost use Prim.Native.Nat.{_-_};
 ghost use Rattle.values.specs.Read.{readIdentifier};
 ghost use Rattle.parts.specs.Rows.{valuesAt};
 ghost use Rattle.ff4_values.specs.Simple.{simpleValue};
-ghost use Rattle.tables.specs.Columns.{firstValAt, valCountAt};
+ghost use Rattle.tables.specs.Columns.{gameAt, firstValAt, valCountAt};
 ghost use Rattle.tables.specs.Memory.{memory};
 ghost use Rattle.tables.specs.LocalsNames.{NameHeld};
-ghost use Rattle.ask.specs.Locals.{Rooted, nameAt};
+ghost use Rattle.ask.specs.Locals.{Rooted, treeFrom, nameAt};
 ghost use Rattle.ask_simple.specs.AskSimple.{simpleAnswer};
-ghost use Rattle.ask_simple.specs.Locals.{gameHolding};
 
 // A simple value, or why it is not given.
 pub enum SimpleAnswer {
@@ -23,7 +22,7 @@ pub enum SimpleAnswer {
 // The game type of the tree that has property p: of the last whose root's first property is not behind it.
 fn game_of(trees: &[u32], m: usize, nodes: &[u32], p: usize) -> u32
     requires { ⌜ Rooted m (now trees) (now nodes) ⌝ }
-    ensures { λ r. ⌜ r ≡ gameHolding (now (trees .entry)) (now (nodes .entry)) p 0 (m - 1) ⌝ }
+    ensures { λ r. ⌜ r ≡ gameAt (now (trees .entry)) (treeFrom (now (trees .entry)) (now (nodes .entry)) p 0 (m - 1)) ⌝ }
 {
     let mut r: usize = 0;
     while r + 1 < m {
