@@ -1,7 +1,6 @@
 -- ASCII bytes where the token rules and the rows stand as after the last character that is no white space. Assumes nothing.
 use Rattle.lists.proofs.Prelude.{_≡_, refl, sym, ap, ap₂, _∙_, subst⁻¹, ℕ, zero, suc, _+_, _≤_, _<_, arith, Bool, true, false, List, [], _∷_, _++_, length, take, drop, getD, add-one, take-append-drop, drop-drop}
 use Rattle.tables.specs.Numbers.{textLimit}
-use Rattle.text_chars.specs.White.{white}
 use Rattle.text_chars.proofs.White.{ascii-dark}
 use Rattle.lexer_scan.specs.Scan.{space}
 use Rattle.lexer_laws.proofs.Laws.{space-exactly}

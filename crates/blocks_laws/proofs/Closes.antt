@@ -3,7 +3,6 @@ use Rattle.lists.proofs.Prelude.{_≡_, refl, sym, ap, ap₂, _∙_, subst, ℕ
 use Rattle.lists.specs.Put.{putAt}
 use Rattle.blocks.specs.declared.BlocksState.{BlocksState}
 use Rattle.blocks.specs.declared.Closed.{Closed}
-use Rattle.blocks.specs.declared.Closing.{Closing}
 use Rattle.blocks.specs.declared.Closing.the-variants.{Refused, Rows, Last}
 use Rattle.blocks.specs.Room.{filledWith, tokenRow, addRow}
 use Rattle.blocks.specs.Close.{clearedRows, refusedAt, acceptedWith, closedBy, cellsBy}

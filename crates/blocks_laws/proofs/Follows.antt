@@ -5,7 +5,6 @@ use Rattle.text_utf8.specs.Text.{Ink, blank, inked, Utf, whole, part, bad, utf}
 use Rattle.blocks_step.specs.declared.Utf8.{Utf8}
 use Rattle.blocks_step.specs.declared.Utf8.the-variants.{Whole, Within, Bad}
 use Rattle.blocks_step.specs.declared.Char.{Char}
-use Rattle.blocks_step.specs.declared.Char.the-variants.{Ended, Goes}
 use Rattle.blocks_step.specs.declared.Moved.{Moved}
 use Rattle.blocks_step.specs.Decode.{leftBy, decodes}
 use Rattle.blocks_step.specs.Lean.{moves}

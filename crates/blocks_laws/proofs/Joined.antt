@@ -5,7 +5,6 @@ use Rattle.tables.specs.Numbers.{textLimit}
 use Rattle.text_utf8.specs.Text.{Utf, whole, blank}
 use Rattle.text_utf8.specs.Trim.{trimmed}
 use Rattle.blocks.specs.declared.BlocksState.{BlocksState}
-use Rattle.blocks.specs.declared.BlocksKnown.{BlocksKnown}
 use Rattle.blocks.specs.declared.Blocked.{Blocked}
 use Rattle.blocks.specs.declared.Closed.{Closed}
 use Rattle.blocks.specs.declared.Closing.{Closing}

@@ -4,7 +4,6 @@ use Rattle.lexer_scan.specs.Scan.{space}
 use Rattle.lexer.specs.Token.{Val, Prop, Tok, St, Out, End, step, stateAfter}
 use Rattle.lexer.specs.Token as machine
 use Rattle.lexer.specs.declared.Fault.the-variants.{UnexpectedEndOfPropertyIdentifier}
-use Rattle.blocks_step.specs.declared.Moved.{Moved}
 use Rattle.blocks_step.specs.Lean.{phaseOf, machineOf, tokensDone, movedOf, moves}
 use Rattle.blocks.specs.Room.{rowsAt}
 use Rattle.blocks_laws.specs.Reading.{rowOfToken, tokenRows}

@@ -1,6 +1,5 @@
 -- A state says what its numbers were made of. Assumes nothing.
 use Rattle.lists.proofs.Prelude.{_≡_, refl, ap, _∙_}
-use Rattle.blocks_step.specs.declared.Left.{Left}
 use Rattle.blocks_step.specs.declared.Left.the-variants.{One, TwoFromA0, TwoTo9f, Two, ThreeFrom90, Three, ThreeTo8f}
 use Rattle.blocks_step.specs.declared.Utf8.{Utf8}
 use Rattle.blocks_step.specs.declared.Utf8.the-variants.{Whole, Within, Bad}

@@ -1,13 +1,9 @@
 -- What a user of blocks is promised, over the contracts of `block` and `close`. Assumes nothing.
 use Rattle.lists.proofs.Prelude.{_≡_, refl, sym, ap, _∙_, subst, ℕ, _+_, _*_, _/_, _≤_, _<_, arith, List, [], _∷_, _++_, eq-eqb, ne-eqb, length, length-take-le, length-append, take, drop, Bool, true, false, le-ltb, ltb, ltb-false, pick, eqb}
-use Rattle.lists.specs.Once.{Once}
-use Rattle.tables.specs.Numbers.{textLimit}
-use Rattle.text_utf8.specs.Text.{Utf, whole, blank, inked, part, bad}
 use Rattle.text_utf8.specs.declared.Trimmed.the-variants.{Kept}
 use Rattle.text_utf8.specs.Trim.{trimmed}
 use Rattle.text_utf8.proofs.Extent.{trim-bounds}
 use Rattle.lexer.specs.Token.{Lexed, End, done, broken, finish, lexFrom, lexAt}
-use Rattle.blocks_step.specs.Lean.{machineOf}
 use Rattle.blocks.specs.declared.BlocksState.{BlocksState}
 use Rattle.blocks.specs.declared.Blocked.{Blocked}
 use Rattle.blocks.specs.declared.Closed.{Closed}

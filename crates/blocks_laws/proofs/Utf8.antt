@@ -4,7 +4,6 @@ use Rattle.lists.proofs.Tests.{and-both}
 use native.Mathlib.Nat.{mod-eq-of-lt}
 use Rattle.text_chars.specs.White.{white}
 use Rattle.text_utf8.specs.Text.{Ink, blank, inked, mark, Range, any, from-a0, to-9f, from-90, to-8f, holds, Utf, whole, part, bad, first, later, utf}
-use Rattle.blocks_step.specs.declared.Utf8.{Utf8}
 use Rattle.blocks_step.specs.declared.Utf8.the-variants.{Whole, Within, Bad}
 use Rattle.blocks_step.specs.declared.Char.{Char}
 use Rattle.blocks_step.specs.declared.Char.the-variants.{Ended, Goes}

@@ -5,7 +5,6 @@ use Rattle.text_utf8.specs.Text.{blank, mark, any, holds, whole}
 use Rattle.blocks_step.specs.declared.Left.{Left}
 use Rattle.blocks_step.specs.declared.Left.the-variants.{One, TwoFromA0, TwoTo9f, Two, ThreeFrom90, Three, ThreeTo8f}
 use Rattle.blocks_step.specs.declared.Utf8.the-variants.{Whole, Within, Bad}
-use Rattle.blocks_step.specs.declared.Char.{Char}
 use Rattle.blocks_step.specs.declared.Char.the-variants.{Ended, Goes}
 use Rattle.blocks_step.specs.Decode.{moreOf, rangeOf, leftBy, charOf, decodes}
 

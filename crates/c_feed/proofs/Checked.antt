@@ -4,7 +4,6 @@ use Rattle.lists.proofs.Prelude.{ℕ, _<_, Bool, true, false, true≢false, fal
 use Rattle.tables.specs.Columns.{valFromAt, valToAt}
 use Rattle.tables.specs.Memory.{Memory}
 use Rattle.tables.specs.Numbers.{numberOf}
-use Rattle.tables.specs.Rows.{PropRow}
 use Rattle.tables.specs.declared.Reason.the-variants.{NotFitting as FitReason, NoSuchNumber as NumberReason, GameTypeFixed as GameReason, NotUtf8 as Utf8Reason, NotClosed as ClosedReason, TextTooLong as LongReason, NoRoom as RoomReason}
 use Rattle.fit.specs.Fit.{Fit}
 use Rattle.fit.specs.Record.{rowsIn, textIn}
@@ -13,12 +12,10 @@ use Rattle.feed.specs.Find.{foundIn}
 use Rattle.feed.specs.declared.Found.{Found}
 use Rattle.feed.specs.declared.Found.the-variants.{At, Nowhere}
 use Rattle.feed_check.specs.Check.{feedNumber, feedChecked, correctionJudged, correctionsJudged, firstRefusal}
-use Rattle.feed_check.specs.declared.FeedRefusal.{FeedRefusal}
 use Rattle.feed_check.specs.declared.FeedRefusal.the-variants.{NotFitting, Malformed, NoSuchNumber, GameTypeFixed, NotUtf8, NotClosed, TextTooLong, NoRoom}
 use Rattle.feed_check.specs.declared.Checked.{Checked}
 use Rattle.feed_check.specs.declared.Checked.the-variants.{Passed, Refused}
 use Rattle.feed_value.specs.Look.{lookedUp, sourceOf}
-use Rattle.feed_value.specs.declared.Looked.{Looked}
 use Rattle.c_feed.specs.Parts.{partInC, foundInC, checkInC}
 use Rattle.c_feed.specs.declared.SgfCheck.{SgfCheck}
 use Rattle.c_feed.specs.declared.SgfPart.{SgfPart}

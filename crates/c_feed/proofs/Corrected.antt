@@ -4,7 +4,6 @@ use Rattle.lists.proofs.Prelude.{ℕ, _<_, true, _≡_, refl, sym, ap, ap₂, _
 use Rattle.tables.specs.Columns.{valFromAt, valToAt}
 use Rattle.tables.specs.Memory.{Memory}
 use Rattle.tables.specs.Rows.{Tables}
-use Rattle.tables.specs.declared.Counts.{Counts}
 use Rattle.fit.specs.Fit.{Fit}
 use Rattle.edit_laws.specs.Fresh.{Fresh}
 use Rattle.feed_check.specs.Check.{feedNumber}

@@ -6,7 +6,6 @@ use Rattle.tables.specs.Columns.{valFromAt, valToAt}
 use Rattle.tables.specs.Memory.{Memory, memory}
 use Rattle.tables.specs.Numbers.{textLimit}
 use Rattle.tables.specs.Rows.{Tables, ValRow}
-use Rattle.tables.proofs.Cases.{either-bool}
 use Rattle.fit.specs.Fit.{Fit}
 use Rattle.fit.specs.Record.{rowsIn, textIn, valRow}
 use Rattle.fit.proofs.Clauses.{fit-vals}
@@ -23,7 +22,6 @@ use Rattle.feed_check.specs.declared.Checked.{Checked}
 use Rattle.feed_check.specs.declared.Checked.the-variants.{Passed, Refused}
 use Rattle.feed_value.specs.Look.{correctedValue}
 use Rattle.feed_value.proofs.Looking.{passed-fit}
-use Rattle.feed_laid.specs.OfMemory.{laidText, laidTables}
 use Rattle.feed_laws.specs.Applied.{Applying, refusing, applying, onLength, onceChecked, feedApplied, memoryApplied}
 use Rattle.feed_laws.specs.Corrected.{newBytes, correctedText, correctedRows}
 use Rattle.feed_laws.proofs.Held.{held-used}

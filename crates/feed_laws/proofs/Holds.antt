@@ -3,7 +3,6 @@ use Rattle.lists.proofs.Prelude.{ℕ, suc, _+_, _-_, _*_, _≤_, _<_, true, fal
 use Rattle.lists.specs.All.{All}
 use Rattle.lists.specs.Same.{same}
 use Rattle.text_utf8.specs.Text.{Ink, blank, Utf, whole, utfs}
-use Rattle.lexer.specs.Closed.{closed}
 use Rattle.parser.specs.Game.{GM}
 use Rattle.tables.specs.Columns.{valFromAt, valToAt}
 use Rattle.tables.specs.Each.{sum, tabulate}

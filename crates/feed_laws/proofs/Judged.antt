@@ -9,7 +9,6 @@ use Rattle.parser.specs.Game.{GM}
 use Rattle.tables.specs.Memory.{Memory}
 use Rattle.tables.specs.Rows.{PropRow}
 use Rattle.tables.proofs.Cases.{either-bool}
-use Rattle.fit.specs.Fit.{Fit}
 use Rattle.fit.specs.Record.{rowsIn, textIn}
 use Rattle.edit_answer.specs.Edit.{ownerName}
 use Rattle.feed.specs.Feed.{Entry, listing}

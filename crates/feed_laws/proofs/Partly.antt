@@ -1,7 +1,6 @@
 -- A text with some of its values as corrected: the text goes by the bytes of its own values alone, and longer bytes make it longer. Assumes nothing.
 use Rattle.lists.proofs.Prelude.{ℕ, zero, suc, _+_, _-_, _≤_, _<_, Bool, true, false, _≡_, refl, sym, ap, ap₂, _∙_, arith, List, [], _∷_, _++_, length, slice, leb, ltb, eqb, lt-ltb, le-ltb, ltb-true, ltb-false, eq-eqb, ne-eqb, le-leb, lt-leb, leb-true, leb-false, pick}
 use Rattle.lists.proofs.Tests.{same-or}
-use Rattle.tables.specs.Columns.{valFromAt, valToAt}
 use Rattle.tables.specs.Each.{sum}
 use Rattle.tables.specs.Memory.{Memory}
 use Rattle.tables.proofs.Cases.{either-bool}

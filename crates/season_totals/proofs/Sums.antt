@@ -4,7 +4,6 @@ use lib.ListN.{set}
 use Rattle.lists.proofs.Tests.{same-or, never}
 use Rattle.season_totals.specs.declared.Line.{Line}
 use Rattle.season_totals.specs.declared.Line.the-variants.{Unread, Refused, Counted}
-use Rattle.season_totals.specs.declared.Sum.{Sum}
 use Rattle.season_totals.specs.declared.CheckedSum.the-variants.{Is, Over}
 use Rattle.tables.proofs.Tabulate.{tabulate-length, tabulate-at}
 use Rattle.season_totals.specs.Locals.{checked}

@@ -1,6 +1,5 @@
 -- Totals are the sums of the lines, column by column, for any lines; of parts of a season they add up. Assumes nothing.
 use Rattle.lists.proofs.Prelude.{ℕ, zero, suc, _+_, _*_, _-_, _^_, _<_, _≤_, _≡_, refl, sym, ap, _∙_, Bool, true, List, [], _∷_, _++_, length, getD, arith, ext-getD, length-set, zero-add, getD-set-same, getD-set-other, replicate}
-use lib.ListN.{set}
 use Rattle.lists.specs.All.{All}
 use Rattle.season_totals.specs.declared.Line.{Line}
 use Rattle.season_totals.specs.declared.Line.the-variants.{Unread, Refused, Counted}

@@ -18,18 +18,6 @@ abbrev μ-loop : tie.MeasureT-loop
 loop-holds : tie.Need-loop-holds Inv-loop μ-loop
 loop-holds c = (search needs, λ e m l. absurd (omega arith))
 
-add-b : tie.Need-add-b Inv-loop μ-loop
-add-b c = search needs
-
-shared-slice-read-b : tie.Need-shared-slice-read-b Inv-loop μ-loop
-shared-slice-read-b c = search needs
-
-add-j : tie.Need-add-j Inv-loop μ-loop
-add-j c = search needs
-
-loop-less : tie.Need-loop-less Inv-loop μ-loop
-loop-less c = search needs
-
 loop-again : tie.Need-loop-again Inv-loop μ-loop
 loop-again c = (search needs, λ e. let b = getD (now (c .before .before .before .args .s)) (c .before .before .before .args .i + c .before .before .loop .j) 0 in let p = and-both (c .before .before .loop .plain) (ltb b 128 && (not (eqb b 93) && not (eqb b 92))) e in below-more (λ (m : ℕ). PlainByte (getD (now (c .before .before .before .args .s)) (c .before .before .before .args .i + m) 0)) (c .before .before .loop .j) (c .before .before .loop .inv .1 (p .0)) (plain-test b (p .1)))
 
@@ -43,9 +31,9 @@ all-plain-spec =
     Inv-loop
     μ-loop
     loop-holds
-    add-b
-    shared-slice-read-b
-    add-j
-    loop-less
+    (λ c. search needs)
+    (λ c. search needs)
+    (λ c. search needs)
+    (λ c. search needs)
     loop-again
     returns)

@@ -15,9 +15,6 @@ abbrev μ-loop : tie.MeasureT-loop
 returns : tie.Need-returns Inv-loop μ-loop
 returns c = blocked-after (c .before .before .before .before .args .state) (c .before .before .before .before .args .bytes .now) (c .before .before .before .before .args .rows .now) (c .if1 .taken)
 
-known-of-requires : tie.Need-known-of-requires Inv-loop μ-loop
-known-of-requires c κs = search needs
-
 loop-holds : tie.Need-loop-holds Inv-loop μ-loop
 loop-holds c = (refl, refl)
 
@@ -30,12 +27,6 @@ loop-less c = omega (arith, c .before .before .before .before .before .loop-test
 loop-again : tie.Need-loop-again Inv-loop μ-loop
 loop-again c = (omega arith, c .before .before .before .step-on .ensures .1 .rest ∙ c .before .before .before .before .before .before .loop .inv .1)
 
-state-of-requires : tie.Need-state-of-requires Inv-loop μ-loop
-state-of-requires c κs = search needs
-
-same-length : tie.Need-same-length Inv-loop μ-loop
-same-length c = search needs
-
 returns-2 : tie.Need-returns-2 Inv-loop μ-loop
 returns-2 c = blocked (c .before .before .before .before .before .before .before .before .args .state) (c .before .before .before .before .before .before .before .before .args .bytes .now) (c .before .before .before .before .before .before .before .before .args .rows .now) (c .before .before .before .before .if1 .left) (c .before .before .loop .k) (c .before .before .loop .rows) (c .before .before .before .known-of .result) (c .before .before .loop .i) (c .before .loop-test .left) (c .before .before .loop .inv .1) (c .before .before .before .known-of .ensures) (c .state-of .result) (c .state-of .ensures)
 
@@ -46,11 +37,11 @@ block-spec =
     Inv-loop
     μ-loop
     returns
-    known-of-requires
+    (λ c κs. search needs)
     loop-holds
     step-on-requires
     loop-less
     loop-again
-    state-of-requires
-    same-length
+    (λ c κs. search needs)
+    (λ c. search needs)
     returns-2)

@@ -12,38 +12,11 @@ Inv-loop rows₀ first at end n i₀ rows i = Pasting rows₀ at (replicate n 0)
 abbrev μ-loop : tie.MeasureT-loop
 μ-loop rows₀ first at end n i₀ rows i = n - i
 
-mul-at : tie.Need-mul-at Inv-loop μ-loop
-mul-at c = omega arith
-
-mul-end : tie.Need-mul-end Inv-loop μ-loop
-mul-end c = omega arith
-
-sub-n : tie.Need-sub-n Inv-loop μ-loop
-sub-n c = omega arith
-
 loop-holds : tie.Need-loop-holds Inv-loop μ-loop
 loop-holds c = paste-none _ _ _ _ (omega arith) (simp length-replicate (omega arith))
 
-add-rows : tie.Need-add-rows Inv-loop μ-loop
-add-rows c = search needs
-
-mul-rows : tie.Need-mul-rows Inv-loop μ-loop
-mul-rows c = search needs
-
-slice-write-rows : tie.Need-slice-write-rows Inv-loop μ-loop
-slice-write-rows c = search needs
-
-add-i : tie.Need-add-i Inv-loop μ-loop
-add-i c = search needs
-
-loop-less : tie.Need-loop-less Inv-loop μ-loop
-loop-less c = search needs
-
 loop-again : tie.Need-loop-again Inv-loop μ-loop
 loop-again c = paste-more (c .before .loop .inv) (c .loop-test .taken) (sym (getD-replicate _ _ _ _ (c .loop-test .taken)))
-
-same-length : tie.Need-same-length Inv-loop μ-loop
-same-length c = search needs
 
 returns : tie.Need-returns Inv-loop μ-loop
 returns c = paste-done (c .before .loop .inv) (c .loop-test .left) ∙ clears (c .before .before .args .rows .now) (c .before .before .args .first) (length (c .before .before .args .rows .now) / 3 * 3 - c .before .before .args .first * 3) refl (c .before .before .pre)
@@ -54,15 +27,15 @@ clear-spec =
     (tie.spec
     Inv-loop
     μ-loop
-    mul-at
-    mul-end
-    sub-n
+    (λ c. omega arith)
+    (λ c. omega arith)
+    (λ c. omega arith)
     loop-holds
-    add-rows
-    mul-rows
-    slice-write-rows
-    add-i
-    loop-less
+    (λ c. search needs)
+    (λ c. search needs)
+    (λ c. search needs)
+    (λ c. search needs)
+    (λ c. search needs)
     loop-again
-    same-length
+    (λ c. search needs)
     returns)

@@ -8,35 +8,8 @@ use Rattle.blocks.proofs.closing_of.Tie as tie
 returns : tie.Need-returns
 returns c = ends-long (c .before .before .args .k) (c .if1 .taken)
 
-enum-known-u : tie.Need-enum-known-u
-enum-known-u c = search needs
-
-enum-known-u-2 : tie.Need-enum-known-u-2
-enum-known-u-2 c = search needs
-
-enum-told : tie.Need-enum-told
-enum-told c = search needs
-
 returns-2 : tie.Need-returns-2
 returns-2 c = ends-blank (c .before .before .before .before .before .before .args .k) (c .before .before .before .before .if1 .left) (c .before .before .enum-told .given .1) (c .if2 .taken)
-
-enum-told-2 : tie.Need-enum-told-2
-enum-told-2 c = search needs
-
-enum-known-kept : tie.Need-enum-known-kept
-enum-known-kept c = search needs
-
-enum-known-kept-2 : tie.Need-enum-known-kept-2
-enum-known-kept-2 c = search needs
-
-enum-known-kept-3 : tie.Need-enum-known-kept-3
-enum-known-kept-3 c = search needs
-
-enum-known-kept-4 : tie.Need-enum-known-kept-4
-enum-known-kept-4 c = search needs
-
-enum-known-kept-5 : tie.Need-enum-known-kept-5
-enum-known-kept-5 c = search needs
 
 returns-3 : tie.Need-returns-3
 returns-3 c = ends-at (c .before .before .before .before .before .args .k) (c .before .before .before .if1 .left) _ (c .before .u .given .1)
@@ -67,16 +40,16 @@ closing-of-spec =
     tie.close
     (tie.spec
     returns
-    enum-known-u
-    enum-known-u-2
-    enum-told
+    (λ c. search needs)
+    (λ c. search needs)
+    (λ c. search needs)
     returns-2
-    enum-told-2
-    enum-known-kept
-    enum-known-kept-2
-    enum-known-kept-3
-    enum-known-kept-4
-    enum-known-kept-5
+    (λ c. search needs)
+    (λ c. search needs)
+    (λ c. search needs)
+    (λ c. search needs)
+    (λ c. search needs)
+    (λ c. search needs)
     returns-3
     returns-4
     returns-5

@@ -6,26 +6,14 @@ use borrow.Author.Needs.{needs}
 use Rattle.blocks.proofs.ink_next.Statement.{statement}
 use Rattle.blocks.proofs.ink_next.Tie as tie
 
-enum-known-stands : tie.Need-enum-known-stands
-enum-known-stands c = search needs
-
 returns : tie.Need-returns
 returns c = next-by (c .before .before .before .before .args .stands) (Value (c .before .before .stands .given .0 .0)) (c .before .before .before .before .args .at) (c .before .before .before .before .args .b) Silent (After (c .before .before .stands .given .0 .0)) (c .before .before .stands .given .1) (value-closes (c .before .before .stands .given .0 .0) (c .before .before .before .before .args .at) (c .before .before .before .before .args .b) (c .if1 .taken))
 
 returns-2 : tie.Need-returns-2
 returns-2 c = next-by (c .before .before .before .before .before .args .stands) (Value (c .before .before .before .stands .given .0 .0)) (c .before .before .before .before .before .args .at) (c .before .before .before .before .before .args .b) Silent (Escaped (c .before .before .before .stands .given .0 .0)) (c .before .before .before .stands .given .1) (value-escapes (c .before .before .before .stands .given .0 .0) (c .before .before .before .before .before .args .at) (c .before .before .before .before .before .args .b) (c .before .if1 .left) (c .if2 .taken))
 
-enum-known-stands-2 : tie.Need-enum-known-stands-2
-enum-known-stands-2 c = search needs
-
 returns-3 : tie.Need-returns-3
 returns-3 c = next-by (c .before .before .before .before .args .stands) (Ident (c .before .before .stands2 .given .0 .0)) (c .before .before .before .before .args .at) (c .before .before .before .before .args .b) Silent (Value (c .before .before .stands2 .given .0 .0)) (c .before .before .stands2 .given .1) (ident-opens (c .before .before .stands2 .given .0 .0) (c .before .before .before .before .args .at) (c .before .before .before .before .args .b) (c .if3 .taken))
-
-enum-told : tie.Need-enum-told
-enum-told c = search needs
-
-kind-requires : tie.Need-kind-requires
-kind-requires c κs = search needs
 
 returns-4 : tie.Need-returns-4
 returns-4 c = next-by (c .before .before .before .before .args .stands) Between (c .before .before .before .before .args .at) (c .before .before .before .before .args .b) (Single (c .before .kind .result)) Between (c .before .before .enum-told .given .1) (between-kind (c .before .before .before .before .args .at) (c .before .before .before .before .args .b) (c .before .before .before .before .pre .0) (c .before .kind .result) (c .before .kind .ensures) (c .if4 .taken))
@@ -33,23 +21,11 @@ returns-4 c = next-by (c .before .before .before .before .args .stands) Between 
 returns-5 : tie.Need-returns-5
 returns-5 c = next-by (c .before .before .before .before .before .args .stands) Between (c .before .before .before .before .before .args .at) (c .before .before .before .before .before .args .b) Silent (Value (c .before .before .before .before .before .args .at)) (c .before .before .before .enum-told .given .1) (between-opens (c .before .before .before .before .before .args .at) (c .before .before .before .before .before .args .b) (c .before .before .before .before .before .pre .0) (c .before .before .kind .result) (c .before .before .kind .ensures) (c .before .if4 .left) (c .if5 .taken))
 
-enum-known-stands-3 : tie.Need-enum-known-stands-3
-enum-known-stands-3 c = search needs
-
 returns-6 : tie.Need-returns-6
 returns-6 c = next-by (c .before .before .before .before .args .stands) (After (c .before .before .stands3 .given .0 .0)) (c .before .before .before .before .args .at) (c .before .before .before .before .args .b) Silent (Value (c .before .before .stands3 .given .0 .0)) (c .before .before .stands3 .given .1) (after-again (c .before .before .before .before .args .at) (c .before .before .before .before .args .b) (c .before .before .before .before .pre .0) (c .before .before .stands3 .given .0 .0) (c .if6 .taken))
 
-kind-requires-2 : tie.Need-kind-requires-2
-kind-requires-2 c κs = search needs
-
 returns-7 : tie.Need-returns-7
 returns-7 c = next-by (c .before .before .before .before .before .before .args .stands) (After (c .before .before .before .before .stands3 .given .0 .0)) (c .before .before .before .before .before .before .args .at) (c .before .before .before .before .before .before .args .b) (Both (c .before .before .before .before .stands3 .given .0 .0) (c .before .kind2 .result)) Between (c .before .before .before .before .stands3 .given .1) (after-kind (c .before .before .before .before .before .before .args .at) (c .before .before .before .before .before .before .args .b) (c .before .before .before .before .before .before .pre .0) (c .before .kind2 .result) (c .before .kind2 .ensures) (c .before .before .before .before .stands3 .given .0 .0) (c .before .before .if6 .left) (c .if7 .taken))
-
-enum-known-stands-4 : tie.Need-enum-known-stands-4
-enum-known-stands-4 c = search needs
-
-enum-known-stands-5 : tie.Need-enum-known-stands-5
-enum-known-stands-5 c = search needs
 
 returns-8 : tie.Need-returns-8
 returns-8 c = next-by (c .before .before .before .before .before .args .stands) (Value (c .before .before .before .stands .given .0 .0)) (c .before .before .before .before .before .args .at) (c .before .before .before .before .before .args .b) Silent (Value (c .before .before .before .stands .given .0 .0)) (c .before .before .before .stands .given .1) (value-stays (c .before .before .before .stands .given .0 .0) (c .before .before .before .before .before .args .at) (c .before .before .before .before .before .args .b) (c .before .if1 .left) (c .if2 .left))
@@ -73,21 +49,21 @@ pub ink-next-spec : {M : Type 1} → statement M
 ink-next-spec =
     tie.close
     (tie.spec
-    enum-known-stands
+    (λ c. search needs)
     returns
     returns-2
-    enum-known-stands-2
+    (λ c. search needs)
     returns-3
-    enum-told
-    kind-requires
+    (λ c. search needs)
+    (λ c κs. search needs)
     returns-4
     returns-5
-    enum-known-stands-3
+    (λ c. search needs)
     returns-6
-    kind-requires-2
+    (λ c κs. search needs)
     returns-7
-    enum-known-stands-4
-    enum-known-stands-5
+    (λ c. search needs)
+    (λ c. search needs)
     returns-8
     returns-9
     returns-10

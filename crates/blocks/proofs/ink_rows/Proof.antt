@@ -10,65 +10,17 @@ use borrow.Author.Needs.{needs}
 use Rattle.blocks.proofs.ink_rows.Statement.{statement}
 use Rattle.blocks.proofs.ink_rows.Tie as tie
 
-enum-told : tie.Need-enum-told
-enum-told c = search needs
-
-kind-requires : tie.Need-kind-requires
-kind-requires c κs = search needs
-
 returns : tie.Need-returns
 returns c = rows-by (c .before .before .before .before .before .args .stands) Between (c .before .before .before .before .before .args .at) (c .before .before .before .before .before .args .b) Silent (propertyPhase (c .before .before .before .before .before .args .at) (c .before .before .before .before .before .args .b)) (c .before .before .enum-told .given .1) (between-silent (c .before .before .before .before .before .args .at) (c .before .before .before .before .before .args .b) (c .before .before .before .before .before .pre .0) (c .before .kind .result) (c .before .kind .ensures) (c .if1 .taken)) (filledWith (c .before .before .before .before .before .args .count) (c .before .before .before .before .before .args .rows .now))
-
-add-put-row : tie.Need-add-put-row
-add-put-row c = search needs
-
-put-row-requires : tie.Need-put-row-requires
-put-row-requires c κs = search needs
-
-enum-known-stands : tie.Need-enum-known-stands
-enum-known-stands c = search needs
 
 returns-2 : tie.Need-returns-2
 returns-2 c = rows-by (c .before .before .before .before .before .args .stands) (After (c .before .before .stands .given .0 .0)) (c .before .before .before .before .before .args .at) (c .before .before .before .before .before .args .b) Silent (Value (c .before .before .stands .given .0 .0)) (c .before .before .stands .given .1) (after-again (c .before .before .before .before .before .args .at) (c .before .before .before .before .before .args .b) (c .before .before .before .before .before .pre .0) (c .before .before .stands .given .0 .0) (c .if2 .taken)) (filledWith (c .before .before .before .before .before .args .count) (c .before .before .before .before .before .args .rows .now))
 
-put-row-requires-2 : tie.Need-put-row-requires-2
-put-row-requires-2 c κs = search needs
-
-kind-requires-2 : tie.Need-kind-requires-2
-kind-requires-2 c κs = search needs
-
-same-length : tie.Need-same-length
-same-length c = search needs
-
 returns-3 : tie.Need-returns-3
 returns-3 c = c .before .before .before .before .put-row2 .ensures ∙ rows-by (c .before .before .before .before .before .before .before .before .before .before .before .args .stands) (After (c .before .before .before .before .before .before .before .before .stands .given .0 .0)) (c .before .before .before .before .before .before .before .before .before .before .before .args .at) (c .before .before .before .before .before .before .before .before .before .before .before .args .b) (Property (c .before .before .before .before .before .before .before .before .stands .given .0 .0)) (Ident (c .before .before .before .before .before .before .before .before .before .before .before .args .at)) (c .before .before .before .before .before .before .before .before .stands .given .1) (after-ident (c .before .before .before .before .before .before .before .before .before .before .before .args .at) (c .before .before .before .before .before .before .before .before .before .before .before .args .b) (c .before .before .before .before .before .before .before .before .before .before .before .pre .0) (c .before .kind2 .result) (c .before .kind2 .ensures) (c .before .before .before .before .before .before .before .before .stands .given .0 .0) (c .before .before .before .before .before .before .if2 .left) (c .before .before .before .before .before .before .before .before .before .before .before .pre .1) (c .if3 .taken)) (filledWith (c .before .before .before .before .before .before .before .before .before .before .before .args .count) (c .before .before .before .before .before .before .before .before .before .before .before .args .rows .now))
 
-add-put-row-2 : tie.Need-add-put-row-2
-add-put-row-2 c = search needs
-
-put-row-requires-3 : tie.Need-put-row-requires-3
-put-row-requires-3 c κs = search needs
-
-enum-told-2 : tie.Need-enum-told-2
-enum-told-2 c = search needs
-
-enum-told-3 : tie.Need-enum-told-3
-enum-told-3 c = search needs
-
-enum-told-4 : tie.Need-enum-told-4
-enum-told-4 c = search needs
-
-enum-told-5 : tie.Need-enum-told-5
-enum-told-5 c = search needs
-
-same-length-2 : tie.Need-same-length-2
-same-length-2 c = search needs
-
 returns-4 : tie.Need-returns-4
 returns-4 c = c .before .before .put-row .ensures ∙ row-single (filledWith (c .before .before .before .before .before .before .before .before .before .args .count) (c .before .before .before .before .before .before .before .before .before .args .rows .now)) (c .before .before .before .before .before .kind .result) (c .before .before .before .before .before .before .before .before .before .args .at) ∙ rows-by (c .before .before .before .before .before .before .before .before .before .args .stands) Between (c .before .before .before .before .before .before .before .before .before .args .at) (c .before .before .before .before .before .before .before .before .before .args .b) (Single (c .before .before .before .before .before .kind .result)) Between (c .before .before .before .before .before .before .enum-told .given .1) (between-kind (c .before .before .before .before .before .before .before .before .before .args .at) (c .before .before .before .before .before .before .before .before .before .args .b) (c .before .before .before .before .before .before .before .before .before .pre .0) (c .before .before .before .before .before .kind .result) (c .before .before .before .before .before .kind .ensures) (c .before .before .before .before .if1 .left)) (filledWith (c .before .before .before .before .before .before .before .before .before .args .count) (c .before .before .before .before .before .before .before .before .before .args .rows .now))
-
-same-length-3 : tie.Need-same-length-3
-same-length-3 c = search needs
 
 returns-5 : tie.Need-returns-5
 returns-5 c = c .before .before .put-row3 .ensures ∙ ap (λ (f : Filled). addRow f (tokenRow (c .before .before .before .before .before .kind2 .result) (c .before .before .before .before .before .before .before .before .before .before .before .before .before .before .before .args .at) (c .before .before .before .before .before .before .before .before .before .before .before .before .before .before .before .args .at + 1))) (c .before .before .before .before .before .before .before .before .put-row2 .ensures) ∙ row-single (addRow (filledWith (c .before .before .before .before .before .before .before .before .before .before .before .before .before .before .before .args .count) (c .before .before .before .before .before .before .before .before .before .before .before .before .before .before .before .args .rows .now)) (tokenRow 4 (c .before .before .before .before .before .before .before .before .before .before .before .before .stands .given .0 .0) (c .before .before .before .before .before .before .before .before .before .before .before .before .before .before .before .args .at))) (c .before .before .before .before .before .kind2 .result) (c .before .before .before .before .before .before .before .before .before .before .before .before .before .before .before .args .at) ∙ rows-by (c .before .before .before .before .before .before .before .before .before .before .before .before .before .before .before .args .stands) (After (c .before .before .before .before .before .before .before .before .before .before .before .before .stands .given .0 .0)) (c .before .before .before .before .before .before .before .before .before .before .before .before .before .before .before .args .at) (c .before .before .before .before .before .before .before .before .before .before .before .before .before .before .before .args .b) (Both (c .before .before .before .before .before .before .before .before .before .before .before .before .stands .given .0 .0) (c .before .before .before .before .before .kind2 .result)) Between (c .before .before .before .before .before .before .before .before .before .before .before .before .stands .given .1) (after-kind (c .before .before .before .before .before .before .before .before .before .before .before .before .before .before .before .args .at) (c .before .before .before .before .before .before .before .before .before .before .before .before .before .before .before .args .b) (c .before .before .before .before .before .before .before .before .before .before .before .before .before .before .before .pre .0) (c .before .before .before .before .before .kind2 .result) (c .before .before .before .before .before .kind2 .ensures) (c .before .before .before .before .before .before .before .before .before .before .before .before .stands .given .0 .0) (c .before .before .before .before .before .before .before .before .before .before .if2 .left) (c .before .before .before .before .if3 .left)) (filledWith (c .before .before .before .before .before .before .before .before .before .before .before .before .before .before .before .args .count) (c .before .before .before .before .before .before .before .before .before .before .before .before .before .before .before .args .rows .now))
@@ -89,26 +41,26 @@ pub ink-rows-spec : {M : Type 1} → statement M
 ink-rows-spec =
     tie.close
     (tie.spec
-    enum-told
-    kind-requires
+    (λ c. search needs)
+    (λ c κs. search needs)
     returns
-    add-put-row
-    put-row-requires
-    enum-known-stands
+    (λ c. search needs)
+    (λ c κs. search needs)
+    (λ c. search needs)
     returns-2
-    put-row-requires-2
-    kind-requires-2
-    same-length
+    (λ c κs. search needs)
+    (λ c κs. search needs)
+    (λ c. search needs)
     returns-3
-    add-put-row-2
-    put-row-requires-3
-    enum-told-2
-    enum-told-3
-    enum-told-4
-    enum-told-5
-    same-length-2
+    (λ c. search needs)
+    (λ c κs. search needs)
+    (λ c. search needs)
+    (λ c. search needs)
+    (λ c. search needs)
+    (λ c. search needs)
+    (λ c. search needs)
     returns-4
-    same-length-3
+    (λ c. search needs)
     returns-5
     returns-6
     returns-7

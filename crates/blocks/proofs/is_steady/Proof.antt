@@ -11,32 +11,11 @@ returns c = λ e. absurd (false≢true e)
 returns-2 : tie.Need-returns-2
 returns-2 c = λ e. absurd (false≢true e)
 
-phase-number-requires : tie.Need-phase-number-requires
-phase-number-requires c κs = search needs
-
-phase-number-requires-2 : tie.Need-phase-number-requires-2
-phase-number-requires-2 c κs = search needs
-
 returns-3 : tie.Need-returns-3
 returns-3 c = λ e. absurd (false≢true e)
 
-phase-from-requires : tie.Need-phase-from-requires
-phase-from-requires c κs = search needs
-
-phase-from-requires-2 : tie.Need-phase-from-requires-2
-phase-from-requires-2 c κs = search needs
-
 returns-4 : tie.Need-returns-4
 returns-4 c = λ e. absurd (false≢true e)
-
-enum-told : tie.Need-enum-told
-enum-told c = search needs
-
-enum-told-2 : tie.Need-enum-told-2
-enum-told-2 c = search needs
-
-enum-told-3 : tie.Need-enum-told-3
-enum-told-3 c = search needs
 
 returns-5 : tie.Need-returns-5
 returns-5 c = λ e. steady-known (c .before .before .before .before .before .before .before .before .before .before .before .before .args .k) (c .before .before .before .before .before .before .before .before .before .before .if1 .left) (c .before .before .before .before .before .before .before .before .if2 .left) (sym (c .before .before .before .before .before .before .before .phase-number .ensures) ∙ c .before .before .before .before .before .if3 .left ∙ c .before .before .before .before .before .before .phase-number2 .ensures) (sym (c .before .before .before .before .phase-from .ensures) ∙ c .before .before .if4 .left ∙ c .before .before .before .phase-from2 .ensures) (c .enum-told .given .1)
@@ -53,15 +32,15 @@ is-steady-spec =
     (tie.spec
     returns
     returns-2
-    phase-number-requires
-    phase-number-requires-2
+    (λ c κs. search needs)
+    (λ c κs. search needs)
     returns-3
-    phase-from-requires
-    phase-from-requires-2
+    (λ c κs. search needs)
+    (λ c κs. search needs)
     returns-4
-    enum-told
-    enum-told-2
-    enum-told-3
+    (λ c. search needs)
+    (λ c. search needs)
+    (λ c. search needs)
     returns-5
     returns-6
     returns-7)

@@ -4,12 +4,6 @@ use borrow.Author.Needs.{needs}
 use Rattle.blocks.proofs.plain_run.Statement.{statement}
 use Rattle.blocks.proofs.plain_run.Tie as tie
 
-wide-requires : tie.Need-wide-requires
-wide-requires c κs = search needs
-
-sub-if1 : tie.Need-sub-if1
-sub-if1 c = search needs
-
 returns : tie.Need-returns
 returns c = (omega arith, λ h. absurd (omega (arith, h)))
 
@@ -53,8 +47,8 @@ pub plain-run-spec : {M : Type 1} → statement M
 plain-run-spec =
     tie.close
     (tie.spec
-    wide-requires
-    sub-if1
+    (λ c κs. search needs)
+    (λ c. search needs)
     returns
     all-plain-requires
     sub-if3

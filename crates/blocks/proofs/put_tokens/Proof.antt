@@ -8,53 +8,14 @@ use borrow.Author.Needs.{needs}
 use Rattle.blocks.proofs.put_tokens.Statement.{statement}
 use Rattle.blocks.proofs.put_tokens.Tie as tie
 
-enum-told : tie.Need-enum-told
-enum-told c = search needs
-
-enum-known-tokens : tie.Need-enum-known-tokens
-enum-known-tokens c = search needs
-
-add-put-row : tie.Need-add-put-row
-add-put-row c = search needs
-
-put-row-requires : tie.Need-put-row-requires
-put-row-requires c κs = search needs
-
-enum-known-tokens-2 : tie.Need-enum-known-tokens-2
-enum-known-tokens-2 c = search needs
-
-put-row-requires-2 : tie.Need-put-row-requires-2
-put-row-requires-2 c κs = search needs
-
-enum-known-tokens-3 : tie.Need-enum-known-tokens-3
-enum-known-tokens-3 c = search needs
-
-put-row-requires-3 : tie.Need-put-row-requires-3
-put-row-requires-3 c κs = search needs
-
-add-put-row-2 : tie.Need-add-put-row-2
-add-put-row-2 c = search needs
-
-put-row-requires-4 : tie.Need-put-row-requires-4
-put-row-requires-4 c κs = search needs
-
 returns : tie.Need-returns
 returns c = ap (λ (z : Tokens). addRows (filledWith (c .before .before .before .args .count) (c .before .before .before .args .rows .now)) (rowsAt z (c .before .before .before .args .at))) (sym (c .enum-told .given .1))
-
-same-length : tie.Need-same-length
-same-length c = search needs
 
 returns-2 : tie.Need-returns-2
 returns-2 c = c .before .before .put-row .ensures ∙ row-single (filledWith (c .before .before .before .before .before .before .before .before .args .count) (c .before .before .before .before .before .before .before .before .args .rows .now)) (c .before .before .before .before .before .tokens .given .0 .0) (c .before .before .before .before .before .before .before .before .args .at) ∙ ap (λ (z : Tokens). addRows (filledWith (c .before .before .before .before .before .before .before .before .args .count) (c .before .before .before .before .before .before .before .before .args .rows .now)) (rowsAt z (c .before .before .before .before .before .before .before .before .args .at))) (sym (c .before .before .before .before .before .tokens .given .1))
 
-same-length-2 : tie.Need-same-length-2
-same-length-2 c = search needs
-
 returns-3 : tie.Need-returns-3
 returns-3 c = c .before .before .put-row2 .ensures ∙ ap (λ (z : Tokens). addRows (filledWith (c .before .before .before .before .before .before .before .before .args .count) (c .before .before .before .before .before .before .before .before .args .rows .now)) (rowsAt z (c .before .before .before .before .before .before .before .before .args .at))) (sym (c .before .before .before .before .before .tokens2 .given .1))
-
-same-length-3 : tie.Need-same-length-3
-same-length-3 c = search needs
 
 returns-4 : tie.Need-returns-4
 returns-4 c = c .before .before .put-row4 .ensures
@@ -66,20 +27,20 @@ pub put-tokens-spec : {M : Type 1} → statement M
 put-tokens-spec =
     tie.close
     (tie.spec
-    enum-told
-    enum-known-tokens
-    add-put-row
-    put-row-requires
-    enum-known-tokens-2
-    put-row-requires-2
-    enum-known-tokens-3
-    put-row-requires-3
-    add-put-row-2
-    put-row-requires-4
+    (λ c. search needs)
+    (λ c. search needs)
+    (λ c. search needs)
+    (λ c κs. search needs)
+    (λ c. search needs)
+    (λ c κs. search needs)
+    (λ c. search needs)
+    (λ c κs. search needs)
+    (λ c. search needs)
+    (λ c κs. search needs)
     returns
-    same-length
+    (λ c. search needs)
     returns-2
-    same-length-2
+    (λ c. search needs)
     returns-3
-    same-length-3
+    (λ c. search needs)
     returns-4)

@@ -19,17 +19,8 @@ abbrev μ-loop : tie.MeasureT-loop
 loop-holds : tie.Need-loop-holds Inv-loop μ-loop
 loop-holds c = (refl, omega arith, c .before .before .pre .0, c .before .before .pre .1, refl)
 
-sub-if1 : tie.Need-sub-if1 Inv-loop μ-loop
-sub-if1 c = search needs
-
-shared-slice-read-b : tie.Need-shared-slice-read-b Inv-loop μ-loop
-shared-slice-read-b c = search needs
-
 pair-run-requires : tie.Need-pair-run-requires Inv-loop μ-loop
 pair-run-requires c κs = c .before .before .before .loop-test .taken
-
-enum-known-q : tie.Need-enum-known-q Inv-loop μ-loop
-enum-known-q c = search needs
 
 add-i : tie.Need-add-i Inv-loop μ-loop
 add-i c = (let x = (subst (λ (z : Pair). PairIs (c .before .before .before .before .before .before .before .before .loop .p) (c .before .before .before .before .before .before .before .before .before .before .before .args .bytes .now) (c .before .before .before .before .before .before .before .before .loop .i) z) (c .before .q .given .1) (c .before .before .before .pair-run .ensures)) .pair .room in omega arith)
@@ -43,14 +34,8 @@ loop-less c = (let x = (subst (λ (z : Pair). PairIs (c .before .before .before 
 loop-again : tie.Need-loop-again Inv-loop μ-loop
 loop-again c = (let x = (subst (λ (z : Pair). PairIs (c .before .before .before .before .before .before .before .before .loop .p) (c .before .before .before .before .before .before .before .before .before .before .before .args .bytes .now) (c .before .before .before .before .before .before .before .before .loop .i) z) (c .before .q .given .1) (c .before .before .before .pair-run .ensures)) .pair .room in (c .before .before .before .before .before .before .before .before .loop .inv .0, omega (arith, c .before .before .before .before .before .before .before .before .loop .inv .1), x, omega arith, block-part (c .before .before .before .before .before .before .before .before .before .before .before .args .bytes .now) (c .before .before .before .before .before .before .before .before .loop .i) 4 (room (steadyAt (c .before .before .before .before .before .before .before .before .loop .place) (c .before .before .before .before .before .before .before .before .loop .ink) (c .before .before .before .before .before .before .before .before .loop .p) (c .before .before .before .before .before .before .before .before .loop .n)) (c .before .before .before .before .before .before .before .before .loop .rows)) (room (steadyAt (c .before .before .before .before .before .before .before .before .loop .place + 4) (c .before .before .before .before .before .before .before .before .loop .place + 4) (c .before .q .given .0 .0) (c .before .before .before .before .before .before .before .before .loop .n)) (c .before .before .before .before .before .before .before .before .loop .rows)) _ (steady-pair (c .before .before .before .before .before .before .before .before .loop .place) (c .before .before .before .before .before .before .before .before .loop .ink) (c .before .before .before .before .before .before .before .before .loop .p) (c .before .before .before .before .before .before .before .before .loop .n) (c .before .before .before .before .before .before .before .before .loop .rows) (c .before .before .before .before .before .before .before .before .before .before .before .args .bytes .now) (c .before .before .before .before .before .before .before .before .loop .i) (c .before .q .given .0 .0) (omega (arith, c .before .before .before .before .before .before .if1 .left)) (subst (λ (z : Pair). PairIs (c .before .before .before .before .before .before .before .before .loop .p) (c .before .before .before .before .before .before .before .before .before .before .before .args .bytes .now) (c .before .before .before .before .before .before .before .before .loop .i) z) (c .before .q .given .1) (c .before .before .before .pair-run .ensures)) (c .before .before .before .before .if2 .taken)) (c .before .before .before .before .before .before .before .before .loop .inv .4)))
 
-enum-told : tie.Need-enum-told Inv-loop μ-loop
-enum-told c = search needs
-
 value-run-requires : tie.Need-value-run-requires Inv-loop μ-loop
 value-run-requires c κs = c .before .before .before .before .before .loop .inv .2
-
-wide-requires : tie.Need-wide-requires Inv-loop μ-loop
-wide-requires c κs = search needs
 
 add-i-2 : tie.Need-add-i-2 Inv-loop μ-loop
 add-i-2 c = (let x = (c .before .before .value-run .ensures .1 (c .before .if4 .taken)) .run .room in omega (arith, c .wide .ensures))
@@ -64,23 +49,8 @@ loop-less-2 c = (let x = (c .before .before .value-run .ensures .1 (c .before .i
 loop-again-2 : tie.Need-loop-again-2 Inv-loop μ-loop
 loop-again-2 c = (let x = (c .before .before .value-run .ensures .1 (c .before .if4 .taken)) .run .room in (c .before .before .before .before .before .before .before .before .loop .inv .0, omega (arith, c .before .before .before .before .before .before .before .before .loop .inv .1), omega (arith, c .wide .ensures), omega (arith, c .before .if4 .taken), block-part-by (c .before .before .before .before .before .before .before .before .before .before .before .args .bytes .now) (c .before .before .before .before .before .before .before .before .loop .i) (c .before .before .value-run .result) (c .wide .result) (room (steadyAt (c .before .before .before .before .before .before .before .before .loop .place) (c .before .before .before .before .before .before .before .before .loop .ink) (c .before .before .before .before .before .before .before .before .loop .p) (c .before .before .before .before .before .before .before .before .loop .n)) (c .before .before .before .before .before .before .before .before .loop .rows)) (room (steadyAt (c .before .before .before .before .before .before .before .before .loop .place + c .before .before .value-run .result) (c .before .before .before .before .before .before .before .before .loop .place + c .before .before .value-run .result) (c .before .before .before .before .before .before .before .before .loop .p) (c .before .before .before .before .before .before .before .before .loop .n)) (c .before .before .before .before .before .before .before .before .loop .rows)) _ (c .wide .ensures) (steady-values (c .before .before .before .before .before .before .before .before .loop .place) (c .before .before .before .before .before .before .before .before .loop .ink) (c .before .before .before .before .before .before .before .before .loop .p) (c .before .before .before .before .before .before .before .before .loop .n) (c .before .before .before .before .before .before .before .before .loop .rows) (c .before .before .before .before .before .before .before .before .before .before .before .args .bytes .now) (c .before .before .before .before .before .before .before .before .loop .i) (c .before .before .value-run .result) (c .before .before .before .before .before .before .before .before .loop .inv .3) (omega (arith, c .before .before .before .before .before .before .if1 .left, c .before .before .value-run .ensures .0)) (c .before .before .value-run .ensures .1 (c .before .if4 .taken))) (c .before .before .before .before .before .before .before .before .loop .inv .4)))
 
-add-again : tie.Need-add-again Inv-loop μ-loop
-add-again c = search needs
-
-is-space-requires : tie.Need-is-space-requires Inv-loop μ-loop
-is-space-requires c κs = search needs
-
-holds-white-requires : tie.Need-holds-white-requires Inv-loop μ-loop
-holds-white-requires c κs = search needs
-
-add-i-3 : tie.Need-add-i-3 Inv-loop μ-loop
-add-i-3 c = search needs
-
 add-place-3 : tie.Need-add-place-3 Inv-loop μ-loop
 add-place-3 c = omega (arith, c .before .before .before .before .before .before .before .before .if1 .left)
-
-loop-less-3 : tie.Need-loop-less-3 Inv-loop μ-loop
-loop-less-3 c = search needs
 
 loop-again-3 : tie.Need-loop-again-3 Inv-loop μ-loop
 loop-again-3 c = (let w = and-both (c .before .before .is-space .result) (c .before .holds-white .result) (c .if7 .taken) in (c .before .before .before .before .before .before .before .before .before .before .loop .inv .0, omega (arith, c .before .before .before .before .before .before .before .before .before .before .loop .inv .1), omega (arith, c .before .before .before .before .before .before .before .before .before .loop-test .taken), c .before .before .before .before .before .before .before .before .before .before .loop .inv .3, block-more (c .before .before .before .before .before .before .before .before .before .before .before .before .before .args .bytes .now) (c .before .before .before .before .before .before .before .before .before .before .loop .i) (room (steadyAt (c .before .before .before .before .before .before .before .before .before .before .loop .place) (c .before .before .before .before .before .before .before .before .before .before .loop .ink) (c .before .before .before .before .before .before .before .before .before .before .loop .p) (c .before .before .before .before .before .before .before .before .before .before .loop .n)) (c .before .before .before .before .before .before .before .before .before .before .loop .rows)) (room (steadyAt (c .before .before .before .before .before .before .before .before .before .before .loop .place + 1) (c .before .before .before .before .before .before .before .before .before .before .loop .ink) (c .before .before .before .before .before .before .before .before .before .before .loop .p) (c .before .before .before .before .before .before .before .before .before .before .loop .n)) (c .before .before .before .before .before .before .before .before .before .before .loop .rows)) _ (c .before .before .before .before .before .before .before .before .before .loop-test .taken) (sym (steady-white (c .before .before .before .before .before .before .before .before .before .before .loop .place) (c .before .before .before .before .before .before .before .before .before .before .loop .ink) (c .before .before .before .before .before .before .before .before .before .before .loop .p) (c .before .before .before .before .before .before .before .before .before .before .loop .n) (c .before .before .before .before .before .before .before .before .before .before .loop .rows) (omega (arith, c .before .before .before .before .before .before .before .before .if1 .left)) (getD (c .before .before .before .before .before .before .before .before .before .before .before .before .before .args .bytes .now) (c .before .before .before .before .before .before .before .before .before .before .loop .i) 0) (c .before .before .before .before .before .before .before .before .before .before .loop .inv .3) (sym (c .before .before .is-space .ensures) ∙ w .0) (c .before .holds-white .ensures (w .1)))) (c .before .before .before .before .before .before .before .before .before .before .loop .inv .4)))
@@ -91,38 +61,20 @@ ink-rows-requires c κs = (c .before .if6 .left, c .before .before .if5 .left, o
 ink-next-requires : tie.Need-ink-next-requires Inv-loop μ-loop
 ink-next-requires c κs = (c .before .before .before .before .if6 .left, c .before .before .before .before .before .if5 .left)
 
-add-i-4 : tie.Need-add-i-4 Inv-loop μ-loop
-add-i-4 c = search needs
-
 add-place-4 : tie.Need-add-place-4 Inv-loop μ-loop
 add-place-4 c = omega (arith, c .before .before .before .before .before .before .before .before .before .before .if1 .left)
-
-loop-less-4 : tie.Need-loop-less-4 Inv-loop μ-loop
-loop-less-4 c = search needs
 
 loop-again-4 : tie.Need-loop-again-4 Inv-loop μ-loop
 loop-again-4 c = (omega arith, omega (arith, c .before .before .before .before .before .before .before .before .before .before .before .before .loop .inv .1), omega (arith, c .before .before .before .before .before .before .before .before .before .before .before .loop-test .taken), omega arith, block-more (c .before .before .before .before .before .before .before .before .before .before .before .before .before .before .before .args .bytes .now) (c .before .before .before .before .before .before .before .before .before .before .before .before .loop .i) (room (steadyAt (c .before .before .before .before .before .before .before .before .before .before .before .before .loop .place) (c .before .before .before .before .before .before .before .before .before .before .before .before .loop .ink) (c .before .before .before .before .before .before .before .before .before .before .before .before .loop .p) (c .before .before .before .before .before .before .before .before .before .before .before .before .loop .n)) (c .before .before .before .before .before .before .before .before .before .before .before .before .loop .rows)) _ _ (c .before .before .before .before .before .before .before .before .before .before .before .loop-test .taken) (sym (steady-ink (c .before .before .before .before .before .before .before .before .before .before .before .before .loop .place) (c .before .before .before .before .before .before .before .before .before .before .before .before .loop .ink) (c .before .before .before .before .before .before .before .before .before .before .before .before .loop .p) (c .before .before .before .before .before .before .before .before .before .before .before .before .loop .n) (c .before .before .before .before .before .before .before .before .before .before .before .before .loop .rows) (omega (arith, c .before .before .before .before .before .before .before .before .before .before .if1 .left)) (getD (c .before .before .before .before .before .before .before .before .before .before .before .before .before .before .before .args .bytes .now) (c .before .before .before .before .before .before .before .before .before .before .before .before .loop .i) 0) (c .before .before .before .before .before .if6 .left) (c .before .before .before .before .before .before .if5 .left) (c .before .before .before .ink-rows .result) _ (c .ink-next .result) (c .before .before .before .ink-rows .ensures) (c .ink-next .ensures))) (c .before .before .before .before .before .before .before .before .before .before .before .before .loop .inv .4))
 
-same-length : tie.Need-same-length Inv-loop μ-loop
-same-length c = search needs
-
 returns : tie.Need-returns Inv-loop μ-loop
 returns c = record { low = c .before .loop .inv .1; high = c .before .loop .inv .2; rest = c .before .loop .inv .4 }
-
-same-length-2 : tie.Need-same-length-2 Inv-loop μ-loop
-same-length-2 c = search needs
 
 returns-2 : tie.Need-returns-2 Inv-loop μ-loop
 returns-2 c = record { low = c .before .before .loop .inv .1; high = c .before .before .loop .inv .2; rest = c .before .before .loop .inv .4 }
 
-same-length-3 : tie.Need-same-length-3 Inv-loop μ-loop
-same-length-3 c = search needs
-
 returns-3 : tie.Need-returns-3 Inv-loop μ-loop
 returns-3 c = record { low = c .before .before .before .before .before .before .loop .inv .1; high = c .before .before .before .before .before .before .loop .inv .2; rest = c .before .before .before .before .before .before .loop .inv .4 }
-
-same-length-4 : tie.Need-same-length-4 Inv-loop μ-loop
-same-length-4 c = search needs
 
 returns-4 : tie.Need-returns-4 Inv-loop μ-loop
 returns-4 c = record { low = c .before .before .before .before .before .before .before .before .before .before .loop .inv .1; high = c .before .before .before .before .before .before .before .before .before .before .loop .inv .2; rest = c .before .before .before .before .before .before .before .before .before .before .loop .inv .4 }
@@ -134,39 +86,39 @@ steady-run-spec =
     Inv-loop
     μ-loop
     loop-holds
-    sub-if1
-    shared-slice-read-b
+    (λ c. search needs)
+    (λ c. search needs)
     pair-run-requires
-    enum-known-q
+    (λ c. search needs)
     add-i
     add-place
     loop-less
     loop-again
-    enum-told
+    (λ c. search needs)
     value-run-requires
-    wide-requires
+    (λ c κs. search needs)
     add-i-2
     add-place-2
     loop-less-2
     loop-again-2
-    add-again
-    is-space-requires
-    holds-white-requires
-    add-i-3
+    (λ c. search needs)
+    (λ c κs. search needs)
+    (λ c κs. search needs)
+    (λ c. search needs)
     add-place-3
-    loop-less-3
+    (λ c. search needs)
     loop-again-3
     ink-rows-requires
     ink-next-requires
-    add-i-4
+    (λ c. search needs)
     add-place-4
-    loop-less-4
+    (λ c. search needs)
     loop-again-4
-    same-length
+    (λ c. search needs)
     returns
-    same-length-2
+    (λ c. search needs)
     returns-2
-    same-length-3
+    (λ c. search needs)
     returns-3
-    same-length-4
+    (λ c. search needs)
     returns-4)

@@ -9,23 +9,8 @@ use Rattle.blocks.proofs.step_on.Tie as tie
 run-on-requires : tie.Need-run-on-requires
 run-on-requires c κs = omega (arith, c .before .before .before .pre)
 
-same-length : tie.Need-same-length
-same-length c = search needs
-
 returns : tie.Need-returns
 returns c = (omega (arith, c .if1 .taken, c .before .before .before .before .before .before .before .pre), c .before .before .before .run-on .ensures)
-
-shared-slice-read-take-byte : tie.Need-shared-slice-read-take-byte
-shared-slice-read-take-byte c = search needs
-
-take-byte-requires : tie.Need-take-byte-requires
-take-byte-requires c κs = search needs
-
-add-t11 : tie.Need-add-t11
-add-t11 c = search needs
-
-same-length-2 : tie.Need-same-length-2
-same-length-2 c = search needs
 
 returns-2 : tie.Need-returns-2
 returns-2 c = (omega (arith, c .before .before .before .before .before .before .before .before .before .run-on .ensures .low), record { low = omega (arith, c .before .before .before .before .before .before .before .before .before .run-on .ensures .low); high = omega (arith, c .before .before .before .before .before .before .if1 .left); rest = block-more (c .before .before .before .before .before .before .before .before .before .before .before .before .before .args .bytes .now) (c .before .before .before .before .before .before .before .before .before .run-on .result .to) (room (c .before .before .before .before .before .before .before .before .before .run-on .result .known) _) _ _ (c .before .before .before .before .before .before .if1 .left) (c .before .before .take-byte .ensures) (c .before .before .before .before .before .before .before .before .before .run-on .ensures .rest) })
@@ -35,10 +20,10 @@ step-on-spec =
     tie.close
     (tie.spec
     run-on-requires
-    same-length
+    (λ c. search needs)
     returns
-    shared-slice-read-take-byte
-    take-byte-requires
-    add-t11
-    same-length-2
+    (λ c. search needs)
+    (λ c κs. search needs)
+    (λ c. search needs)
+    (λ c. search needs)
     returns-2)

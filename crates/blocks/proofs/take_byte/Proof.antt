@@ -8,54 +8,21 @@ use borrow.Author.Needs.{needs}
 use Rattle.blocks.proofs.take_byte.Statement.{statement}
 use Rattle.blocks.proofs.take_byte.Tie as tie
 
-add-t14 : tie.Need-add-t14
-add-t14 c = search needs
-
 returns : tie.Need-returns
 unfolding pastLimit
 returns c = took-past (c .before .before .args .k) (c .before .before .args .rows .now) (c .before .before .args .b) (c .if1 .taken)
-
-utf8-next-requires : tie.Need-utf8-next-requires
-utf8-next-requires c κs = search needs
-
-enum-known-white : tie.Need-enum-known-white
-enum-known-white c = search needs
-
-add-t19 : tie.Need-add-t19
-add-t19 c = search needs
 
 returns-2 : tie.Need-returns-2
 unfolding goesBack
 returns-2 c = ap (λ (z : ℕ). room (record { total = z; utf8 = Whole; last = c .before .before .before .before .before .before .before .before .before .args .k .last; now = c .before .before .before .before .before .before .before .before .before .args .k .kept; count = c .before .before .before .before .before .before .before .before .before .args .k .held; kept = c .before .before .before .before .before .before .before .before .before .args .k .kept; held = c .before .before .before .before .before .before .before .before .before .args .k .held }) (c .before .before .before .before .before .before .before .before .before .args .rows .now)) (add-one (c .before .before .before .before .before .before .before .before .before .args .k .total))
     ∙ took-back (c .before .before .before .before .before .before .before .before .before .args .k) (c .before .before .before .before .before .before .before .before .before .args .rows .now) (c .before .before .before .before .before .before .before .before .before .args .b) (c .before .before .before .before .before .before .before .if1 .left) (c .before .before .before .before .white .given .0 .0) (c .before .before .if2 .taken) (sym (c .before .before .before .before .white .given .1) ∙ c .before .before .before .before .before .before .utf8-next .ensures) (c .if3 .taken)
 
-go-on-requires : tie.Need-go-on-requires
-go-on-requires c κs = search needs
-
-same-length : tie.Need-same-length
-same-length c = search needs
-
 returns-3 : tie.Need-returns-3
 returns-3 c = c .before .before .go-on .ensures ∙ took-white (c .before .before .before .before .before .before .before .before .before .before .before .before .before .args .k) (c .before .before .before .before .before .before .before .before .before .before .before .before .before .args .rows .now) (c .before .before .before .before .before .before .before .before .before .before .before .before .before .args .b) (c .before .before .before .before .before .before .before .before .before .before .before .if1 .left) (c .before .before .before .before .before .before .before .before .white .given .0 .0) (c .before .before .before .before .before .before .if2 .taken) (sym (c .before .before .before .before .before .before .before .before .white .given .1) ∙ c .before .before .before .before .before .before .before .before .before .before .utf8-next .ensures) (c .before .before .before .before .if3 .left)
-
-go-on-requires-2 : tie.Need-go-on-requires-2
-go-on-requires-2 c κs = search needs
-
-enum-known-stands : tie.Need-enum-known-stands
-enum-known-stands c = search needs
-
-go-on-requires-3 : tie.Need-go-on-requires-3
-go-on-requires-3 c κs = search needs
-
-same-length-2 : tie.Need-same-length-2
-same-length-2 c = search needs
 
 returns-4 : tie.Need-returns-4
 unfolding keeps
 returns-4 c = ap keeps (c .before .before .go-on2 .ensures) ∙ took-ink (c .before .before .before .before .before .before .before .before .before .before .before .args .k) (c .before .before .before .before .before .before .before .before .before .before .before .args .rows .now) (c .before .before .before .before .before .before .before .before .before .before .before .args .b) (c .before .before .before .before .before .before .before .before .before .if1 .left) (c .before .before .before .before .before .before .white .given .0 .0) (c .before .before .before .before .if2 .left) (sym (c .before .before .before .before .before .before .white .given .1) ∙ c .before .before .before .before .before .before .before .before .utf8-next .ensures)
-
-same-length-3 : tie.Need-same-length-3
-same-length-3 c = search needs
 
 returns-5 : tie.Need-returns-5
 returns-5 c = c .before .before .go-on3 .ensures ∙ took (c .before .before .before .before .before .before .before .before .before .before .args .k) (c .before .before .before .before .before .before .before .before .before .before .args .rows .now) (c .before .before .before .before .before .before .before .before .before .before .args .b) (c .before .before .before .before .before .before .before .before .if1 .left) (Goes (c .before .before .before .before .before .stands .given .0 .0)) (sym (c .before .before .before .before .before .stands .given .1) ∙ c .before .before .before .before .before .before .before .utf8-next .ensures)
@@ -64,19 +31,19 @@ pub take-byte-spec : {M : Type 1} → statement M
 take-byte-spec =
     tie.close
     (tie.spec
-    add-t14
+    (λ c. search needs)
     returns
-    utf8-next-requires
-    enum-known-white
-    add-t19
+    (λ c κs. search needs)
+    (λ c. search needs)
+    (λ c. search needs)
     returns-2
-    go-on-requires
-    same-length
+    (λ c κs. search needs)
+    (λ c. search needs)
     returns-3
-    go-on-requires-2
-    enum-known-stands
-    go-on-requires-3
-    same-length-2
+    (λ c κs. search needs)
+    (λ c. search needs)
+    (λ c κs. search needs)
+    (λ c. search needs)
     returns-4
-    same-length-3
+    (λ c. search needs)
     returns-5)

@@ -4,9 +4,6 @@ use borrow.Author.Needs.{needs}
 use Rattle.blocks.proofs.value_run.Statement.{statement}
 use Rattle.blocks.proofs.value_run.Tie as tie
 
-enum-told : tie.Need-enum-told
-enum-told c = search needs
-
 plain-run-requires : tie.Need-plain-run-requires
 plain-run-requires c κs = (c .before .before .before .pre, omega arith)
 
@@ -21,21 +18,6 @@ plain-run-requires-3 c κs = (c .before .before .before .before .before .pre, om
 
 returns-2 : tie.Need-returns-2
 returns-2 c = (omega (arith, c .before .before .before .plain-run .ensures .0), λ h. record { start = c .before .before .before .before .enum-told .given .0 .0; stands = c .before .before .before .before .enum-told .given .1; run = c .before .before .before .plain-run .ensures .1 h })
-
-enum-told-2 : tie.Need-enum-told-2
-enum-told-2 c = search needs
-
-enum-told-3 : tie.Need-enum-told-3
-enum-told-3 c = search needs
-
-enum-told-4 : tie.Need-enum-told-4
-enum-told-4 c = search needs
-
-enum-told-5 : tie.Need-enum-told-5
-enum-told-5 c = search needs
-
-enum-told-6 : tie.Need-enum-told-6
-enum-told-6 c = search needs
 
 returns-3 : tie.Need-returns-3
 returns-3 c = (omega (arith, c .before .plain-run3 .ensures .0), λ h. record { start = c .before .before .before .before .enum-told .given .0 .0; stands = c .before .before .before .before .enum-told .given .1; run = c .before .plain-run3 .ensures .1 h })
@@ -59,17 +41,17 @@ pub value-run-spec : {M : Type 1} → statement M
 value-run-spec =
     tie.close
     (tie.spec
-    enum-told
+    (λ c. search needs)
     plain-run-requires
     plain-run-requires-2
     returns
     plain-run-requires-3
     returns-2
-    enum-told-2
-    enum-told-3
-    enum-told-4
-    enum-told-5
-    enum-told-6
+    (λ c. search needs)
+    (λ c. search needs)
+    (λ c. search needs)
+    (λ c. search needs)
+    (λ c. search needs)
     returns-3
     returns-4
     returns-5

@@ -6,20 +6,11 @@ use borrow.Author.Needs.{needs}
 use Rattle.blocks_step.proofs.begin.Statement.{statement}
 use Rattle.blocks_step.proofs.begin.Tie as tie
 
-kind-requires : tie.Need-kind-requires
-kind-requires c κs = search needs
-
 returns : tie.Need-returns
 returns c = single (c .before .before .args .at) (c .before .before .args .b) (c .before .kind .result) (c .before .kind .ensures) (c .if1 .taken)
 
-is-space-requires : tie.Need-is-space-requires
-is-space-requires c κs = search needs
-
 returns-2 : tie.Need-returns-2
 returns-2 c = skipped (c .before .before .before .before .args .at) (c .before .before .before .before .args .b) (sym (c .before .before .if1 .left) ∙ c .before .before .before .kind .ensures) (sym (c .before .is-space .ensures) ∙ c .if2 .taken)
-
-identifies-requires : tie.Need-identifies-requires
-identifies-requires c κs = search needs
 
 returns-3 : tie.Need-returns-3
 returns-3 c = ap (moved Silent) (c .identifies .ensures) ∙ started (c .before .before .before .before .before .args .at) (c .before .before .before .before .before .args .b) (sym (c .before .before .before .if1 .left) ∙ c .before .before .before .before .kind .ensures) (sym (c .before .before .is-space .ensures) ∙ c .before .if2 .left)
@@ -27,4 +18,4 @@ returns-3 c = ap (moved Silent) (c .identifies .ensures) ∙ started (c .before 
 pub begin-spec : {M : Type 1} → statement M
 begin-spec =
     tie.close
-    (tie.spec kind-requires returns is-space-requires returns-2 identifies-requires returns-3)
+    (tie.spec (λ c κs. search needs) returns (λ c κs. search needs) returns-2 (λ c κs. search needs) returns-3)

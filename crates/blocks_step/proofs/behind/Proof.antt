@@ -6,23 +6,14 @@ use borrow.Author.Needs.{needs}
 use Rattle.blocks_step.proofs.behind.Statement.{statement}
 use Rattle.blocks_step.proofs.behind.Tie as tie
 
-is-space-requires : tie.Need-is-space-requires
-is-space-requires c κs = search needs
-
 returns : tie.Need-returns
 returns c = after-skips (c .before .before .args .start) (c .before .before .args .at) (c .before .before .args .b) (sym (c .before .is-space .ensures) ∙ c .if1 .taken)
 
 returns-2 : tie.Need-returns-2
 returns-2 c = after-opens (c .before .before .before .args .start) (c .before .before .before .args .at) (c .before .before .before .args .b) (sym (c .before .before .is-space .ensures) ∙ c .before .if1 .left) (c .if2 .taken)
 
-kind-requires : tie.Need-kind-requires
-kind-requires c κs = search needs
-
 returns-3 : tie.Need-returns-3
 returns-3 c = after-both (c .before .before .before .before .before .args .start) (c .before .before .before .before .before .args .at) (c .before .before .before .before .before .args .b) (sym (c .before .before .before .before .is-space .ensures) ∙ c .before .before .before .if1 .left) (c .before .before .if2 .left) (c .before .kind .result) (c .before .kind .ensures) (c .if3 .taken)
-
-identifies-requires : tie.Need-identifies-requires
-identifies-requires c κs = search needs
 
 returns-4 : tie.Need-returns-4
 returns-4 c = ap (moved (Property (c .before .before .before .before .before .before .args .start))) (c .identifies .ensures)
@@ -32,10 +23,10 @@ pub behind-spec : {M : Type 1} → statement M
 behind-spec =
     tie.close
     (tie.spec
-    is-space-requires
+    (λ c κs. search needs)
     returns
     returns-2
-    kind-requires
+    (λ c κs. search needs)
     returns-3
-    identifies-requires
+    (λ c κs. search needs)
     returns-4)

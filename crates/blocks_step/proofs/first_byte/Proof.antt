@@ -5,59 +5,26 @@ use borrow.Author.Needs.{needs}
 use Rattle.blocks_step.proofs.first_byte.Statement.{statement}
 use Rattle.blocks_step.proofs.first_byte.Tie as tie
 
-is-white-requires : tie.Need-is-white-requires
-is-white-requires c κs = search needs
-
 returns : tie.Need-returns
 returns c = bytes-ascii (c .before .before .args .at) (c .before .before .args .b) (c .before .if1 .taken) (c .is-white .ensures)
-
-ranges-requires : tie.Need-ranges-requires
-ranges-requires c κs = search needs
-
-over-requires : tie.Need-over-requires
-over-requires c κs = search needs
 
 returns-2 : tie.Need-returns-2
 returns-2 c = bytes-0 (c .before .before .before .before .args .at) (c .before .before .before .before .args .b) (c .before .before .before .if1 .left) (sym (c .before .before .ranges .ensures) ∙ c .before .if2 .taken) (c .over .ensures)
 
-over-requires-2 : tie.Need-over-requires-2
-over-requires-2 c κs = search needs
-
 returns-3 : tie.Need-returns-3
 returns-3 c = bytes-1 (c .before .before .before .before .before .args .at) (c .before .before .before .before .before .args .b) (c .before .before .before .before .if1 .left) (sym (c .before .before .before .ranges .ensures) ∙ c .before .before .if2 .left) (c .before .if3 .taken) (c .over2 .ensures)
-
-over-requires-3 : tie.Need-over-requires-3
-over-requires-3 c κs = search needs
 
 returns-4 : tie.Need-returns-4
 returns-4 c = bytes-2 (c .before .before .before .before .before .before .args .at) (c .before .before .before .before .before .before .args .b) (c .before .before .before .before .before .if1 .left) (sym (c .before .before .before .before .ranges .ensures) ∙ c .before .before .before .if2 .left) (c .before .before .if3 .left) (c .before .if4 .taken) (c .over3 .ensures)
 
-ranges-requires-2 : tie.Need-ranges-requires-2
-ranges-requires-2 c κs = search needs
-
-over-requires-4 : tie.Need-over-requires-4
-over-requires-4 c κs = search needs
-
 returns-5 : tie.Need-returns-5
 returns-5 c = bytes-3 (c .before .before .before .before .before .before .before .before .args .at) (c .before .before .before .before .before .before .before .before .args .b) (c .before .before .before .before .before .before .before .if1 .left) (sym (c .before .before .before .before .before .before .ranges .ensures) ∙ c .before .before .before .before .before .if2 .left) (c .before .before .before .before .if3 .left) (c .before .before .before .if4 .left) (sym (c .before .before .ranges2 .ensures) ∙ c .before .if5 .taken) (c .over4 .ensures)
-
-over-requires-5 : tie.Need-over-requires-5
-over-requires-5 c κs = search needs
 
 returns-6 : tie.Need-returns-6
 returns-6 c = bytes-4 (c .before .before .before .before .before .before .before .before .before .args .at) (c .before .before .before .before .before .before .before .before .before .args .b) (c .before .before .before .before .before .before .before .before .if1 .left) (sym (c .before .before .before .before .before .before .before .ranges .ensures) ∙ c .before .before .before .before .before .before .if2 .left) (c .before .before .before .before .before .if3 .left) (c .before .before .before .before .if4 .left) (sym (c .before .before .before .ranges2 .ensures) ∙ c .before .before .if5 .left) (c .before .if6 .taken) (c .over5 .ensures)
 
-ranges-requires-3 : tie.Need-ranges-requires-3
-ranges-requires-3 c κs = search needs
-
-over-requires-6 : tie.Need-over-requires-6
-over-requires-6 c κs = search needs
-
 returns-7 : tie.Need-returns-7
 returns-7 c = bytes-5 (c .before .before .before .before .before .before .before .before .before .before .before .args .at) (c .before .before .before .before .before .before .before .before .before .before .before .args .b) (c .before .before .before .before .before .before .before .before .before .before .if1 .left) (sym (c .before .before .before .before .before .before .before .before .before .ranges .ensures) ∙ c .before .before .before .before .before .before .before .before .if2 .left) (c .before .before .before .before .before .before .before .if3 .left) (c .before .before .before .before .before .before .if4 .left) (sym (c .before .before .before .before .before .ranges2 .ensures) ∙ c .before .before .before .before .if5 .left) (c .before .before .before .if6 .left) (sym (c .before .before .ranges3 .ensures) ∙ c .before .if7 .taken) (c .over6 .ensures)
-
-over-requires-7 : tie.Need-over-requires-7
-over-requires-7 c κs = search needs
 
 returns-8 : tie.Need-returns-8
 returns-8 c = bytes-6 (c .before .before .before .before .before .before .before .before .before .before .before .before .args .at) (c .before .before .before .before .before .before .before .before .before .before .before .before .args .b) (c .before .before .before .before .before .before .before .before .before .before .before .if1 .left) (sym (c .before .before .before .before .before .before .before .before .before .before .ranges .ensures) ∙ c .before .before .before .before .before .before .before .before .before .if2 .left) (c .before .before .before .before .before .before .before .before .if3 .left) (c .before .before .before .before .before .before .before .if4 .left) (sym (c .before .before .before .before .before .before .ranges2 .ensures) ∙ c .before .before .before .before .before .if5 .left) (c .before .before .before .before .if6 .left) (sym (c .before .before .before .ranges3 .ensures) ∙ c .before .before .if7 .left) (c .before .if8 .taken) (c .over7 .ensures)
@@ -69,23 +36,23 @@ pub first-byte-spec : {M : Type 1} → statement M
 first-byte-spec =
     tie.close
     (tie.spec
-    is-white-requires
+    (λ c κs. search needs)
     returns
-    ranges-requires
-    over-requires
+    (λ c κs. search needs)
+    (λ c κs. search needs)
     returns-2
-    over-requires-2
+    (λ c κs. search needs)
     returns-3
-    over-requires-3
+    (λ c κs. search needs)
     returns-4
-    ranges-requires-2
-    over-requires-4
+    (λ c κs. search needs)
+    (λ c κs. search needs)
     returns-5
-    over-requires-5
+    (λ c κs. search needs)
     returns-6
-    ranges-requires-3
-    over-requires-6
+    (λ c κs. search needs)
+    (λ c κs. search needs)
     returns-7
-    over-requires-7
+    (λ c κs. search needs)
     returns-8
     returns-9)

@@ -7,38 +7,8 @@ use borrow.Author.Needs.{needs}
 use Rattle.blocks_step.proofs.later_byte.Statement.{statement}
 use Rattle.blocks_step.proofs.later_byte.Tie as tie
 
-fits-requires : tie.Need-fits-requires
-fits-requires c κs = search needs
-
 returns : tie.Need-returns
 returns c = later-bad (c .before .before .args .left) (c .before .before .args .from) (c .before .before .args .code) (c .before .before .args .at) (c .before .before .args .b) (sym (c .before .fits2 .ensures) ∙ not-true _ (c .if1 .taken))
-
-shifted-requires : tie.Need-shifted-requires
-shifted-requires c κs = search needs
-
-enum-told : tie.Need-enum-told
-enum-told c = search needs
-
-is-white-requires : tie.Need-is-white-requires
-is-white-requires c κs = search needs
-
-enum-told-2 : tie.Need-enum-told-2
-enum-told-2 c = search needs
-
-enum-told-3 : tie.Need-enum-told-3
-enum-told-3 c = search needs
-
-enum-told-4 : tie.Need-enum-told-4
-enum-told-4 c = search needs
-
-enum-told-5 : tie.Need-enum-told-5
-enum-told-5 c = search needs
-
-enum-told-6 : tie.Need-enum-told-6
-enum-told-6 c = search needs
-
-enum-told-7 : tie.Need-enum-told-7
-enum-told-7 c = search needs
 
 returns-2 : tie.Need-returns-2
 returns-2 c = later-last (c .before .before .before .before .before .before .args .left) (c .before .before .before .before .before .before .args .from) (c .before .before .before .before .before .before .args .code) (c .before .before .before .before .before .before .args .at) (c .before .before .before .before .before .before .args .b) (sym (c .before .before .before .before .before .fits2 .ensures) ∙ not-false _ (c .before .before .before .before .if1 .left)) (c .before .before .before .shifted .ensures) (ap moreOf (c .before .enum-told .given .1)) (c .is-white .ensures)
@@ -65,17 +35,17 @@ pub later-byte-spec : {M : Type 1} → statement M
 later-byte-spec =
     tie.close
     (tie.spec
-    fits-requires
+    (λ c κs. search needs)
     returns
-    shifted-requires
-    enum-told
-    is-white-requires
-    enum-told-2
-    enum-told-3
-    enum-told-4
-    enum-told-5
-    enum-told-6
-    enum-told-7
+    (λ c κs. search needs)
+    (λ c. search needs)
+    (λ c κs. search needs)
+    (λ c. search needs)
+    (λ c. search needs)
+    (λ c. search needs)
+    (λ c. search needs)
+    (λ c. search needs)
+    (λ c. search needs)
     returns-2
     returns-3
     returns-4

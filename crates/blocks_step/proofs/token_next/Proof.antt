@@ -8,36 +8,6 @@ use borrow.Author.Needs.{needs}
 use Rattle.blocks_step.proofs.token_next.Statement.{statement}
 use Rattle.blocks_step.proofs.token_next.Tie as tie
 
-enum-known-stands : tie.Need-enum-known-stands
-enum-known-stands c = search needs
-
-value-byte-requires : tie.Need-value-byte-requires
-value-byte-requires c κs = search needs
-
-enum-told : tie.Need-enum-told
-enum-told c = search needs
-
-begin-requires : tie.Need-begin-requires
-begin-requires c κs = search needs
-
-enum-known-stands-2 : tie.Need-enum-known-stands-2
-enum-known-stands-2 c = search needs
-
-behind-requires : tie.Need-behind-requires
-behind-requires c κs = search needs
-
-enum-known-stands-3 : tie.Need-enum-known-stands-3
-enum-known-stands-3 c = search needs
-
-identifies-requires : tie.Need-identifies-requires
-identifies-requires c κs = search needs
-
-enum-known-stands-4 : tie.Need-enum-known-stands-4
-enum-known-stands-4 c = search needs
-
-enum-known-stands-5 : tie.Need-enum-known-stands-5
-enum-known-stands-5 c = search needs
-
 returns : tie.Need-returns
 returns c = c .value-byte .ensures ∙ ap (λ (p : Phase). moves p (c .before .before .before .before .args .at) (c .before .before .before .before .args .b)) (sym (c .before .before .stands .given .1))
 
@@ -63,16 +33,16 @@ pub token-next-spec : {M : Type 1} → statement M
 token-next-spec =
     tie.close
     (tie.spec
-    enum-known-stands
-    value-byte-requires
-    enum-told
-    begin-requires
-    enum-known-stands-2
-    behind-requires
-    enum-known-stands-3
-    identifies-requires
-    enum-known-stands-4
-    enum-known-stands-5
+    (λ c. search needs)
+    (λ c κs. search needs)
+    (λ c. search needs)
+    (λ c κs. search needs)
+    (λ c. search needs)
+    (λ c κs. search needs)
+    (λ c. search needs)
+    (λ c κs. search needs)
+    (λ c. search needs)
+    (λ c. search needs)
     returns
     returns-2
     returns-3

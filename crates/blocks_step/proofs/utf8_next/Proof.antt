@@ -6,21 +6,6 @@ use borrow.Author.Needs.{needs}
 use Rattle.blocks_step.proofs.utf8_next.Statement.{statement}
 use Rattle.blocks_step.proofs.utf8_next.Tie as tie
 
-enum-told : tie.Need-enum-told
-enum-told c = search needs
-
-first-byte-requires : tie.Need-first-byte-requires
-first-byte-requires c κs = search needs
-
-enum-known-stands : tie.Need-enum-known-stands
-enum-known-stands c = search needs
-
-later-byte-requires : tie.Need-later-byte-requires
-later-byte-requires c κs = search needs
-
-enum-known-stands-2 : tie.Need-enum-known-stands-2
-enum-known-stands-2 c = search needs
-
 returns : tie.Need-returns
 returns c = c .first-byte .ensures ∙ ap (λ (u : Utf8). decodes u (c .before .before .before .args .at) (c .before .before .before .args .b)) (sym (c .before .enum-told .given .1))
 
@@ -35,11 +20,11 @@ pub utf8-next-spec : {M : Type 1} → statement M
 utf8-next-spec =
     tie.close
     (tie.spec
-    enum-told
-    first-byte-requires
-    enum-known-stands
-    later-byte-requires
-    enum-known-stands-2
+    (λ c. search needs)
+    (λ c κs. search needs)
+    (λ c. search needs)
+    (λ c κs. search needs)
+    (λ c. search needs)
     returns
     returns-2
     returns-3)

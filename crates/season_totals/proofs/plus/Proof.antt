@@ -4,8 +4,6 @@ use Rattle.lists.proofs.Prelude.{_+_, _-_, _^_, arith, needs, le-leb, lt-leb}
 use Rattle.season_totals.specs.Locals.{checked}
 use Rattle.season_totals.proofs.plus.Statement.{statement}
 use Rattle.season_totals.proofs.plus.Tie as tie
-use Rattle.season_totals.proofs.plus.Reads as reads
-use Rattle.season_totals.proofs.plus.Lts as lts
 
 -- src/lib.rt:71:8
 sub-if1 : tie.Need-sub-if1

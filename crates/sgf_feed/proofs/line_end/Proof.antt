@@ -1,5 +1,5 @@
 -- `sgf_feed::line_end` is safe and ends. Assumes nothing.
-use Rattle.lists.proofs.Prelude.{_-_, length, arith, needs}
+use Rattle.lists.proofs.Prelude.{_-_, length, needs}
 use Rattle.sgf_feed.proofs.line_end.Statement.{statement}
 use Rattle.sgf_feed.proofs.line_end.Tie as tie
 
@@ -12,23 +12,8 @@ abbrev μ-loop : tie.MeasureT-loop
 loop-holds : tie.Need-loop-holds Inv-loop μ-loop
 loop-holds c = tt
 
-shared-slice-read-if1 : tie.Need-shared-slice-read-if1 Inv-loop μ-loop
-shared-slice-read-if1 c = search needs
-
-returns : tie.Need-returns Inv-loop μ-loop
-returns c = search needs
-
-add-end : tie.Need-add-end Inv-loop μ-loop
-add-end c = search needs
-
-loop-less : tie.Need-loop-less Inv-loop μ-loop
-loop-less c = search needs
-
 loop-again : tie.Need-loop-again Inv-loop μ-loop
 loop-again c = tt
-
-returns-2 : tie.Need-returns-2 Inv-loop μ-loop
-returns-2 c = search needs
 
 pub line-end-spec : {M : Type 1} → statement M
 line-end-spec =
@@ -37,9 +22,9 @@ line-end-spec =
     Inv-loop
     μ-loop
     loop-holds
-    shared-slice-read-if1
-    returns
-    add-end
-    loop-less
+    (λ c. search needs)
+    (λ c. search needs)
+    (λ c. search needs)
+    (λ c. search needs)
     loop-again
-    returns-2)
+    (λ c. search needs))
