@@ -1,5 +1,5 @@
 -- `blocks::accept` meets its contract. Assumes nothing.
-use borrow.Author.Needs.{needs}
+use Rattle.lists.proofs.Prelude.{needs}
 use Rattle.blocks.proofs.accept.Statement.{statement}
 use Rattle.blocks.proofs.accept.Tie as tie
 

@@ -4,8 +4,7 @@ use Rattle.blocks.specs.LocalsSteady.{PlainByte}
 use Rattle.lists.proofs.Tests.{and-both}
 use borrow.Author.Count.{below-more}
 use denote.Ref.{now}
-use Rattle.lists.proofs.Prelude.{_≡_, true, ℕ, _+_, _-_, _≤_, _<_, arith, ltb, eqb, not, _&&_, getD, needs}
-use borrow.Author.Needs.{needs}
+use Rattle.lists.proofs.Prelude.{_≡_, true, ℕ, _+_, _-_, _≤_, _<_, arith, ltb, eqb, not, _&&_, getD, needs, needs}
 use Rattle.blocks.proofs.all_plain.Statement.{statement}
 use Rattle.blocks.proofs.all_plain.Tie as tie
 

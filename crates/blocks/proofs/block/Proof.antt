@@ -1,8 +1,7 @@
 -- `blocks::block` meets its contract. Assumes nothing.
 use Rattle.blocks.proofs.Taking.{blocked, blocked-after}
 use Rattle.blocks.specs.Room.{room, takesAll}
-use Rattle.lists.proofs.Prelude.{_≡_, refl, _∙_, _-_, arith, length, drop}
-use borrow.Author.Needs.{needs}
+use Rattle.lists.proofs.Prelude.{_≡_, refl, _∙_, _-_, arith, length, drop, needs}
 use Rattle.blocks.proofs.block.Statement.{statement}
 use Rattle.blocks.proofs.block.Tie as tie
 

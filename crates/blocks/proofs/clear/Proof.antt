@@ -1,8 +1,7 @@
 -- `blocks::clear` meets its contract. Assumes nothing.
 use Rattle.blocks.proofs.Ending.{clears}
 use Rattle.lists.proofs.Paste.{Pasting, paste-none, paste-more, paste-done}
-use Rattle.lists.proofs.Prelude.{needs, sym, _∙_, _-_, _/_, _*_, refl, arith, replicate, length, length-replicate, getD-replicate}
-use borrow.Author.Needs.{needs}
+use Rattle.lists.proofs.Prelude.{needs, sym, _∙_, _-_, _/_, _*_, refl, arith, replicate, length, length-replicate, getD-replicate, needs}
 use Rattle.blocks.proofs.clear.Statement.{statement}
 use Rattle.blocks.proofs.clear.Tie as tie
 

@@ -1,8 +1,7 @@
 -- `blocks::close` meets its contract. Assumes nothing.
 use Rattle.blocks.proofs.Ending.{closes-after, closes-refused, closes-short, closes-rows, closes-full, closes-last}
 use Rattle.blocks.specs.Close.{closing}
-use Rattle.lists.proofs.Prelude.{sym, ap, _∙_}
-use borrow.Author.Needs.{needs}
+use Rattle.lists.proofs.Prelude.{sym, ap, _∙_, needs}
 use Rattle.blocks.proofs.close.Statement.{statement}
 use Rattle.blocks.proofs.close.Tie as tie
 

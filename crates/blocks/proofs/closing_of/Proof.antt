@@ -1,7 +1,7 @@
 -- `blocks::closing_of` meets its contract. Assumes nothing.
 use Rattle.blocks_step.specs.declared.Phase.the-variants.{Between}
 use Rattle.blocks.proofs.Ending.{ends-long, ends-at, ends-blank, ends-ink}
-use borrow.Author.Needs.{needs}
+use Rattle.lists.proofs.Prelude.{needs}
 use Rattle.blocks.proofs.closing_of.Statement.{statement}
 use Rattle.blocks.proofs.closing_of.Tie as tie
 

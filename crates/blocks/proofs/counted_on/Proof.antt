@@ -1,7 +1,6 @@
 -- `blocks::counted_on` meets its contract. Assumes nothing.
 use Rattle.blocks.specs.Room.{countedOn}
-use Rattle.lists.proofs.Prelude.{lt-ltb, le-ltb, add-one}
-use borrow.Author.Needs.{needs}
+use Rattle.lists.proofs.Prelude.{lt-ltb, le-ltb, add-one, needs}
 use Rattle.blocks.proofs.counted_on.Statement.{statement}
 use Rattle.blocks.proofs.counted_on.Tie as tie
 

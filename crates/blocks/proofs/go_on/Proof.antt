@@ -1,6 +1,6 @@
 -- `blocks::go_on` meets its contract. Assumes nothing.
 use Rattle.blocks.proofs.Taking.{went}
-use borrow.Author.Needs.{needs}
+use Rattle.lists.proofs.Prelude.{needs}
 use Rattle.blocks.proofs.go_on.Statement.{statement}
 use Rattle.blocks.proofs.go_on.Tie as tie
 

@@ -2,8 +2,7 @@
 use Rattle.blocks.proofs.Inks.{white-between, white-ident, white-value, white-after, white-foreign}
 use Rattle.blocks.specs.LocalsSteady.{WhiteStays}
 use Rattle.blocks_step.specs.declared.Phase.{Phase}
-use Rattle.lists.proofs.Prelude.{false≢true, subst⁻¹}
-use borrow.Author.Needs.{needs}
+use Rattle.lists.proofs.Prelude.{false≢true, subst⁻¹, needs}
 use Rattle.blocks.proofs.holds_white.Statement.{statement}
 use Rattle.blocks.proofs.holds_white.Tie as tie
 

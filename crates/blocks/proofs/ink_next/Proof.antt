@@ -2,7 +2,7 @@
 use Rattle.blocks.proofs.Inks.{next-by, value-closes, value-escapes, value-stays, ident-opens, ident-stays, escaped-on, foreign-on, after-again, after-kind, after-ident, between-kind, between-opens, between-ident}
 use Rattle.blocks_step.specs.declared.Tokens.the-variants.{Silent, Single, Property, Both}
 use Rattle.blocks_step.specs.declared.Phase.the-variants.{Between, Ident, Value, Escaped, After, Foreign}
-use borrow.Author.Needs.{needs}
+use Rattle.lists.proofs.Prelude.{needs}
 use Rattle.blocks.proofs.ink_next.Statement.{statement}
 use Rattle.blocks.proofs.ink_next.Tie as tie
 

@@ -5,8 +5,7 @@ use Rattle.blocks.specs.Room.{Filled, filledWith, tokenRow, addRow}
 use Rattle.blocks_step.specs.declared.Tokens.the-variants.{Silent, Single, Property, Both}
 use Rattle.blocks_step.specs.declared.Phase.the-variants.{Between, Ident, Value, Escaped, After, Foreign}
 use Rattle.blocks_step.specs.Lean.{propertyPhase}
-use Rattle.lists.proofs.Prelude.{ap, _∙_, _+_}
-use borrow.Author.Needs.{needs}
+use Rattle.lists.proofs.Prelude.{ap, _∙_, _+_, needs}
 use Rattle.blocks.proofs.ink_rows.Statement.{statement}
 use Rattle.blocks.proofs.ink_rows.Tie as tie
 

@@ -1,7 +1,6 @@
 -- `blocks::is_pair` meets its contract. Assumes nothing.
 use Rattle.lists.proofs.Tests.{and-both}
-use Rattle.lists.proofs.Prelude.{arith, false≢true, _+_, _&&_, eqb, eqb-true, getD}
-use borrow.Author.Needs.{needs}
+use Rattle.lists.proofs.Prelude.{arith, false≢true, _+_, _&&_, eqb, eqb-true, getD, needs}
 use Rattle.blocks.proofs.is_pair.Statement.{statement}
 use Rattle.blocks.proofs.is_pair.Tie as tie
 

@@ -1,7 +1,6 @@
 -- `blocks::is_steady` meets its contract. Assumes nothing.
 use Rattle.blocks.proofs.Inks.{steady-known}
-use Rattle.lists.proofs.Prelude.{false≢true, sym, _∙_}
-use borrow.Author.Needs.{needs}
+use Rattle.lists.proofs.Prelude.{false≢true, sym, _∙_, needs}
 use Rattle.blocks.proofs.is_steady.Statement.{statement}
 use Rattle.blocks.proofs.is_steady.Tie as tie
 

@@ -1,5 +1,5 @@
 -- `blocks::known_of` meets its contract. Assumes nothing.
-use borrow.Author.Needs.{needs}
+use Rattle.lists.proofs.Prelude.{needs}
 use Rattle.blocks.proofs.known_of.Statement.{statement}
 use Rattle.blocks.proofs.known_of.Tie as tie
 

@@ -2,8 +2,7 @@
 use Rattle.blocks.proofs.Inks.{ident-opens, after-again}
 use Rattle.blocks_step.specs.Lean.{moves}
 use Rattle.blocks_step.specs.declared.Phase.{Phase}
-use Rattle.lists.proofs.Prelude.{arith, refl, ap, _∙_}
-use borrow.Author.Needs.{needs}
+use Rattle.lists.proofs.Prelude.{arith, refl, ap, _∙_, needs}
 use Rattle.blocks.proofs.pair_run.Statement.{statement}
 use Rattle.blocks.proofs.pair_run.Tie as tie
 

@@ -1,6 +1,5 @@
 -- `blocks::plain_run` meets its contract. Assumes nothing.
-use Rattle.lists.proofs.Prelude.{arith, ℕ, _+_, _-_, _≡_, _<_, getD, subst}
-use borrow.Author.Needs.{needs}
+use Rattle.lists.proofs.Prelude.{arith, ℕ, _+_, _-_, _≡_, _<_, getD, subst, needs}
 use Rattle.blocks.proofs.plain_run.Statement.{statement}
 use Rattle.blocks.proofs.plain_run.Tie as tie
 

@@ -1,7 +1,6 @@
 -- `blocks::put3` meets its contract. Assumes nothing.
 use Rattle.store_numbers.proofs.Stores.{row-room, row-put, row-none}
-use Rattle.lists.proofs.Prelude.{arith, [], _∷_}
-use borrow.Author.Needs.{needs}
+use Rattle.lists.proofs.Prelude.{arith, [], _∷_, needs}
 use Rattle.blocks.proofs.put3.Statement.{statement}
 use Rattle.blocks.proofs.put3.Tie as tie
 

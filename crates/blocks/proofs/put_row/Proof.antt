@@ -1,6 +1,6 @@
 -- `blocks::put_row` meets its contract. Assumes nothing.
 use Rattle.blocks.proofs.Taking.{row-added}
-use borrow.Author.Needs.{needs}
+use Rattle.lists.proofs.Prelude.{needs}
 use Rattle.blocks.proofs.put_row.Statement.{statement}
 use Rattle.blocks.proofs.put_row.Tie as tie
 

@@ -3,8 +3,7 @@ use Prim.Native.Nat.{_+_}
 use Rattle.blocks_step.specs.declared.Tokens.{Tokens}
 use Rattle.blocks.specs.Room.{Filled, filledWith, tokenRow, rowsAt, addRow, addRows}
 use Rattle.blocks.proofs.Taking.{row-single}
-use Rattle.lists.proofs.Prelude.{ap, sym, _∙_}
-use borrow.Author.Needs.{needs}
+use Rattle.lists.proofs.Prelude.{ap, sym, _∙_, needs}
 use Rattle.blocks.proofs.put_tokens.Statement.{statement}
 use Rattle.blocks.proofs.put_tokens.Tie as tie
 

@@ -1,5 +1,5 @@
 -- `blocks::refuse` meets its contract. Assumes nothing.
-use borrow.Author.Needs.{needs}
+use Rattle.lists.proofs.Prelude.{needs}
 use Rattle.blocks.proofs.refuse.Statement.{statement}
 use Rattle.blocks.proofs.refuse.Tie as tie
 

@@ -1,7 +1,6 @@
 -- `blocks::run_on` meets its contract. Assumes nothing.
 use Rattle.blocks.proofs.Steadies.{block-ran}
-use Rattle.lists.proofs.Prelude.{arith, refl}
-use borrow.Author.Needs.{needs}
+use Rattle.lists.proofs.Prelude.{arith, refl, needs}
 use Rattle.blocks.proofs.run_on.Statement.{statement}
 use Rattle.blocks.proofs.run_on.Tie as tie
 

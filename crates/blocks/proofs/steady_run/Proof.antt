@@ -5,8 +5,7 @@ use Rattle.blocks.specs.LocalsSteady.{PairIs, steadyAt}
 use Rattle.blocks.specs.Room.{room, takesAll}
 use Rattle.blocks.specs.declared.Pair.{Pair}
 use Rattle.lists.proofs.Tests.{and-both}
-use Rattle.lists.proofs.Prelude.{arith, needs, _+_, _-_, _≡_, _≤_, _<_, refl, sym, _∙_, subst, length, drop, getD}
-use borrow.Author.Needs.{needs}
+use Rattle.lists.proofs.Prelude.{arith, needs, _+_, _-_, _≡_, _≤_, _<_, refl, sym, _∙_, subst, length, drop, getD, needs}
 use Rattle.blocks.proofs.steady_run.Statement.{statement}
 use Rattle.blocks.proofs.steady_run.Tie as tie
 

@@ -1,8 +1,7 @@
 -- `blocks::step_on` meets its contract. Assumes nothing.
 use Rattle.blocks.proofs.Taking.{block-more}
 use Rattle.blocks.specs.Room.{room}
-use Rattle.lists.proofs.Prelude.{arith}
-use borrow.Author.Needs.{needs}
+use Rattle.lists.proofs.Prelude.{arith, needs}
 use Rattle.blocks.proofs.step_on.Statement.{statement}
 use Rattle.blocks.proofs.step_on.Tie as tie
 

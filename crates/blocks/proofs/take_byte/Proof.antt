@@ -3,8 +3,7 @@ use Rattle.blocks_step.specs.declared.Utf8.the-variants.{Whole}
 use Rattle.blocks_step.specs.declared.Char.the-variants.{Goes}
 use Rattle.blocks.specs.Room.{room, keeps, goesBack, pastLimit}
 use Rattle.blocks.proofs.Taking.{took-past, took, took-back, took-white, took-ink}
-use Rattle.lists.proofs.Prelude.{ap, sym, _∙_, add-one, ℕ}
-use borrow.Author.Needs.{needs}
+use Rattle.lists.proofs.Prelude.{ap, sym, _∙_, add-one, ℕ, needs}
 use Rattle.blocks.proofs.take_byte.Statement.{statement}
 use Rattle.blocks.proofs.take_byte.Tie as tie
 

@@ -1,6 +1,5 @@
 -- `blocks::value_run` meets its contract. Assumes nothing.
-use Rattle.lists.proofs.Prelude.{arith}
-use borrow.Author.Needs.{needs}
+use Rattle.lists.proofs.Prelude.{arith, needs}
 use Rattle.blocks.proofs.value_run.Statement.{statement}
 use Rattle.blocks.proofs.value_run.Tie as tie
 

@@ -1,8 +1,7 @@
 -- `blocks_step::begin` meets its contract. Assumes nothing.
 use Rattle.blocks_step.specs.declared.Tokens.the-variants.{Silent}
-use Rattle.lists.proofs.Prelude.{ap, sym, _∙_}
+use Rattle.lists.proofs.Prelude.{ap, sym, _∙_, needs}
 use Rattle.blocks_step.proofs.Moving.{moved, single, skipped, started}
-use borrow.Author.Needs.{needs}
 use Rattle.blocks_step.proofs.begin.Statement.{statement}
 use Rattle.blocks_step.proofs.begin.Tie as tie
 

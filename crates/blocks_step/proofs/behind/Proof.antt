@@ -1,8 +1,7 @@
 -- `blocks_step::behind` meets its contract. Assumes nothing.
 use Rattle.blocks_step.specs.declared.Tokens.the-variants.{Property}
-use Rattle.lists.proofs.Prelude.{ap, sym, _∙_}
+use Rattle.lists.proofs.Prelude.{ap, sym, _∙_, needs}
 use Rattle.blocks_step.proofs.Moving.{moved, after-skips, after-opens, after-both, after-property}
-use borrow.Author.Needs.{needs}
 use Rattle.blocks_step.proofs.behind.Statement.{statement}
 use Rattle.blocks_step.proofs.behind.Tie as tie
 

@@ -1,7 +1,6 @@
 -- `blocks_step::first_byte` meets its contract. Assumes nothing.
 use Rattle.blocks_step.proofs.Decoding.{bytes-ascii, bytes-0, bytes-1, bytes-2, bytes-3, bytes-4, bytes-5, bytes-6, bytes-none}
-use Rattle.lists.proofs.Prelude.{sym, _∙_}
-use borrow.Author.Needs.{needs}
+use Rattle.lists.proofs.Prelude.{sym, _∙_, needs}
 use Rattle.blocks_step.proofs.first_byte.Statement.{statement}
 use Rattle.blocks_step.proofs.first_byte.Tie as tie
 

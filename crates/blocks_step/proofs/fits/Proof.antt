@@ -1,5 +1,5 @@
 -- `blocks_step::fits` meets its contract. Assumes nothing.
-use borrow.Author.Needs.{needs}
+use Rattle.lists.proofs.Prelude.{needs}
 use Rattle.blocks_step.proofs.fits.Statement.{statement}
 use Rattle.blocks_step.proofs.fits.Tie as tie
 

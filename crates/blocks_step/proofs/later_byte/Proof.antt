@@ -1,9 +1,8 @@
 -- `blocks_step::later_byte` meets its contract. Assumes nothing.
 use Rattle.blocks_step.specs.Decode.{moreOf}
-use Rattle.lists.proofs.Prelude.{not-true, not-false}
+use Rattle.lists.proofs.Prelude.{not-true, not-false, needs}
 use Rattle.blocks_step.proofs.Decoding.{later-bad, later-last, later-more}
 use Rattle.lists.proofs.Prelude.{ap, sym, _∙_}
-use borrow.Author.Needs.{needs}
 use Rattle.blocks_step.proofs.later_byte.Statement.{statement}
 use Rattle.blocks_step.proofs.later_byte.Tie as tie
 

@@ -3,8 +3,7 @@ use Rattle.blocks_step.specs.declared.Tokens.the-variants.{Silent}
 use Rattle.blocks_step.specs.declared.Phase.{Phase}
 use Rattle.blocks_step.specs.Lean.{moves, propertyPhase}
 use Rattle.blocks_step.proofs.Moving.{moved, property-is}
-use Rattle.lists.proofs.Prelude.{ap, sym, _∙_, [], eqb, leb}
-use borrow.Author.Needs.{needs}
+use Rattle.lists.proofs.Prelude.{ap, sym, _∙_, [], eqb, leb, needs}
 use Rattle.blocks_step.proofs.token_next.Statement.{statement}
 use Rattle.blocks_step.proofs.token_next.Tie as tie
 

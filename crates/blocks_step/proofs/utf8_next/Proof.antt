@@ -1,8 +1,7 @@
 -- `blocks_step::utf8_next` meets its contract. Assumes nothing.
 use Rattle.blocks_step.specs.declared.Utf8.{Utf8}
 use Rattle.blocks_step.specs.Decode.{decodes}
-use Rattle.lists.proofs.Prelude.{ap, sym, _∙_}
-use borrow.Author.Needs.{needs}
+use Rattle.lists.proofs.Prelude.{ap, sym, _∙_, needs}
 use Rattle.blocks_step.proofs.utf8_next.Statement.{statement}
 use Rattle.blocks_step.proofs.utf8_next.Tie as tie
 

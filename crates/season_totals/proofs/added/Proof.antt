@@ -1,6 +1,5 @@
-use borrow.Author.Needs.{needs}
 -- `season_totals::added` meets its contract. Assumes nothing.
-use Rattle.lists.proofs.Prelude.{_-_, sym, _∙_, needs}
+use Rattle.lists.proofs.Prelude.{_-_, sym, _∙_, needs, needs}
 use Rattle.season_totals.proofs.Sums.{Adding, adding-first, adding-next, adding-over, adding-end}
 use Rattle.season_totals.proofs.added.Statement.{statement}
 use Rattle.season_totals.proofs.added.Tie as tie

@@ -1,6 +1,5 @@
-use borrow.Author.Needs.{needs}
 -- `season_totals::line_sums` meets its contract. Assumes nothing.
-use Rattle.lists.proofs.Prelude.{sym, ap, needs}
+use Rattle.lists.proofs.Prelude.{sym, ap, needs, needs}
 use Rattle.season_totals.specs.Totals.{lineSums}
 use Rattle.season_totals.proofs.Sums.{refused-beyond}
 use Rattle.season_totals.proofs.line_sums.Statement.{statement}

@@ -1,6 +1,5 @@
-use borrow.Author.Needs.{needs}
 -- `season_totals::plus` meets its contract. Assumes nothing.
-use Rattle.lists.proofs.Prelude.{_+_, _-_, _^_, arith, needs, le-leb, lt-leb}
+use Rattle.lists.proofs.Prelude.{_+_, _-_, _^_, arith, needs, le-leb, lt-leb, needs}
 use Rattle.season_totals.specs.Locals.{checked}
 use Rattle.season_totals.proofs.plus.Statement.{statement}
 use Rattle.season_totals.proofs.plus.Tie as tie

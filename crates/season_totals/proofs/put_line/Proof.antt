@@ -1,7 +1,6 @@
 use Rattle.season_totals.proofs.Texts.{line-unread, line-refused, line-counted}
-use borrow.Author.Needs.{needs}
 -- `season_totals::put_line` meets its contract. Assumes nothing.
-use Rattle.lists.proofs.Prelude.{arith, needs}
+use Rattle.lists.proofs.Prelude.{arith, needs, needs}
 use Rattle.season_totals.proofs.Chain.{wrote-then}
 use Rattle.season_totals.proofs.put_line.Statement.{statement}
 use Rattle.season_totals.proofs.put_line.Tie as tie

@@ -1,6 +1,5 @@
-use borrow.Author.Needs.{needs}
 -- `season_totals::put_numbers` meets its contract. Assumes nothing.
-use Rattle.lists.proofs.Prelude.{_-_, arith, needs}
+use Rattle.lists.proofs.Prelude.{_-_, arith, needs, needs}
 use Rattle.season_totals.proofs.Texts.{Numbering, numbering-first, numbering-next, numbering-end}
 use Rattle.season_totals.proofs.put_numbers.Statement.{statement}
 use Rattle.season_totals.proofs.put_numbers.Tie as tie

@@ -1,7 +1,6 @@
 use Rattle.season_totals.specs.Report.{sumsText}
-use borrow.Author.Needs.{needs}
 -- `season_totals::put_sums` meets its contract. Assumes nothing.
-use Rattle.lists.proofs.Prelude.{arith, needs}
+use Rattle.lists.proofs.Prelude.{arith, needs, needs}
 use Rattle.season_totals.proofs.Chain.{wrote-then}
 use Rattle.season_totals.proofs.put_sums.Statement.{statement}
 use Rattle.season_totals.proofs.put_sums.Tie as tie

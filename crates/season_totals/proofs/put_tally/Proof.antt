@@ -1,6 +1,5 @@
-use borrow.Author.Needs.{needs}
 -- `season_totals::put_tally` meets its contract. Assumes nothing.
-use Rattle.lists.proofs.Prelude.{arith, needs}
+use Rattle.lists.proofs.Prelude.{arith, needs, needs}
 use Rattle.season_totals.proofs.Chain.{wrote-then}
 use Rattle.season_totals.proofs.put_tally.Statement.{statement}
 use Rattle.season_totals.proofs.put_tally.Tie as tie

@@ -1,6 +1,5 @@
 -- `sgf_season::lines::take_line` is safe and ends. Assumes nothing.
-use Rattle.lists.proofs.Prelude.{_-_, _≡_, length}
-use borrow.Author.Needs.{needs}
+use Rattle.lists.proofs.Prelude.{_-_, _≡_, length, needs}
 use Rattle.sgf_season.proofs.lines.take_line.Statement.{statement}
 use Rattle.sgf_season.proofs.lines.take_line.Tie as tie
 
