@@ -3,7 +3,6 @@ use Rattle.lists.proofs.Prelude.{ℕ, zero, suc, _*_, _≤_, _<_, Bool, true, f
 use Rattle.lists.specs.Same.{same}
 use Rattle.text_utf8.specs.Text.{Ink, blank, whole, utfs}
 use Rattle.lexer.specs.Closed.{closed}
-use Rattle.tables.specs.Each.{sum}
 use Rattle.tables.specs.Flat.{flatProps, flatVals, over}
 use Rattle.tables.specs.Memory.{Memory}
 use Rattle.tables.specs.Numbers.{textLimit}
@@ -18,37 +17,16 @@ use Rattle.edit_answer.specs.declared.Edited.the-variants.{Changed}
 use Rattle.edit.specs.Lent.{memoryAfter}
 use Rattle.edit_laws.specs.Calls.{memoryNext}
 use Rattle.edit_laws.specs.Run.{TextRows}
-use Rattle.edit_laws.proofs.Cells.{property-cells, value-cells}
 use Rattle.edit_laws.proofs.Left.{text-left, length-buffer-left}
 use Rattle.edit_laws.proofs.Stays.{edit-stays}
 use Rattle.edit_session.specs.Session.{asked}
 use Rattle.edit_session.proofs.CallBack.{same-fit, over-own, over-over, outcome-asked}
-use Rattle.edit_session.proofs.OfFitting.{used-lent}
 use Rattle.edit_session.proofs.Step.{lays-edit}
 use Rattle.feed_laid.specs.Laid.{with}
 use Rattle.feed_laid.specs.OfMemory.{laidText, laidTables, ownBytes}
-use Rattle.feed_laid.proofs.OverMemory.{own-text, own-rows}
-use Rattle.feed_laid.proofs.Places.{sum-none, sum-more}
-use Rattle.feed_laws.proofs.Lengths.{laid-length}
+use Rattle.feed_laws.proofs.Holds.{held-own}
+use Rattle.feed_undo.proofs.Puts.{flat-props-same, flat-vals-same}
 use Rattle.feed_undo.proofs.Relaid.{laidMemory, vals-length, props-length, text-held, rows-held}
-
--- ---- numbers
-
-pub flat-props-same : (rs ss : List PropRow) → length rs ≡ length ss → length (flatProps rs) ≡ length (flatProps ss)
-flat-props-same [] [] e = refl
-flat-props-same [] (s ∷ ss) e = absurd (omega arith)
-flat-props-same (r ∷ rs) [] e = absurd (omega arith)
-flat-props-same (r ∷ rs) (s ∷ ss) e = ap (λ (k : ℕ). suc (suc (suc (suc k)))) (flat-props-same rs ss (omega arith))
-
-pub flat-vals-same : (rs ss : List ValRow) → length rs ≡ length ss → length (flatVals rs) ≡ length (flatVals ss)
-flat-vals-same [] [] e = refl
-flat-vals-same [] (s ∷ ss) e = absurd (omega arith)
-flat-vals-same (r ∷ rs) [] e = absurd (omega arith)
-flat-vals-same (r ∷ rs) (s ∷ ss) e = ap (λ (k : ℕ). suc (suc k)) (flat-vals-same rs ss (omega arith))
-
-sum-most : (g h : ℕ → ℕ) (k : ℕ) → ((j : ℕ) → j < k → g j ≤ h j) → sum g k ≤ sum h k
-sum-most g h zero e = omega (arith, sum-none g, sum-none h)
-sum-most g h (suc k) e = omega (arith, sum-more g k, sum-more h k, sum-most g h k (λ j l. e j (omega arith)), e k (omega arith))
 
 module _ (m : Memory) (fit : Fit m ≡ true) where
   abbrev n : ℕ
@@ -63,34 +41,12 @@ module _ (m : Memory) (fit : Fit m ≡ true) where
   abbrev game : ℕ → Bool
   game k = same (ownerName (textIn m) (rowsIn m .props) k) GM
 
-  -- longer values, a longer text
-  pub shorter : (g h : ℕ → List ℕ) → ((j : ℕ) → j < n → length (g j) ≤ length (h j)) → length (laidText m g) ≤ length (laidText m h)
-  shorter g h e = omega (arith, laid-length m fit g, laid-length m fit h, sum-most (λ j. length (g j)) (λ j. length (h j)) n e)
-
   pub text-lent : (g : ℕ → List ℕ) → length (laidText m g) ≤ room → length (laidMemory m g .text) ≡ room
   text-lent g l = length-buffer-left (laidText m g) (m .text) (m .used) (fit-lent m fit .0) l
 
-  -- ---- the own bytes
-
+  -- with its own bytes
   pub own-fits : Fit (laidMemory m own) ≡ true
-  own-fits =
-      let held = fit-lent m fit .1 in
-      let P = m .counts .properties in
-      let hp : P * 4 ≤ length (m .properties) = let z = held .properties in omega arith in
-      let hv : n * 2 ≤ length (m .values) = let z = held .values in omega arith in
-      let u = own-text m fit in
-      same-fit m (laidMemory m own)
-      (record {
-        used = ap length u ∙ length-take-le (m .used) (m .text) (fit-lent m fit .0);
-        text = text-held m fit own ∙ u;
-        room = text-lent own (subst⁻¹ (λ (z : List ℕ). length z ≤ room) u (used-lent m fit));
-        counts = refl;
-        trees = refl;
-        nodes = refl;
-        properties = ap (λ (T : Tables). over (flatProps (T .props)) (m .properties)) (own-rows m fit) ∙ over-own (flatProps (rowsIn m .props)) (m .properties) (P * 4) (property-cells (m .properties) P hp) hp;
-        values = ap (λ (T : Tables). over (flatVals (T .vals)) (m .values)) (own-rows m fit) ∙ over-own (flatVals (rowsIn m .vals)) (m .values) (n * 2) (value-cells (m .values) n hv) hv;
-      })
-      fit
+  own-fits = subst⁻¹ (λ (z : Memory). Fit z ≡ true) (held-own m fit) fit
 
   -- ---- one value
 

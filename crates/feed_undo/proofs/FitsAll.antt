@@ -21,9 +21,10 @@ use Rattle.edit_session.proofs.OfFitting.{used-lent}
 use Rattle.feed_laid.specs.Laid.{with}
 use Rattle.feed_laid.specs.OfMemory.{laidText, ownBytes}
 use Rattle.feed_laid.proofs.OverMemory.{own-text}
+use Rattle.feed_laws.proofs.Partly.{laid-same, laid-least}
 use Rattle.feed_undo.proofs.Swept.{swept, swept-is}
-use Rattle.feed_undo.proofs.Relaid.{laidMemory, text-same, rows-same}
-use Rattle.feed_undo.proofs.Fits.{shorter, own-fits, one-fits}
+use Rattle.feed_undo.proofs.Relaid.{laidMemory, rows-same}
+use Rattle.feed_undo.proofs.Fits.{own-fits, one-fits}
 
 module _ (m : Memory) (fit : Fit m ≡ true) where
   abbrev n : ℕ
@@ -57,8 +58,8 @@ module _ (m : Memory) (fit : Fit m ≡ true) where
               let s = swept f test g k in
               let q : k < n = omega arith in
               let y = with s k (f k) in
-              let z = shorter m fit y h (most-of y (ap (λ (b : Bool). pick b y s) e)) in
-              one-fits m fit s (omega (arith, shorter m fit s h (most k), roomy)) x k (f k) q (free k e) (valid k q .0) (valid k q .1) (shut k q) (omega (arith, z, short)) (omega (arith, z, roomy))
+              let z = laid-least m fit y h (most-of y (ap (λ (b : Bool). pick b y s) e)) in
+              one-fits m fit s (omega (arith, laid-least m fit s h (most k), roomy)) x k (f k) q (free k e) (valid k q .0) (valid k q .1) (shut k q) (omega (arith, z, short)) (omega (arith, z, roomy))
 
     module _ (fixed : (j : ℕ) → j < n → game j ≡ true → f j ≡ own j) (short : length (laidText m f) ≤ textLimit) (roomy : length (laidText m f) ≤ room) where
       abbrev t1 : ℕ → Bool
@@ -117,4 +118,4 @@ module _ (m : Memory) (fit : Fit m ≡ true) where
           let b = sweep-fits t2 (λ j e. not-game (game j) e) first f most-second short roomy a n (omega arith) in
           let x = swept f t2 first n in
           subst (λ (M : Memory). Fit M ≡ true)
-          (ap₂ (λ (t : List ℕ) (T : Tables). memoryNext (memoryAfter (gives t T) m) (Changed (length t))) (text-same m fit x f all-set) (rows-same m fit x f all-set)) b
+          (ap₂ (λ (t : List ℕ) (T : Tables). memoryNext (memoryAfter (gives t T) m) (Changed (length t))) (laid-same m fit x f all-set) (rows-same m fit x f all-set)) b

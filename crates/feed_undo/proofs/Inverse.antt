@@ -36,10 +36,12 @@ use Rattle.feed_laid.proofs.OverMemory.{inside, from-at, to-at, value-laid, own
 use Rattle.feed_laws.specs.Corrected.{newBytes, correctedText, correctedRows}
 use Rattle.feed_undo.specs.Undo.{TakesFeed, memoryCorrected, correctionBack, inverseFeed}
 use Rattle.feed_undo.proofs.Choosing.{chosen, new-chosen, back-chosen}
-use Rattle.feed_undo.proofs.Fits.{flat-props-same, flat-vals-same, text-lent}
+use Rattle.feed_laws.proofs.Partly.{laid-same}
+use Rattle.feed_undo.proofs.Fits.{text-lent}
+use Rattle.feed_undo.proofs.Puts.{flat-props-same, flat-vals-same}
 use Rattle.feed_undo.proofs.FitsAll.{all-fits}
 use Rattle.feed_undo.proofs.Judged.{Good, passed-good, good-passed}
-use Rattle.feed_undo.proofs.Relaid.{props-length, vals-length, text-held, rows-held, text-same, rows-same, text-again, rows-again}
+use Rattle.feed_undo.proofs.Relaid.{props-length, vals-length, text-held, rows-held, rows-same, text-again, rows-again}
 
 module _ (m : Memory) (fit : Fit m ≡ true) where
   abbrev n : ℕ
@@ -145,7 +147,7 @@ module _ (m : Memory) (w : List ℕ) (bytes : All (λ b. b < 256) w) (takes : Ta
       ∙ back-chosen m cs j
 
   pub text-back : correctedText M w′ ≡ textIn m
-  text-back = text-again m fit f (newBytes M w′) ∙ text-same m fit (newBytes M w′) (ownBytes m) new-own ∙ own-text m fit
+  text-back = text-again m fit f (newBytes M w′) ∙ laid-same m fit (newBytes M w′) (ownBytes m) new-own ∙ own-text m fit
 
   pub rows-back : correctedRows M w′ ≡ rowsIn m
   rows-back = rows-again m fit f (newBytes M w′) ∙ rows-same m fit (newBytes M w′) (ownBytes m) new-own ∙ own-rows m fit

@@ -5,7 +5,7 @@ use Rattle.lists.specs.All.{All}
 use Rattle.tables.specs.Columns.{valFromAt, valToAt}
 use Rattle.tables.specs.Each.{sum, tabulate}
 use Rattle.tables.specs.Memory.{Memory}
-use Rattle.tables.specs.Rows.{PropRow, ValRow}
+use Rattle.tables.specs.Rows.{PropRow, ValRow, Tables}
 use Rattle.tables.proofs.Tabulate.{tabulate-length}
 use Rattle.fit.specs.Fit.{Fit}
 use Rattle.fit.specs.Record.{propRow, valRow, rowsIn, textIn}
@@ -21,8 +21,10 @@ use Rattle.feed_laid.specs.OfMemory.{laidText, laidTables}
 use Rattle.feed_laid.proofs.Edited.{Named, tabulate-ext}
 use Rattle.feed_laid.proofs.OverMemory.{order, apart, all-named, count, to-at, ahead}
 use Rattle.feed_laid.proofs.Places.{sum-none, value-size}
-use Rattle.feed_laid.proofs.Texts.{before, behind, laid-split, laid-same}
-use Rattle.feed_undo.proofs.Puts.{put-props, put-vals, sum-below, behind-last}
+use Rattle.feed_laid.proofs.Texts.{before, behind, laid-split}
+use Rattle.feed_laws.proofs.Holds.{held-rows, held-same}
+use Rattle.feed_laws.proofs.Partly.{sum-below}
+use Rattle.feed_undo.proofs.Puts.{behind-last}
 
 -- what the caller has once such a text is left as by one edit
 abbrev pub laidMemory : Memory → (ℕ → List ℕ) → Memory
@@ -38,30 +40,9 @@ module _ (m : Memory) (fit : Fit m ≡ true) where
   abbrev n : ℕ
   n = m .counts .values
 
-  -- ---- only values below the count matter
-
-  module _ (f g : ℕ → List ℕ) (h : (j : ℕ) → j < n → f j ≡ g j) where
-    pub text-same : laidText m f ≡ laidText m g
-    text-same = laid-same (textIn m) f g 0 0 (rowsIn m .vals) (λ j _ l. h j (omega (arith, count m fit, l)))
-
-    shift-same : (k p : ℕ) → k ≤ n → shift a e f k p ≡ shift a e g k p
-    unfolding shift
-    shift-same k p l = ap (λ (z : ℕ). p - sum (λ j. e j - a j) k + z) (sum-below (λ j. length (f j)) (λ j. length (g j)) k (λ j q. ap length (h j (omega arith))))
-
-    props-same : (rs : List PropRow) → All (Named a e n) rs → map (laidProp a e f) rs ≡ map (laidProp a e g) rs
-    props-same [] x = refl
-    props-same (r ∷ rs) x =
-        let l = x .0 .here in
-        ap₂ (λ (y : PropRow) (ys : List PropRow). y ∷ ys)
-        (ap₂ (λ (y z : ℕ). record { from = y; to = z; first = r .first; count = r .count }) (shift-same (r .first) (r .from) (omega arith)) (shift-same (r .first) (r .to) (omega arith)))
-        (props-same rs (x .1))
-
-    pub rows-same : laidTables m f ≡ laidTables m g
-    rows-same =
-        ap₂ (λ (x : List PropRow) (y : List ValRow). record { trees = rowsIn m .trees; nodes = rowsIn m .nodes; props = x; vals = y })
-        (props-same (rowsIn m .props) (all-named m fit 0 (m .counts .properties) (omega arith)))
-        (tabulate-ext (laidVal a e f) (laidVal a e g) 0 n
-        (λ j _ l. ap₂ (λ (x y : ℕ). record { from = x; to = y }) (shift-same j (a j) (omega arith)) (shift-same (suc j) (e j) (omega arith))))
+  -- only values below the count matter
+  pub rows-same : (f g : ℕ → List ℕ) → ((j : ℕ) → j < n → f j ≡ g j) → laidTables m f ≡ laidTables m g
+  rows-same f g h = sym (held-rows m fit f) ∙ ap rowsIn (held-same m fit f g h) ∙ held-rows m fit g
 
   module _ (f : ℕ → List ℕ) where
     abbrev M : Memory
@@ -76,14 +57,14 @@ module _ (m : Memory) (fit : Fit m ≡ true) where
     pub text-held : textIn M ≡ laidText m f
     text-held = text-left (laidText m f) (m .text) (m .used)
 
+    pub rows-held : rowsIn M ≡ laidTables m f
+    rows-held = held-rows m fit f
+
     vals-held : rowsIn M .vals ≡ laidTables m f .vals
-    vals-held = put-vals (laidTables m f .vals) (m .values) n vals-length
+    vals-held = ap (λ (T : Tables). T .vals) rows-held
 
     props-held : rowsIn M .props ≡ laidTables m f .props
-    props-held = put-props (laidTables m f .props) (m .properties) (m .counts .properties) props-length
-
-    pub rows-held : rowsIn M ≡ laidTables m f
-    rows-held = ap₂ (λ (x : List PropRow) (y : List ValRow). record { trees = rowsIn m .trees; nodes = rowsIn m .nodes; props = x; vals = y }) props-held vals-held
+    props-held = ap (λ (T : Tables). T .props) rows-held
 
     row-held : (j : ℕ) → j < n → valRow (M .values) j ≡ laidVal a e f j
     row-held = tabulate-same (valRow (M .values)) (laidVal a e f) n vals-held
