@@ -1,5 +1,5 @@
 -- A text is refused exactly where something is to blame, and by the number of the fact, strict and lenient. Assumes nothing.
-use Rattle.lists.proofs.Prelude.{ℕ, zero, suc, _≤_, _<_, _≡_, refl, sym, ap, _∙_, subst, subst⁻¹, Bool, true, false, List, [], _∷_, reverse, length, take, ltb, ltb-true, ltb-false, pick}
+use Rattle.lists.proofs.Prelude.{ℕ, zero, suc, _≡_, refl, subst, subst⁻¹, Bool, true, false, List, [], _∷_, reverse, length, take, ltb, ltb-true, ltb-false, pick}
 use Rattle.lists.proofs.Pick.{pick-elim}
 use Rattle.text_utf8.specs.Trim.{trimmed}
 use Rattle.text_utf8.specs.declared.Trimmed.{Trimmed}
@@ -9,13 +9,12 @@ use Rattle.lexer.specs.Token.{Tok, start, end, node, prop, End, done, broken, L
 use Rattle.lexer.specs.declared.Fault.{Fault}
 use Rattle.lexer.specs.declared.Fault.the-variants.{MissingPropertyIdentifier, UnexpectedEndOfPropertyIdentifier, UnexpectedEndOfPropertyValue}
 use Rattle.tables.specs.Numbers.{textLimit, depthLimit, none, reasonOf}
-use Rattle.tables.specs.Record.{Node, Tree}
-use Rattle.tables.specs.declared.Reason.{Reason}
+use Rattle.tables.specs.Record.{Tree}
 use Rattle.tables.specs.declared.Reason.the-variants.{UnexpectedGameTreeEnd, TooDeep as tooDeep}
 use Rattle.parser.specs.Split.{Splitting, splitting, over, wrong, split, ended, no, slices, deep, filled, sliced, splitByGametree}
 use Rattle.parser.specs.Game.{Game, is, noGame, findGametype}
 use Rattle.parser.specs.Walk.{Walk, walk, halted, stopped, walked}
-use Rattle.parser.specs.Read.{Answer, refused, accepted, Trees, treesSoFar, noTrees, treeOfNodes, treeOfWalk, treeOfGame, parseGametrees, answer, parseSlices, parsed, lexing, read}
+use Rattle.parser.specs.Read.{Answer, refused, accepted, Trees, treesSoFar, noTrees, treeOfWalk, treeOfGame, parseGametrees, answer, parseSlices, parsed, lexing, read}
 use Rattle.parser.proofs.Texts.{lex-prefix, text-long, onTrimmed, text-trimmed}
 use Rattle.parser_tree.proofs.Bounded.{Mild, mild-walked}
 use Rattle.why_blame.specs.Cuts.{faultFact, deepAt, loose, cutDeep, cutSlices, cutting, cutTokens}

@@ -4,9 +4,8 @@ use denote.Enum.Declared.{tagOf}
 use Rattle.lists.proofs.Prelude.{ℕ, _≤_, _≡_, refl, sym, ap, _∙_, subst, subst⁻¹, Bool, true, false, List, [], _∷_, length, take, drop, ltb, pick, reverse}
 use Rattle.lists.proofs.Tests.{never}
 use Rattle.text_utf8.specs.Trim.{trimmed}
-use Rattle.text_utf8.specs.declared.Trimmed.{Trimmed}
 use Rattle.text_utf8.specs.declared.Trimmed.the-variants.{Blank, Kept}
-use Rattle.lexer.specs.Token.{Tok, End, done, Lexed, lexAt}
+use Rattle.lexer.specs.Token.{Tok, done, Lexed, lexAt}
 use Rattle.tables.specs.Numbers.{textLimit, depthLimit}
 use Rattle.tables.specs.Lenient.{asReading}
 use Rattle.tables.specs.declared.Counts.{Counts}
@@ -30,7 +29,6 @@ use Rattle.why_blame.specs.declared.Fact.{Fact}
 use Rattle.why_blame.specs.declared.Fact.the-variants.{NoEnd, TooDeep}
 use Rattle.why_blame.specs.declared.Blamed.{Blamed}
 use Rattle.why_blame.specs.declared.Blamed.the-variants.{No, By}
-use Rattle.why_blame.specs.declared.Cutting.{Cutting}
 use Rattle.why_blame.specs.declared.Cutting.the-variants.{Wrong as cutWrong, Slices}
 use Rattle.why.specs.Why.{keptBlame, textBlame, cutLoose, trimLoose, explainedBy, explained}
 use Rattle.why.specs.LocalsSought.{soughtBy, soughtIn, SoughtIs}

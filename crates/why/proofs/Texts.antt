@@ -1,5 +1,5 @@
 -- Splitting that is accepted and the slices, and a text and its tokens: what is to blame there. Assumes nothing.
-use Rattle.lists.proofs.Prelude.{ℕ, zero, suc, _+_, _≤_, _<_, _≡_, refl, sym, ap, _∙_, subst, Bool, true, false, false≢true, List, [], _∷_, reverse, arith, length, ltb, ltb-false, lt-ltb, le-ltb, pick}
+use Rattle.lists.proofs.Prelude.{ℕ, zero, suc, _≤_, _<_, _≡_, refl, sym, ap, _∙_, subst, Bool, true, false, false≢true, List, [], _∷_, reverse, arith, length, ltb, ltb-false, lt-ltb, le-ltb, pick}
 use Rattle.lists.specs.All.{All}
 use Rattle.lists.proofs.Tests.{never}
 use Rattle.text_utf8.specs.Trim.{trimmed}
@@ -7,7 +7,7 @@ use Rattle.text_utf8.specs.declared.Trimmed.{Trimmed}
 use Rattle.lexer.specs.Token.{Tok, End, done, broken, Lexed, lexAt}
 use Rattle.tables.specs.Numbers.{textLimit, depthLimit}
 use Rattle.tables.specs.declared.Reason.the-variants.{TooDeep as tooDeep}
-use Rattle.parser.specs.Split.{Splitting, splitting, over, wrong, split, no, slices, deep, filled, sliced, splitByGametree}
+use Rattle.parser.specs.Split.{Splitting, splitting, over, wrong, split, no, slices, deep, sliced, splitByGametree}
 use Rattle.parser.specs.LocalsSlice.{restFrom, firstSlices, Shallow}
 use Rattle.parser.proofs.Cuts.{standing, deepest, Right, cut-first, deep-first, split-cut}
 use Rattle.parser.proofs.Tokens.{tokens-few}
@@ -22,7 +22,6 @@ use Rattle.why_blame.specs.declared.Cutting.the-variants.{Wrong, Slices}
 use Rattle.why.specs.Trees.{slicesBlame}
 use Rattle.why.specs.Why.{acceptedSlices, cutBlame, tokensBlame, trimBlame, textBlame, cutLoose}
 use Rattle.why.specs.LocalsSought.{soughtBy}
-use Rattle.why.specs.declared.Sought.{Sought}
 use Rattle.why.specs.declared.Sought.the-variants.{Sound, Wrong as wrongly}
 
 -- ---- the slices

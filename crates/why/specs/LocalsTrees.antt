@@ -1,11 +1,10 @@
 -- The walk of a slice that looks for the token to blame, and the slices one after the other, in the code's own terms. Nothing public is stated by these.
-use Rattle.lists.specs.Prelude.{ℕ, _+_, _-_, _≤_, _<_, _≡_, Bool, true, false, List, [], length, take}
+use Rattle.lists.specs.Prelude.{ℕ, _+_, _-_, _≤_, _≡_, true, List, length}
 use Rattle.lists.specs.All.{All}
 use Rattle.lexer.specs.Token.{Tok, done, lexAt}
-use Rattle.tables.specs.Numbers.{textLimit, depthLimit, none}
-use Rattle.tables.specs.Record.{Node}
-use Rattle.parser.specs.Walk.{Walk, walk, walks, walked}
-use Rattle.parser.specs.LocalsSlice.{sliceFrom, restFrom, firstSlices, Shallow}
+use Rattle.tables.specs.Numbers.{textLimit}
+use Rattle.parser.specs.Walk.{walk}
+use Rattle.parser.specs.LocalsSlice.{sliceFrom, firstSlices, Shallow}
 use Rattle.parser_tree.specs.LocalsTurns.{BehindIs}
 use Rattle.why_blame.specs.declared.Blamed.the-variants.{No, By}
 use Rattle.why.specs.Trees.{treeBlame, nodesIn, slicesBlame}
