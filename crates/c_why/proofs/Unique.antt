@@ -1,5 +1,5 @@
--- No second answer of a public function of `why`, of `c_why`, and of those that count without tables. Assumes nothing.
-use Rattle.lists.proofs.Prelude.{_≡_, refl, sym, ap, _∙_, List, ℕ, eqb, pick}
+-- No second answer of a public function of `why`, of `c_why`, of those that count without tables, and of the step that `why` shares. Assumes nothing.
+use Rattle.lists.proofs.Prelude.{_≡_, refl, sym, ap, _∙_, Bool, List, ℕ, eqb, pick}
 use Rattle.lists.specs.Once.{Once}
 use Rattle.lists.proofs.Once.{once-is}
 use Rattle.tables.specs.Lenient.{asReading}
@@ -9,6 +9,7 @@ use Rattle.tables.specs.declared.Lenient.the-variants as lenient
 use Rattle.tables.specs.declared.Reading.{Reading}
 use Rattle.tables.specs.declared.Reading.the-variants.{Accepted, Refused}
 use Rattle.parser.specs.Read.{readStrict, readLenient}
+use Rattle.parser_step.specs.LocalsActs.{mayStart}
 use Rattle.reader.specs.Lent.{rowsCounted}
 use Rattle.why_blame.specs.declared.Fact.{Fact}
 use Rattle.why.specs.Why.{explained}
@@ -17,6 +18,9 @@ use Rattle.c_why.specs.WhyInC.{shownFact, whyInC}
 use Rattle.c_why.specs.declared.Shown.{Shown}
 use Rattle.c_why.specs.declared.SgfWhy.{SgfWhy}
 use mathlib.Core.Bool.{true, false}
+
+pub may-open-once : (base n d : ℕ) (a : List ℕ) → Once (λ (r : Bool). r ≡ mayStart base n d a)
+may-open-once base n d a = once-is (mayStart base n d a)
 
 pub count-strict-once : (t : List ℕ) → Once (λ (r : Reading). r ≡ rowsCounted (readStrict t))
 count-strict-once t = once-is (rowsCounted (readStrict t))

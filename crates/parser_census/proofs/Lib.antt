@@ -2,6 +2,7 @@ pub mod Counting
 pub mod Grow
 pub mod Grown
 pub mod Holds
+pub mod Levels
 pub mod Modes
 pub mod Named
 pub mod OddMode

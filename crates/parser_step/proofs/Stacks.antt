@@ -14,15 +14,18 @@ stack-pop a (suc d) h = let e : suc d - 1 ≡ d = omega arith in rw e
 
 -- ---- a start may be, by the list on top
 
+pub may-within : (a : List ℕ) (d base n : ℕ) → d ≤ depthLimit → mayStart base n d a ≡ mayOpen base n (stackOf a d)
+may-within a d base n l = ap (λ (z : Bool). z && mayOpen base n (stackOf a d)) (le-leb d depthLimit l)
+
 pub may-empty : (a : List ℕ) (d base n : ℕ) → d ≡ 0 → true ≡ mayStart base n d a
-may-empty a d base n e = sym (ap (λ (z : Bool). z && mayOpen base n (stackOf a d)) (le-leb d depthLimit (omega arith)) ∙ ap (mayOpen base n) (stack-none a d e))
+may-empty a d base n e = sym (may-within a d base n (omega arith) ∙ ap (mayOpen base n) (stack-none a d e))
 
 pub may-deep : (a : List ℕ) (d base n : ℕ) → depthLimit < d → false ≡ mayStart base n d a
 may-deep a d base n h = sym (ap (λ (z : Bool). z && mayOpen base n (stackOf a d)) (lt-leb d depthLimit h))
 
 module _ (a : List ℕ) (d base n : ℕ) (h : d ≡ 0 → ⊥) (l : d ≤ depthLimit) {x : ℕ} (e : x ≡ getD a (d - 1) 0) where
   may-top : mayStart base n d a ≡ hasChild base n x
-  may-top = ap (λ (z : Bool). z && mayOpen base n (stackOf a d)) (le-leb d depthLimit l) ∙ ap (mayOpen base n) (stack-pop a d h) ∙ ap (hasChild base n) (sym e)
+  may-top = may-within a d base n l ∙ ap (mayOpen base n) (stack-pop a d h) ∙ ap (hasChild base n) (sym e)
 
   pub may-none : x ≡ none → ltb base n ≡ mayStart base n d a
   may-none q = sym (may-top ∙ ap (λ (z : Bool). pick z (ltb base n) (ltb (x + 1) n)) (eq-eqb x none q))

@@ -40,7 +40,7 @@ fn peek(stack: &[u32; 1024], d: usize) -> u32
 }
 
 // Is the list on top of the stack not empty: a node has children exactly where the node after it exists. The walk is never deeper than the stack; the test spares the caller a promise.
-fn may_open(stack: &[u32; 1024], depth: usize, base: usize, n: usize) -> bool
+pub fn may_open(stack: &[u32; 1024], depth: usize, base: usize, n: usize) -> bool
     ensures { λ r. ⌜ r ≡ mayStart base n depth (now (stack .entry)) ⌝ }
 {
     if depth == 0 {

@@ -1,5 +1,5 @@
 -- What the walk makes of what the next token asks for. Assumes nothing.
-use Rattle.lists.proofs.Prelude.{ℕ, _≤_, _≡_, refl, sym, ap, _∙_, subst⁻¹, Bool, false, _&&_, List, arith, eqb, eqb-true, eqb-false, le-leb}
+use Rattle.lists.proofs.Prelude.{ℕ, _≤_, _≡_, refl, sym, ap, _∙_, subst⁻¹, Bool, false, List, arith, eqb, eqb-true, eqb-false}
 use Rattle.lists.proofs.Pick.{pick-elim}
 use Rattle.lexer_scan.specs.Scan.{valuesEndAt}
 use Rattle.lexer.specs.Step.{headAt}
@@ -8,6 +8,7 @@ use Rattle.lexer.specs.declared.Head.the-variants.{Start as start, End as end, 
 use Rattle.tables.specs.Numbers.{depthLimit}
 use Rattle.tables.specs.declared.Reason.the-variants.{UnexpectedGameTreeStart, UnexpectedGameTreeEnd, UnexpectedProperty}
 use Rattle.parser_step.specs.LocalsActs.{stackOf, mayOpen, mayStart, propAct, unclosed, endAct, headAct, nextAct}
+use Rattle.parser_step.proofs.Stacks.{may-within}
 use Rattle.parser_step.specs.declared.State.{State}
 use Rattle.parser_step.specs.declared.Act.{Act}
 use Rattle.parser_tree.specs.LocalsTurns.{StopAt, OverAt, ActIs}
@@ -19,7 +20,7 @@ module _ (len : Bool) (u : List ℕ) (base : ℕ) (st : State) (a : List ℕ) wh
 
   start-is : st .depth ≤ depthLimit → (i : ℕ) → headAt u (st .at) ≡ start i → Is (headAct len u base st a (start i))
   start-is d i g =
-      let m : mayStart base (st .nodes) (st .depth) a ≡ mayOpen base (st .nodes) (stackOf a (st .depth)) = ap (λ (z : Bool). z && mayOpen base (st .nodes) (stackOf a (st .depth))) (le-leb (st .depth) depthLimit d) in
+      let m : mayStart base (st .nodes) (st .depth) a ≡ mayOpen base (st .nodes) (stackOf a (st .depth)) = may-within a (st .depth) base (st .nodes) d in
       pick-elim Is (mayStart base (st .nodes) (st .depth) a) (λ t. (g, sym m ∙ t)) (λ f. subst⁻¹ (StopAt len u base st a UnexpectedGameTreeStart) g (refl, sym m ∙ f))
 
   end-is : (i : ℕ) → headAt u (st .at) ≡ end i → Is (endAct (st .depth) i)

@@ -1,5 +1,5 @@
 -- Nothing stands behind the last tree of a writing. Assumes nothing.
-use Rattle.lists.proofs.Prelude.{_≡_, refl, sym, ap, _∙_, subst, subst⁻¹, ℕ, zero, suc, _+_, _≤_, arith, Bool, true, false, List, [], _∷_, _++_, map, reverse, reverse-cons, length, length-append, length-reverse, take, take-length, drop, drop-length, ltb, pick}
+use Rattle.lists.proofs.Prelude.{_≡_, refl, sym, ap, _∙_, subst, subst⁻¹, ℕ, zero, suc, _+_, _≤_, arith, Bool, true, false, List, [], _∷_, _++_, map, reverse, length, take-length, drop, drop-length, ltb, pick}
 use Rattle.lists.proofs.Tests.{never}
 use Rattle.text_utf8.specs.Text.{Ink, inked, Utf, whole, blank, utfs}
 use Rattle.lexer.specs.Token.{Tok, start, end, node, prop, lexFrom}
@@ -16,8 +16,9 @@ use Rattle.serialize_laws.specs.Back.{placelessTok, toksOf}
 use Rattle.serialize_laws.proofs.Inked.{written-ink}
 use Rattle.serialize_laws.proofs.ReadBack.{Form, walk-writes}
 use Rattle.serialize_laws.proofs.Resplit.{split-trees}
-use Rattle.serialize_laws.proofs.Written.{lex-written, tokTrees}
+use Rattle.serialize_laws.proofs.Written.{lex-written}
 use Rattle.why_blame.specs.Cuts.{slicedTokens}
+use Rattle.why_blame.proofs.Held.{Held, held, sliced-reverse}
 use Rattle.salvage_laws.specs.Tail.{AllSliced, NoTail}
 
 -- ---- splitting sees no places
@@ -43,33 +44,6 @@ like-split (end o ∷ ts) (suc zero) m n cur cur′ ss ss′ e = like-split ts z
 like-split (end o ∷ ts) (suc (suc d)) m n cur cur′ ss ss′ e = like-split ts (suc d) m n (end o ∷ cur) (placelessTok (end o) ∷ cur′) ss ss′ (ap suc e)
 like-split (node o ∷ ts) d m n cur cur′ ss ss′ e = like-split ts d m n (node o ∷ cur) (placelessTok (node o) ∷ cur′) ss ss′ (ap suc e)
 like-split (prop p q ∷ ts) d m n cur cur′ ss ss′ e = like-split ts d m n (prop p q ∷ cur) (placelessTok (prop p q) ∷ cur′) ss ss′ (ap suc e)
-
--- ---- each token is in a slice, or in the one that is begun
-
-abbrev Held : ℕ → Splitting → Type 0
-Held k (splitting d m cur ss) = length (slicedTokens ss) + length cur ≡ k
-Held k (over m ss) = Unit {0}
-Held k (wrong r) = Unit {0}
-
-held : (ts : List Tok) (d m : ℕ) (cur : List Tok) (ss : List (List Tok)) (k : ℕ) → length (slicedTokens ss) + length cur + length ts ≡ k → Held k (split false (splitting d m cur ss) ts)
-held [] d m cur ss k e = omega arith
-held (start o ∷ ts) d m cur ss k e = held ts (suc d) _ (start o ∷ cur) ss k (omega arith)
-held (end o ∷ ts) zero m cur ss k e = subst⁻¹ (Held k) (wrong-stays false UnexpectedGameTreeEnd ts) tt
-held (end o ∷ ts) (suc zero) m cur ss k e =
-    held ts zero m [] (reverse (end o ∷ cur) ∷ ss) k (omega (arith, length-append (reverse (end o ∷ cur)) (slicedTokens ss), length-reverse (end o ∷ cur)))
-held (end o ∷ ts) (suc (suc d)) m cur ss k e = held ts (suc d) m (end o ∷ cur) ss k (omega arith)
-held (node o ∷ ts) d m cur ss k e = held ts d m (node o ∷ cur) ss k (omega arith)
-held (prop p q ∷ ts) d m cur ss k e = held ts d m (prop p q ∷ cur) ss k (omega arith)
-
-sliced-append : (xs : List (List Tok)) (s : List Tok) → length (slicedTokens (xs ++ (s ∷ []))) ≡ length (slicedTokens xs) + length s
-sliced-append [] s = omega (arith, length-append s [])
-sliced-append (x ∷ xs) s = omega (arith, length-append x (slicedTokens (xs ++ (s ∷ []))), length-append x (slicedTokens xs), sliced-append xs s)
-
-sliced-reverse : (ss : List (List Tok)) → length (slicedTokens (reverse ss)) ≡ length (slicedTokens ss)
-sliced-reverse [] = refl
-sliced-reverse (s ∷ ss) =
-    ap (λ (z : List (List Tok)). length (slicedTokens z)) (reverse-cons s ss)
-    ∙ omega (arith, sliced-append (reverse ss) s, sliced-reverse ss, length-append s (slicedTokens ss))
 
 -- ---- nothing is left
 
@@ -100,7 +74,7 @@ no-tail t us h k v {m} {vs} s =
     let c = ap (λ (z : Ink). splitByGametree false (tokenize z t .toks)) (sym j) ∙ r .cuts in
     subst⁻¹ (λ (u : Utf). AllSliced (splitByGametree false (toksOf u t)) (toksOf u t)) v
     (subst⁻¹ (λ (z : Slices). AllSliced z T) c
-    (all-sliced T (split false (splitting 0 0 [] []) T) _ m vs (held T 0 0 [] [] (length T) (omega arith))
+    (all-sliced T (split false (splitting 0 0 [] []) T) _ m vs (held false T 0 0 [] [] (length T) (omega arith))
     (subst (λ (y : Splitting). Like (split false (splitting 0 0 [] []) T) y) s (like-split T 0 0 0 [] [] [] [] refl)) c))
 
 -- trees that can be written: their writing has no tail

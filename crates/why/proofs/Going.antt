@@ -8,9 +8,9 @@ use Rattle.tables.specs.declared.Reason.{Reason}
 use Rattle.tables.specs.declared.Reason.the-variants.{UnexpectedGameTreeStart}
 use Rattle.parser.specs.Walk.{Walk, walk, stopped, walks, walked, opens, refuse, closes}
 use Rattle.parser.specs.LocalsSlice.{sliceFrom, Shallow}
-use Rattle.parser_step.specs.LocalsActs.{stackOf, mayOpen}
+use Rattle.parser_step.specs.LocalsActs.{stackOf, mayOpen, mayStart}
 use Rattle.parser_tree.specs.LocalsTurns.{BehindIs}
-use Rattle.parser_step.proofs.Stacks.{stack-none, stack-pop}
+use Rattle.parser_step.proofs.Stacks.{stack-none, stack-pop, may-within}
 use Rattle.parser_tree.proofs.Stacks.{stack-push}
 use Rattle.parser_tree.proofs.Lines.{Line, line-first, line-open, line-shut, line-prop, line-node, line-may}
 use Rattle.parser_tree.proofs.Behind.{Skipping, skipping-first, skipping-start, skipping-end, skipping-last, skipping-node, skipping-prop, skipping-over, slice-last, slice-end, shallow-end}
@@ -100,12 +100,12 @@ module _ {u : List ℕ} {from base : ℕ} {a : List ℕ} {at d cur n : ℕ} {g :
       unfolding Shallow
       start-deep = subst (Shallow d) start-slice (x .shallow) .0
 
-      module _ {b : Bool} (m : b ≡ mayOpen base n (stackOf a d)) where
+      module _ {b : Bool} (m : b ≡ mayStart base n d a) where
         start-walk : walks false base here (start i) ≡ pick b (walk cur (cur ∷ stackOf a d) false (x .ns)) (stopped UnexpectedGameTreeStart)
         start-walk =
             line-may false (x .line)
             ∙ ap (λ (z : ℕ). pick (mayOpen base z (stackOf a d)) (walk cur (cur ∷ stackOf a d) false (x .ns)) (stopped UnexpectedGameTreeStart)) (sym (x .count))
-            ∙ ap (λ (z : Bool). pick z (walk cur (cur ∷ stackOf a d) false (x .ns)) (stopped UnexpectedGameTreeStart)) (sym m)
+            ∙ ap (λ (z : Bool). pick z (walk cur (cur ∷ stackOf a d) false (x .ns)) (stopped UnexpectedGameTreeStart)) (sym (m ∙ may-within a d base n (x .deep)))
 
         pub start-stops : b ≡ false → {p : ℕ} → p ≡ topNode (stackOf a d) → treeBlame base (sliceAt u from) ≡ By (EmptyList p) i
         start-stops f e =

@@ -1,22 +1,22 @@
 -- A turn of the walk for the token to blame at a node, at a property, and where no token is left. Assumes nothing.
-use Rattle.lists.proofs.Prelude.{ℕ, _+_, _-_, _≤_, _<_, _≡_, refl, sym, ap, _∙_, subst, subst⁻¹, Bool, true, false, List, [], _∷_, _++_, arith, length, getD, ltb, eq-eqb, ne-eqb, pick}
-use Rattle.lexer.specs.Token.{Prop, Tok, node, prop, Lexed, lexed, lexAt}
+use Rattle.lists.proofs.Prelude.{ℕ, _+_, _-_, _≤_, _<_, _≡_, refl, sym, ap, _∙_, subst, subst⁻¹, Bool, true, false, List, [], _∷_, _++_, arith, length, getD}
+use Rattle.lexer.specs.Token.{Tok, node, prop, Lexed, lexed, lexAt}
 use Rattle.lexer.specs.Step.{propAt}
 use Rattle.tables.specs.Numbers.{none}
 use Rattle.tables.specs.Record.{Node}
 use Rattle.tables.specs.declared.Reason.the-variants.{UnexpectedProperty}
-use Rattle.parser.specs.Walk.{Walk, walk, stopped, walks, walked, adds, gated}
+use Rattle.parser.specs.Walk.{walk, walks, walked, adds, gated}
 use Rattle.parser.specs.LocalsSlice.{sliceFrom, Shallow}
-use Rattle.parser_step.specs.LocalsActs.{stackOf, hasChild, mayOpen}
+use Rattle.parser_step.specs.LocalsActs.{stackOf}
 use Rattle.parser_step.proofs.Stacks.{stack-none, stack-pop}
 use Rattle.parser_tree.proofs.Lines.{Line, line-prop, line-node}
 use Rattle.parser_tree.proofs.Behind.{skipping-node, skipping-prop, skipping-over}
-use Rattle.why_blame.specs.Blame.{nowhere, blame, isStopped}
+use Rattle.why_blame.specs.Blame.{blame, isStopped}
 use Rattle.why_blame.specs.declared.Fact.the-variants.{Stray}
 use Rattle.why_blame.specs.declared.Blamed.the-variants.{By}
 use Rattle.why.specs.Trees.{topNode, treeBlame}
 use Rattle.why.specs.LocalsTrees.{sliceAt, SoundSlice}
-use Rattle.why.proofs.Going.{Going, here, unwalked, blames-on, walkeds-on, stops-here, sound-by}
+use Rattle.why.proofs.Going.{Going, here, blames-on, walkeds-on, stops-here, sound-by}
 
 module _ {u : List ℕ} {from base : ℕ} {a : List ℕ} {at d cur n : ℕ} {g : Bool} (x : Going u from base a at d cur n g) where
   module _ {i : ℕ} (lo : at ≤ i) (hi : i < length u) where
@@ -102,16 +102,3 @@ top-none a d e = sym (ap topNode (stack-none a d e))
 
 pub top-is : (a : List ℕ) (d : ℕ) → (d ≡ 0 → ⊥) → {x : ℕ} → x ≡ getD a (d - 1) 0 → x ≡ topNode (stackOf a d)
 top-is a d h e = e ∙ sym (ap topNode (stack-pop a d h))
-
-pub may-none : (a : List ℕ) (d base n : ℕ) → d ≡ 0 → true ≡ mayOpen base n (stackOf a d)
-may-none a d base n e = sym (ap (mayOpen base n) (stack-none a d e))
-
-pub may-top : (a : List ℕ) (d base n : ℕ) → (d ≡ 0 → ⊥) → {b : Bool} → b ≡ hasChild base n (getD a (d - 1) 0) → b ≡ mayOpen base n (stackOf a d)
-may-top a d base n h e = e ∙ sym (ap (mayOpen base n) (stack-pop a d h))
-
-module _ (base n x : ℕ) where
-  pub child-none : x ≡ none → ltb base n ≡ hasChild base n x
-  child-none e = sym (ap (λ (z : Bool). pick z (ltb base n) (ltb (x + 1) n)) (eq-eqb x none e))
-
-  pub child-node : (x ≡ none → ⊥) → {y : ℕ} → y ≡ x → ltb (y + 1) n ≡ hasChild base n x
-  child-node h e = ap (λ (z : ℕ). ltb (z + 1) n) e ∙ sym (ap (λ (z : Bool). pick z (ltb base n) (ltb (x + 1) n)) (ne-eqb x none h))

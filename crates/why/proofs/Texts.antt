@@ -1,37 +1,28 @@
--- From splitting that is accepted to the slices, and from a text to its tokens. Assumes nothing.
-use Rattle.lists.proofs.Prelude.{ℕ, zero, suc, _+_, _≤_, _<_, _≡_, refl, sym, ap, _∙_, subst, Bool, true, false, List, [], _∷_, reverse, arith, length, take, drop, ltb, ltb-true, ltb-false, lt-ltb, le-ltb, pick}
+-- Splitting that is accepted and the slices, and a text and its tokens: what is to blame there. Assumes nothing.
+use Rattle.lists.proofs.Prelude.{ℕ, zero, suc, _≤_, _<_, _≡_, refl, sym, ap, _∙_, subst, Bool, true, false, false≢true, List, [], _∷_, reverse, arith, length, ltb, ltb-false, lt-ltb, le-ltb, pick}
 use Rattle.lists.specs.All.{All}
 use Rattle.lists.proofs.Tests.{never}
 use Rattle.text_utf8.specs.Trim.{trimmed}
 use Rattle.text_utf8.specs.declared.Trimmed.{Trimmed}
-use Rattle.text_utf8.specs.declared.Trimmed.the-variants.{NotUtf8, Blank, Kept}
-use Rattle.text_utf8.proofs.Extent.{trim-bounds}
-use Rattle.lexer.specs.Token.{Tok, End, done, broken, Lexed, lexFrom, lexAt}
-use Rattle.lexer.specs.declared.Fault.{Fault}
-use Rattle.lexer.specs.declared.Fault.the-variants.{MissingPropertyIdentifier as no-identifier, UnexpectedEndOfPropertyIdentifier as foreign, UnexpectedEndOfPropertyValue as unclosed}
-use Rattle.tables.specs.Numbers.{textLimit, depthLimit, numberOf, reasonOf}
-use Rattle.tables.specs.declared.Reading.{Reading}
-use Rattle.tables.specs.declared.Reading.the-variants.{Refused as unread}
-use Rattle.tables.specs.declared.Reason.{Reason}
-use Rattle.tables.specs.declared.Reason.the-variants.{TextTooLong, TooDeep as tooDeep}
-use Rattle.parser.specs.Split.{Splitting, splitting, over, wrong, split, no, slices, deep, filled, sliced, splitByGametree}
-use Rattle.parser.specs.Read.{Answer, refused, accepted, lexing, read}
+use Rattle.lexer.specs.Token.{Tok, End, done, broken, Lexed, lexAt}
+use Rattle.tables.specs.Numbers.{textLimit, depthLimit}
+use Rattle.tables.specs.declared.Reason.the-variants.{TooDeep as tooDeep}
+use Rattle.parser.specs.Split.{Splitting, splitting, over, wrong, split, no, slices, deep, sliced, splitByGametree}
 use Rattle.parser.specs.LocalsSlice.{restFrom, firstSlices, Shallow}
 use Rattle.parser.proofs.Cuts.{standing, deepest, Right, cut-first, deep-first, split-cut}
-use Rattle.parser.proofs.Texts.{lex-prefix, text-long as reading-long, onTrimmed, text-trimmed as reading-trimmed}
 use Rattle.parser.proofs.Tokens.{tokens-few}
-use Rattle.reader.specs.Lent.{rowsCounted}
 use Rattle.reader.specs.LocalsSlices.{SlicesReady}
-use Rattle.why_blame.specs.Cuts.{deepAt, loose, cutDeep, cutting, cutTokens}
+use Rattle.why_blame.specs.Cuts.{deepAt, loose, cutDeep, cutting, cutTokens, tokensCut}
+use Rattle.why_blame.specs.declared.Fact.{Fact}
 use Rattle.why_blame.specs.declared.Fact.the-variants.{TooDeep, Length}
 use Rattle.why_blame.specs.declared.Blamed.{Blamed}
 use Rattle.why_blame.specs.declared.Blamed.the-variants.{By}
 use Rattle.why_blame.specs.declared.Cutting.{Cutting}
 use Rattle.why_blame.specs.declared.Cutting.the-variants.{Wrong, Slices}
-use Rattle.why.specs.Why.{acceptedSlices, cutBlame, trimBlame, textBlame}
-use Rattle.why.specs.LocalsTrees.{endingOf, wrongOf, Calm}
-use Rattle.why.specs.declared.Ending.{Ending}
-use Rattle.why.specs.declared.Ending.the-variants.{Whole, Broken}
+use Rattle.why.specs.Trees.{slicesBlame}
+use Rattle.why.specs.Why.{acceptedSlices, cutBlame, tokensBlame, trimBlame, textBlame, cutLoose}
+use Rattle.why.specs.LocalsSought.{soughtBy}
+use Rattle.why.specs.declared.Sought.the-variants.{Sound, Wrong as wrongly}
 
 -- ---- the slices
 
@@ -80,82 +71,54 @@ cut-into n l k q e =
       bound = omega arith;
     }
 
-pub slices-ready : (u : List ℕ) (from n k q : ℕ) → length u ≤ textLimit → from ≤ length u → lexAt u from .end ≡ done → {x : Cutting} → x ≡ cutTokens false n (lexAt u from) → x ≡ Slices k q → SlicesReady false u from k
-slices-ready u from n k q h i d e g =
-    let s = cut-into n (lexAt u from) k q (sym e ∙ g) in
-    let b = s .bound in
-    record { short = h; inside = i; bound = omega (arith, tokens-few u from); shallow = s .shallow; faultless = λ z. d }
+-- ---- the tokens
+
+-- strict splitting that is accepted has met no fault
+cut-calm : (n : ℕ) (u : List ℕ) (l : Lexed) (e : End) {k q : ℕ} → tokensCut false n u l e ≡ Slices k q → (e ≡ done) × (cutTokens false n l ≡ Slices k q)
+cut-calm n u l done h = (refl, h)
+cut-calm n u l (broken f s) h = never cc
+
+tokens-cut : (len : Bool) (n : ℕ) (u : List ℕ) (l : Lexed) (e : End) → tokensBlame len n u l e ≡ cutBlame len (l .toks) (tokensCut len n u l e)
+tokens-cut true n u l e = refl
+tokens-cut false n u l done = refl
+tokens-cut false n u l (broken f s) = refl
+
+-- splitting is refused
+pub sought-wrong : (len : Bool) (n : ℕ) (u : List ℕ) (l : Lexed) (e : End) (o : ℕ) {x : Cutting} {f : Fact} {p : ℕ} → x ≡ tokensCut len n u l e → x ≡ Wrong f p → wrongly f p ≡ soughtBy (tokensBlame len n u l e) o
+sought-wrong len n u l e o h g = ap (λ (c : Cutting). soughtBy (cutBlame len (l .toks) c) o) (sym g ∙ h) ∙ ap (λ (b : Blamed). soughtBy b o) (sym (tokens-cut len n u l e))
+
+-- it is accepted, leniently
+pub sought-lenient : (len : Bool) (n : ℕ) (u : List ℕ) (l : Lexed) (e : End) {x : Cutting} {k q : ℕ} → len ≡ true → x ≡ tokensCut len n u l e → x ≡ Slices k q
+    → Sound q ≡ soughtBy (tokensBlame len n u l e) (cutLoose n (cutTokens len n l))
+sought-lenient true n u l e b h g = ap (λ (c : Cutting). soughtBy (cutBlame true (l .toks) c) (cutLoose n c)) (sym g ∙ h)
+sought-lenient false n u l e b h g = absurd (false≢true b)
+
+-- it is accepted, strictly
+module _ (len : Bool) (u : List ℕ) (from n : ℕ) {x : Cutting} {k q : ℕ} (b : len ≡ false) (h : x ≡ tokensCut len n u (lexAt u from) (lexAt u from .end)) (g : x ≡ Slices k q) where
+  abbrev L : Lexed
+  L = lexAt u from
+
+  calm : (L .end ≡ done) × (cutTokens false n L ≡ Slices k q)
+  calm = cut-calm n u L (L .end) (ap (λ (z : Bool). tokensCut z n u L (L .end)) (sym b) ∙ sym h ∙ g)
+
+  into : CutInto (L .toks) k
+  into = cut-into n L k q (calm .1)
+
+  pub slices-ready : length u ≤ textLimit → from ≤ length u → SlicesReady false u from k
+  slices-ready s i = let c = into .bound in record { short = s; inside = i; bound = omega (arith, tokens-few u from); shallow = into .shallow; faultless = λ z. calm .0 }
+
+  pub sought-slices : {y z : Blamed} → y ≡ slicesBlame 0 0 (firstSlices k (L .toks)) → y ≡ z → soughtBy z q ≡ soughtBy (tokensBlame len n u L (L .end)) (cutLoose n (cutTokens len n L))
+  sought-slices e d =
+      ap (λ (z : Blamed). soughtBy z q) (sym d ∙ e ∙ ap (slicesBlame 0 0) (sym (into .are)))
+      ∙ ap (λ (c : Cutting). soughtBy (cutBlame false (L .toks) c) (cutLoose n c)) (sym (calm .1))
+      ∙ ap (λ (z : End). soughtBy (tokensBlame false n u L z) (cutLoose n (cutTokens false n L))) (sym (calm .0))
+      ∙ ap (λ (z : Bool). soughtBy (tokensBlame z n u L (L .end)) (cutLoose n (cutTokens z n L))) (sym b)
 
 -- ---- the text
 
 module _ (len : Bool) (t : List ℕ) where
-  pub text-long : textLimit < length t → By (Length (length t)) 0 ≡ textBlame len t
-  text-long h = sym (ap (λ (b : Bool). pick b (By (Length (length t)) 0) (trimBlame len t (trimmed t))) (lt-ltb textLimit (length t) h))
+  pub text-long : textLimit < length t → textBlame len t ≡ By (Length (length t)) 0
+  text-long h = ap (λ (b : Bool). pick b (By (Length (length t)) 0) (trimBlame len t (trimmed t))) (lt-ltb textLimit (length t) h)
 
-  pub text-short : length t ≤ textLimit → {x y : Trimmed} → x ≡ trimmed t → x ≡ y → trimBlame len t y ≡ textBlame len t
-  text-short h e q = ap (trimBlame len t) (sym q ∙ e) ∙ sym (ap (λ (b : Bool). pick b (By (Length (length t)) 0) (trimBlame len t (trimmed t))) (le-ltb textLimit (length t) h))
-
--- ---- what the code was told
-
-pub wrong-cut : (ts : List Tok) (c : Cutting) → wrongOf c ≡ cutBlame true ts c
-wrong-cut ts (Wrong f p) = refl
-wrong-cut ts (Slices k q) = refl
-
-pub ending-whole : (e : End) {x : Ending} → x ≡ endingOf e → x ≡ Whole → e ≡ done
-ending-whole done p q = refl
-ending-whole (broken f s) p q = never (let z : Broken f s ≡ Whole = sym p ∙ q in cc)
-
-pub ending-broken : (e : End) {x : Ending} → x ≡ endingOf e → {f : Fault} {s : ℕ} → x ≡ Broken f s → e ≡ broken f s
-ending-broken done p q = never (let z : Whole ≡ Broken _ _ = sym p ∙ q in cc)
-ending-broken (broken g o) p {f} {s} q =
-    let z : Broken g o ≡ Broken f s = sym p ∙ q in
-    let a : g ≡ f = cc in
-    let b : o ≡ s = cc in
-    ap (λ (y : Fault). broken y o) a ∙ ap (broken f) b
-
--- ---- what the reading told
-
-pub blank-calm : lexAt [] 0 .end ≡ done
-unfolding lexAt
-blank-calm = refl
-
--- a reading that names a fault has a number up to 5
-number-fault : (f : Fault) → numberOf (reasonOf f) ≤ 5
-number-fault no-identifier = omega arith
-number-fault foreign = omega arith
-number-fault unclosed = omega arith
-
-answered-calm : (e : End) (ts : List Tok) {r : Reason} {p : ℕ} → lexing false e ts ≡ refused r p → 5 < numberOf r → e ≡ done
-answered-calm done ts q h = refl
-answered-calm (broken f s) ts {r} {p} q h =
-    let z : reasonOf f ≡ r = cc in
-    let w = number-fault f in
-    let y : numberOf (reasonOf f) ≡ numberOf r = ap numberOf z in
-    never (omega arith)
-
-module _ (t : List ℕ) {r : Reason} {p : ℕ} (e : read false t ≡ refused r p) (h : 5 < numberOf r) where
-  within-limit : length t ≤ textLimit
-  within-limit = go (ltb textLimit (length t)) refl
-    where
-      go : (b : Bool) → ltb textLimit (length t) ≡ b → length t ≤ textLimit
-      go true q =
-          let z : refused TextTooLong 0 ≡ refused r p = sym (reading-long false t (ltb-true textLimit (length t) q)) ∙ e in
-          let w : TextTooLong ≡ r = cc in
-          let y : 1 ≡ numberOf r = ap numberOf w in
-          never (omega arith)
-      go false q = ltb-false textLimit (length t) q
-
-  -- a reading that is refused by a number above 5 has met no fault
-  pub calm-refused : Calm t
-  calm-refused f l k =
-      ap (λ (z : Lexed). z .end) (sym (lex-prefix t f l (trim-bounds t f l k .1)))
-      ∙ answered-calm (lexFrom f l (drop f (take l t)) .end) (lexFrom f l (drop f (take l t)) .toks) (sym (reading-trimmed false t within-limit ∙ ap (onTrimmed false t) k) ∙ e) h
-
-pub calm-counted : (t : List ℕ) {x : Reading} {r : Reason} {p : ℕ} → x ≡ rowsCounted (read false t) → x ≡ unread r p → 5 < numberOf r → Calm t
-calm-counted t {x} {r} {p} c q h = go (read false t) refl (sym c ∙ q)
-  where
-    go : (a : Answer) → read false t ≡ a → rowsCounted a ≡ unread r p → Calm t
-    go (accepted ts) e z = never cc
-    go (refused s o) e z =
-        let y : s ≡ r = cc in
-        calm-refused t e (subst (λ (m : Reason). 5 < numberOf m) (sym y) h)
+  pub text-short : length t ≤ textLimit → {x : Trimmed} → trimmed t ≡ x → textBlame len t ≡ trimBlame len t x
+  text-short h e = ap (λ (b : Bool). pick b (By (Length (length t)) 0) (trimBlame len t (trimmed t))) (le-ltb textLimit (length t) h) ∙ ap (trimBlame len t) e

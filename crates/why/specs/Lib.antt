@@ -1,3 +1,4 @@
+pub mod LocalsSought
 pub mod LocalsTrees
 pub mod Trees
 pub mod Why

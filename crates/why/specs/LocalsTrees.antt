@@ -1,37 +1,15 @@
 -- The walk of a slice that looks for the token to blame, and the slices one after the other, in the code's own terms. Nothing public is stated by these.
-use Rattle.lists.specs.Prelude.{ℕ, _+_, _-_, _≤_, _<_, _≡_, Bool, true, false, List, [], length, take}
+use Rattle.lists.specs.Prelude.{ℕ, _+_, _-_, _≤_, _≡_, true, List, length}
 use Rattle.lists.specs.All.{All}
-use Rattle.text_utf8.specs.Trim.{trimmed}
-use Rattle.text_utf8.specs.declared.Trimmed.the-variants.{Kept}
-use Rattle.lexer.specs.Token.{Tok, End, done, broken, lexAt}
-use Rattle.tables.specs.Numbers.{textLimit, depthLimit, none}
-use Rattle.tables.specs.Record.{Node}
-use Rattle.parser.specs.Walk.{Walk, walk, walks, walked}
-use Rattle.parser.specs.LocalsSlice.{sliceFrom, restFrom, firstSlices, Shallow}
+use Rattle.lexer.specs.Token.{Tok, done, lexAt}
+use Rattle.tables.specs.Numbers.{textLimit}
+use Rattle.parser.specs.Walk.{walk}
+use Rattle.parser.specs.LocalsSlice.{sliceFrom, firstSlices, Shallow}
 use Rattle.parser_tree.specs.LocalsTurns.{BehindIs}
-use Rattle.why_blame.specs.declared.Cutting.{Cutting}
-use Rattle.why_blame.specs.declared.Cutting.the-variants.{Wrong, Slices}
-use Rattle.why_blame.specs.declared.Blamed.{Blamed}
 use Rattle.why_blame.specs.declared.Blamed.the-variants.{No, By}
 use Rattle.why.specs.Trees.{treeBlame, nodesIn, slicesBlame}
-use Rattle.why.specs.declared.Ending.{Ending}
-use Rattle.why.specs.declared.Ending.the-variants.{Whole, Broken}
 use Rattle.why.specs.declared.tree.TreeWalked.{TreeWalked}
 use Rattle.why.specs.declared.tree.TreeWalked.the-variants.{Stopped, Tree}
-
--- how the tokens end
-abbrev pub endingOf : End → Ending
-endingOf done = Whole
-endingOf (broken f s) = Broken f s
-
--- splitting that is refused
-abbrev pub wrongOf : Cutting → Blamed
-wrongOf (Wrong f p) = By f p
-wrongOf (Slices k q) = No
-
--- the tokens of what trimming keeps end with the text
-abbrev pub Calm : List ℕ → Type 0
-Calm t = (f l : ℕ) → trimmed t ≡ Kept f l → lexAt (take l t) f .end ≡ done
 
 -- the slice from a place on
 abbrev pub sliceAt : List ℕ → ℕ → List Tok

@@ -1,19 +1,20 @@
-// Why a text is refused: the number's fact and the place of the token to blame; of an accepted text the counts and the place where reading ended. No tables are lent and none is needed.
+// Why a text is refused: the number's fact and the place of the token to blame; of an accepted text the counts and the place where reading ended. No tables are lent and none is needed, and a text that is refused is walked once.
 mod tree; // tree.rt: the tree of a slice
 
 ghost use mathlib.Core.Path.{_≡_};
 ghost use mathlib.Core.Bool.{true, false};
 ghost use lib.ListN.{length};
-ghost use Rattle.text_utf8.specs.Trim.{trimmed};
-ghost use Rattle.lexer.specs.Token.{done, lexAt};
+ghost use Rattle.lexer.specs.Token.{lexAt};
 ghost use Rattle.parser.specs.LocalsSlice.{firstSlices};
+ghost use Rattle.parser_census.specs.LocalsCensus.{censusOf};
 ghost use Rattle.reader.specs.LocalsSlices.{SlicesReady};
 ghost use Rattle.tables.specs.Numbers.{textLimit};
 ghost use Prim.Native.Nat.{_≤_};
 ghost use Rattle.why.specs.Trees.{slicesBlame};
 ghost use Rattle.why_blame.specs.Cuts.{cutTokens};
-ghost use Rattle.why.specs.Why.{cutBlame, tokensBlame, textBlame, trimLoose, refusedBy, explained};
-ghost use Rattle.why.specs.LocalsTrees.{endingOf, wrongOf, Calm};
+ghost use Rattle.why.specs.Why.{tokensBlame, cutLoose, explained};
+ghost use Rattle.why.specs.LocalsSought.{soughtBy, soughtIn, SoughtIs};
+use parser_census::Census;
 use tables::Counts;
 use tables::Lenient;
 use tables::Reading;
@@ -29,40 +30,11 @@ pub enum Why {
     Refused(Fact, usize),
 }
 
-// How the tokens end: with the text, or with a fault of the token that starts at a place.
-enum Ending {
-    Whole,
-    Broken(lexer::Fault, usize),
-}
-
-// The first fault from a place on.
-fn first_fault(s: &[u8], from: usize) -> Ending
-    ensures { λ r. ⌜ r ≡ endingOf (lexAt (now (s .entry)) from .end) ⌝ }
-{
-    let mut at = from;
-    loop {
-        let stepped = lexer::Cursor { at: at }.next(s);
-        let token = stepped.token;
-        match token {
-            lexer::Step::Refused(f, i) => return Ending::Broken(f, i),
-            lexer::Step::Done => return Ending::Whole,
-            _ => {
-                let next = stepped.next;
-                at = next.at;
-            }
-        }
-    }
-}
-
-// How the tokens from a place on end. Where they are known to end with the text, no token is looked at.
-fn how_ended(s: &[u8], from: usize, calm: bool) -> Ending
-    requires { ⌜ (calm ≡ true → lexAt (now s) from .end ≡ done) ⌝ }
-    ensures { λ r. ⌜ r ≡ endingOf (lexAt (now (s .entry)) from .end) ⌝ }
-{
-    if calm {
-        return Ending::Whole;
-    }
-    first_fault(s, from)
+// What is found before rows are counted: nothing is odd, and the counts; nothing is to blame; each with the place of the first token in no slice. Or the fact and the place of the token to blame.
+enum Sought {
+    Simple(Counts, usize),
+    Sound(usize),
+    Wrong(Fact, usize),
 }
 
 // The slices from a place on, one after the other: game type, tree, nodes.
@@ -97,90 +69,74 @@ fn in_slices(s: &[u8], from: usize, count: usize) -> Blamed
     Blamed::No
 }
 
-// Splitting that is refused.
-fn in_cut(cutting: Cutting) -> Blamed
-    ensures { λ r. ⌜ r ≡ wrongOf cutting ⌝ }
+// The tokens from a place on, in a text of `size` bytes: faults and splitting in one pass, then the slices in one walk.
+fn in_tokens(s: &[u8], from: usize, size: usize, lenient: bool) -> Sought
+    requires { ⌜ (length (now s) ≤ textLimit) × (from ≤ length (now s)) ⌝ }
+    ensures { λ r. ⌜ r ≡ soughtBy (tokensBlame lenient size (now (s .entry)) (lexAt (now (s .entry)) from) (lexAt (now (s .entry)) from .end))
+        (cutLoose size (cutTokens lenient size (lexAt (now (s .entry)) from))) ⌝ }
 {
-    match cutting {
-        Cutting::Wrong(fact, place) => Blamed::By(fact, place),
-        Cutting::Slices(_, _) => Blamed::No,
-    }
-}
-
-// The tokens from a place on, in a text of `size` bytes, where no token has a fault.
-fn in_calm(s: &[u8], from: usize, size: usize) -> Blamed
-    requires { ⌜ (length (now s) ≤ textLimit) × (from ≤ length (now s)) × (lexAt (now s) from .end ≡ done) ⌝ }
-    ensures { λ r. ⌜ r ≡ cutBlame false (lexAt (now (s .entry)) from .toks) (cutTokens false size (lexAt (now (s .entry)) from)) ⌝ }
-{
-    match why_blame::split::in_split(s, from, size, false) {
-        Cutting::Wrong(fact, place) => Blamed::By(fact, place),
-        Cutting::Slices(count, _) => in_slices(s, from, count),
-    }
-}
-
-// The tokens from a place on, in a text of `size` bytes; calm: it is known that none has a fault.
-fn in_tokens(s: &[u8], from: usize, size: usize, lenient: bool, calm: bool) -> Blamed
-    requires { ⌜ (length (now s) ≤ textLimit) × (from ≤ length (now s)) × (calm ≡ true → lexAt (now s) from .end ≡ done) ⌝ }
-    ensures { λ r. ⌜ r ≡ tokensBlame lenient size (now (s .entry)) (lexAt (now (s .entry)) from) (lexAt (now (s .entry)) from .end) ⌝ }
-{
-    if lenient {
-        return in_cut(why_blame::split::in_split(s, from, size, true));
-    }
-    match how_ended(s, from, calm) {
-        Ending::Broken(fault, i) => Blamed::By(why_blame::in_token(s, fault, i), i),
-        Ending::Whole => in_calm(s, from, size),
-    }
-}
-
-// A text: nothing, or the fact and the place.
-fn in_text(text: &[u8], lenient: bool, calm: bool) -> Blamed
-    requires { ⌜ (calm ≡ true → Calm (now text)) ⌝ }
-    ensures { λ r. ⌜ r ≡ textBlame lenient (now (text .entry)) ⌝ }
-{
-    if tables::TEXT_LIMIT < text.len() {
-        return Blamed::By(Fact::Length(text.len()), 0);
-    }
-    match text_utf8::trim(text) {
-        Trimmed::NotUtf8(place) => Blamed::By(Fact::BadSequence, place),
-        Trimmed::Blank => in_tokens(&text[..0], 0, text.len(), lenient, calm),
-        Trimmed::Kept(first, last) => in_tokens(&text[..last], first, text.len(), lenient, calm),
-    }
-}
-
-// The place of the first token in no slice.
-fn first_loose(text: &[u8], lenient: bool) -> usize
-    ensures { λ r. ⌜ r ≡ trimLoose lenient (now (text .entry)) (trimmed (now (text .entry))) ⌝ }
-{
-    match text_utf8::trim(text) {
-        Trimmed::NotUtf8(_) => text.len(),
-        Trimmed::Blank => text.len(),
-        Trimmed::Kept(first, last) => {
-            match why_blame::split::in_split(&text[..last], first, text.len(), lenient) {
-                Cutting::Wrong(_, _) => text.len(),
-                Cutting::Slices(_, place) => place,
+    match why_blame::split::in_split(s, from, size, lenient) {
+        Cutting::Wrong(fact, place) => Sought::Wrong(fact, place),
+        Cutting::Slices(count, loose) => {
+            if lenient {
+                return Sought::Sound(loose);
+            }
+            match in_slices(s, from, count) {
+                Blamed::By(fact, place) => Sought::Wrong(fact, place),
+                Blamed::No => Sought::Sound(loose),
             }
         }
     }
 }
 
-// A text that is refused.
-fn refused(text: &[u8], lenient: bool, calm: bool) -> Why
-    requires { ⌜ (calm ≡ true → Calm (now text)) ⌝ }
-    ensures { λ r. ⌜ r ≡ refusedBy (textBlame lenient (now (text .entry))) ⌝ }
+// The same, but the census first. Where it counts the rows, each token is in a slice.
+fn in_part(s: &[u8], from: usize, size: usize, lenient: bool) -> Sought
+    requires { ⌜ (length (now s) ≤ textLimit) × (from ≤ length (now s)) ⌝ }
+    ensures { λ r. ⌜ r ≡ soughtIn (censusOf (lexAt (now (s .entry)) from)) size
+        (soughtBy (tokensBlame lenient size (now (s .entry)) (lexAt (now (s .entry)) from) (lexAt (now (s .entry)) from .end))
+        (cutLoose size (cutTokens lenient size (lexAt (now (s .entry)) from)))) ⌝ }
 {
-    match in_text(text, lenient, calm) {
-        Blamed::No => Why::Refused(Fact::NoEnd, 0),
-        Blamed::By(fact, place) => Why::Refused(fact, place),
+    match parser_census::take_census(s, from) {
+        Census::Simple(t, n, p, v) => Sought::Simple(
+            Counts {
+                trees: t,
+                nodes: n,
+                properties: p,
+                values: v,
+            },
+            size,
+        ),
+        Census::Odd => in_tokens(s, from, size, lenient),
     }
 }
 
-// Why a text is refused where it is read strictly. A reading looks for faults of tokens, 3 to 5, before it looks for what has a greater number.
+// A text.
+fn in_text(text: &[u8], lenient: bool) -> Sought
+    ensures { λ r. ⌜ SoughtIs lenient (now (text .entry)) r ⌝ }
+{
+    if tables::TEXT_LIMIT < text.len() {
+        return Sought::Wrong(Fact::Length(text.len()), 0);
+    }
+    match text_utf8::trim(text) {
+        Trimmed::NotUtf8(place) => Sought::Wrong(Fact::BadSequence, place),
+        Trimmed::Blank => in_tokens(&text[..0], 0, text.len(), lenient),
+        Trimmed::Kept(first, last) => in_part(&text[..last], first, text.len(), lenient),
+    }
+}
+
+// Why a text is refused where it is read strictly. Rows are counted only where something is odd and nothing is to blame.
 pub fn strict(text: &[u8]) -> Why
     ensures { λ r. ⌜ r ≡ explained false (now (text .entry)) ⌝ }
 {
-    match reader::count_strict(text) {
-        Reading::Accepted(counts) => Why::Accepted(counts, first_loose(text, false)),
-        Reading::Refused(reason, _) => refused(text, false, 5 < tables::number(reason)),
+    match in_text(text, false) {
+        Sought::Simple(counts, loose) => Why::Accepted(counts, loose),
+        Sought::Wrong(fact, place) => Why::Refused(fact, place),
+        Sought::Sound(loose) => {
+            match reader::count_strict(text) {
+                Reading::Accepted(counts) => Why::Accepted(counts, loose),
+                Reading::Refused(_, _) => Why::Refused(Fact::NoEnd, 0),
+            }
+        }
     }
 }
 
@@ -188,11 +144,14 @@ pub fn strict(text: &[u8]) -> Why
 pub fn lenient(text: &[u8]) -> Why
     ensures { λ r. ⌜ r ≡ explained true (now (text .entry)) ⌝ }
 {
-    match reader::count_lenient(text) {
-        Lenient::Accepted(counts) => Why::Accepted(counts, first_loose(text, true)),
-        Lenient::TextTooLong => refused(text, true, false),
-        Lenient::NotUtf8(_) => refused(text, true, false),
-        Lenient::TooDeep => refused(text, true, false),
-        Lenient::NoRoom => refused(text, true, false),
+    match in_text(text, true) {
+        Sought::Simple(counts, loose) => Why::Accepted(counts, loose),
+        Sought::Wrong(fact, place) => Why::Refused(fact, place),
+        Sought::Sound(loose) => {
+            match reader::count_lenient(text) {
+                Lenient::Accepted(counts) => Why::Accepted(counts, loose),
+                _ => Why::Refused(Fact::NoEnd, 0),
+            }
+        }
     }
 }

@@ -1,7 +1,7 @@
 // The tree of a slice, walked for the token to blame: the stack of `parser_tree`, and no tables.
 ghost use mathlib.Core.Path.{_≡_};
 ghost use Prim.Native.Nat.{_≤_};
-ghost use Rattle.parser_step.specs.LocalsActs.{stackOf, hasChild, mayOpen};
+ghost use Rattle.parser_step.specs.LocalsActs.{stackOf};
 ghost use Rattle.why.specs.Trees.{topNode};
 ghost use Rattle.why.specs.LocalsTrees.{SliceReady, FoundIn};
 use lexer::Step;
@@ -25,27 +25,6 @@ fn top(stack: &[u32; 1024], depth: usize) -> u32
     stack[depth - 1]
 }
 
-// Has the list of a node an element: the node after it exists.
-fn has_child(x: u32, base: usize, n: usize) -> bool
-    ensures { λ r. ⌜ r ≡ hasChild base n x ⌝ }
-{
-    if x == NONE {
-        return base < n;
-    }
-    lists::wide(x) + 1 < n
-}
-
-// May a tree start: the list on top of the stack is not empty.
-fn may_open(stack: &[u32; 1024], depth: usize, base: usize, n: usize) -> bool
-    requires { ⌜ depth ≤ 1024 ⌝ }
-    ensures { λ r. ⌜ r ≡ mayOpen base n (stackOf (now (stack .entry)) depth) ⌝ }
-{
-    if depth == 0 {
-        return true;
-    }
-    has_child(stack[depth - 1], base, n)
-}
-
 // The slice that starts at a place, its first node numbered `base`.
 pub fn walk_slice(s: &[u8], from: usize, base: usize) -> TreeWalked
     requires { ⌜ SliceReady (now s) from base ⌝ }
@@ -60,7 +39,7 @@ pub fn walk_slice(s: &[u8], from: usize, base: usize) -> TreeWalked
     loop {
         match lexer::next_token(s, at) {
             Step::Start(i) => {
-                if !may_open(&stack, depth, base, n) {
+                if !parser_step::may_open(&stack, depth, base, n) {
                     return TreeWalked::Stopped(Fact::EmptyList(top(&stack, depth)), i);
                 }
                 stack[depth] = cur;

@@ -6,7 +6,7 @@ use Rattle.lexer.specs.Token.{lexAt}
 use Rattle.lexer.specs.declared.Fault.{Fault}
 use Rattle.parser.specs.Game.{props, propsNamed, GM}
 use Rattle.parser.specs.LocalsSlice.{sliceFrom}
-use Rattle.why_blame.specs.Cuts.{faultFact, firstPlace, cutTokens}
+use Rattle.why_blame.specs.Cuts.{faultFact, firstPlace, tokensCut}
 use Rattle.why_blame.specs.Games.{gameBlame}
 use Rattle.why_blame.specs.declared.Fact.{Fact}
 use Rattle.why_blame.specs.declared.Blamed.{Blamed}
@@ -19,8 +19,8 @@ module _ (u : List ℕ) (from : ℕ) where
   pub first-place-once : (n : ℕ) → Once (λ (r : ℕ). r ≡ firstPlace n (lexAt u from .toks) (lexAt u from .end))
   first-place-once n = once-is (firstPlace n (lexAt u from .toks) (lexAt u from .end))
 
-  pub in-split-once : (n : ℕ) (len : Bool) → Once (λ (r : Cutting). r ≡ cutTokens len n (lexAt u from))
-  in-split-once n len = once-is (cutTokens len n (lexAt u from))
+  pub in-split-once : (n : ℕ) (len : Bool) → Once (λ (r : Cutting). r ≡ tokensCut len n u (lexAt u from) (lexAt u from .end))
+  in-split-once n len = once-is (tokensCut len n u (lexAt u from) (lexAt u from .end))
 
   pub in-game-once : (n : ℕ) → Once (λ (r : Blamed). r ≡ gameBlame n (propsNamed GM (props (drop 2 (sliceFrom 0 (lexAt u from .toks))))))
   in-game-once n = once-is (gameBlame n (propsNamed GM (props (drop 2 (sliceFrom 0 (lexAt u from .toks))))))

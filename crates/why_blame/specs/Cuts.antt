@@ -70,3 +70,9 @@ cutting len n l (wrong r) = Wrong EndBeyond (wrongAt (l .toks))
 -- of all tokens
 abbrev pub cutTokens : Bool → (n : ℕ) → Lexed → Cutting
 cutTokens len n l = cutting len n l (split len (splitting 0 0 [] []) (l .toks))
+
+-- of the tokens of u, whose end is e: strict splitting is refused by the first fault, before all else
+abbrev pub tokensCut : Bool → (n : ℕ) → List ℕ → Lexed → (e : End) → Cutting
+tokensCut true n u l e = cutTokens true n l
+tokensCut false n u l done = cutTokens false n l
+tokensCut false n u l (broken f s) = Wrong (faultFact u f s) s

@@ -1,10 +1,17 @@
 -- What the pass that splits the tokens has seen, in the code's own terms. Nothing public is stated by these.
 use Rattle.lists.specs.Prelude.{ℕ, _+_, _≤_, _<_, _≡_, Bool, true, false, List, [], _∷_, _++_, reverse, length, ltb}
-use Rattle.lexer.specs.Token.{Tok, end, Lexed, lexed, lexAt}
+use Rattle.lexer.specs.Token.{Tok, end, End, done, broken, Lexed, lexed, lexAt}
 use Rattle.tables.specs.Numbers.{depthLimit}
 use Rattle.parser.specs.Split.{Splitting, splitting, splits, split}
 use Rattle.why_blame.specs.Blame.{blame, splitWrong, isDeep}
 use Rattle.why_blame.specs.Cuts.{deepAt, slicedTokens}
+use Rattle.why_blame.specs.declared.split.Ending.{Ending}
+use Rattle.why_blame.specs.declared.split.Ending.the-variants.{Whole, Broken}
+
+-- how the tokens end
+abbrev pub endingOf : End → Ending
+endingOf done = Whole
+endingOf (broken f s) = Broken f s
 
 -- before the first token
 abbrev pub unsplit : Splitting

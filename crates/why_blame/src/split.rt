@@ -8,8 +8,8 @@ ghost use Rattle.lexer.specs.Token.{lexAt};
 ghost use Rattle.tables.specs.Numbers.{depthLimit};
 ghost use Rattle.why_blame.specs.declared.Fact.the-variants.{TooDeep};
 ghost use Rattle.why_blame.specs.declared.Cutting.the-variants.{Wrong, Slices};
-ghost use Rattle.why_blame.specs.Cuts.{firstPlace, cutTokens};
-ghost use Rattle.why_blame.specs.LocalsCuts.{Seen, StopsBy};
+ghost use Rattle.why_blame.specs.Cuts.{firstPlace, cutTokens, tokensCut};
+ghost use Rattle.why_blame.specs.LocalsCuts.{endingOf, Seen, StopsBy};
 use crate::Cutting;
 use crate::Fact;
 use lexer::Step;
@@ -24,6 +24,12 @@ struct BlameSplit {
     deep: usize,
     at: usize,
     beyond: bool,
+}
+
+// How the tokens end: with the text, or with a fault of the token that starts at a place.
+enum Ending {
+    Whole,
+    Broken(lexer::Fault, usize),
 }
 
 // The larger of two numbers.
@@ -133,11 +139,33 @@ fn unless_deep(deepest: usize, deep: usize, count: usize, place: usize) -> Cutti
     Cutting::Slices(count, place)
 }
 
-// The tokens from a place on, in a text of `size` bytes, split strictly.
+// The first fault from a place on.
+fn first_fault(s: &[u8], from: usize) -> Ending
+    ensures { λ r. ⌜ r ≡ endingOf (lexAt (now (s .entry)) from .end) ⌝ }
+{
+    let mut at = from;
+    loop {
+        let stepped = lexer::Cursor { at: at }.next(s);
+        let token = stepped.token;
+        match token {
+            Step::Refused(f, i) => return Ending::Broken(f, i),
+            Step::Done => return Ending::Whole,
+            _ => {
+                let next = stepped.next;
+                at = next.at;
+            }
+        }
+    }
+}
+
+// The tokens from a place on, in a text of `size` bytes, split strictly. A fault is looked for where splitting stops: no token before has one.
 fn split_strict(s: &[u8], from: usize, size: usize) -> Cutting
-    ensures { λ r. ⌜ r ≡ cutTokens false size (lexAt (now (s .entry)) from) ⌝ }
+    ensures { λ r. ⌜ r ≡ tokensCut false size (now (s .entry)) (lexAt (now (s .entry)) from) (lexAt (now (s .entry)) from .end) ⌝ }
 {
     let x = split_tokens(s, from);
+    if let Ending::Broken(fault, i) = first_fault(s, x.at) {
+        return Cutting::Wrong(crate::in_token(s, fault, i), i);
+    }
     if x.beyond {
         return Cutting::Wrong(Fact::EndBeyond, first_place(s, x.at, 0));
     }
@@ -164,9 +192,9 @@ fn split_lenient(s: &[u8], from: usize, size: usize) -> Cutting
     unless_deep(x.deepest, x.deep, x.slices, first_place(s, x.behind, size))
 }
 
-// The tokens from a place on, in a text of `size` bytes, split strictly or leniently.
+// The tokens from a place on, in a text of `size` bytes, split strictly or leniently. Strictly a fault comes first.
 pub fn in_split(s: &[u8], from: usize, size: usize, lenient: bool) -> Cutting
-    ensures { λ r. ⌜ r ≡ cutTokens lenient size (lexAt (now (s .entry)) from) ⌝ }
+    ensures { λ r. ⌜ r ≡ tokensCut lenient size (now (s .entry)) (lexAt (now (s .entry)) from) (lexAt (now (s .entry)) from .end) ⌝ }
 {
     if lenient {
         return split_lenient(s, from, size);

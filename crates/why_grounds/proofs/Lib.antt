@@ -1,4 +1,3 @@
 pub mod Agrees
 pub mod Grounds
 pub mod Told
-pub mod Trees

@@ -29,8 +29,8 @@ use Rattle.why_blame.specs.declared.Cutting.the-variants.{Wrong, Slices}
 use Rattle.why.specs.Trees.{slicesBlame}
 use Rattle.why.specs.Why.{acceptedSlices, cutBlame, tokensBlame, keptBlame, trimBlame, textBlame, trimLoose, refusedBy, explainedBy, explained}
 use Rattle.why.specs.declared.Why.the-variants.{Refused}
-use Rattle.why_grounds.proofs.Trees.{Agree}
-use Rattle.why_grounds.proofs.Agrees.{text-agrees}
+use Rattle.why.proofs.Trees.{Agree}
+use Rattle.why.proofs.Agrees.{text-agrees}
 use Rattle.why_says.specs.Says.{NodelessAt, EmptyListAt, StrayAt, SecondAt, ValuesAt, NumberAt, FactSays}
 use Rattle.why_says.specs.Clear.{Clear, LenientClear}
 use Rattle.why_says.proofs.Scanned.{missing-fails, foreign-met, foreign-fails, unclosed-fails}

@@ -12,8 +12,8 @@ use Rattle.why_blame.specs.declared.Blamed.{Blamed}
 use Rattle.why_blame.specs.declared.Blamed.the-variants.{By}
 use Rattle.why.specs.Why.{textBlame, trimLoose, explainedBy, explained}
 use Rattle.why.specs.declared.Why.the-variants.{Refused}
-use Rattle.why_grounds.proofs.Trees.{Agree}
-use Rattle.why_grounds.proofs.Agrees.{text-agrees}
+use Rattle.why.proofs.Trees.{Agree}
+use Rattle.why.proofs.Agrees.{text-agrees}
 use Rattle.why_says.specs.Says.{FactSays}
 use Rattle.why_says.specs.Clear.{Clear, LenientClear, stageOf}
 use Rattle.why_says.proofs.Earlier.{earlier-refuted, earlier-refuted-lenient}

@@ -24,8 +24,9 @@ use Rattle.why_blame.specs.declared.Cutting.{Cutting}
 use Rattle.why_blame.specs.declared.Cutting.the-variants.{Wrong, Slices}
 use Rattle.why.specs.Why.{cutBlame, tokensBlame, trimBlame, textBlame, cutLoose, trimLoose, explainedBy, explained}
 use Rattle.why.specs.declared.Why.the-variants.{Accepted}
-use Rattle.why_grounds.proofs.Trees.{Agree}
-use Rattle.why_grounds.proofs.Agrees.{text-agrees, why-accepted}
+use Rattle.why.proofs.Trees.{Agree}
+use Rattle.why.proofs.Agrees.{text-agrees}
+use Rattle.why_grounds.proofs.Agrees.{why-accepted}
 use Rattle.why_says.specs.Behind.{SlicesThen, RestAt, LooseAt}
 use Rattle.why_says.proofs.Cuts.{token-at, at-token, begun}
 

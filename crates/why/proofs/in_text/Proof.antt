@@ -2,7 +2,8 @@
 use Rattle.lists.proofs.Prelude.{arith, sym, _∙_, length-take-le, needs}
 use denote.Ref.{now}
 use Rattle.text_utf8.proofs.Extent.{trim-bounds}
-use Rattle.why.proofs.Texts.{text-long, text-short, blank-calm}
+use Rattle.why.proofs.Texts.{text-long, text-short}
+use Rattle.why.proofs.Seeking.{kept-sought, blank-sought}
 use Rattle.why.proofs.in_text.Statement.{statement}
 use Rattle.why.proofs.in_text.Tie as tie
 
@@ -10,22 +11,22 @@ returns : tie.Need-returns
 returns c = text-long (c .before .before .args .lenient) (now (c .before .before .args .text)) (c .if1 .taken)
 
 in-tokens-requires : tie.Need-in-tokens-requires
-in-tokens-requires c κs = (omega arith, omega arith, λ e. blank-calm)
+in-tokens-requires c κs = (omega arith, omega arith)
 
-slice-aggregate-in-tokens-2 : tie.Need-slice-aggregate-in-tokens-2
-slice-aggregate-in-tokens-2 c = let w = trim-bounds (now (c .before .before .before .before .before .before .before .args .text)) (c .before .before .first .given .0 .0) (c .before .before .first .given .0 .1 .0) (sym (c .before .before .before .before .trim .ensures) ∙ c .before .before .first .given .1) in let l = length-take-le (c .before .before .first .given .0 .1 .0) (now (c .before .before .before .before .before .before .before .args .text)) (w .1) in omega arith
+slice-aggregate-in-part : tie.Need-slice-aggregate-in-part
+slice-aggregate-in-part c = let w = trim-bounds (now (c .before .before .before .before .before .before .before .args .text)) (c .before .before .first .given .0 .0) (c .before .before .first .given .0 .1 .0) (sym (c .before .before .before .before .trim .ensures) ∙ c .before .before .first .given .1) in let l = length-take-le (c .before .before .first .given .0 .1 .0) (now (c .before .before .before .before .before .before .before .args .text)) (w .1) in omega arith
 
-in-tokens-requires-2 : tie.Need-in-tokens-requires-2
-in-tokens-requires-2 c κs = let w = trim-bounds (now (c .before .before .before .before .before .before .before .args .text)) (c .before .before .first .given .0 .0) (c .before .before .first .given .0 .1 .0) (sym (c .before .before .before .before .trim .ensures) ∙ c .before .before .first .given .1) in let l = length-take-le (c .before .before .first .given .0 .1 .0) (now (c .before .before .before .before .before .before .before .args .text)) (w .1) in let h = c .before .before .before .before .before .if1 .left in (omega arith, omega arith, λ e. c .before .before .before .before .before .before .before .pre e (c .before .before .first .given .0 .0) (c .before .before .first .given .0 .1 .0) (sym (c .before .before .before .before .trim .ensures) ∙ c .before .before .first .given .1))
+in-part-requires : tie.Need-in-part-requires
+in-part-requires c κs = let w = trim-bounds (now (c .before .before .before .before .before .before .before .args .text)) (c .before .before .first .given .0 .0) (c .before .before .first .given .0 .1 .0) (sym (c .before .before .before .before .trim .ensures) ∙ c .before .before .first .given .1) in let l = length-take-le (c .before .before .first .given .0 .1 .0) (now (c .before .before .before .before .before .before .before .args .text)) (w .1) in let h = c .before .before .before .before .before .if1 .left in (omega arith, omega arith)
 
 returns-2 : tie.Need-returns-2
-returns-2 c = text-short (c .before .before .before .before .before .before .args .lenient) (now (c .before .before .before .before .before .before .args .text)) (c .before .before .before .before .if1 .left) (c .before .before .before .trim .ensures) (c .before .place .given .1)
+returns-2 c = text-short (c .before .before .before .before .before .before .args .lenient) (now (c .before .before .before .before .before .before .args .text)) (c .before .before .before .before .if1 .left) (sym (c .before .before .before .trim .ensures) ∙ c .before .place .given .1)
 
 returns-3 : tie.Need-returns-3
-returns-3 c = c .in-tokens .ensures ∙ text-short (c .before .before .before .before .before .before .before .args .lenient) (now (c .before .before .before .before .before .before .before .args .text)) (c .before .before .before .before .before .if1 .left) (c .before .before .before .before .trim .ensures) (c .before .before .enum-told .given .1)
+returns-3 c = blank-sought (c .before .before .before .before .before .before .before .args .lenient) (now (c .before .before .before .before .before .before .before .args .text)) (c .before .before .before .before .before .if1 .left) (sym (c .before .before .before .before .trim .ensures) ∙ c .before .before .enum-told .given .1) (c .in-tokens .ensures)
 
 returns-4 : tie.Need-returns-4
-returns-4 c = c .in-tokens2 .ensures ∙ text-short (c .before .before .before .before .before .before .before .before .args .lenient) (now (c .before .before .before .before .before .before .before .before .args .text)) (c .before .before .before .before .before .before .if1 .left) (c .before .before .before .before .before .trim .ensures) (c .before .before .before .first .given .1)
+returns-4 c = kept-sought (c .before .before .before .before .before .before .before .before .args .lenient) (now (c .before .before .before .before .before .before .before .before .args .text)) (c .before .before .before .before .before .before .if1 .left) (sym (c .before .before .before .before .before .trim .ensures) ∙ c .before .before .before .first .given .1) (c .in-part .ensures)
 
 pub in-text-spec : {M : Type 1} → statement M
 in-text-spec =
@@ -38,8 +39,8 @@ in-text-spec =
     (λ c. search needs)
     in-tokens-requires
     (λ c. search needs)
-    slice-aggregate-in-tokens-2
-    in-tokens-requires-2
+    slice-aggregate-in-part
+    in-part-requires
     returns-2
     returns-3
     returns-4)

@@ -18,9 +18,6 @@ abbrev μ-loop : tie.MeasureT-loop
 loop-holds : tie.Need-loop-holds Inv-loop μ-loop
 loop-holds c = going-first _ (c .before .pre) refl
 
-may-open-requires : tie.Need-may-open-requires Inv-loop μ-loop
-may-open-requires c κs = c .before .before .before .before .before .loop .inv .deep
-
 top-requires : tie.Need-top-requires Inv-loop μ-loop
 top-requires c κs = c .before .before .before .before .before .before .before .before .loop .inv .deep
 
@@ -108,7 +105,7 @@ walk-slice-spec =
     loop-holds
     (λ c κs. search needs)
     (λ c. search needs)
-    may-open-requires
+    (λ c κs. search needs)
     top-requires
     returns
     mul-stack

@@ -1,5 +1,5 @@
 -- A slice is refused exactly where a token of it, or its game type, is to blame, and by the number of the fact. Assumes nothing.
-use Rattle.lists.proofs.Prelude.{ℕ, suc, _+_, _-_, _^_, _≡_, refl, sym, ap, _∙_, subst, subst⁻¹, Bool, true, false, List, [], _∷_, _++_, length, drop, pick}
+use Rattle.lists.proofs.Prelude.{ℕ, suc, _+_, _-_, _^_, _≡_, refl, subst, subst⁻¹, Bool, true, false, List, [], _∷_, _++_, length, drop, pick}
 use Rattle.lists.proofs.Pick.{pick-elim}
 use Rattle.lists.specs.Same.{same}
 use Rattle.values.specs.Read.{readValue}
@@ -10,14 +10,14 @@ use Rattle.tables.specs.Record.{Node, Tree}
 use Rattle.tables.specs.declared.Reason.{Reason}
 use Rattle.tables.specs.declared.Reason.the-variants.{UnexpectedGameTreeStart, UnexpectedGameTreeEnd, UnexpectedProperty, InvalidGameType}
 use Rattle.parser.specs.Game.{props, propsNamed, GM, Game, is, noGame, isI32, gameVals, gameProps, findGametype}
-use Rattle.parser.specs.Walk.{Walk, walk, halted, stopped, walks, walked, children, opens, closes, adds, gated}
-use Rattle.parser.specs.Read.{Answer, refused, accepted, Trees, treesSoFar, noTrees, treeOfNodes, treeOfWalk, treeOfGame, parseGametrees, answer}
-use Rattle.why_blame.specs.Blame.{Blame, nowhere, found, blame, isStopped}
+use Rattle.parser.specs.Walk.{Walk, walk, halted, stopped, walks, walked, children}
+use Rattle.parser.specs.Read.{Answer, refused, accepted, Trees, treesSoFar, noTrees, treeOfWalk, treeOfGame, parseGametrees, answer}
+use Rattle.why_blame.specs.Blame.{found, blame, isStopped}
 use Rattle.why_blame.specs.Games.{valuesBlame, gameBlame}
 use Rattle.why_blame.specs.Numbered.{factReason}
 use Rattle.why_blame.specs.declared.Blamed.{Blamed}
 use Rattle.why_blame.specs.declared.Blamed.the-variants.{No, By}
 use Rattle.why.specs.Trees.{orBlame, stopBlame, treeBlame, nodesOf, emptyBlame, slicesBlame}
 
 -- refused by the number of the fact, or accepted with nothing to blame
 abbrev pub Agree : Answer → Blamed → Type 0

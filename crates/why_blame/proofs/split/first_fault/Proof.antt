@@ -1,11 +1,11 @@
--- `why::first_fault` meets its contract. Assumes nothing.
+-- `why_blame::split::first_fault` meets its contract. Assumes nothing.
 use Rattle.lists.proofs.Prelude.{_-_, _≡_, refl, sym, ap, _∙_, length, needs}
 use denote.Ref.{now}
 use Rattle.lexer.specs.Token.{Lexed, lexAt}
 use Rattle.parser.proofs.Meets.{meets, steps-end, steps-on}
-use Rattle.why.specs.LocalsTrees.{endingOf}
-use Rattle.why.proofs.first_fault.Statement.{statement}
-use Rattle.why.proofs.first_fault.Tie as tie
+use Rattle.why_blame.specs.LocalsCuts.{endingOf}
+use Rattle.why_blame.proofs.split.first_fault.Statement.{statement}
+use Rattle.why_blame.proofs.split.first_fault.Tie as tie
 
 abbrev Inv-loop : tie.InvT-loop
 Inv-loop s from at₀ at = lexAt s from .end ≡ lexAt s at .end
