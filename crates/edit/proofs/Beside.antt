@@ -69,10 +69,9 @@ module _ (m : Memory) (fit : Fit m ≡ true) where
           behind = λ j l b. omega (arith, ee, chain k j l b);
         }
 
-    pub names-apart : {q e : ℕ} → q ≡ valFromAt vl k → e ≡ valToAt vl k → NamesApart pr P n k q e textLimit
+    pub names-apart : {q e : ℕ} → q ≡ valFromAt vl k → e ≡ valToAt vl k → NamesApart pr P k q e textLimit
     names-apart {q} {e} eq ee =
         record {
-          here = λ p l. omega (arith, here p l);
           rising = λ p l. omega (arith, first p (omega arith), first (suc p) l, up-suc pr vl (length (textIn m)) p);
           order = λ p l. fit-names m fit p l .0;
           inside = λ p l. omega (arith, fit-names m fit p l .1, fit-short m fit);

@@ -58,7 +58,7 @@ module _ (q e m by : ℕ) (h : (by + e) % 2 ^ 32 ≡ (q + m) % 2 ^ 32) (o : q �
 
   -- ---- identifiers
 
-  module _ (pr : List ℕ) (n values k : ℕ) (r : n ≤ length pr / 4) (x : NamesApart pr n values k q e textLimit) where
+  module _ (pr : List ℕ) (n k : ℕ) (r : n ≤ length pr / 4) (x : NamesApart pr n k q e textLimit) where
     abbrev movedName : ℕ → PropRow
     movedName j = moveProps (startsAt q e m) (endsAt q e m) (propRow pr j)
 
@@ -81,8 +81,8 @@ module _ (q e m by : ℕ) (h : (by + e) % 2 ^ 32 ≡ (q + m) % 2 ^ 32) (o : q �
         ap₂ (spanned (firstValAt pr j) (valCountAt pr j)) (start-moves (nameFromAt pr j) z (omega arith)) (end-moves (nameToAt pr j) (omega arith) w)
 
     pub names-moved : {t t′ : List ℕ} {c d : ℕ} → c ≡ namesBefore pr k 0 (min n (length pr / 4 - 0)) → t ≡ namesShifted 0 0 c pr
-        → d ≡ namesBefore t values c (min (n - c) (length t / 4 - c)) → t′ ≡ namesShifted by c d t → t′ ≡ over (propertiesMoved q e m n pr) pr
-    names-moved {t} {t′} {c} {d} ec et ed et′ =
+        → d ≡ min (n - c) (length t / 4 - c) → t′ ≡ namesShifted by c d t → t′ ≡ over (propertiesMoved q e m n pr) pr
+    names-moved {t} {t′} {c} {d} ec et all et′ =
         let many : ℕ = min n (length pr / 4 - 0) in
         let within = before-within pr k 0 many in
         let low : (j : ℕ) → 0 ≤ j → j < 0 + c → propAdded 0 pr j ≡ movedName j =
@@ -90,8 +90,6 @@ module _ (q e m by : ℕ) (h : (by + e) % 2 ^ 32 ≡ (q + m) % 2 ^ 32) (o : q �
         name-stays j (omega (arith, ec, within, z)) (subst (λ (v : ℕ). firstValAt pr v ≤ k) y (before-least pr k 0 many j (omega (arith, ec, z)))) in
         let f : 0 + c ≡ c = omega arith in
         let u = subst (λ (v : ℕ). PropsPut movedName pr n t v) f (props-shift movedName pr n (props-none movedName pr n r) 0 c (omega (arith, ec, within)) low et) in
-        let left : ℕ = min (n - c) (length t / 4 - c) in
-        let all : d ≡ left = ed ∙ before-all t values c left (λ j a z. omega (arith, prop-ahead movedName pr n u (j * 4 + 2) (omega arith), x .here j (omega (arith, z)))) in
         let high : (j : ℕ) → c ≤ j → j < c + d → propAdded by pr j ≡ movedName j =
         λ j a z. let y : 0 + namesBefore pr k 0 many ≡ c = omega (arith, ec) in
         let s : j < n = omega (arith, all, z) in

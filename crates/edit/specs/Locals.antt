@@ -16,9 +16,8 @@ pub record ValuesApart (vl : List ℕ) (n k q e bytes : ℕ) : Type 0 where
   pub before : (j : ℕ) → j < k → valToAt vl j < q
   pub behind : (j : ℕ) → k < j → j < n → e < valFromAt vl j
 
--- n properties with so many values, of which value k stands at q..e: identifiers whose values begin at k or before it end before it, the others start behind it
-pub record NamesApart (pr : List ℕ) (n values k q e bytes : ℕ) : Type 0 where
-  pub here : (p : ℕ) → p < n → firstValAt pr p ≤ values
+-- n properties, of whose values value k stands at q..e: identifiers whose values begin at k or before it end before it, the others start behind it
+pub record NamesApart (pr : List ℕ) (n k q e bytes : ℕ) : Type 0 where
   pub rising : (p : ℕ) → suc p < n → firstValAt pr p ≤ firstValAt pr (suc p)
   pub order : (p : ℕ) → p < n → nameFromAt pr p ≤ nameToAt pr p
   pub inside : (p : ℕ) → p < n → nameToAt pr p ≤ bytes

@@ -30,15 +30,7 @@ pub fn edit(
             let start = span.start;
             let end = span.end;
             edit_splice::replace(text, used, start, end, new);
-            rows::move_properties(
-                properties,
-                counts.properties,
-                counts.values,
-                k,
-                start,
-                end,
-                new.len(),
-            );
+            rows::move_properties(properties, counts.properties, k, start, end, new.len());
             rows::move_values(values, counts.values, k, start, end, new.len());
             Edited::Changed(length)
         }

@@ -25,23 +25,22 @@ pub fn span_of(values: &[u32], k: usize) -> Span
     }
 }
 
-// The identifiers of `n` properties, where value k of so many stands at start..end and becomes `m` bytes long: those of properties behind it move.
+// The identifiers of `n` properties, where value k stands at start..end and becomes `m` bytes long: those of properties behind it move.
 pub fn move_properties(
     properties: &mut [u32],
     n: usize,
-    values: usize,
     k: usize,
     start: usize,
     end: usize,
     m: usize,
 )
-    requires { ⌜ (n ≤ length (now properties) / propertyStride) × NamesApart (now properties) n values k start end textLimit
+    requires { ⌜ (n ≤ length (now properties) / propertyStride) × NamesApart (now properties) n k start end textLimit
         × (start ≤ end) × (end ≤ textLimit) × (m ≤ textLimit) ⌝ }
     ensures { λ _. ⌜ now (properties .exit) ≡ over (propertiesMoved start end m n (now (properties .entry))) (now (properties .entry)) ⌝ }
 {
     let kept = edit_rows::shift_names(properties, 0, n, k, 0);
     let by = edit_rows::change(start + m, end);
-    edit_rows::shift_names(properties, kept, n - kept, values, by);
+    edit_rows::shift_all_names(properties, kept, n - kept, by);
 }
 
 // The spans of `n` values: the end of value k, and all behind it.

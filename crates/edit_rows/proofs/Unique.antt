@@ -15,5 +15,12 @@ shift-names-once pr x y k m v by r r′ f g =
     let e : r ≡ r′ = f .0 ∙ sym (g .0) in
     (f .1 ∙ ap (λ (z : ℕ). namesShifted by k z pr) e ∙ sym (g .1), e)
 
+pub shift-all-names-once : (pr x y : List ℕ) (k m by r r′ : ℕ)
+    → (r ≡ min m (length pr / 4 - k)) × (x ≡ namesShifted by k r pr) → (r′ ≡ min m (length pr / 4 - k)) × (y ≡ namesShifted by k r′ pr)
+    → (x ≡ y) × (r ≡ r′)
+shift-all-names-once pr x y k m by r r′ f g =
+    let e : r ≡ r′ = f .0 ∙ sym (g .0) in
+    (f .1 ∙ ap (λ (z : ℕ). namesShifted by k z pr) e ∙ sym (g .1), e)
+
 pub shift-values-once : (vl : List ℕ) (k m by : ℕ) → Once (λ (x : List ℕ). x ≡ valuesShifted by k m vl)
 shift-values-once vl k m by = once-is (valuesShifted by k m vl)

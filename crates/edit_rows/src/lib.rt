@@ -46,6 +46,24 @@ pub fn shift_names(properties: &mut [u32], k: usize, m: usize, v: usize, by: u32
     i
 }
 
+// The identifiers of the properties from row k on, `m` at most, whatever values they have: both places moved. How many they are.
+pub fn shift_all_names(properties: &mut [u32], k: usize, m: usize, by: u32) -> usize
+    ensures { λ r. ⌜ (r ≡ min m (length (now (properties .entry)) / propertyStride - k))
+        × (now (properties .exit) ≡ namesShifted by k r (now (properties .entry))) ⌝ }
+{
+    let left = lent(properties.len() / tables::PROPERTY_STRIDE, k, m);
+    let mut i: usize = 0;
+    while i < left {
+        let at = (k + i) * tables::PROPERTY_STRIDE;
+        let start = std::num::wrapping_add_u32(properties[at], by);
+        let end = std::num::wrapping_add_u32(properties[at + tables::PROPERTY_END], by);
+        properties[at] = start;
+        properties[at + tables::PROPERTY_END] = end;
+        i += 1;
+    }
+    left
+}
+
 // The spans of the values from row k on, `m` at most: both places moved.
 pub fn shift_values(values: &mut [u32], k: usize, m: usize, by: u32)
     ensures { λ _. ⌜ now (values .exit) ≡ valuesShifted by k m (now (values .entry)) ⌝ }

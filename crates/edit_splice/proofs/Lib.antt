@@ -1,2 +1,3 @@
 pub mod May
+pub mod Parted
 pub mod Replaced

@@ -7,6 +7,9 @@ ghost use Rattle.lists.specs.Put.{putAt};
 ghost use Rattle.edit_splice.specs.Locals.{Replaceable};
 ghost use Rattle.edit_splice.specs.Splice.{pasted, cleared, fitsIn, replaced};
 
+// Stores go on in steps of so many bytes where lent memory begins at one, as it mostly does.
+const STEP: usize = 16;
+
 // `new` copied to `at` and on.
 fn copy_in(buffer: &mut [u8], at: usize, new: &[u8])
     requires { ⌜ at + length (now new) ≤ length (now buffer) ⌝ }
@@ -55,6 +58,52 @@ fn move_right(buffer: &mut [u8], from: usize, to: usize, n: usize)
     }
 }
 
+// How many of `n` bytes from `at` on come before the next step.
+fn before_step(at: usize, n: usize) -> usize
+    ensures { λ r. ⌜ r ≤ n ⌝ }
+{
+    let over = (STEP - at % STEP) % STEP;
+    if n < over {
+        return n;
+    }
+    over
+}
+
+// How many of `n` bytes up to `end` come behind the last step.
+fn behind_step(end: usize, n: usize) -> usize
+    ensures { λ r. ⌜ r ≤ n ⌝ }
+{
+    let over = end % STEP;
+    if n < over {
+        return n;
+    }
+    over
+}
+
+// `n` bytes moved to the left: up to a step, then the rest in steps. Bytes that stand there already stay.
+fn close_up(buffer: &mut [u8], from: usize, to: usize, n: usize)
+    requires { ⌜ (to ≤ from) × (from + n ≤ length (now buffer)) ⌝ }
+    ensures { λ _. ⌜ now (buffer .exit) ≡ paste (now (buffer .entry)) to (drop from (now (buffer .entry))) n ⌝ }
+{
+    if to == from {
+        return;
+    }
+    let head = before_step(to, n);
+    move_left(buffer, from, to, head);
+    move_left(buffer, from + head, to + head, n - head);
+}
+
+// `n` bytes moved to the right: those behind the last step, then the rest in steps.
+fn open_up(buffer: &mut [u8], from: usize, to: usize, n: usize)
+    requires { ⌜ (from ≤ to) × (to + n ≤ length (now buffer)) ⌝ }
+    ensures { λ _. ⌜ now (buffer .exit) ≡ paste (now (buffer .entry)) to (drop from (now (buffer .entry))) n ⌝ }
+{
+    let tail = behind_step(to + n, n);
+    let rest = n - tail;
+    move_right(buffer, from + rest, to + rest, tail);
+    move_right(buffer, from, to, rest);
+}
+
 // The bytes from `start` to `end` of the first `used` replaced by `new`; bytes that this frees become 0.
 fn swap_in(buffer: &mut [u8], used: usize, start: usize, end: usize, new: &[u8])
     requires { ⌜ Replaceable (now buffer) used start end (length (now new)) ⌝ }
@@ -64,12 +113,12 @@ fn swap_in(buffer: &mut [u8], used: usize, start: usize, end: usize, new: &[u8])
     let to = start + new.len();
     let n = used - end;
     if to <= end {
-        move_left(buffer, end, to, n);
+        close_up(buffer, end, to, n);
         zero_out(buffer, to + n, used - (to + n));
         copy_in(buffer, start, new);
         return;
     }
-    move_right(buffer, end, to, n);
+    open_up(buffer, end, to, n);
     copy_in(buffer, start, new);
 }
 

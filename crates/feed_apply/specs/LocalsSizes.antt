@@ -46,6 +46,10 @@ movedProp pr vl w p =
       count = valCountAt pr p;
     }
 
+-- the values of the m properties from k on begin at value n or before it
+abbrev pub FirstsTo : List ℕ → (n k m : ℕ) → Type 0
+FirstsTo pr n k m = (j : ℕ) → k ≤ j → j < k + m → firstValAt pr j ≤ n
+
 -- n values one behind the other, in a text of so many bytes
 pub record Spread (vl : List ℕ) (n bytes : ℕ) : Type 0 where
   pub order : (j : ℕ) → j < n → valFromAt vl j ≤ valToAt vl j

@@ -1,13 +1,14 @@
 // The places in property and value rows, moved once by what the corrections before them change in length.
 ghost use mathlib.Core.Path.{_≡_};
-ghost use Prim.Native.Nat.{_+_, _-_, _/_, _<_, _≤_};
+ghost use Prim.Native.Nat.{_+_, _-_, _/_, _<_, _≤_, min};
 ghost use lib.ListN.{length};
 ghost use Rattle.tables.specs.Numbers.{textLimit};
 ghost use Rattle.tables.specs.Columns.{propertyStride, valueStride, valFromAt, valToAt};
 ghost use Rattle.tables.specs.Each.{tabulate};
 ghost use Rattle.tables.specs.Flat.{flatProps, flatVals, over};
+ghost use Rattle.edit_rows.specs.LocalsShift.{namesBefore, namesShifted};
 ghost use Rattle.feed_apply.specs.LocalsAlong.{Uncorrected};
-ghost use Rattle.feed_apply.specs.LocalsSizes.{oldSize, grownTo, shrunkTo, movedVal, movedProp, Spread, NamesStand, Tallied};
+ghost use Rattle.feed_apply.specs.LocalsSizes.{oldSize, grownTo, shrunkTo, movedVal, movedProp, FirstsTo, Spread, NamesStand, Tallied};
 use crate::along;
 use crate::along::Along;
 
@@ -58,6 +59,18 @@ fn moved(place: u32, grown: usize, shrunk: usize) -> u32
     (place as usize + grown - shrunk) as u32
 }
 
+// The identifiers from row k on, `m` at most, that come before the first whose values stand behind value v, moved. Behind the last value n there is none.
+fn shift_to(properties: &mut [u32], k: usize, m: usize, v: usize, n: usize, by: u32) -> usize
+    requires { ⌜ FirstsTo (now properties) n k m ⌝ }
+    ensures { λ r. ⌜ (r ≡ namesBefore (now (properties .entry)) v k (min m (length (now (properties .entry)) / propertyStride - k)))
+        × (now (properties .exit) ≡ namesShifted by k r (now (properties .entry))) ⌝ }
+{
+    if v == n {
+        return edit_rows::shift_all_names(properties, k, m, by);
+    }
+    edit_rows::shift_names(properties, k, m, v, by)
+}
+
 // The identifiers of `p` properties, where their values still stand as they were.
 pub fn move_properties(properties: &mut [u32], p: usize, values: &[u32], n: usize, feed: &[u8])
     requires { ⌜ (p ≤ length (now properties) / propertyStride) × (n ≤ length (now values) / valueStride) × Spread (now values) n textLimit
@@ -71,7 +84,7 @@ pub fn move_properties(properties: &mut [u32], p: usize, values: &[u32], n: usiz
         let first = properties[k * tables::PROPERTY_STRIDE + tables::PROPERTY_FIRST];
         s = reach(values, n, feed, s, lists::wide(first));
         let by = edit_rows::change(s.grown, s.shrunk);
-        k += edit_rows::shift_names(properties, k, p - k, s.due, by);
+        k += shift_to(properties, k, p - k, s.due, n, by);
     }
 }
 

@@ -73,6 +73,12 @@ reach-requires c κs =
     let o : c .wide .result ≡ firstValAt pr (l .k) = c .wide .ensures ∙ prop-cell _ _ _ x 2 in
     (p .1, p .2, omega (arith, o, p .3 .here (l .k) h), l .inv .1, λ j y z. l .inv .2 j h (omega (arith, y, o)) z)
 
+shift-to-requires : tie.Need-shift-to-requires Inv-loop μ-loop
+shift-to-requires c κs =
+    let p = c .before .before .before .before .before .before .before .before .before .before .before .pre in
+    let x = c .before .before .before .before .before .before .loop .inv .0 in
+    λ j y u. omega (arith, prop-ahead _ _ _ x (j * 4 + 2) (omega arith), p .3 .here j (omega arith))
+
 add-k : tie.Need-add-k Inv-loop μ-loop
 add-k c =
     let a = c .before .before .before .before .before .before .before .before .before .before .before .before .before .before .args in
@@ -81,7 +87,7 @@ add-k c =
     let h = c .before .before .before .before .before .before .before .before .loop-test .taken in
     let x = l .inv .0 in
     let s = c .before .before .before .before .before .reach .result in
-    let z = c .before .before .shift-names .ensures in
+    let z = c .before .before .shift-to .ensures in
     let many = min (a .p - l .k) (length (l .properties) / 4 - l .k) in
     let left = before-within (l .properties) (s .due) (l .k) many in
     omega (arith, z .0, left, h, p .0, x .put .len, c .before .before .before .before .before .before .before .before .before .before .before .before .before .before .good)
@@ -97,7 +103,7 @@ loop-less c =
     let o : c .before .before .before .before .before .before .wide .result ≡ firstValAt pr (l .k) = c .before .before .before .before .before .before .wide .ensures ∙ prop-cell _ _ _ x 2 in
     let r = c .before .before .before .before .before .reach .ensures in
     let s = c .before .before .before .before .before .reach .result in
-    let z = c .before .before .shift-names .ensures in
+    let z = c .before .before .shift-to .ensures in
     let first : firstValAt (l .properties) (l .k) ≤ s .due = omega (arith, r .0, o, prop-cell _ _ _ x 2) in
     let many = min (a .p - l .k) (length (l .properties) / 4 - l .k) in
     let goes = before-goes (l .properties) (s .due) (l .k) many (omega (arith, h, p .0, x .put .len)) first in
@@ -116,8 +122,8 @@ loop-again c =
     let o : c .before .before .before .before .before .before .wide .result ≡ firstValAt pr (l .k) = c .before .before .before .before .before .before .wide .ensures ∙ prop-cell _ _ _ x 2 in
     let r = c .before .before .before .before .before .reach .ensures in
     let s = c .before .before .before .before .before .reach .result in
-    let m = c .before .before .shift-names .result in
-    let z = c .before .before .shift-names .ensures in
+    let m = c .before .before .shift-to .result in
+    let z = c .before .before .shift-to .ensures in
     let many = min (a .p - l .k) (length (l .properties) / 4 - l .k) in
     let left = before-within (l .properties) (s .due) (l .k) many in
     let up : (j : ℕ) → l .k ≤ j → j < a .p → firstValAt pr (l .k) ≤ firstValAt pr j = rises pr vl w (a .p) (a .n) (p .3) (p .4) (l .k) in
@@ -152,7 +158,7 @@ move-properties-spec =
     reach-requires
     (λ c κs. search needs)
     (λ c. search needs)
-    (λ c κs. search needs)
+    shift-to-requires
     add-k
     loop-less
     loop-again
