@@ -1,11 +1,15 @@
 pub mod Accepts
 pub mod Asked
+pub mod AskedMore
 pub mod Boards
 pub mod CallsShown
 pub mod Converted
+pub mod Counts
 pub mod Demand1
 pub mod Demand1Blocks
+pub mod Demand1Feeds
 pub mod Demand1Lenient
+pub mod Demand1Requests
 pub mod Demand1Texts
 pub mod Demand1Trees
 pub mod Demand2
@@ -15,9 +19,13 @@ pub mod Demand3Undo
 pub mod Depths
 pub mod Edited
 pub mod Editing
+pub mod Explained
 pub mod Exported
 pub mod ExportedAgain
 pub mod ExportedRoom
+pub mod Fed
+pub mod FedApplied
+pub mod FedInto
 pub mod Lengths
 pub mod Listed
 pub mod Numbers
@@ -36,6 +44,7 @@ pub mod UniqueText
 pub mod UniqueValues
 pub mod Useless
 pub mod UselessLenient
+pub mod UselessRequests
 pub mod UselessShown
 pub mod Writings
 pub mod Written
