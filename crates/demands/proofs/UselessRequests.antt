@@ -47,7 +47,7 @@ use Rattle.c_feed.specs.declared.SgfPart.{SgfPart}
 use Rattle.demands.proofs.Useless.{rows}
 
 -- a game of one move and a pass that an older editor wrote
-abbrev game : Memory
+abbrev pub game : Memory
 game =
     memory (bytes "(;B[aa];W[tt])") 14 (rows 1 2 2 2) (0 ∷ 0 ∷ []) (none ∷ 1 ∷ none ∷ 0 ∷ 1 ∷ 0 ∷ 0 ∷ none ∷ none ∷ 1 ∷ 1 ∷ 1 ∷ []) (2 ∷ 3 ∷ 0 ∷ 1 ∷ 8 ∷ 9 ∷ 1 ∷ 1 ∷ [])
     (4 ∷ 6 ∷ 10 ∷ 12 ∷ [])
