@@ -43,6 +43,7 @@ pub mod UniqueStructs
 pub mod UniqueText
 pub mod UniqueValues
 pub mod Useless
+pub mod UselessBoard
 pub mod UselessLenient
 pub mod UselessRequests
 pub mod UselessShown
