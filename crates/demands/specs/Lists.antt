@@ -14,6 +14,14 @@ strictNumbers = 0 ∷ 1 ∷ 2 ∷ 3 ∷ 4 ∷ 5 ∷ 6 ∷ 7 ∷ 8 ∷ 9 ∷ 10 �
 abbrev pub lenientNumbers : List ℕ
 lenientNumbers = 0 ∷ 1 ∷ 2 ∷ 9 ∷ 14 ∷ []
 
+-- a strict reading without tables, and its explanation
+abbrev pub countNumbers : List ℕ
+countNumbers = 0 ∷ 1 ∷ 2 ∷ 3 ∷ 4 ∷ 5 ∷ 6 ∷ 7 ∷ 8 ∷ 9 ∷ 10 ∷ 11 ∷ 12 ∷ []
+
+-- a lenient one
+abbrev pub lenientCountNumbers : List ℕ
+lenientCountNumbers = 0 ∷ 1 ∷ 2 ∷ 9 ∷ []
+
 -- the writer
 abbrev pub writerNumbers : List ℕ
 writerNumbers = 0 ∷ 19 ∷ 15 ∷ 14 ∷ []
