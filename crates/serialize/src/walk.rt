@@ -93,7 +93,7 @@ fn rule_told(
     fit_rule::rule_of(game, RootSize::Absent)
 }
 
-// The rule at node k: asked at a root, which is that of this tree; else that of the node before.
+// The rule at node k: asked at a root, which is that of this tree; else that of the node before. Most often the type says it, and nothing else is lent.
 fn rule_with(
     corners: bool,
     mends: bool,
@@ -112,7 +112,11 @@ fn rule_with(
         (now (text .entry)) (now (trees .entry)) (now (nodes .entry)) (now (properties .entry)) (now (values .entry)) tree) rule ⌝ }
 {
     if nodes[k * tables::NODE_STRIDE] == tables::NONE {
-        return rule_told(corners, mends, text, trees, nodes, properties, values, tree);
+        if corners | mends {
+            return rule_told(corners, mends, text, trees, nodes, properties, values, tree);
+        }
+        let game = fit_rule::game_at(trees, tree);
+        return fit_rule::rule_of(game, RootSize::Absent);
     }
     rule
 }
