@@ -1,6 +1,6 @@
 // Acts upon a board with the sums of stones put on and taken off: a point set, a stone played.
 ghost use mathlib.Core.Path.{_≡_};
-ghost use mathlib.Core.Bool.{true, false};
+ghost use mathlib.Core.Bool.{true, false, _&&_};
 ghost use lib.Dec.{eqb};
 ghost use Rattle.lists.specs.Pick.{pick};
 ghost use Rattle.board_play.specs.Play.{settable, playable};
@@ -156,4 +156,28 @@ pub fn play_act(
     let whole = board_play::play_stone(stones, columns, rows, p, colour);
     let then = count_set(state, colour, whole.stood);
     count_taken(then, colour, whole.taken, whole.lost)
+}
+
+// Plays a stone near the move; nothing changes where it cannot be played, or where the board is not known to be settled.
+pub fn play_settled(
+    stones: &mut [u8; 2704],
+    state: BoardState,
+    columns: usize,
+    rows: usize,
+    p: usize,
+    colour: u8,
+) -> BoardState
+    ensures { λ r. ⌜ BoardActIs (playable columns rows colour p && state .settled) columns rows (plays colour p)
+        (now (stones .entry)) state (now (stones .exit)) r ⌝ }
+{
+    if !can_play(columns, rows, p, colour) {
+        return state;
+    }
+    let settled = state.settled;
+    if !settled {
+        return state;
+    }
+    let near = board_play::play_near(stones, columns, rows, p, colour);
+    let then = count_set(state, colour, near.stood);
+    count_taken(then, colour, near.taken, near.lost)
 }

@@ -14,6 +14,8 @@ ghost use Rattle.board_play.specs.Steps.{sets};
 ghost use Rattle.board_node.specs.Node.{setupColour, moveColour, setsFrom, moveActs, setupsOf, movesOf, allSetups, allMoves};
 ghost use Rattle.board_node.specs.Answer.{noState, positionOf, answerOf, refusedNode, NodeIs};
 ghost use Rattle.board_node.specs.LocalsTurn.{TurnIs, MovesIs, SetupsFrom, SetupIs};
+ghost use Rattle.board_node.specs.LocalsSeen.{PointSeen, RowSeen};
+ghost use Rattle.board_node.specs.Seen.{MoveSeenIs};
 use board_acts::BoardState;
 use board_acts::Sums;
 use go_points::Value;
@@ -35,6 +37,12 @@ pub struct NodeAnswer {
 pub struct Turn {
     pub refused: bool,
     pub state: BoardState,
+}
+
+// A move that is seen at once: whose it is, and its place; colour 0 where none is seen.
+pub struct MoveSeen {
+    pub colour: u8,
+    pub place: usize,
 }
 
 // The place is a point of the board.
@@ -486,4 +494,106 @@ pub fn play_node(
         refused: turn.refused,
         position: then,
     }
+}
+
+// Whose move one letter names.
+fn letter_colour(b: u8) -> u8
+    ensures { λ r. ⌜ r ≡ moveColour (readIdentifier (b ∷ [])) ⌝ }
+{
+    if b == b'B' {
+        return 1;
+    }
+    if b == b'W' {
+        return 2;
+    }
+    0
+}
+
+// No move is seen.
+fn unseen() -> MoveSeen
+    ensures { λ r. ⌜ r .colour ≡ 0 ⌝ }
+{
+    MoveSeen {
+        colour: 0,
+        place: 0,
+    }
+}
+
+// The move to (x, y), where that is a point of the board.
+fn seen_point(columns: usize, rows: usize, x: u8, y: u8, colour: u8) -> MoveSeen
+    ensures { λ r. ⌜ PointSeen columns rows colour x y r ⌝ }
+{
+    let i = x as usize;
+    let j = y as usize;
+    if 52 <= i {
+        return unseen();
+    }
+    if 52 <= j {
+        return unseen();
+    }
+    if columns <= i {
+        return unseen();
+    }
+    if rows <= j {
+        return unseen();
+    }
+    MoveSeen {
+        colour: colour,
+        place: 52 * i + j,
+    }
+}
+
+// The move of property p, where it is named by one letter and has one value of two letters.
+fn seen_row(
+    columns: usize,
+    rows: usize,
+    text: &[u8],
+    properties: &[u32],
+    values: &[u32],
+    p: usize,
+) -> MoveSeen
+    requires { ⌜ p < length (now properties) / propertyStride ⌝ }
+    ensures { λ r. ⌜ RowSeen columns rows (propertyAt (now (text .entry)) (now (properties .entry)) (now (values .entry)) p) r ⌝ }
+{
+    let identifier = parts_props::identifier_at(text, properties, p);
+    if identifier.len() != 1 {
+        return unseen();
+    }
+    let colour = letter_colour(identifier[0]);
+    let many = lists::wide(properties[p * tables::PROPERTY_STRIDE + tables::PROPERTY_COUNT]);
+    if colour < 1 {
+        return unseen();
+    }
+    if many != 1 {
+        return unseen();
+    }
+    let start = lists::wide(properties[p * tables::PROPERTY_STRIDE + tables::PROPERTY_FIRST]);
+    let value = parts::value_at(text, values, start, 0);
+    if value.len() != 2 {
+        return unseen();
+    }
+    let x = go_points::letter_of(value[0]);
+    let y = go_points::letter_of(value[1]);
+    seen_point(columns, rows, x, y, colour)
+}
+
+// The move of the one property of row `first`, where that is all that the node does and it is seen at once.
+pub fn seen_move(
+    columns: usize,
+    rows: usize,
+    text: &[u8],
+    properties: &[u32],
+    values: &[u32],
+    first: usize,
+    count: usize,
+) -> MoveSeen
+    ensures { λ r. ⌜ MoveSeenIs columns rows (propertiesAt (now (text .entry)) (now (properties .entry)) (now (values .entry)) first count) r ⌝ }
+{
+    if count != 1 {
+        return unseen();
+    }
+    if properties.len() / tables::PROPERTY_STRIDE <= first {
+        return unseen();
+    }
+    seen_row(columns, rows, text, properties, values, first)
 }
