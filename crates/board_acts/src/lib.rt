@@ -158,6 +158,22 @@ pub fn play_act(
     count_taken(then, colour, whole.taken, whole.lost)
 }
 
+// Whether the colour is x, and a stone of it was put on an empty point without taking any.
+fn quiet(colour: u8, x: u8, stood: u8, taken: usize, lost: usize) -> bool
+    ensures { λ r. ⌜ (r ≡ true → (colour ≡ x) × (stood ≡ 0) × (taken ≡ 0) × (lost ≡ 0)) ⌝ }
+{
+    if colour != x {
+        return false;
+    }
+    if stood != 0 {
+        return false;
+    }
+    if taken != 0 {
+        return false;
+    }
+    lost == 0
+}
+
 // Plays a stone near the move; nothing changes where it cannot be played, or where the board is not known to be settled.
 pub fn play_settled(
     stones: &mut [u8; 2704],
@@ -177,7 +193,15 @@ pub fn play_settled(
     if !settled {
         return state;
     }
-    let near = board_play::play_near(stones, columns, rows, p, colour);
-    let then = count_set(state, colour, near.stood);
-    count_taken(then, colour, near.taken, near.lost)
+    let met = board_play::play_near(stones, columns, rows, p, colour);
+    if quiet(colour, 1, met.stood, met.taken, met.lost) {
+        let black = count_set(state, 1, 0);
+        return count_taken(black, 1, 0, 0);
+    }
+    if quiet(colour, 2, met.stood, met.taken, met.lost) {
+        let white = count_set(state, 2, 0);
+        return count_taken(white, 2, 0, 0);
+    }
+    let then = count_set(state, colour, met.stood);
+    count_taken(then, colour, met.taken, met.lost)
 }

@@ -1,12 +1,12 @@
 -- A move that is seen at once is all that its node does. Assumes nothing.
-use Rattle.lists.proofs.Prelude.{ℕ, suc, _+_, _*_, _/_, _<_, _≤_, Bool, true, false, _&&_, _||_, true≢false, _≡_, refl, sym, ap, ap₂, _∙_, subst, List, [], _∷_, _++_, length, getD, pick, leb, leb-true, le-leb, eqb, eqb-true, eq-eqb, ne-eqb, ltb, arith}
+use Rattle.lists.proofs.Prelude.{ℕ, suc, _+_, _*_, _-_, _/_, _<_, _≤_, Bool, true, false, _&&_, _||_, true≢false, _≡_, refl, sym, ap, ap₂, _∙_, subst, List, [], _∷_, _++_, length, getD, take, drop, drop-cons, pick, leb, leb-true, le-leb, eqb, eqb-true, eq-eqb, ne-eqb, ltb, lt-ltb, arith}
 use Rattle.lists.proofs.Tests.{and-both, same-or}
 use Rattle.lists.specs.Same.{same}
 use Rattle.tables.proofs.Cases.{either-bool}
-use Rattle.tables.specs.Columns.{propertyStride, firstValAt, valCountAt}
+use Rattle.tables.specs.Columns.{propertyStride, nameFromAt, nameToAt, firstValAt, valCountAt}
 use Rattle.tables.specs.Each.{tabulate}
 use Rattle.values.specs.Read.{readFrom, readValue, readIdentifier}
-use Rattle.parts.specs.Rows.{valueAt, valuesAt}
+use Rattle.parts.specs.Rows.{cut, valueAt, valuesAt}
 use Rattle.parts_props.specs.Props.{Property, rowsFrom, identifierAt, propertyAt, propertiesAt}
 use Rattle.go_points.specs.Area.{letterOf, moveTo, moveOf}
 use Rattle.go_points.specs.declared.Value.{Value}
@@ -20,7 +20,7 @@ use Rattle.board_play.specs.Play.{playable}
 use Rattle.board_play.specs.Steps.{Act, plays}
 use Rattle.board_node.specs.Node.{setupColour, moveColour, ttPass, moveActs, setupsOf, movesOf, actsOf}
 use Rattle.board_node.specs.Seen.{MoveSeenIs}
-use Rattle.board_node.specs.LocalsSeen.{PointSeen, RowSeen}
+use Rattle.board_node.specs.LocalsSeen.{PointSeen, ValueSeen, RowSeen}
 use Rattle.board_node.specs.declared.MoveSeen.{MoveSeen}
 use Rattle.board_node.proofs.Moves.{one-letter, move-plays, moves-by, setups-none, move-player}
 
@@ -40,11 +40,6 @@ letter-black b e = rw e
 pub letter-white : (b : ℕ) → b ≡ 0x57 → 2 ≡ moveColour (readIdentifier (b ∷ []))
 unfolding moveColour readIdentifier
 letter-white b e = rw e
-
-one-name : (s : List ℕ) → length s ≡ 1 → {b c : ℕ} → b ≡ getD s 0 0 → c ≡ moveColour (readIdentifier (b ∷ [])) → c ≡ moveColour (readIdentifier s)
-one-name [] h e x = absurd (omega (arith, h))
-one-name (b ∷ []) h e x = x ∙ ap (λ (z : ℕ). moveColour (readIdentifier (z ∷ []))) e
-one-name (b ∷ d ∷ s) h e x = absurd (omega (arith, h))
 
 -- B and W set nothing
 mover-sets : (id : List ℕ) → 1 ≤ moveColour id → 2 < setupColour id
@@ -88,29 +83,88 @@ point-can w h c x y l m xa xw ya yh =
     let o : onBoard w h (52 * x + y) ≡ true = on-board w h (52 * x + y) (record { column = omega arith; row = omega arith; place = omega arith }) in
     rw (player-true c l m, o)
 
-module _ (w h : ℕ) (text pr vl : List ℕ) (p : ℕ) {id : List ℕ} (i : id ≡ identifierAt text pr p) (one : length id ≡ 1) {l c : ℕ} (f : l ≡ getD id 0 0)
-    (g : c ≡ moveColour (readIdentifier (l ∷ []))) (some : 1 ≤ c) {start many : ℕ} (s : start ≡ firstValAt pr p) (m : many ≡ valCountAt pr p) (m1 : many ≡ 1)
-    {v : List ℕ} (q : v ≡ valueAt text vl (start + 0)) (two : length v ≡ 2) {x y : ℕ} (ex : x ≡ letterOf (getD v 0 0)) (ey : y ≡ letterOf (getD v 1 0))
-    {r : MoveSeen} (z : PointSeen w h c x y r) where
+-- small letters
+lower : (a : ℕ) → 0x61 ≤ a → a ≤ 0x7a → letterOf a ≡ a - 0x61
+unfolding letterOf
+lower a l m = rw (le-leb 0x61 a l, le-leb a 0x7a m)
+
+pub point-seen : (w h c a b : ℕ) → 0x61 ≤ a → a ≤ 0x7a → 0x61 ≤ b → b ≤ 0x7a → a - 0x61 < w → b - 0x61 < h → {r : MoveSeen} → r .colour ≡ c
+    → r .place ≡ 52 * (a - 0x61) + (b - 0x61) → PointSeen w h c (letterOf a) (letterOf b) r
+point-seen w h c a b la ma lb mb x y e f =
+    let i = lower a la ma in
+    let j = lower b lb mb in
+    record {
+      whose = λ n. e;
+      where-to = λ n. f ∙ ap₂ (λ (s t : ℕ). 52 * s + t) (sym i) (sym j);
+      column = λ n. (omega arith, omega arith);
+      row = λ n. (omega arith, omega arith);
+    }
+
+-- a cut of one byte, and of two
+one-cut : (s : List ℕ) (from to : ℕ) → to - from ≡ 1 → from < length s → cut s from to ≡ getD s from 0 ∷ []
+one-cut s from to e h = ap (λ (n : ℕ). take n (drop from s)) e ∙ ap (take 1) (drop-cons s from 0 h)
+
+two-cut : (s : List ℕ) (from to : ℕ) → to - from ≡ 2 → to ≤ length s → cut s from to ≡ getD s from 0 ∷ getD s (from + 1) 0 ∷ []
+two-cut s from to e h =
+    let k : suc from ≡ from + 1 = omega arith in
+    ap (λ (n : ℕ). take n (drop from s)) e
+    ∙ (ap (take 2) (drop-cons s from 0 (omega arith))
+    ∙ (ap (λ (z : ℕ). getD s from 0 ∷ take 1 (drop z s)) k
+    ∙ ap (λ (z : List ℕ). getD s from 0 ∷ take 1 z) (drop-cons s (from + 1) 0 (omega arith))))
+
+-- whose move a property named by one letter is
+pub mover-seen : (text pr : List ℕ) (p : ℕ) {at end : ℕ} → at ≡ nameFromAt pr p → end ≡ nameToAt pr p → end - at ≡ 1 → at < length text → p < length pr / propertyStride
+    → {c : ℕ} → c ≡ moveColour (readIdentifier (getD text at 0 ∷ [])) → c ≡ moveColour (readIdentifier (identifierAt text pr p))
+unfolding identifierAt
+mover-seen text pr p {at} {end} d e one h l g =
+    let i : cut text (nameFromAt pr p) (nameToAt pr p) ≡ getD text at 0 ∷ [] = ap₂ (cut text) (sym d) (sym e) ∙ one-cut text at end one h in
+    g ∙ rw (lt-ltb p (length pr / propertyStride) l) (ap (λ (z : List ℕ). moveColour (readIdentifier z)) (sym i))
+
+-- the move of a value of two bytes
+pub value-seen : (w h c : ℕ) (text vl : List ℕ) (v : ℕ) {at end : ℕ} → at ≡ getD vl (v * 2) 0 → end ≡ getD vl (v * 2 + 1) 0 → end - at ≡ 2 → end ≤ length text
+    → v < length vl / 2 → {r : MoveSeen} → PointSeen w h c (letterOf (getD text at 0)) (letterOf (getD text (at + 1) 0)) r → ValueSeen w h c (valueAt text vl v) r
+unfolding valueAt
+value-seen w h c text vl v {at} {end} d e two m l {r} x =
+    let i : cut text (getD vl (v * 2) 0) (getD vl (v * 2 + 1) 0) ≡ getD text at 0 ∷ getD text (at + 1) 0 ∷ [] = ap₂ (cut text) (sym d) (sym e) ∙ two-cut text at end two m in
+    let k : getD text at 0 ∷ getD text (at + 1) 0 ∷ [] ≡ valueAt text vl v = rw (lt-ltb v (length vl / 2) l) (sym i) in
+    subst (λ (z : List ℕ). ValueSeen w h c z r) k (record { two = λ n. refl; point = x })
+
+pub point-unseen : (w h c x y : ℕ) {r : MoveSeen} → r .colour ≡ 0 → PointSeen w h c x y r
+point-unseen w h c x y e = record { whose = λ n. absurd (n e); where-to = λ n. absurd (n e); column = λ n. absurd (n e); row = λ n. absurd (n e) }
+
+pub value-unseen : (w h c : ℕ) (v : List ℕ) {r : MoveSeen} → r .colour ≡ 0 → ValueSeen w h c v r
+value-unseen w h c v e = record { two = λ n. absurd (n e); point = point-unseen w h c (letterOf (getD v 0 0)) (letterOf (getD v 1 0)) e }
+
+module _ (w h : ℕ) (text pr vl : List ℕ) (p : ℕ) {c : ℕ} (some : 1 ≤ c) (name-is : c ≡ moveColour (propertyAt text pr vl p .name)) {start many : ℕ} (s : start ≡ firstValAt pr p)
+    (m : many ≡ valCountAt pr p) (m1 : many ≡ 1) {r : MoveSeen} (q : ValueSeen w h c (valueAt text vl start) r) where
   abbrev row : Property
   row = propertyAt text pr vl p
 
-  name-is : c ≡ moveColour (row .name)
-  name-is = one-name id one f g ∙ ap (λ (k : List ℕ). moveColour (readIdentifier k)) i
+  abbrev v : List ℕ
+  v = valueAt text vl start
 
-  move-is : x < 52 → y < 52 → Move x y ≡ moveUnder 2 (moveOf (readValue v))
+  abbrev x : ℕ
+  x = letterOf (getD v 0 0)
+
+  abbrev y : ℕ
+  y = letterOf (getD v 1 0)
+
+  move-is : length v ≡ 2 → x < 52 → y < 52 → Move x y ≡ moveUnder 2 (moveOf (readValue v))
   unfolding moveUnder
-  move-is a b = ap₂ Move ex ey ∙ sym (ap (moveUnder 2) (two-letters v two (omega (arith, ex)) (omega (arith, ey))))
+  move-is two a b = sym (ap (moveUnder 2) (two-letters v two a b))
 
-  value-is : x < 52 → y < 52 → Move x y ≡ valueBy 2 OneMove (row .raws) .value
-  value-is a b = by-move 2 text vl start many m1 q refl (move-is a b) ∙ ap₂ (λ (j k : ℕ). valueBy 2 OneMove (valuesAt text vl j k) .value) s m
+  value-is : length v ≡ 2 → x < 52 → y < 52 → Move x y ≡ valueBy 2 OneMove (row .raws) .value
+  value-is two a b =
+      let k : start + 0 ≡ start = omega arith in
+      by-move 2 text vl start many m1 (ap (valueAt text vl) (sym k)) refl (move-is two a b) ∙ ap₂ (λ (j k : ℕ). valueBy 2 OneMove (valuesAt text vl j k) .value) s m
 
   pub row-seen : RowSeen w h row r
   row-seen =
+      let z = q .point in
       record {
         sets-none = λ n. setups-none w h row (mover-sets (row .name) (omega (arith, name-is)));
         moves = λ n.
-            sym (moves-by w h row name-is some (value-is (z .column n .0) (z .row n .0)))
+            sym (moves-by w h row name-is some (value-is (q .two n) (z .column n .0) (z .row n .0)))
             ∙ (sym (move-plays w h c x y (no-pass w h x y (z .column n .1)))
             ∙ ap₂ (λ (j k : ℕ). plays j k ∷ []) (sym (z .whose n)) (sym (z .where-to n)));
         can = λ n.
@@ -119,9 +173,6 @@ module _ (w h : ℕ) (text pr vl : List ℕ) (p : ℕ) {id : List ℕ} (i : id �
       }
 
 -- no move is seen
-pub point-unseen : (w h c x y : ℕ) {r : MoveSeen} → r .colour ≡ 0 → PointSeen w h c x y r
-point-unseen w h c x y e = record { whose = λ n. absurd (n e); where-to = λ n. absurd (n e); column = λ n. absurd (n e); row = λ n. absurd (n e) }
-
 pub row-unseen : (w h : ℕ) (p : Property) {r : MoveSeen} → r .colour ≡ 0 → RowSeen w h p r
 row-unseen w h p e = record { sets-none = λ n. absurd (n e); moves = λ n. absurd (n e); can = λ n. absurd (n e) }
 

@@ -6,15 +6,17 @@ ghost use lib.ListN.{length};
 ghost use Rattle.values.specs.Read.{readIdentifier};
 ghost use Rattle.tables.specs.Columns.{propertyStride};
 ghost use Rattle.tables.specs.Each.{tabulate};
+ghost use Rattle.go_points.specs.Area.{letterOf};
 ghost use Rattle.go_points.specs.declared.Value.the-variants.{Move};
-ghost use Rattle.parts_props.specs.Props.{propertyAt, propertiesAt};
+ghost use Rattle.parts.specs.Rows.{valueAt};
+ghost use Rattle.parts_props.specs.Props.{identifierAt, propertyAt, propertiesAt};
 ghost use Rattle.board_groups.specs.Board.{onBoard};
 ghost use Rattle.board_play.specs.Play.{Player};
 ghost use Rattle.board_play.specs.Steps.{sets};
 ghost use Rattle.board_node.specs.Node.{setupColour, moveColour, setsFrom, moveActs, setupsOf, movesOf, allSetups, allMoves};
 ghost use Rattle.board_node.specs.Answer.{noState, positionOf, answerOf, refusedNode, NodeIs};
 ghost use Rattle.board_node.specs.LocalsTurn.{TurnIs, MovesIs, SetupsFrom, SetupIs};
-ghost use Rattle.board_node.specs.LocalsSeen.{PointSeen, RowSeen};
+ghost use Rattle.board_node.specs.LocalsSeen.{PointSeen, ValueSeen, RowSeen};
 ghost use Rattle.board_node.specs.Seen.{MoveSeenIs};
 use board_acts::BoardState;
 use board_acts::Sums;
@@ -519,18 +521,24 @@ fn unseen() -> MoveSeen
     }
 }
 
-// The move to (x, y), where that is a point of the board.
-fn seen_point(columns: usize, rows: usize, x: u8, y: u8, colour: u8) -> MoveSeen
-    ensures { λ r. ⌜ PointSeen columns rows colour x y r ⌝ }
+// The move of two small letters, where they name a point of the board.
+fn seen_point(columns: usize, rows: usize, a: u8, b: u8, colour: u8) -> MoveSeen
+    ensures { λ r. ⌜ PointSeen columns rows colour (letterOf a) (letterOf b) r ⌝ }
 {
-    let i = x as usize;
-    let j = y as usize;
-    if 52 <= i {
+    if a < b'a' {
         return unseen();
     }
-    if 52 <= j {
+    if b'z' < a {
         return unseen();
     }
+    if b < b'a' {
+        return unseen();
+    }
+    if b'z' < b {
+        return unseen();
+    }
+    let i = (a - b'a') as usize;
+    let j = (b - b'a') as usize;
     if columns <= i {
         return unseen();
     }
@@ -541,6 +549,53 @@ fn seen_point(columns: usize, rows: usize, x: u8, y: u8, colour: u8) -> MoveSeen
         colour: colour,
         place: 52 * i + j,
     }
+}
+
+// The move of the value of row v, where it has two bytes.
+fn seen_value(
+    columns: usize,
+    rows: usize,
+    text: &[u8],
+    values: &[u32],
+    v: usize,
+    colour: u8,
+) -> MoveSeen
+    ensures { λ r. ⌜ ValueSeen columns rows colour (valueAt (now (text .entry)) (now (values .entry)) v) r ⌝ }
+{
+    if values.len() / 2 <= v {
+        return unseen();
+    }
+    let at = lists::wide(values[v * 2]);
+    let end = lists::wide(values[v * 2 + 1]);
+    if end <= at {
+        return unseen();
+    }
+    if end - at != 2 {
+        return unseen();
+    }
+    if text.len() < end {
+        return unseen();
+    }
+    seen_point(columns, rows, text[at], text[at + 1], colour)
+}
+
+// Whose move property p is, where it is named by one letter; 0 where it is none, or by more.
+fn seen_mover(text: &[u8], properties: &[u32], p: usize) -> u8
+    requires { ⌜ p < length (now properties) / propertyStride ⌝ }
+    ensures { λ r. ⌜ (1 ≤ r → r ≡ moveColour (readIdentifier (identifierAt (now (text .entry)) (now (properties .entry)) p))) ⌝ }
+{
+    let at = lists::wide(properties[p * tables::PROPERTY_STRIDE]);
+    let end = lists::wide(properties[p * tables::PROPERTY_STRIDE + tables::PROPERTY_END]);
+    if end <= at {
+        return 0;
+    }
+    if end - at != 1 {
+        return 0;
+    }
+    if text.len() <= at {
+        return 0;
+    }
+    letter_colour(text[at])
 }
 
 // The move of property p, where it is named by one letter and has one value of two letters.
@@ -555,26 +610,16 @@ fn seen_row(
     requires { ⌜ p < length (now properties) / propertyStride ⌝ }
     ensures { λ r. ⌜ RowSeen columns rows (propertyAt (now (text .entry)) (now (properties .entry)) (now (values .entry)) p) r ⌝ }
 {
-    let identifier = parts_props::identifier_at(text, properties, p);
-    if identifier.len() != 1 {
-        return unseen();
-    }
-    let colour = letter_colour(identifier[0]);
-    let many = lists::wide(properties[p * tables::PROPERTY_STRIDE + tables::PROPERTY_COUNT]);
+    let colour = seen_mover(text, properties, p);
     if colour < 1 {
         return unseen();
     }
+    let many = lists::wide(properties[p * tables::PROPERTY_STRIDE + tables::PROPERTY_COUNT]);
     if many != 1 {
         return unseen();
     }
     let start = lists::wide(properties[p * tables::PROPERTY_STRIDE + tables::PROPERTY_FIRST]);
-    let value = parts::value_at(text, values, start, 0);
-    if value.len() != 2 {
-        return unseen();
-    }
-    let x = go_points::letter_of(value[0]);
-    let y = go_points::letter_of(value[1]);
-    seen_point(columns, rows, x, y, colour)
+    seen_value(columns, rows, text, values, start, colour)
 }
 
 // The move of the one property of row `first`, where that is all that the node does and it is seen at once.
