@@ -3,6 +3,7 @@ pub mod Below
 pub mod Counted
 pub mod More
 pub mod Next
+pub mod Runs
 pub mod Sizes
 pub mod Trees
 pub mod Unique

@@ -20,7 +20,7 @@ use Rattle.board_path.specs.LocalsNext.{NextIs}
 use Rattle.board_path.proofs.Nexts.{Linked, next-way}
 use Rattle.board_path.proofs.Ways.{way-child, way-root, way-split}
 use Rattle.board.specs.Answer.{wayRight, wayActs, refusedBoard, shownBoard, posIn, Shows}
-use Rattle.board.specs.Locals.{startState, WayWalk, WayAnswer}
+use Rattle.board.specs.Locals.{startState, WayWalk, WayAnswer, WayPlayed}
 use Rattle.board.specs.declared.SgfBoard.{SgfBoard}
 use Rattle.board.proofs.Next.{wrong-node, right-node}
 use Rattle.board.proofs.Ways.{steps-then, right-one, acts-one, right-front}
@@ -38,13 +38,8 @@ pub start-known : (w h : ℕ) → KnownSettled w h true (replicate 2704 0)
 start-known w h e = (empty-settled w h 1 (λ z. omega arith), empty-settled w h 2 (λ z. omega arith))
 
 module _ (w h : ℕ) (nd : List ℕ) (P : ℕ → List Property) (k : ℕ) where
-  -- the nodes of the way to `at` are played, and `at` is on the way to k
-  pub record Walked (at : ℕ) (b : List ℕ) (s : BoardState) : Type 0 where
-    pub on : onPath nd k at ≡ true
-    pub right : wayRight w h (map P (wayTo nd at)) ≡ true
-    pub steps : Steps w h emptyPos (wayActs w h (map P (wayTo nd at))) (posOf b s)
-    pub long : length b ≡ 2704
-    pub known : KnownSettled w h (s .settled) b
+  abbrev Walked : (at : ℕ) (b : List ℕ) (s : BoardState) → Type 0
+  Walked at b s = WayPlayed w h nd P k at b s
 
   -- a way is wrong where a node on it is
   off-way : (at : ℕ) → onPath nd k at ≡ true → wayRight w h (map P (wayTo nd at)) ≡ false → wayRight w h (map P (wayTo nd k)) ≡ false

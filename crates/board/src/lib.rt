@@ -7,11 +7,13 @@ ghost use Rattle.parts_props.specs.Props.{propertiesAt};
 ghost use Rattle.tables.specs.Columns.{treeStride, nodeStride};
 ghost use Rattle.tables.specs.Memory.{memory};
 ghost use Rattle.board_node.specs.Answer.{positionOf, answerOf, NodeIs};
+ghost use Rattle.board_node.specs.Seen.{MoveSeenIs};
 ghost use Rattle.board_path.specs.Way.{wayTo};
 ghost use Rattle.board.specs.Answer.{treeOver, nodeProperties, refusedBoard, shownBoard, BoardIs, NextBoardIs};
-ghost use Rattle.board.specs.Locals.{startState, SidesRight, WayWalk, WayAnswer};
+ghost use Rattle.board.specs.Locals.{startState, SidesRight, WayWalk, WayAnswer, WayPlayed};
 use board_acts::BoardState;
 use board_acts::Sums;
+use board_node::MoveSeen;
 use board_node::Turn;
 use go_size::RootSize;
 use tables::Counts;
@@ -150,6 +152,79 @@ fn start() -> BoardState
     }
 }
 
+// The move of node `at`, where that is all that the node does and it is seen at once.
+fn seen_at(
+    columns: usize,
+    rows: usize,
+    text: &[u8],
+    nodes: &[u32],
+    properties: &[u32],
+    values: &[u32],
+    at: usize,
+) -> MoveSeen
+    requires { ⌜ at < length (now nodes) / nodeStride ⌝ }
+    ensures { λ r. ⌜ MoveSeenIs columns rows (nodeProperties (now (text .entry)) (now (nodes .entry)) (now (properties .entry)) (now (values .entry)) at) r ⌝ }
+{
+    let first = lists::wide(nodes[at * tables::NODE_STRIDE + tables::NODE_FIRST]);
+    let count = lists::wide(nodes[at * tables::NODE_STRIDE + tables::NODE_COUNT]);
+    board_node::seen_move(columns, rows, text, properties, values, first, count)
+}
+
+// How far a run of moves came: to which node, and the sums there.
+pub struct RunEnd {
+    pub at: usize,
+    pub state: BoardState,
+}
+
+// Plays the nodes behind `from` on the way to k, as long as the board is known to be settled and each has one move alone that is seen at once.
+fn play_run(
+    stones: &mut [u8; 2704],
+    state: BoardState,
+    columns: usize,
+    rows: usize,
+    text: &[u8],
+    nodes: &[u32],
+    properties: &[u32],
+    values: &[u32],
+    n: usize,
+    root: usize,
+    from: usize,
+    k: usize,
+) -> RunEnd
+    requires { ⌜ WayWalk (now nodes) root k n × WayPlayed columns rows (now nodes)
+        (nodeProperties (now text) (now nodes) (now properties) (now values)) k from (now stones) state ⌝ }
+    ensures { λ r. ⌜ WayPlayed columns rows (now (nodes .entry))
+        (nodeProperties (now (text .entry)) (now (nodes .entry)) (now (properties .entry)) (now (values .entry))) k (r .at) (now (stones .exit)) (r .state)
+        × (from ≤ r .at) ⌝ }
+{
+    let mut at = from;
+    let mut then = state;
+    while at < k {
+        let settled = then.settled;
+        if !settled {
+            return RunEnd {
+                at: at,
+                state: then,
+            };
+        }
+        let next = board_path::next_on(nodes, at, k);
+        let seen = seen_at(columns, rows, text, nodes, properties, values, next);
+        let colour = seen.colour;
+        if colour == 0 {
+            return RunEnd {
+                at: at,
+                state: then,
+            };
+        }
+        then = board_acts::play_settled(stones, then, columns, rows, seen.place, colour);
+        at = next;
+    }
+    RunEnd {
+        at: at,
+        state: then,
+    }
+}
+
 // Plays the nodes from the root down to k upon an empty board.
 fn play_way(
     columns: usize,
@@ -182,8 +257,22 @@ fn play_way(
     if bad {
         return refuse(23);
     }
-    let mut state = first.state;
-    let mut at = root;
+    let begun = play_run(
+        &mut stones,
+        first.state,
+        columns,
+        rows,
+        text,
+        nodes,
+        properties,
+        values,
+        n,
+        root,
+        root,
+        k,
+    );
+    let mut state = begun.state;
+    let mut at = begun.at;
     while at < k {
         at = board_path::next_on(nodes, at, k);
         let turn = play_at(
@@ -201,7 +290,22 @@ fn play_way(
         if off {
             return refuse(23);
         }
-        state = turn.state;
+        let run = play_run(
+            &mut stones,
+            turn.state,
+            columns,
+            rows,
+            text,
+            nodes,
+            properties,
+            values,
+            n,
+            root,
+            at,
+            k,
+        );
+        state = run.state;
+        at = run.at;
     }
     let black = state.black;
     let white = state.white;

@@ -1,5 +1,5 @@
 -- What setting, playing and counting say together is one act. Assumes nothing.
-use Rattle.lists.proofs.Prelude.{ℕ, Bool, true, false, _≡_, refl, sym, _∙_, subst, List, set}
+use Rattle.lists.proofs.Prelude.{ℕ, Bool, true, false, _≡_, refl, sym, ap, _∙_, subst, List, set}
 use Rattle.board_groups.specs.Board.{at}
 use Rattle.board_play.specs.Play.{settable, playable, SetIs, Plays, PlaysNear}
 use Rattle.board_play.specs.Steps.{sets, plays}
@@ -29,3 +29,12 @@ module _ (w h c p : ℕ) (b b′ : List ℕ) (stood : ℕ) (st r : BoardState) w
 
     pub near-acts-by : st .settled ≡ true → PlaysNear w h c p b b′ n k → StepBy w h (st .settled) (posOf b st) (plays c p) (r .settled) (posOf b′ r)
     near-acts-by g x = counted-so g (near-by on (x .first) (x .second))
+
+-- the same sums by equal numbers
+pub counts-as : {r : BoardState} (st : BoardState) (c n k stood c′ n′ k′ stood′ : ℕ) → c′ ≡ c → stood′ ≡ stood → n′ ≡ n → k′ ≡ k
+    → r ≡ takeCounts c n k (setCounts c stood st) → r ≡ takeCounts c′ n′ k′ (setCounts c′ stood′ st)
+counts-as st c n k stood c′ n′ k′ stood′ a b d e f =
+    f
+    ∙ (ap (λ (z : ℕ). takeCounts z n k (setCounts z stood st)) (sym a)
+    ∙ (ap (λ (z : ℕ). takeCounts c′ n k (setCounts c′ z st)) (sym b)
+    ∙ (ap (λ (z : ℕ). takeCounts c′ z k (setCounts c′ stood′ st)) (sym d) ∙ ap (λ (z : ℕ). takeCounts c′ n′ z (setCounts c′ stood′ st)) (sym e))))

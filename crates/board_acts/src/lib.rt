@@ -1,6 +1,6 @@
 // Acts upon a board with the sums of stones put on and taken off: a point set, a stone played.
 ghost use mathlib.Core.Path.{_≡_};
-ghost use mathlib.Core.Bool.{true, false};
+ghost use mathlib.Core.Bool.{true, false, _&&_};
 ghost use lib.Dec.{eqb};
 ghost use Rattle.lists.specs.Pick.{pick};
 ghost use Rattle.board_play.specs.Play.{settable, playable};
@@ -156,4 +156,52 @@ pub fn play_act(
     let whole = board_play::play_stone(stones, columns, rows, p, colour);
     let then = count_set(state, colour, whole.stood);
     count_taken(then, colour, whole.taken, whole.lost)
+}
+
+// Whether the colour is x, and a stone of it was put on an empty point without taking any.
+fn quiet(colour: u8, x: u8, stood: u8, taken: usize, lost: usize) -> bool
+    ensures { λ r. ⌜ (r ≡ true → (colour ≡ x) × (stood ≡ 0) × (taken ≡ 0) × (lost ≡ 0)) ⌝ }
+{
+    if colour != x {
+        return false;
+    }
+    if stood != 0 {
+        return false;
+    }
+    if taken != 0 {
+        return false;
+    }
+    lost == 0
+}
+
+// Plays a stone near the move; nothing changes where it cannot be played, or where the board is not known to be settled.
+pub fn play_settled(
+    stones: &mut [u8; 2704],
+    state: BoardState,
+    columns: usize,
+    rows: usize,
+    p: usize,
+    colour: u8,
+) -> BoardState
+    ensures { λ r. ⌜ BoardActIs (playable columns rows colour p && state .settled) columns rows (plays colour p)
+        (now (stones .entry)) state (now (stones .exit)) r ⌝ }
+{
+    if !can_play(columns, rows, p, colour) {
+        return state;
+    }
+    let settled = state.settled;
+    if !settled {
+        return state;
+    }
+    let met = board_play::play_near(stones, columns, rows, p, colour);
+    if quiet(colour, 1, met.stood, met.taken, met.lost) {
+        let black = count_set(state, 1, 0);
+        return count_taken(black, 1, 0, 0);
+    }
+    if quiet(colour, 2, met.stood, met.taken, met.lost) {
+        let white = count_set(state, 2, 0);
+        return count_taken(white, 2, 0, 0);
+    }
+    let then = count_set(state, colour, met.stood);
+    count_taken(then, colour, met.taken, met.lost)
 }

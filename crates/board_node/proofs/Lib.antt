@@ -1,5 +1,6 @@
 pub mod Moves
 pub mod Nodes
 pub mod Rows
+pub mod Seen
 pub mod Turning
 pub mod Unique

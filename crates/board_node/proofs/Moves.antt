@@ -51,7 +51,7 @@ module _ (w h : ℕ) (p : Property) where
   unfolding movesOf
   moves-are e l f = let k : 0 < moveColour (p .name) = omega arith in rw (lt-ltb 0 (moveColour (p .name)) k, e, f)
 
-one-letter : (id : List ℕ) (a : ℕ) → same id (a ∷ []) ≡ true → id ≡ a ∷ []
+pub one-letter : (id : List ℕ) (a : ℕ) → same id (a ∷ []) ≡ true → id ≡ a ∷ []
 one-letter [] a e = absurd (true≢false (sym e))
 one-letter (x ∷ []) a e = ap (λ (z : ℕ). z ∷ []) (eqb-true x a (and-both (eqb x a) true e .0))
 one-letter (x ∷ y ∷ r) a e = absurd (true≢false (sym (and-both (eqb x a) false e .1)))

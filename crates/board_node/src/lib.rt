@@ -6,14 +6,18 @@ ghost use lib.ListN.{length};
 ghost use Rattle.values.specs.Read.{readIdentifier};
 ghost use Rattle.tables.specs.Columns.{propertyStride};
 ghost use Rattle.tables.specs.Each.{tabulate};
+ghost use Rattle.go_points.specs.Area.{letterOf};
 ghost use Rattle.go_points.specs.declared.Value.the-variants.{Move};
-ghost use Rattle.parts_props.specs.Props.{propertyAt, propertiesAt};
+ghost use Rattle.parts.specs.Rows.{valueAt};
+ghost use Rattle.parts_props.specs.Props.{identifierAt, propertyAt, propertiesAt};
 ghost use Rattle.board_groups.specs.Board.{onBoard};
 ghost use Rattle.board_play.specs.Play.{Player};
 ghost use Rattle.board_play.specs.Steps.{sets};
 ghost use Rattle.board_node.specs.Node.{setupColour, moveColour, setsFrom, moveActs, setupsOf, movesOf, allSetups, allMoves};
 ghost use Rattle.board_node.specs.Answer.{noState, positionOf, answerOf, refusedNode, NodeIs};
 ghost use Rattle.board_node.specs.LocalsTurn.{TurnIs, MovesIs, SetupsFrom, SetupIs};
+ghost use Rattle.board_node.specs.LocalsSeen.{PointSeen, ValueSeen, RowSeen};
+ghost use Rattle.board_node.specs.Seen.{MoveSeenIs};
 use board_acts::BoardState;
 use board_acts::Sums;
 use go_points::Value;
@@ -35,6 +39,12 @@ pub struct NodeAnswer {
 pub struct Turn {
     pub refused: bool,
     pub state: BoardState,
+}
+
+// A move that is seen at once: whose it is, and its place; colour 0 where none is seen.
+pub struct MoveSeen {
+    pub colour: u8,
+    pub place: usize,
 }
 
 // The place is a point of the board.
@@ -486,4 +496,149 @@ pub fn play_node(
         refused: turn.refused,
         position: then,
     }
+}
+
+// Whose move one letter names.
+fn letter_colour(b: u8) -> u8
+    ensures { λ r. ⌜ r ≡ moveColour (readIdentifier (b ∷ [])) ⌝ }
+{
+    if b == b'B' {
+        return 1;
+    }
+    if b == b'W' {
+        return 2;
+    }
+    0
+}
+
+// No move is seen.
+fn unseen() -> MoveSeen
+    ensures { λ r. ⌜ r .colour ≡ 0 ⌝ }
+{
+    MoveSeen {
+        colour: 0,
+        place: 0,
+    }
+}
+
+// The move of two small letters, where they name a point of the board.
+fn seen_point(columns: usize, rows: usize, a: u8, b: u8, colour: u8) -> MoveSeen
+    ensures { λ r. ⌜ PointSeen columns rows colour (letterOf a) (letterOf b) r ⌝ }
+{
+    if a < b'a' {
+        return unseen();
+    }
+    if b'z' < a {
+        return unseen();
+    }
+    if b < b'a' {
+        return unseen();
+    }
+    if b'z' < b {
+        return unseen();
+    }
+    let i = (a - b'a') as usize;
+    let j = (b - b'a') as usize;
+    if columns <= i {
+        return unseen();
+    }
+    if rows <= j {
+        return unseen();
+    }
+    MoveSeen {
+        colour: colour,
+        place: 52 * i + j,
+    }
+}
+
+// The move of the value of row v, where it has two bytes.
+fn seen_value(
+    columns: usize,
+    rows: usize,
+    text: &[u8],
+    values: &[u32],
+    v: usize,
+    colour: u8,
+) -> MoveSeen
+    ensures { λ r. ⌜ ValueSeen columns rows colour (valueAt (now (text .entry)) (now (values .entry)) v) r ⌝ }
+{
+    if values.len() / 2 <= v {
+        return unseen();
+    }
+    let at = lists::wide(values[v * 2]);
+    let end = lists::wide(values[v * 2 + 1]);
+    if end <= at {
+        return unseen();
+    }
+    if end - at != 2 {
+        return unseen();
+    }
+    if text.len() < end {
+        return unseen();
+    }
+    seen_point(columns, rows, text[at], text[at + 1], colour)
+}
+
+// Whose move property p is, where it is named by one letter; 0 where it is none, or by more.
+fn seen_mover(text: &[u8], properties: &[u32], p: usize) -> u8
+    requires { ⌜ p < length (now properties) / propertyStride ⌝ }
+    ensures { λ r. ⌜ (1 ≤ r → r ≡ moveColour (readIdentifier (identifierAt (now (text .entry)) (now (properties .entry)) p))) ⌝ }
+{
+    let at = lists::wide(properties[p * tables::PROPERTY_STRIDE]);
+    let end = lists::wide(properties[p * tables::PROPERTY_STRIDE + tables::PROPERTY_END]);
+    if end <= at {
+        return 0;
+    }
+    if end - at != 1 {
+        return 0;
+    }
+    if text.len() <= at {
+        return 0;
+    }
+    letter_colour(text[at])
+}
+
+// The move of property p, where it is named by one letter and has one value of two letters.
+fn seen_row(
+    columns: usize,
+    rows: usize,
+    text: &[u8],
+    properties: &[u32],
+    values: &[u32],
+    p: usize,
+) -> MoveSeen
+    requires { ⌜ p < length (now properties) / propertyStride ⌝ }
+    ensures { λ r. ⌜ RowSeen columns rows (propertyAt (now (text .entry)) (now (properties .entry)) (now (values .entry)) p) r ⌝ }
+{
+    let colour = seen_mover(text, properties, p);
+    if colour < 1 {
+        return unseen();
+    }
+    let many = lists::wide(properties[p * tables::PROPERTY_STRIDE + tables::PROPERTY_COUNT]);
+    if many != 1 {
+        return unseen();
+    }
+    let start = lists::wide(properties[p * tables::PROPERTY_STRIDE + tables::PROPERTY_FIRST]);
+    seen_value(columns, rows, text, values, start, colour)
+}
+
+// The move of the one property of row `first`, where that is all that the node does and it is seen at once.
+pub fn seen_move(
+    columns: usize,
+    rows: usize,
+    text: &[u8],
+    properties: &[u32],
+    values: &[u32],
+    first: usize,
+    count: usize,
+) -> MoveSeen
+    ensures { λ r. ⌜ MoveSeenIs columns rows (propertiesAt (now (text .entry)) (now (properties .entry)) (now (values .entry)) first count) r ⌝ }
+{
+    if count != 1 {
+        return unseen();
+    }
+    if properties.len() / tables::PROPERTY_STRIDE <= first {
+        return unseen();
+    }
+    seen_row(columns, rows, text, properties, values, first)
 }

@@ -1,6 +1,7 @@
 pub mod Besides
 pub mod Empties
 pub mod Growing
+pub mod Listing
 pub mod Queue
 pub mod Settling
 pub mod Short

@@ -4,9 +4,9 @@ ghost use mathlib.Core.Bool.{true, false, not, _&&_};
 ghost use Prim.Native.Nat.{ℕ, _+_, _≤_, _<_};
 ghost use lib.ListN.{length, getD};
 ghost use Rattle.board_groups.specs.Board.{at, onBoard};
-ghost use Rattle.board_groups.specs.Groups.{Stone, Liberty};
-ghost use Rattle.board_take.specs.LocalsSides.{rightOf, leftOf, downOf, upOf, emptyAt, heldAt, standsAt, FreeIs, FreeAsked};
-ghost use Rattle.board_take.specs.LocalsShort.{ShortGrew, SettledTo};
+ghost use Rattle.board_groups.specs.Groups.{Stone, Liberty, TakesGroup};
+ghost use Rattle.board_take.specs.LocalsSides.{rightOf, leftOf, downOf, upOf, emptyAt, heldAt, standsAt, Free, FreeIs, FreeAsked};
+ghost use Rattle.board_take.specs.LocalsShort.{ShortGrew, SettledTo, FewGrew, FewIs};
 ghost use Rattle.board_take.specs.LocalsFlood.{Marked, Found, Queued, Went, Here, Around, Seed, SeedAt, Unmarked, Coloured, GrowIs, Swept};
 ghost use Rattle.board_take.specs.Take.{TakesAll, TakesOne, TakesNear, SettledSeen};
 
@@ -354,6 +354,108 @@ fn lives(stones: &[u8; 2704], p: usize, columns: usize, rows: usize, colour: u8)
     false
 }
 
+// Takes off the stones of the colour at the first n places of a short queue, and gives their number.
+fn clear_few(stones: &mut [u8; 2704], queue: &[u16; 32], n: usize, colour: u8) -> usize
+    requires { ⌜ (colour ≡ 0 → ⊥) × (n ≤ 32) × Coloured (now stones) (now queue) n colour ⌝ }
+    ensures { λ r. ⌜ Swept (Found (now (queue .entry)) n) colour (now (stones .entry)) (now (stones .exit)) r × (r ≤ 2704) ⌝ }
+{
+    let mut taken: usize = 0;
+    let mut i: usize = 0;
+    while i < n {
+        let p = queue[i] as usize;
+        i += 1;
+        if stones[p] == colour {
+            stones[p] = 0;
+            taken += 1;
+        }
+    }
+    taken
+}
+
+// Whether q is one of the first n numbers of a short queue.
+fn listed(queue: &[u16; 32], n: usize, q: u16) -> bool
+    requires { ⌜ (length (now queue) ≡ 32) × (n ≤ 32) ⌝ }
+    ensures { λ r. ⌜ (r ≡ true → Found (now (queue .entry)) n q) ⌝ }
+{
+    let mut i: usize = 0;
+    while i < n {
+        if queue[i] == q {
+            return true;
+        }
+        i += 1;
+    }
+    false
+}
+
+// Puts a place on a short queue where a stone of the colour stands there and it is not on it, as long as there is room.
+fn push_few(stones: &[u8; 2704], queue: &mut [u16; 32], n: usize, q: usize, colour: u8) -> usize
+    requires { ⌜ (length (now queue) ≡ 32) × (n ≤ 32) ⌝ }
+    ensures { λ r. ⌜ FewGrew (Here (now (stones .entry)) colour q) (now (queue .entry)) n (now (queue .exit)) r ⌝ }
+{
+    if 2704 <= q {
+        return n;
+    }
+    if stones[q] != colour {
+        return n;
+    }
+    let place = q as u16;
+    if listed(queue, n, place) {
+        return n;
+    }
+    if 32 <= n {
+        return n;
+    }
+    queue[n] = place;
+    n + 1
+}
+
+// Puts the stones of the colour beside p on a short queue, as long as there is room.
+fn visit_few(
+    stones: &[u8; 2704],
+    queue: &mut [u16; 32],
+    n: usize,
+    p: usize,
+    columns: usize,
+    rows: usize,
+    colour: u8,
+) -> usize
+    requires { ⌜ (length (now queue) ≡ 32) × (n ≤ 32) × (onBoard columns rows p ≡ true) ⌝ }
+    ensures { λ r. ⌜ FewGrew (Around columns rows (now (stones .entry)) colour p) (now (queue .entry)) n (now (queue .exit)) r ⌝ }
+{
+    let a = push_few(stones, queue, n, right(p, columns), colour);
+    let b = push_few(stones, queue, a, left(p), colour);
+    let c = push_few(stones, queue, b, down(p, rows), colour);
+    push_few(stones, queue, c, up(p), colour)
+}
+
+// Lists the group of p on a short queue, and gives the number of its stones: 0 where it is seen to have a liberty, 32 where it is too large to say.
+fn few(
+    stones: &[u8; 2704],
+    queue: &mut [u16; 32],
+    p: usize,
+    columns: usize,
+    rows: usize,
+    colour: u8,
+) -> usize
+    requires { ⌜ Stone columns rows (now stones) colour p × (length (now queue) ≡ 32) ⌝ }
+    ensures { λ r. ⌜ FewIs columns rows (now (stones .entry)) colour p (now (queue .exit)) r ⌝ }
+{
+    let mut n = push_few(stones, queue, 0, p, colour);
+    let mut i: usize = 0;
+    while i < n {
+        if 12 < n {
+            return 32;
+        }
+        let q = queue[i] as usize;
+        if free(stones, q, columns, rows) {
+            return 0;
+        }
+        i += 1;
+        n = visit_few(stones, queue, n, q, columns, rows, colour);
+    }
+    n
+}
+
 // Takes off all stones of the colour whose groups have no liberty, and gives their number.
 pub fn take_all(stones: &mut [u8; 2704], columns: usize, rows: usize, colour: u8) -> usize
     ensures { λ r. ⌜ TakesAll columns rows colour (now (stones .entry)) (now (stones .exit)) r ⌝ }
@@ -377,25 +479,42 @@ pub fn take_all(stones: &mut [u8; 2704], columns: usize, rows: usize, colour: u8
     sweep(stones, &marks, columns, rows, colour)
 }
 
-// Takes off the group of p where it is of the colour and has no liberty, and gives the number of its stones, else 0.
-pub fn take_group(
-    stones: &mut [u8; 2704],
-    columns: usize,
-    rows: usize,
-    p: usize,
-    colour: u8,
-) -> usize
-    ensures { λ r. ⌜ TakesOne columns rows colour p (now (stones .entry)) (now (stones .exit)) r × (r ≤ 2704) ⌝ }
+// Whether a stone of the colour stands at q, a point of the board or none, and a point beside it is empty.
+fn free_via(stones: &[u8; 2704], q: usize, columns: usize, rows: usize, colour: u8) -> bool
+    requires { ⌜ (q < 2704 → onBoard columns rows q ≡ true) ⌝ }
+    ensures { λ r. ⌜ (r ≡ true → Stone columns rows (now (stones .entry)) colour q × Free columns rows (now (stones .entry)) q) ⌝ }
 {
-    if colour == 0 {
-        return 0;
+    if 2704 <= q {
+        return false;
     }
-    if !stands(stones, p, columns, rows, colour) {
-        return 0;
+    if stones[q] != colour {
+        return false;
     }
-    if free(stones, p, columns, rows) {
-        return 0;
+    free(stones, q, columns, rows)
+}
+
+// Whether a stone beside p of its colour has an empty point beside it.
+fn lives_near(stones: &[u8; 2704], p: usize, columns: usize, rows: usize, colour: u8) -> bool
+    requires { ⌜ Stone columns rows (now stones) colour p ⌝ }
+    ensures { λ r. ⌜ (r ≡ true → Liberty columns rows (now (stones .entry)) colour p) ⌝ }
+{
+    if free_via(stones, right(p, columns), columns, rows, colour) {
+        return true;
     }
+    if free_via(stones, left(p), columns, rows, colour) {
+        return true;
+    }
+    if free_via(stones, down(p, rows), columns, rows, colour) {
+        return true;
+    }
+    free_via(stones, up(p), columns, rows, colour)
+}
+
+// Takes off the group of the stone at p by the long search, where it has no liberty, and gives the number of its stones, else 0.
+fn take_long(stones: &mut [u8; 2704], columns: usize, rows: usize, p: usize, colour: u8) -> usize
+    requires { ⌜ (colour ≡ 0 → ⊥) × Stone columns rows (now stones) colour p ⌝ }
+    ensures { λ r. ⌜ TakesGroup columns rows colour p (now (stones .entry)) (now (stones .exit)) r × (r ≤ 2704) ⌝ }
+{
     if lives(stones, p, columns, rows, colour) {
         return 0;
     }
@@ -418,6 +537,64 @@ pub fn take_group(
     clear(stones, &queue, r, colour)
 }
 
+// The same, by a short search where that can say it.
+fn take_short(stones: &mut [u8; 2704], columns: usize, rows: usize, p: usize, colour: u8) -> usize
+    requires { ⌜ (colour ≡ 0 → ⊥) × Stone columns rows (now stones) colour p ⌝ }
+    ensures { λ r. ⌜ TakesGroup columns rows colour p (now (stones .entry)) (now (stones .exit)) r × (r ≤ 2704) ⌝ }
+{
+    if lives_near(stones, p, columns, rows, colour) {
+        return 0;
+    }
+    let mut queue = [0u16; 32];
+    let n = few(stones, &mut queue, p, columns, rows, colour);
+    if n == 0 {
+        return 0;
+    }
+    if 32 <= n {
+        return take_long(stones, columns, rows, p, colour);
+    }
+    clear_few(stones, &queue, n, colour)
+}
+
+// The same of a place that is a point of the board or none, where a stone of the colour stands there.
+fn take_side(stones: &mut [u8; 2704], columns: usize, rows: usize, q: usize, colour: u8) -> usize
+    requires { ⌜ (colour ≡ 0 → ⊥) × (q < 2704 → onBoard columns rows q ≡ true) ⌝ }
+    ensures { λ r. ⌜ TakesGroup columns rows colour q (now (stones .entry)) (now (stones .exit)) r × (r ≤ 2704) ⌝ }
+{
+    if 2704 <= q {
+        return 0;
+    }
+    if stones[q] != colour {
+        return 0;
+    }
+    if free(stones, q, columns, rows) {
+        return 0;
+    }
+    take_short(stones, columns, rows, q, colour)
+}
+
+// Takes off the group of p where it is of the colour and has no liberty, and gives the number of its stones, else 0.
+pub fn take_group(
+    stones: &mut [u8; 2704],
+    columns: usize,
+    rows: usize,
+    p: usize,
+    colour: u8,
+) -> usize
+    ensures { λ r. ⌜ TakesOne columns rows colour p (now (stones .entry)) (now (stones .exit)) r × (r ≤ 2704) ⌝ }
+{
+    if colour == 0 {
+        return 0;
+    }
+    if !stands(stones, p, columns, rows, colour) {
+        return 0;
+    }
+    if free(stones, p, columns, rows) {
+        return 0;
+    }
+    take_short(stones, columns, rows, p, colour)
+}
+
 // Takes off the groups of the colour beside p that have no liberty, and gives the number of their stones.
 pub fn take_beside(
     stones: &mut [u8; 2704],
@@ -434,10 +611,10 @@ pub fn take_beside(
     if !on_board(p, columns, rows) {
         return 0;
     }
-    let a = take_group(stones, columns, rows, right(p, columns), colour);
-    let b = take_group(stones, columns, rows, left(p), colour);
-    let c = take_group(stones, columns, rows, down(p, rows), colour);
-    let d = take_group(stones, columns, rows, up(p), colour);
+    let a = take_side(stones, columns, rows, right(p, columns), colour);
+    let b = take_side(stones, columns, rows, left(p), colour);
+    let c = take_side(stones, columns, rows, down(p, rows), colour);
+    let d = take_side(stones, columns, rows, up(p), colour);
     a + b + c + d
 }
 

@@ -1,7 +1,6 @@
 -- `board_take::take_group` meets its contract. Assumes nothing.
 use Rattle.lists.proofs.Prelude.{_∙_, arith, needs, not-false, not-true, refl, sym, true≢false}
-use Rattle.board_take.proofs.Queue.{held-new}
-use Rattle.board_take.proofs.Taking.{takes-nothing, free-lives, seed-stone, lives-on, grown-coloured, takes-group}
+use Rattle.board_take.proofs.Taking.{takes-nothing, free-lives}
 use Rattle.board_take.proofs.Visiting.{stands-stone, stone-stands}
 use Rattle.board_take.proofs.take_group.Statement.{statement}
 use Rattle.board_take.proofs.take_group.Tie as tie
@@ -29,41 +28,11 @@ returns-3 : tie.Need-returns-3
 returns-3 c = let a = c .before .before .before .before .before .before .before .args in
     (record { none = λ e. absurd (c .before .before .before .before .before .before .if1 .left e); some = λ f. takes-nothing (a .columns) (a .rows) (a .colour) (a .p) (a .stones .now) (free-lives (a .columns) (a .rows) (a .colour) (a .p) (a .stones .now) (c .before .free .ensures .yes-free (c .if3 .taken))) }, omega arith)
 
-lives-requires : tie.Need-lives-requires
-lives-requires c κs = let a = c .before .before .before .before .before .before .before .before .args in stands-stone (a .columns) (a .rows) (a .stones .now) (a .colour) (a .p) (sym (c .before .before .before .before .before .stands .ensures) ∙ not-false (c .before .before .before .before .before .stands .result) (c .before .before .before .before .if2 .left))
+take-short-requires : tie.Need-take-short-requires
+take-short-requires c κs = let a = c .before .before .before .before .before .before .before .before .args in (c .before .before .before .before .before .before .before .if1 .left, stands-stone (a .columns) (a .rows) (a .stones .now) (a .colour) (a .p) (sym (c .before .before .before .before .before .stands .ensures) ∙ not-false (c .before .before .before .before .before .stands .result) (c .before .before .before .before .if2 .left)))
 
 returns-4 : tie.Need-returns-4
-returns-4 c = let a = c .before .before .before .before .before .before .before .before .before .before .args in (record { none = λ e. absurd (c .before .before .before .before .before .before .before .before .before .if1 .left e); some = λ f. takes-nothing (a .columns) (a .rows) (a .colour) (a .p) (a .stones .now) (λ s. c .before .lives .ensures (c .if4 .taken)) }, omega arith)
-
-push-requires : tie.Need-push-requires
-push-requires c κs = held-new
-
-grow-requires : tie.Need-grow-requires
-grow-requires c κs = let a = c .before .before .before .before .before .before .before .before .before .before .before .before .before .before .before .before .before .args in (c .before .before .before .push .ensures .held, seed-stone (a .columns) (a .rows) (a .colour) (a .p) (a .stones .now) held-new (stands-stone (a .columns) (a .rows) (a .stones .now) (a .colour) (a .p) (sym (c .before .before .before .before .before .before .before .before .before .before .before .before .before .before .stands .ensures) ∙ not-false (c .before .before .before .before .before .before .before .before .before .before .before .before .before .before .stands .result) (c .before .before .before .before .before .before .before .before .before .before .before .before .before .if2 .left))) (c .before .before .before .push .ensures))
-
-returns-5 : tie.Need-returns-5
-returns-5 c = let a = c .before .before .before .before .before .before .before .before .before .before .before .before .before .before .before .before .before .before .before .args in (
-  record {
-    none = λ e. absurd (c .before .before .before .before .before .before .before .before .before .before .before .before .before .before .before .before .before .before .if1 .left e);
-    some = λ f. takes-nothing (a .columns) (a .rows) (a .colour) (a .p) (a .stones .now) (λ s. lives-on (a .columns) (a .rows) (a .colour) (a .p) (a .stones .now) held-new s (c .before .before .before .before .before .push .ensures) (c .before .grow .ensures .stopped (c .if5 .taken) .1));
-  },
-  omega arith,
-)
-
-clear-requires : tie.Need-clear-requires
-clear-requires c κs = let a = c .before .before .before .before .before .before .before .before .before .before .before .before .before .before .before .before .before .before .before .before .before .args in
-    let g = c .before .before .before .grow .ensures .ended (c .before .before .if5 .left) in
-    (c .before .before .before .before .before .before .before .before .before .before .before .before .before .before .before .before .before .before .before .before .if1 .left, c .before .before .if5 .left, grown-coloured (a .columns) (a .rows) (a .colour) (a .p) (a .stones .now) held-new (stands-stone (a .columns) (a .rows) (a .stones .now) (a .colour) (a .p) (sym (c .before .before .before .before .before .before .before .before .before .before .before .before .before .before .before .before .before .before .stands .ensures) ∙ not-false (c .before .before .before .before .before .before .before .before .before .before .before .before .before .before .before .before .before .before .stands .result) (c .before .before .before .before .before .before .before .before .before .before .before .before .before .before .before .before .before .if2 .left))) (c .before .before .before .before .before .before .before .push .ensures) g)
-
-returns-6 : tie.Need-returns-6
-returns-6 c = let a = c .before .before .before .before .before .before .before .before .before .before .before .before .before .before .before .before .before .before .before .before .before .before .args in
-    let g = c .before .before .before .before .grow .ensures .ended (c .before .before .before .if5 .left) in (
-      record {
-        none = λ e. absurd (c .before .before .before .before .before .before .before .before .before .before .before .before .before .before .before .before .before .before .before .before .before .if1 .left e);
-        some = λ f. takes-group (a .columns) (a .rows) (a .colour) (a .p) (a .stones .now) held-new (stands-stone (a .columns) (a .rows) (a .stones .now) (a .colour) (a .p) (sym (c .before .before .before .before .before .before .before .before .before .before .before .before .before .before .before .before .before .before .before .stands .ensures) ∙ not-false (c .before .before .before .before .before .before .before .before .before .before .before .before .before .before .before .before .before .before .before .stands .result) (c .before .before .before .before .before .before .before .before .before .before .before .before .before .before .before .before .before .before .if2 .left))) (c .before .before .before .before .before .before .before .before .push .ensures) g (c .clear .ensures .0);
-      },
-      c .clear .ensures .1,
-    )
+returns-4 c = (record { none = λ e. absurd (c .before .before .before .before .before .before .before .before .if1 .left e); some = λ f. c .take-short .ensures .0 }, c .take-short .ensures .1)
 
 pub take-group-spec : {M : Type 1} → statement M
 take-group-spec =
@@ -74,10 +43,5 @@ take-group-spec =
     returns-2
     free-requires
     returns-3
-    lives-requires
-    returns-4
-    push-requires
-    grow-requires
-    returns-5
-    clear-requires
-    returns-6)
+    take-short-requires
+    returns-4)
