@@ -1,0 +1,3 @@
+pub mod Deepest
+pub mod Writing
+pub mod Slices

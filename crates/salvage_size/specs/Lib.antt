@@ -1,0 +1,2 @@
+pub mod LocalsSlices
+pub mod Size
