@@ -17,7 +17,7 @@ use Rattle.salvage_depth.proofs.Opened.{highest, highestOf, writing-depth}
 use Rattle.salvage_shape.specs.LocalsShape.{Fork, closedInto, shutFrom, shutTo, leaf, Heads, Meets, shapeDepth}
 use Rattle.salvage_shape.proofs.Depths.{Match, match-same, match-shut, match-push, shape-highest}
 use Rattle.salvage_shape.proofs.Theorem.{parents-many}
-use Rattle.salvage_size.specs.Size.{treesDepth}
+use Rattle.salvage_size.specs.LocalsSize.{treesDepth}
 
 -- ---- parents are on the spine
 

@@ -1,3 +1,4 @@
 pub mod Deepest
-pub mod Writing
+pub mod Examples
 pub mod Slices
+pub mod Writing

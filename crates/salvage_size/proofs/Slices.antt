@@ -22,7 +22,7 @@ use Rattle.salvage_form.proofs.Measuring.{respelled-length}
 use Rattle.salvage_form.proofs.Roots.{tree-rule}
 use Rattle.salvage_depth.proofs.Opened.{parents-mended}
 use Rattle.salvage_shape.specs.LocalsShape.{shapeDepth, bracketsOf}
-use Rattle.salvage_size.specs.Size.{propsSize, nodesSize, treeSize, treesSize, treesDepth}
+use Rattle.salvage_size.specs.LocalsSize.{propsSize, nodesSize, treeSize, treesSize, treesDepth}
 use Rattle.salvage_size.specs.LocalsSlices.{propsLength, nodesLength, treeLength, sliceNodes, slicesLength, slicesDepth}
 use Rattle.salvage_size.proofs.Writing.{lenient-size}
 use Rattle.salvage_size.proofs.Deepest.{lenient-depth}

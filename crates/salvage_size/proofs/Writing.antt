@@ -18,7 +18,7 @@ use Rattle.salvage_form.proofs.Measuring.{props-length}
 use Rattle.salvage_laws.proofs.Theorem.{lenient-form}
 use Rattle.salvage_depth.proofs.Opened.{parents-map}
 use Rattle.salvage_shape.specs.LocalsShape.{raised, bracketsIn, bracketsOf}
-use Rattle.salvage_size.specs.Size.{propsSize, nodesSize, treeSize, treesSize}
+use Rattle.salvage_size.specs.LocalsSize.{propsSize, nodesSize, treeSize, treesSize}
 
 props-size : (rule : ℕ) (ps : List Prop) → length (writeProps (map (formProp rule) ps)) ≡ propsSize rule ps
 props-size rule [] = refl

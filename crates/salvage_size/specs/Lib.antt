@@ -1,2 +1,2 @@
+pub mod LocalsSize
 pub mod LocalsSlices
-pub mod Size

@@ -1,4 +1,4 @@
--- How many bytes a record is written in, counted property by property and node by node; and how deep its trees stand then.
+-- How many bytes a record is written in, counted property by property and node by node; and how deep its trees stand then. Nothing public is stated by these.
 use Rattle.lists.specs.Prelude.{ℕ, suc, _+_, _*_, max, List, [], _∷_}
 use Rattle.lexer.specs.Token.{Prop}
 use Rattle.tables.specs.Record.{Node, Tree}
