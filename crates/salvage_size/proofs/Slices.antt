@@ -22,8 +22,10 @@ use Rattle.salvage_form.proofs.Measuring.{respelled-length}
 use Rattle.salvage_form.proofs.Roots.{tree-rule}
 use Rattle.salvage_depth.proofs.Opened.{parents-mended}
 use Rattle.salvage_shape.specs.LocalsShape.{shapeDepth, bracketsOf}
+use Rattle.salvage_shape.specs.LocalsSum.{propsLength}
+use Rattle.salvage_shape.proofs.Sums.{lengths-append}
 use Rattle.salvage_size.specs.LocalsSize.{propsSize, nodesSize, treeSize, treesSize, treesDepth}
-use Rattle.salvage_size.specs.LocalsSlices.{propsLength, nodesLength, treeLength, sliceNodes, slicesLength, slicesDepth}
+use Rattle.salvage_size.specs.LocalsSlices.{treeLength, sliceNodes, slicesLength, slicesDepth}
 use Rattle.salvage_size.proofs.Writing.{lenient-size}
 use Rattle.salvage_size.proofs.Deepest.{lenient-depth}
 
@@ -38,16 +40,12 @@ kept-size rule bad (p ∷ ps) = go (propStays bad p) (kept-size rule bad ps)
     go true i = ap₂ (λ (x y : ℕ). x + y) (respelled-length rule p) i
     go false i = omega (arith, i)
 
-kept-append : (rule : ℕ) (bad : Bool) (ps qs : List Prop) → propsLength rule bad (ps ++ qs) ≡ propsLength rule bad ps + propsLength rule bad qs
-kept-append rule bad [] qs = omega arith
-kept-append rule bad (p ∷ ps) qs = let i = kept-append rule bad ps qs in omega (arith, i)
-
 rest-size : (rule : ℕ) (ns : List Node) → nodesSize rule (map (mendNode false) ns) ≡ length ns + propsLength rule false (allProps ns)
 rest-size rule [] = omega arith
 rest-size rule (n ∷ ns) =
     let i = rest-size rule ns in
     let a = kept-size rule false (n .props) in
-    let b = kept-append rule false (n .props) (allProps ns) in
+    let b = lengths-append rule false (n .props) (allProps ns) in
     omega (arith, i, a, b)
 
 -- ---- one tree

@@ -1,27 +1,15 @@
 -- Length and depth of the writing of the mended record, slice by slice over the tokens. Nothing public is stated by these.
-use Rattle.lists.specs.Prelude.{ℕ, _+_, _*_, max, Bool, true, false, List, [], _∷_, length, pick}
-use Rattle.lexer.specs.Token.{Prop, Tok}
+use Rattle.lists.specs.Prelude.{ℕ, _+_, _*_, max, true, false, List, [], _∷_, length}
+use Rattle.lexer.specs.Token.{Tok}
 use Rattle.tables.specs.Numbers.{none}
-use Rattle.tables.specs.Record.{Node, allProps}
+use Rattle.tables.specs.Record.{Node}
 use Rattle.tables.specs.Rows.{parents}
 use Rattle.parser.specs.Walk.{walk, walked}
 use Rattle.fit_rule.specs.Rule.{firstProps}
-use Rattle.salvage_mend.specs.Mend.{propStays}
 use Rattle.salvage_list.specs.Listed.{walkNodes}
-use Rattle.salvage_form.specs.Measured.{lengthOf}
 use Rattle.salvage_form.specs.Rooted.{rootRule}
-use Rattle.salvage_form.specs.declared.root.RootRule.{RootRule}
 use Rattle.salvage_shape.specs.LocalsShape.{shapeDepth, bracketsOf}
-
--- what mending leaves of properties; bad: they are those of a root whose GMs are removed
-abbrev pub propsLength : (rule : ℕ) (bad : Bool) → List Prop → ℕ
-propsLength rule bad [] = 0
-propsLength rule bad (p ∷ ps) = pick (propStays bad p) (lengthOf rule p) 0 + propsLength rule bad ps
-
--- of the properties of a tree's nodes, its root first
-abbrev pub nodesLength : RootRule → List Node → ℕ
-nodesLength r [] = 0
-nodesLength r (n ∷ ns) = propsLength (r .rule) (r .bad) (n .props) + propsLength (r .rule) false (allProps ns)
+use Rattle.salvage_shape.specs.LocalsSum.{nodesLength}
 
 -- the mended tree of nodes: its brackets, a `;` each, two for each node in brackets, what is left of the properties; without a node, an empty root
 abbrev pub treeLength : List Node → ℕ
