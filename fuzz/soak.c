@@ -8,9 +8,9 @@
  * written nothing and its number is one that the call may give; tables of a reading fit; after an accepted edit of a
  * strict reading the tables are those of a fresh one, and so is the board at a node; the board at a node is the one along
  * its line, node by node, and its sums are right; a session of edits is undone and redone, step by step, to the same
- * used bytes and the same tables; a writing reads back, and is written again as the same bytes; a salvage leaves the
- * lenient reading in its tables, its result reads strictly, and is salvaged again as the same bytes with an empty list.
- * The process holds no more memory at the end than after a tenth of them. */
+ * used bytes and the same tables; a writing reads back, and is written again as the same bytes; a salvage that is
+ * accepted leaves the lenient reading in its tables, its result reads strictly, and is salvaged again as the same bytes
+ * with an empty list. The process holds no more memory at the end than after a tenth of them. */
 #define _GNU_SOURCE
 #include "lent.h"
 #include "sgf.h"
@@ -540,7 +540,7 @@ static void write_text(void) {
     }
 }
 
-/* Salvages the used text: 1 cannot come from so short a text, 9 and 14 of the result leave list and output. */
+/* Salvages the used text: 1 cannot come from so short a text, a refusal leaves tables, list and output. */
 static uint32_t rescued[TABLES][SGF_NODE_STRIDE * OUT];
 #define RESCUED rescued[0], SGF_NODE_STRIDE * OUT, rescued[1], SGF_NODE_STRIDE * OUT, rescued[2], SGF_NODE_STRIDE * OUT, rescued[3], SGF_NODE_STRIDE * OUT
 static unsigned long salvaged, changed;
@@ -551,14 +551,22 @@ static void salvage(void) {
     size_t numbers = SGF_CHANGE_STRIDE * SGF_CHANGES_FOR(length);
     lend(&lent[LISTS], 4 * (draw(4) == 3 ? draw((uint32_t)numbers + 1) : numbers + draw(4)), draw(4) == 3);
     remember_all();
-    memset(rescued[1], 0x5A, 4 * SGF_NODE_STRIDE * SGF_NODES_FOR(length));
+    size_t filled = SGF_NODE_STRIDE * SGF_NODES_FOR(length);
+    for (int t = 0; t < TABLES; t++) {
+        memset(rescued[t], 0x5A, 4 * filled);
+    }
     SgfSalvage s = sgf_salvage(lent[TEXTS].at, length, RESCUED, NUMBERS(LISTS), BYTES(OUTS));
     bool good = answered(SALVAGE, s.number, MAY(2) | MAY(9) | MAY(14), MAY(OUTS) | MAY(LISTS));
     SgfReading r = sgf_read_lenient(lent[TEXTS].at, length, 0, FRESH);
     REQUIRE(s.reserved == 0 && s.place == r.place && (r.number == 0 || s.number == r.number));
     size_t rows[TABLES] = {r.counts.trees, r.counts.nodes, r.counts.properties, r.counts.values};
     for (int t = 0; t < TABLES; t++) {
-        REQUIRE(memcmp(fresh[t], rescued[t], rows[t] * strides[t] * 4) == 0);
+        size_t kept = good ? rows[t] * strides[t] : 0;
+        REQUIRE(memcmp(fresh[t], rescued[t], kept * 4) == 0);
+        while (kept < filled && rescued[t][kept] == 0x5A5A5A5A) {
+            kept++;
+        }
+        REQUIRE(kept == filled);
     }
     if (!good) {
         REQUIRE(s.length == 0 && s.changes == 0 && s.counts.trees + s.counts.nodes + s.counts.properties + s.counts.values == 0);

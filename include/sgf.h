@@ -22,13 +22,12 @@
  * counts given back stays as well, except for the bytes that sgf_edit and sgf_correct set to 0. Fields called `reserved`
  * are always 0.
  *
- * Two exceptions. Rows lent to sgf_block and sgf_close are working room until the close. After a close that is accepted
- * the rows behind its count are 0, after one that is refused all rows; only number 20 leaves them as they were. And where
- * sgf_salvage refuses a result, its four tables hold the lenient reading.
+ * One exception. Rows lent to sgf_block and sgf_close are working room until the close. After a close that is accepted
+ * the rows behind its count are 0, after one that is refused all rows; only number 20 leaves them as they were.
  *
  * Stack, in bytes, on aarch64 (x86-64 within 130 bytes of it): sgf_board 23,104 and sgf_board_next 19,904, both measured
  * on x86-64, sgf_go_value 11,392, sgf_write 8,832, sgf_write_length 10,240 at most, sgf_go_by_rule 5,696, sgf_read_strict
- * and sgf_read_lenient 5,440, those that count rows or say why 6,144 at most, sgf_salvage 10,240 at most, sgf_tally 4,096
+ * and sgf_read_lenient 5,440, those that count rows or say why 6,144 at most, sgf_salvage 49,152 at most, sgf_tally 4,096
  * at most, sgf_simple_value, sgf_simple_property and sgf_entry 1,900 at most; of the others sgf_block 1,536, sgf_correct,
  * sgf_corrected and sgf_feed_check 1,536 at most, the rest 1,024 at most. docs/MEMORY.md has each function's bound, which
  * examples/c/stack.c tests.
@@ -234,10 +233,9 @@ typedef struct {
  * changed: tree by tree an empty root, its properties by number, a cut; at the end the tail. Each tree is written by the
  * game type that its kept GM gives, Go if none. Not listed are ends that are added, another form of the values, and a
  * game type that changes with nothing removed. Salvaged again the result stays as it is, with an empty list.
- * Numbers: 1, 2, 9 of the text, 14 of the tables, and nothing lent changes; then, the tables holding the lenient reading,
- * 1 and 9 of the result, then 14 of list and output together, and list and output do not change. After 0 the tables hold
- * the lenient reading, whose numbers the changes name. sgf_count_lenient gives 1 and 9 where they are the text's own, and
- * the counts of the tables after 14 of list and output.
+ * Numbers: 1, 2, 9 of the text, then 1 and 9 of the result, then one 14 for tables, list and output together. All is
+ * decided before anything is written. After 0 the tables hold the lenient reading, whose numbers the changes name.
+ * sgf_count_lenient gives 1 and 9 where they are the text's own, and the counts of the tables after 14.
  * Memory: beside the tables SGF_CHANGES_FOR(n) rows of the list and up to SGF_TEXT_LIMIT bytes of output; with less it
  * may be 14. It is meant for an archive, not for a box. */
 SgfSalvage sgf_salvage(const uint8_t *text, size_t text_len, uint32_t *trees, size_t trees_len,

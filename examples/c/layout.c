@@ -377,12 +377,12 @@ static void check_salvage(void) {
         CHECK(memcmp(&s.counts, &r.counts, sizeof r.counts) == 0 && memcmp(out, t->result, result) == 0 && out[result] == 7);
         CHECK(memcmp(list, t->list, 4 * numbers) == 0 && list[numbers] == 0x07070707);
         CHECK(sgf_read_strict(out, result, 0, TABLES).number == 0);
-        /* a byte or a row too few: neither list nor output changes, and the tables hold the lenient reading */
+        /* a byte or a row too few: nothing that is lent changes */
         memset(out, 7, sizeof out);
         memset(list, 7, sizeof list);
         trees[0] = 9;
         s = sgf_salvage(source, length, TABLES, list, numbers, out, result - 1);
-        CHECK(s.number == 14 && s.length == 0 && s.changes == 0 && has(s.counts, 0, 0, 0, 0) && out[0] == 7 && list[0] == 0x07070707 && trees[0] == 0);
+        CHECK(s.number == 14 && s.length == 0 && s.changes == 0 && has(s.counts, 0, 0, 0, 0) && out[0] == 7 && list[0] == 0x07070707 && trees[0] == 9);
         if (numbers > 0) {
             s = sgf_salvage(source, length, TABLES, list, numbers - 1, out, result);
             CHECK(s.number == 14 && out[0] == 7 && list[0] == 0x07070707);
@@ -394,19 +394,21 @@ static void check_salvage(void) {
     }
     SgfSalvage s = sgf_salvage((const uint8_t *)"(;C[\xFF", 5, TABLES, list, 3, out, 9);
     CHECK(s.number == 2 && s.place == 4);
-    /* of the result: 9, of one open tree more than the text has; before 14, and 1 before it */
+    /* of the result: 9, of one open tree more than the text has; before 14, of the tables too, and 1 before it */
     memcpy(text, "(;", 2);
     for (size_t i = 0; i < 1024; i++) {
         memcpy(text + 2 + 4 * i, "(;);", 4);
     }
     text[4098] = ')';
     CHECK(sgf_salvage(text, 4099, TABLES, list, 0, out, 0).number == 9);
+    CHECK(sgf_salvage(text, 4099, trees, 0, nodes, 0, properties, 0, values, 0, list, 0, out, 0).number == 9);
     memcpy(text, "(;SZ[52]", 8);
     for (size_t i = 0; i < 97; i++) {
         memcpy(text + 8 + 9 * i, "AB[aa:ZZ]", 9);
     }
     text[881] = ')';
     CHECK(sgf_salvage(text, 882, TABLES, list, 0, out, 0).number == 1);
+    CHECK(sgf_salvage(text, 882, trees, 0, nodes, 0, properties, 0, values, 0, list, 0, out, 0).number == 1);
     CHECK(sgf_salvage(text, 881 - 9, TABLES, list, 0, out, 0).number == 14);
     CHECK(sgf_salvage(text, 881 - 9, TABLES, list, 0, out, sizeof out).number == 0);
     CHECK(sgf_salvage(text, SGF_TEXT_LIMIT + 1, TABLES, list, 0, out, 0).number == 1);

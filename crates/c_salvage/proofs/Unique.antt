@@ -6,7 +6,7 @@ use Rattle.reader.specs.Lent.{Lent}
 use Rattle.parser.specs.Read.{readLenient}
 use Rattle.salvage_list.specs.ListRows.{textChanges}
 use Rattle.salvage_laws.specs.Result.{salvageOf}
-use Rattle.salvage.specs.Salvage.{SalvageIs, listLeft, bytesLeft}
+use Rattle.salvage.specs.Salvage.{SalvageIs, tablesLeft, listLeft, bytesLeft}
 use Rattle.salvage.specs.declared.SalvageAnswer.{SalvageAnswer}
 use Rattle.c_salvage.specs.SalvageInC.{salvageInC, SalvageInC}
 use Rattle.c_salvage.specs.declared.SgfSalvage.{SgfSalvage}
@@ -16,7 +16,7 @@ pub salvage-once : (t : List ℕ) (before x y : Lent) (list k l out v w : List �
 salvage-once t before x y list k l out v w r s f g =
     let e : r ≡ s = f .answer ∙ sym (g .answer) in (
       e,
-      f .tables ∙ sym (g .tables),
+      f .tables ∙ ap (λ (z : SalvageAnswer). tablesLeft z (readLenient t) before) e ∙ sym (g .tables),
       f .changes ∙ ap (λ (z : SalvageAnswer). listLeft z (textChanges t) list) e ∙ sym (g .changes),
       f .bytes ∙ ap (λ (z : SalvageAnswer). bytesLeft z (salvageOf (readLenient t)) out) e ∙ sym (g .bytes),
     )

@@ -2,10 +2,10 @@
 use Rattle.lists.specs.Prelude.{ℕ, _≡_, List}
 use Rattle.tables.specs.Numbers.{numberOf}
 use Rattle.parser.specs.Read.{readLenient}
-use Rattle.reader.specs.Lent.{Lent, leaves}
+use Rattle.reader.specs.Lent.{Lent}
 use Rattle.salvage_laws.specs.Result.{salvageOf}
 use Rattle.salvage_list.specs.ListRows.{textChanges}
-use Rattle.salvage.specs.Salvage.{salvageAt, listLeft, bytesLeft}
+use Rattle.salvage.specs.Salvage.{salvageAt, tablesLeft, listLeft, bytesLeft}
 use Rattle.salvage.specs.declared.SalvageAnswer.{SalvageAnswer}
 use Rattle.salvage.specs.declared.SalvageAnswer.the-variants.{Done, Refused}
 use Rattle.c_salvage.specs.declared.SgfSalvage.{SgfSalvage}
@@ -19,6 +19,6 @@ salvageInC (Refused r p) =
 -- a salvage shown as numbers, and all that is lent after it: tables, list and output (SCOPE 291, 293, 294)
 pub record SalvageInC (t : List ℕ) (before after : Lent) (list list′ out out′ : List ℕ) (r : SgfSalvage) : Type 0 where
   pub is : r ≡ salvageInC (salvageAt t before list out)
-  pub tables : after ≡ leaves (readLenient t) before
+  pub tables : after ≡ tablesLeft (salvageAt t before list out) (readLenient t) before
   pub changes : list′ ≡ listLeft (salvageAt t before list out) (textChanges t) list
   pub bytes : out′ ≡ bytesLeft (salvageAt t before list out) (salvageOf (readLenient t)) out

@@ -1,6 +1,7 @@
 pub mod Again
 pub mod Answers
-pub mod Depths
+pub mod Readings
 pub mod Records
+pub mod Refusals
 pub mod Stays
 pub mod Theorems

@@ -1,10 +1,10 @@
 -- A text that is leniently read with nothing to mend and nothing to list, and is its own writing, is answered with itself. Assumes nothing.
-use Rattle.lists.proofs.Prelude.{ℕ, _/_, _≤_, Bool, true, List, [], _≡_, refl, ap, ap₂, _∙_, arith, length, take, drop, take-at, pick, le-ltb}
+use Rattle.lists.proofs.Prelude.{ℕ, _/_, _≤_, Bool, true, false, _&&_, List, [], _≡_, refl, ap, ap₂, _∙_, arith, length, take, drop, take-at, leb, ltb, pick, le-ltb, le-leb}
 use Rattle.tables.specs.Numbers.{textLimit, depthLimit}
 use Rattle.tables.specs.Record.{Tree}
 use Rattle.tables.specs.Rows.{tables, countsOf}
 use Rattle.tables.specs.Flat.{over}
-use Rattle.tables.specs.declared.Reason.the-variants.{NoRoom}
+use Rattle.tables.specs.declared.Reason.the-variants.{TextTooLong, TooDeep, NoRoom}
 use Rattle.parser.specs.Read.{Answer, accepted, readLenient}
 use Rattle.reader.specs.Lent.{Lent, roomy}
 use Rattle.reader_laws.proofs.Accepted.{reading-is}
@@ -14,7 +14,7 @@ use Rattle.salvage_mend.specs.Changes.{Change}
 use Rattle.salvage_mend.specs.Mend.{mended}
 use Rattle.salvage_list.specs.ListRows.{textChanges}
 use Rattle.salvage_laws.specs.Result.{salvageOf}
-use Rattle.salvage.specs.Salvage.{resultAnswer, salvageGives, salvageAt, listLeft, bytesLeft, SalvageIs}
+use Rattle.salvage.specs.Salvage.{roomForAll, resultAnswer, salvageGives, salvageAt, listLeft, bytesLeft, SalvageIs}
 use Rattle.salvage.specs.declared.SalvageAnswer.{SalvageAnswer}
 use Rattle.salvage.specs.declared.SalvageAnswer.the-variants.{Done, Refused}
 
@@ -23,16 +23,22 @@ module _ (w : List ℕ) (ts : List Tree) (reads : readLenient w ≡ accepted ts)
   same-text = ap writing stays ∙ own
 
   module _ (before : Lent) (list out : List ℕ) (room : roomy (tables ts) before ≡ true) (enough : length w ≤ length out) where
-    result-is : resultAnswer (countsOf (tables ts)) w [] (length list) (length out) ≡ Done (countsOf (tables ts)) (length w) 0
+    abbrev by : (l d r k n : Bool) → SalvageAnswer
+    by l d r k n = pick l (Refused TextTooLong 0) (pick d (Refused TooDeep 0) (pick (r && (k && n)) (Done (countsOf (tables ts)) (length w) 0) (Refused NoRoom 0)))
+
+    result-is : by (ltb textLimit (length w)) (ltb depthLimit (depthOf w)) (roomy (tables ts) before) (leb 0 (length list / 3)) (leb (length w) (length out)) ≡ Done (countsOf (tables ts)) (length w) 0
     result-is =
-        rw (le-ltb textLimit (length w) (reading-is true w ts reads .short), le-ltb depthLimit (depthOf w) deep, le-ltb (length list / 3) 0 (omega arith), le-ltb (length out) (length w) enough) refl
+        ap (λ (z : Bool). by z (ltb depthLimit (depthOf w)) (roomy (tables ts) before) (leb 0 (length list / 3)) (leb (length w) (length out))) (le-ltb textLimit (length w) (reading-is true w ts reads .short))
+        ∙ ap (λ (z : Bool). by false z (roomy (tables ts) before) (leb 0 (length list / 3)) (leb (length w) (length out))) (le-ltb depthLimit (depthOf w) deep)
+        ∙ ap (λ (z : Bool). by false false z (leb 0 (length list / 3)) (leb (length w) (length out))) room
+        ∙ ap (λ (z : Bool). by false false true z (leb (length w) (length out))) (le-leb 0 (length list / 3) (omega arith))
+        ∙ ap (λ (z : Bool). by false false true true z) (le-leb (length w) (length out) enough)
 
     answer-is : salvageAt w before list out ≡ Done (countsOf (tables ts)) (length w) 0
     unfolding salvageGives
     answer-is =
         ap₂ (λ (a : Answer) (cs : List Change). salvageGives a cs before (length list) (length out)) reads none
-        ∙ ap (λ (b : Bool). pick b (resultAnswer (countsOf (tables ts)) (writing (mended ts)) [] (length list) (length out)) (Refused NoRoom 0)) room
-        ∙ ap (λ (z : List ℕ). resultAnswer (countsOf (tables ts)) z [] (length list) (length out)) same-text
+        ∙ ap (λ (z : List ℕ). resultAnswer (countsOf (tables ts)) z [] (roomForAll (tables ts) before z [] (length list) (length out))) same-text
         ∙ result-is
 
     -- the answer 0 with the length of the text and no change; the list stays, and the output begins with the text

@@ -1,5 +1,5 @@
 -- A salvaged text is strictly accepted, is the mended record's, and is listed whole; the numbers. Assumes nothing.
-use Rattle.lists.proofs.Prelude.{ℕ, _/_, _≤_, Bool, true, false, _||_, List, [], _≡_, refl, ap, ap₂, _∙_, _⊎_, inl, inr, length, take, drop, take-at, ltb, pick, ltb-false, le-ltb}
+use Rattle.lists.proofs.Prelude.{ℕ, _≤_, Bool, true, false, List, [], _≡_, refl, ap, ap₂, _∙_, _⊎_, inl, inr, length, take, drop, take-at, ltb, pick, ltb-false, le-ltb}
 use Rattle.lists.proofs.Pick.{pick-elim}
 use Rattle.lists.proofs.Tests.{never}
 use Rattle.tables.specs.Numbers.{numberOf, textLimit, depthLimit}
@@ -10,7 +10,7 @@ use Rattle.tables.specs.declared.Counts.{Counts}
 use Rattle.tables.specs.declared.Reason.{Reason}
 use Rattle.tables.specs.declared.Reason.the-variants.{TextTooLong, TooDeep, NoRoom}
 use Rattle.parser.specs.Read.{Answer, refused, accepted, readLenient}
-use Rattle.reader.specs.Lent.{Lent, roomy}
+use Rattle.reader.specs.Lent.{Lent}
 use Rattle.reader.proofs.Reasons.{refused-with}
 use Rattle.reader_laws.proofs.Accepted.{reading-is}
 use Rattle.serialize.specs.Form.{writing}
@@ -22,7 +22,7 @@ use Rattle.salvage_list.specs.ListRows.{textChanges}
 use Rattle.salvage_laws.specs.Result.{salvageOf}
 use Rattle.salvage_laws.proofs.Says.{changes-say}
 use Rattle.salvage_laws.proofs.Theorem.{mended-reads}
-use Rattle.salvage.specs.Salvage.{resultAnswer, salvageGives, salvageAt, SalvageIs}
+use Rattle.salvage.specs.Salvage.{roomForAll, resultAnswer, salvageGives, salvageAt, SalvageIs}
 use Rattle.salvage.specs.Worth.{Worth, salvageNumber}
 use Rattle.salvage.specs.declared.SalvageAnswer.{SalvageAnswer}
 use Rattle.salvage.specs.declared.SalvageAnswer.the-variants.{Done, Refused}
@@ -41,16 +41,16 @@ pub record IsDone (w : List ℕ) (cs : List Change) (c : Counts) (n k : ℕ) (ts
   pub short : length w ≤ textLimit
   pub shallow : depthOf w ≤ depthLimit
 
-result-done : (w : List ℕ) (cs : List Change) (ts : List Tree) (rows room : ℕ) (c : Counts) (n k : ℕ)
-    → Done c n k ≡ resultAnswer (countsOf (tables ts)) w cs rows room → IsDone w cs c n k ts
-result-done w cs ts rows room c n k e = go (ltb textLimit (length w)) refl (ltb depthLimit (depthOf w)) refl (ltb (rows / 3) (length cs) || ltb room (length w)) e
+result-done : (w : List ℕ) (cs : List Change) (ts : List Tree) (enough : Bool) (c : Counts) (n k : ℕ)
+    → Done c n k ≡ resultAnswer (countsOf (tables ts)) w cs enough → IsDone w cs c n k ts
+result-done w cs ts enough c n k e = go (ltb textLimit (length w)) refl (ltb depthLimit (depthOf w)) refl enough e
   where
     go : (l : Bool) → ltb textLimit (length w) ≡ l → (d : Bool) → ltb depthLimit (depthOf w) ≡ d → (s : Bool)
-        → Done c n k ≡ pick l (Refused TextTooLong 0) (pick d (Refused TooDeep 0) (pick s (Refused NoRoom 0) (Done (countsOf (tables ts)) (length w) (length cs)))) → IsDone w cs c n k ts
+        → Done c n k ≡ pick l (Refused TextTooLong 0) (pick d (Refused TooDeep 0) (pick s (Done (countsOf (tables ts)) (length w) (length cs)) (Refused NoRoom 0))) → IsDone w cs c n k ts
     go true p d q s h = never cc
     go false p true q s h = never cc
-    go false p false q true h = never cc
-    go false p false q false h = record { counts = cc; long = cc; count = cc; short = ltb-false textLimit (length w) p; shallow = ltb-false depthLimit (depthOf w) q }
+    go false p false q false h = never cc
+    go false p false q true h = record { counts = cc; long = cc; count = cc; short = ltb-false textLimit (length w) p; shallow = ltb-false depthLimit (depthOf w) q }
 
 module _ (t : List ℕ) (before : Lent) (rows room : ℕ) (c : Counts) (n k : ℕ) where
   pub done-read : Done c n k ≡ salvageGives (readLenient t) (textChanges t) before rows room
@@ -61,12 +61,8 @@ module _ (t : List ℕ) (before : Lent) (rows room : ℕ) (c : Counts) (n k : �
       go : (a : Answer) → readLenient t ≡ a → Done c n k ≡ salvageGives a (textChanges t) before rows room
           → (ts : List Tree) × (readLenient t ≡ accepted ts) × IsDone (writing (mended ts)) (textChanges t) c n k ts
       go (refused r p) q h = never cc
-      go (accepted ts) q h = roomed (roomy (tables ts) before) h
-        where
-          roomed : (b : Bool) → Done c n k ≡ pick b (resultAnswer (countsOf (tables ts)) (writing (mended ts)) (textChanges t) rows room) (Refused NoRoom 0)
-              → (us : List Tree) × (readLenient t ≡ accepted us) × IsDone (writing (mended us)) (textChanges t) c n k us
-          roomed true z = (ts, q, result-done (writing (mended ts)) (textChanges t) ts rows room c n k z)
-          roomed false z = never cc
+      go (accepted ts) q h =
+          (ts, q, result-done (writing (mended ts)) (textChanges t) ts (roomForAll (tables ts) before (writing (mended ts)) (textChanges t) rows room) c n k h)
 
 module _ {t : List ℕ} {before after : Lent} {list list′ out out′ : List ℕ} {c : Counts} {n k : ℕ} (x : SalvageIs t before after list list′ out out′ (Done c n k)) where
   pub first-bytes : (ts : List Tree) → readLenient t ≡ accepted ts → n ≡ length (writing (mended ts)) → take n out′ ≡ writing (mended ts)
@@ -108,8 +104,6 @@ salvage-numbers t before list out = go (readLenient t) refl
         refused-with true (λ (y : Reason) (q : ℕ). FewNumbers (numberOf y)) (inr (inl refl)) (λ q. inr (inr (inl refl))) (inr (inr (inr (inl refl)))) (λ z. never cc) t e
     go (accepted ts) e =
         let w = writing (mended ts) in
-        pick-elim few (roomy (tables ts) before)
-        (λ _. pick-elim few (ltb textLimit (length w)) (λ _. inr (inl refl))
+        pick-elim few (ltb textLimit (length w)) (λ _. inr (inl refl))
         (λ _. pick-elim few (ltb depthLimit (depthOf w)) (λ _. inr (inr (inr (inl refl))))
-        (λ _. pick-elim few (ltb (length list / 3) (length (textChanges t)) || ltb (length out) (length w)) (λ _. inr (inr (inr (inr refl)))) (λ _. inl refl))))
-        (λ _. inr (inr (inr (inr refl))))
+        (λ _. pick-elim few (roomForAll (tables ts) before w (textChanges t) (length list) (length out)) (λ _. inl refl) (λ _. inr (inr (inr (inr refl))))))

@@ -103,7 +103,7 @@ deep-trees (t ∷ ts) l =
 
 -- ---- parents alone count
 
-parents-map : (f : Node → Node) → ((n : Node) → f n .parent ≡ n .parent) → (ns : List Node) → parents (map f ns) ≡ parents ns
+pub parents-map : (f : Node → Node) → ((n : Node) → f n .parent ≡ n .parent) → (ns : List Node) → parents (map f ns) ≡ parents ns
 parents-map f h [] = refl
 parents-map f h (n ∷ ns) = ap₂ (λ (x : ℕ) (y : List ℕ). x ∷ y) (h n) (parents-map f h ns)
 
@@ -116,7 +116,7 @@ form-highest : (ts : List Tree) → highestOf (map formTree ts) ≡ highestOf ts
 form-highest [] = refl
 form-highest (t ∷ ts) = one-tree t (formTree t) ts (map formTree ts) refl (parents-map (formNode (ruleOf t)) (λ n. refl) (t .nodes)) (form-highest ts)
 
-parents-mended : (bad : Bool) (ns : List Node) → parents (mendNodes bad ns) ≡ parents ns
+pub parents-mended : (bad : Bool) (ns : List Node) → parents (mendNodes bad ns) ≡ parents ns
 parents-mended bad [] = refl
 parents-mended bad (n ∷ ns) = ap (λ (z : List ℕ). n .parent ∷ z) (parents-map (mendNode false) (λ m. refl) ns)
 

@@ -50,7 +50,7 @@ puts-as {t} {t′} {e} {r} p h = subst (λ (z : List Change). EntriesPut t e z r
 
 -- ---- the entry of a property
 
-none-same : (w : List ℕ) → leb (length w) 0 ≡ same w []
+pub none-same : (w : List ℕ) → leb (length w) 0 ≡ same w []
 none-same [] = refl
 none-same (b ∷ w) = lt-leb (length (b ∷ w)) 0 (omega arith)
 

@@ -12,13 +12,13 @@ use Rattle.salvage_list.specs.Listed.{walkNodes}
 -- ---- the first node's properties
 
 -- the nodes of a walk, last first
-abbrev endNodes : Walk → List Node
+abbrev pub endNodes : Walk → List Node
 endNodes (walk cur st g ns) = ns
 endNodes (halted ns) = ns
 endNodes (stopped r) = []
 
 -- the properties of the first, which stands last
-abbrev rootProps : List Node → List Prop
+abbrev pub rootProps : List Node → List Prop
 rootProps [] = []
 rootProps (n ∷ []) = n .props
 rootProps (n ∷ m ∷ ns) = rootProps (m ∷ ns)
@@ -61,7 +61,7 @@ module _ (base : ℕ) where
   root-shut (prop p e ∷ ts) cur st n = root-halted (n ∷ []) ts
 
   -- one, which the properties that follow join
-  root-open : (ts : List Tok) (cur : ℕ) (st : List ℕ) (n : Node) → final (walk cur st true (n ∷ [])) ts ≡ n .props ++ props ts
+  pub root-open : (ts : List Tok) (cur : ℕ) (st : List ℕ) (n : Node) → final (walk cur st true (n ∷ [])) ts ≡ n .props ++ props ts
   root-open [] cur st n = sym (append-nil (n .props))
   root-open (start o ∷ ts) cur [] n = root-shut ts cur (cur ∷ []) n ∙ sym (append-nil (n .props))
   root-open (start o ∷ ts) cur (y ∷ st) n = either ts (children y (n ∷ [])) (walk cur (cur ∷ y ∷ st) false (n ∷ [])) (halted (n ∷ [])) (root-shut ts cur (cur ∷ y ∷ st) n) (root-halted (n ∷ []) ts) ∙ sym (append-nil (n .props))
@@ -70,7 +70,7 @@ module _ (base : ℕ) where
   root-open (node o ∷ ts) cur st n = root-more ts (base + 1) st true (record { parent = cur; props = [] }) n [] ∙ sym (append-nil (n .props))
   root-open (prop p e ∷ ts) cur st n = root-open ts cur st (record { parent = n .parent; props = n .props ++ (p ∷ []) }) ∙ append-assoc (n .props) (p ∷ []) (props ts)
 
-nodes-end : (w : Walk) → walkNodes w ≡ reverse (endNodes w)
+pub nodes-end : (w : Walk) → walkNodes w ≡ reverse (endNodes w)
 nodes-end (walk cur st g ns) = refl
 nodes-end (halted ns) = refl
 nodes-end (stopped r) = refl

@@ -151,7 +151,7 @@ fn put_tokens(s: &[u8], from: usize, rows: &mut [u32]) -> usize
 }
 
 // The entries of a text, each where there is room; how many they are.
-fn put_all(text: &[u8], rows: &mut [u32]) -> usize
+pub fn put_all(text: &[u8], rows: &mut [u32]) -> usize
     ensures { λ r. ⌜ EntriesPut (now (rows .entry)) 0 (textChanges (now (text .entry))) r (now (rows .exit)) ⌝ }
 {
     if tables::TEXT_LIMIT < text.len() {

@@ -91,14 +91,15 @@ module _ (ps : List ℕ) where
 
   -- ---- the path of the writer
 
-  abbrev Match : List Open → List Fork → Type 0
+  -- the open nodes of the path and of the spine are the same, the node below the root aside
+  abbrev pub Match : List Open → List Fork → Type 0
   Match path [] = ⊥
   Match [] (r ∷ []) = Unit {0}
   Match [] (r ∷ s ∷ rs) = ⊥
   Match (x ∷ xs) (r ∷ []) = ⊥
   Match (x ∷ xs) (r ∷ s ∷ rs) = (x .num ≡ r .num) × (x .brk ≡ bracketed ps (s .num)) × Match xs (s ∷ rs)
 
-  match-same : (path : List Open) (r s : Fork) (rs : List Fork) → Match path (s ∷ rs) → Match path (closedInto r s ∷ rs)
+  pub match-same : (path : List Open) (r s : Fork) (rs : List Fork) → Match path (s ∷ rs) → Match path (closedInto r s ∷ rs)
   match-same [] r s [] m = tt
   match-same [] r s (t ∷ rs) m = absurd m
   match-same (x ∷ xs) r s [] m = absurd m
@@ -116,7 +117,7 @@ module _ (ps : List ℕ) where
       go true false e g = absurd (true≢false e)
       go false true e g = absurd (false≢true e)
 
-  match-shut : (q : ℕ) (path : List Open) (xs : List Fork) → Match path xs → Match (pathLeft q path) (shutTo q xs)
+  pub match-shut : (q : ℕ) (path : List Open) (xs : List Fork) → Match path xs → Match (pathLeft q path) (shutTo q xs)
   match-shut q path [] m = absurd m
   match-shut q path (r ∷ rs) m = match-from q path r rs m
 
@@ -129,7 +130,7 @@ module _ (ps : List ℕ) where
   -- ---- node by node
 
   module _ (k q : ℕ) (path : List Open) (xs : List Fork) (hd : Heads q xs) (m : Match path xs) where
-    match-push : Match (opening ps k q ∷ path) (leaf k ∷ xs)
+    pub match-push : Match (opening ps k q ∷ path) (leaf k ∷ xs)
     match-push = go xs hd m
       where
         go : (ys : List Fork) → Heads q ys → Match path ys → Match (opening ps k q ∷ path) (leaf k ∷ ys)

@@ -2,6 +2,7 @@
 pub mod Chains
 pub mod Depths
 pub mod Examples
+pub mod Kept
 pub mod Latest
 pub mod Lists
 pub mod Loads
@@ -9,6 +10,7 @@ pub mod Nodes
 pub mod Shaping
 pub mod Siblings
 pub mod Spines
+pub mod Sums
 pub mod Theorem
 pub mod Turns
 pub mod Walking

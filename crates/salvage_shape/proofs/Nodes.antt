@@ -1,10 +1,11 @@
 -- The walk of a slice for its shape: a turn at a node, and at a property. Assumes nothing.
-use Rattle.lists.proofs.Prelude.{_≡_, refl, sym, ap, _∙_, subst, subst⁻¹, ℕ, zero, suc, _+_, _-_, _*_, _≤_, _<_, arith, Bool, true, false, List, [], _∷_, _++_, length}
+use Rattle.lists.proofs.Prelude.{_≡_, refl, sym, ap, _∙_, subst, subst⁻¹, ℕ, zero, suc, _+_, _-_, _*_, _≤_, _<_, arith, Bool, true, false, List, [], _∷_, _++_, length, eqb}
 use Rattle.lexer.specs.Token.{node, prop, lexed, lexAt}
 use Rattle.lexer.specs.Step.{propAt}
 use Rattle.tables.specs.Numbers.{none}
 use Rattle.tables.specs.Record.{Node}
 use Rattle.tables.specs.Rows.{parents}
+use Rattle.parser.specs.Game.{props}
 use Rattle.parser.specs.Walk.{walk, halted, walks, adds, gated}
 use Rattle.parser.specs.LocalsSlice.{sliceFrom, Shallow}
 use Rattle.parser_step.specs.LocalsActs.{stackOf}
@@ -12,18 +13,23 @@ use Rattle.parser_step.proofs.Stacks.{stack-none, stack-pop}
 use Rattle.parser_tree.specs.LocalsTurns.{BehindIs}
 use Rattle.parser_tree.proofs.Lines.{Line, line-node, line-prop}
 use Rattle.parser_tree.proofs.Behind.{skipping-node, skipping-behind, skipping-prop}
+use Rattle.salvage_form.specs.Measured.{lengthLimit}
+use Rattle.salvage_form.specs.Rooted.{rootRule}
+use Rattle.salvage_form.specs.declared.root.RootRule.{RootRule}
 use Rattle.salvage_list.proofs.Going.{here, blames-on, walkeds-on, stopped-nodes}
 use Rattle.salvage_list.proofs.Props.{node-slice, prop-slice}
 use Rattle.salvage_shape.specs.LocalsChain.{heightLimit, joinedTo, bracketsMore, chainKept, cellsOf, freshOf, closeAll}
+use Rattle.salvage_shape.specs.LocalsSum.{keptLength, ruleAfter}
 use Rattle.salvage_shape.specs.LocalsWalk.{ShapeIs}
 use Rattle.salvage_shape.specs.declared.Chain.{Chain}
 use Rattle.salvage_shape.proofs.Chains.{Stands}
 use Rattle.salvage_shape.proofs.Shaping.{Shaped, shaped-new, shaped-more}
+use Rattle.salvage_shape.proofs.Sums.{Summed, summed-node, summed-prop}
 use Rattle.salvage_shape.proofs.Turns.{marks-pop, cells-pop, cells-put, put-length}
 use Rattle.salvage_shape.proofs.Walking.{Walking, parents-length, shaped-as, walking-few, shape-over}
 
-module _ {u : List ℕ} {from base : ℕ} {a : List ℕ} {ma : List Bool} {ca : List ℕ} {at d cur n : ℕ} {g f : Bool} {brackets : ℕ} {c : Chain}
-    (x : Walking u from base a ma ca at d cur n g f brackets c) where
+module _ {u : List ℕ} {from base : ℕ} {a : List ℕ} {ma : List Bool} {ca : List ℕ} {at d cur n : ℕ} {g f : Bool} {brackets : ℕ} {c : Chain} {root : RootRule} {bytes : ℕ}
+    (x : Walking u from base a ma ca at d cur n g f brackets c root bytes) where
   abbrev ds : List ℕ
   ds = parents (x .go .ns)
 
@@ -63,9 +69,10 @@ module _ {u : List ℕ} {from base : ℕ} {a : List ℕ} {ma : List Bool} {ca : 
     kept-length false z = refl
 
     pub walking-node : {cur2 : ℕ} → cur2 ≡ n → {ca2 : List ℕ} → ca2 ≡ chainKept f ca d c → {k : ℕ} → k ≡ bracketsMore (c .kids) → {c2 : Chain} → c2 ≡ joinedTo f c
-        → Walking u from base a ma ca2 (i + 1) d cur2 (n + 1) true false (brackets + k) c2
+        → {root2 : RootRule} → root2 ≡ ruleAfter (eqb n base) (rootRule (props (lexAt u (i + 1) .toks))) root
+        → Walking u from base a ma ca2 (i + 1) d cur2 (n + 1) true false (brackets + k) c2 root2 bytes
     unfolding Shallow
-    walking-node {cur2} ec {ca2} ek {k} eb {c2} ej =
+    walking-node {cur2} ec {ca2} ek {k} eb {c2} ej er =
         let fe = x .go .few in
         let sh = x .go .short in
         let lw = x .go .low in
@@ -99,24 +106,25 @@ module _ {u : List ℕ} {from base : ℕ} {a : List ℕ} {ma : List Bool} {ca : 
               (node-shape f refl))));
           marked = x .marked;
           kept = ap length ek ∙ kept-length f refl ∙ x .kept;
+          sums = summed-node (x .go) lo hi q (x .sums) er;
         }
 
   -- ---- a property
 
   module _ (i k e : ℕ) (q : lexAt u at ≡ lexed (prop (propAt u i k) e ∷ []) (lexAt u e)) where
     pub prop-over : g ≡ false → {r : ℕ} → BehindIs true u at d r → {h : ℕ} → h ≡ closeAll f c (freshOf ma d) (cellsOf ca d)
-        → ShapeIs u from base (record { next = r; nodes = n - base; brackets = brackets; depth = h + 1 })
+        → ShapeIs u from base (record { next = r; nodes = n - base; brackets = brackets; depth = h + 1; bytes = bytes })
     unfolding propAt
     prop-over z bh eh =
         let w : walks true base (here (x .go)) (prop (propAt u i k) e) ≡ halted (x .go .ns) = ap (λ (b : Bool). gated true b (propAt u i k) cur (stackOf a d) (x .go .ns)) z in
         shape-over x (stopped-nodes (x .go) (prop (propAt u i k) e) (sliceFrom d (lexAt u e .toks)) (prop-slice (x .go) i k e q) w) (skipping-behind (x .go .skip) bh) (bh .on) eh
 
-    pub walking-prop : at < e → e ≤ length u → g ≡ true → Walking u from base a ma ca e d cur n g f brackets c
+    pub walking-prop : at < e → e ≤ length u → g ≡ true → {y : ℕ} → y ≡ keptLength root (propAt u i k) → y ≤ lengthLimit → Walking u from base a ma ca e d cur n g f brackets c root (bytes + y)
     unfolding Shallow
-    walking-prop lo hi z = by (x .go .ns) refl (x .go .some z)
+    walking-prop lo hi z {y} ek lk = by (x .go .ns) refl (x .go .some z)
       where
-        by : (ns : List Node) → x .go .ns ≡ ns → 0 < length (x .go .ns) → Walking u from base a ma ca e d cur n g f brackets c
-        by [] v l = absurd (let y : length (x .go .ns) ≡ 0 = ap length v in omega arith)
+        by : (ns : List Node) → x .go .ns ≡ ns → 0 < length (x .go .ns) → Walking u from base a ma ca e d cur n g f brackets c root (bytes + y)
+        by [] v l = absurd (let o : length (x .go .ns) ≡ 0 = ap length v in omega arith)
         by (m ∷ ms) v l =
             let fe = x .go .few in
             let w : walks true base (here (x .go)) (prop (propAt u i k) e) ≡ walk cur (stackOf a d) g (record { parent = m .parent; props = m .props ++ (propAt u i k ∷ []) } ∷ ms) =
@@ -129,7 +137,7 @@ module _ {u : List ℕ} {from base : ℕ} {a : List ℕ} {ma : List Bool} {ca : 
                 low = x .go .low;
                 ns = record { parent = m .parent; props = m .props ++ (propAt u i k ∷ []) } ∷ ms;
                 pre = x .go .pre ++ (prop (propAt u i k) e ∷ []);
-                count = x .go .count ∙ ap (λ (y : List Node). base + length y) v;
+                count = x .go .count ∙ ap (λ (o : List Node). base + length o) v;
                 array = x .go .array;
                 deep = x .go .deep;
                 few = omega arith;
@@ -137,10 +145,11 @@ module _ {u : List ℕ} {from base : ℕ} {a : List ℕ} {ma : List Bool} {ca : 
                 blames = blames-on (x .go) (prop (propAt u i k) e) (sliceFrom d (lexAt u e .toks)) (prop-slice (x .go) i k e q) w refl;
                 walkeds = walkeds-on (x .go) (prop (propAt u i k) e) (sliceFrom d (lexAt u e .toks)) (prop-slice (x .go) i k e q) w;
                 shallow = subst (Shallow d) (prop-slice (x .go) i k e q) (x .go .shallow);
-                line = line-prop (m .props ++ (propAt u i k ∷ [])) (subst (λ (y : List Node). Line base y cur (stackOf a d)) v (x .go .line));
-                some = λ y. omega arith;
+                line = line-prop (m .props ++ (propAt u i k ∷ [])) (subst (λ (o : List Node). Line base o cur (stackOf a d)) v (x .go .line));
+                some = λ o. omega arith;
               };
-              shape = subst (λ (y : List Node). Shaped base (parents y) cur f c (stackOf a d) (freshOf ma d) (cellsOf ca d) brackets) v (x .shape);
+              shape = subst (λ (o : List Node). Shaped base (parents o) cur f c (stackOf a d) (freshOf ma d) (cellsOf ca d) brackets) v (x .shape);
               marked = x .marked;
               kept = x .kept;
+              sums = summed-prop (subst (λ (o : List Node). Summed u from base o at root bytes) v (x .sums)) (propAt u i k) lo ek lk;
             }

@@ -8,7 +8,7 @@ use Rattle.salvage_shape.specs.LocalsWalk.{ShapeReady, ShapeIs}
 use Rattle.salvage_shape.specs.declared.TreeShape.{TreeShape}
 use Rattle.salvage_shape.proofs.Depths.{shape-highest}
 
-parents-many : (ns : List Node) → length (parents ns) ≡ length ns
+pub parents-many : (ns : List Node) → length (parents ns) ≡ length ns
 parents-many [] = refl
 parents-many (n ∷ ns) = ap suc (parents-many ns)
 

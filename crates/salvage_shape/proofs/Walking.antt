@@ -10,6 +10,7 @@ use Rattle.parser_step.specs.LocalsActs.{stackOf}
 use Rattle.parser_tree.specs.LocalsTurns.{BehindIs}
 use Rattle.parser_tree.proofs.Lines.{line-first}
 use Rattle.parser_tree.proofs.Behind.{skipping-first, skipping-over}
+use Rattle.salvage_form.specs.declared.root.RootRule.{RootRule}
 use Rattle.salvage_list.specs.Listed.{walkNodes}
 use Rattle.salvage_list.specs.LocalsWalk.{nodesFrom}
 use Rattle.salvage_list.proofs.Going.{Going, here}
@@ -20,6 +21,7 @@ use Rattle.salvage_shape.specs.declared.Chain.{Chain}
 use Rattle.salvage_shape.proofs.Shaping.{Shaped, shaped-first, shaped-depth, shaped-low, shaped-brackets}
 use Rattle.salvage_shape.proofs.Latest.{meets-forward}
 use Rattle.salvage_shape.proofs.Siblings.{brackets-few}
+use Rattle.salvage_shape.proofs.Sums.{Summed, summed-first, summed-on, summed-all}
 
 -- ---- parents
 
@@ -48,14 +50,15 @@ shaped-as {base} {ds} {cur} {f} {c} {brackets} {st} {st2} {ms} {ms2} {es} {es2} 
     (subst (λ (z : List Bool). Shaped base ds cur f c st2 z es brackets) b (subst (λ (z : List ℕ). Shaped base ds cur f c z ms es brackets) a x))
 
 -- the walk, and the shape so far
-pub record Walking (u : List ℕ) (from base : ℕ) (a : List ℕ) (ma : List Bool) (ca : List ℕ) (at d cur n : ℕ) (g f : Bool) (brackets : ℕ) (c : Chain) : Type 0 where
+pub record Walking (u : List ℕ) (from base : ℕ) (a : List ℕ) (ma : List Bool) (ca : List ℕ) (at d cur n : ℕ) (g f : Bool) (brackets : ℕ) (c : Chain) (root : RootRule) (bytes : ℕ) : Type 0 where
   pub go : Going u from base a at d cur n g
   pub shape : Shaped base (parents (go .ns)) cur f c (stackOf a d) (freshOf ma d) (cellsOf ca d) brackets
   pub marked : length ma ≡ depthLimit
   pub kept : length ca ≡ depthLimit * 4
+  pub sums : Summed u from base (go .ns) at root bytes
 
 pub walking-first : {u : List ℕ} {from base : ℕ} (a : List ℕ) (ma : List Bool) (ca : List ℕ) → ShapeReady u from base → length a ≡ depthLimit → length ma ≡ depthLimit → length ca ≡ depthLimit * 4
-    → Walking u from base a ma ca from 0 none base false false 0 noChain
+    → Walking u from base a ma ca from 0 none base false false 0 noChain (record { rule = 0; bad = false }) 0
 unfolding stackOf freshOf cellsOf
 walking-first {u} {from} {base} a ma ca x h i j =
     record {
@@ -78,10 +81,11 @@ walking-first {u} {from} {base} a ma ca x h i j =
       shape = shaped-first base;
       marked = i;
       kept = j;
+      sums = summed-first u from base;
     }
 
-module _ {u : List ℕ} {from base : ℕ} {a : List ℕ} {ma : List Bool} {ca : List ℕ} {at d cur n : ℕ} {g f : Bool} {brackets : ℕ} {c : Chain}
-    (x : Walking u from base a ma ca at d cur n g f brackets c) where
+module _ {u : List ℕ} {from base : ℕ} {a : List ℕ} {ma : List Bool} {ca : List ℕ} {at d cur n : ℕ} {g f : Bool} {brackets : ℕ} {c : Chain} {root : RootRule} {bytes : ℕ}
+    (x : Walking u from base a ma ca at d cur n g f brackets c root bytes) where
   abbrev ds : List ℕ
   ds = parents (x .go .ns)
 
@@ -111,7 +115,7 @@ module _ {u : List ℕ} {from base : ℕ} {a : List ℕ} {ma : List Bool} {ca : 
     all : parents (nodesFrom u from base) ≡ reverse ds
     all = ap parents en ∙ parents-reverse (x .go .ns)
 
-    pub shape-over : ShapeIs u from base (record { next = next; nodes = n - base; brackets = brackets; depth = h + 1 })
+    pub shape-over : ShapeIs u from base (record { next = next; nodes = n - base; brackets = brackets; depth = h + 1; bytes = bytes })
     shape-over =
         let q = x .go .count in
         let e : length (nodesFrom u from base) ≡ length (x .go .ns) = ap length en ∙ length-reverse (x .go .ns) in
@@ -123,11 +127,13 @@ module _ {u : List ℕ} {from base : ℕ} {a : List ℕ} {ma : List Bool} {ca : 
           behind = bh;
           meets = subst (Meets base (leaf none ∷ [])) (sym all) (meets-forward base ds (x .shape .meets));
           node-bound = omega (arith, q, w, on);
+          bytes = summed-all (x .sums) en;
+          byte-bound = summed-on (x .sums) on .bound;
         }
 
   -- ---- no token is left
 
-  pub none-over : lexAt u at .toks ≡ [] → {h : ℕ} → h ≡ closeAll f c (freshOf ma d) (cellsOf ca d) → ShapeIs u from base (record { next = at; nodes = n - base; brackets = brackets; depth = h + 1 })
+  pub none-over : lexAt u at .toks ≡ [] → {h : ℕ} → h ≡ closeAll f c (freshOf ma d) (cellsOf ca d) → ShapeIs u from base (record { next = at; nodes = n - base; brackets = brackets; depth = h + 1; bytes = bytes })
   unfolding sliceFrom
   none-over z eh =
       let k : sliceFrom d (lexAt u at .toks) ≡ [] = ap (sliceFrom d) z in

@@ -1,3 +1,4 @@
 pub mod LocalsChain
 pub mod LocalsShape
+pub mod LocalsSum
 pub mod LocalsWalk

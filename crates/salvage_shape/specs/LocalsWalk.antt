@@ -1,10 +1,14 @@
 -- What the walk of a slice for its shape asks for and gives. Nothing public is stated by these.
-use Rattle.lists.specs.Prelude.{ℕ, _+_, _≤_, _≡_, true, List, [], _∷_, length}
+use Rattle.lists.specs.Prelude.{ℕ, _+_, _*_, _≤_, _≡_, true, List, [], _∷_, length}
 use Rattle.tables.specs.Numbers.{textLimit, none}
 use Rattle.tables.specs.Rows.{parents}
 use Rattle.parser.specs.LocalsSlice.{Shallow}
 use Rattle.parser_tree.specs.LocalsTurns.{BehindIs}
 use Rattle.salvage_list.specs.LocalsWalk.{tokensAt, nodesFrom}
+use Rattle.fit_rule.specs.Rule.{firstProps}
+use Rattle.salvage_form.specs.Measured.{lengthLimit}
+use Rattle.salvage_form.specs.Rooted.{rootRule}
+use Rattle.salvage_shape.specs.LocalsSum.{nodesLength}
 use Rattle.salvage_shape.specs.LocalsShape.{leaf, Meets, shapeDepth, bracketsOf}
 use Rattle.salvage_shape.specs.declared.TreeShape.{TreeShape}
 
@@ -23,3 +27,5 @@ pub record ShapeIs (u : List ℕ) (from base : ℕ) (r : TreeShape) : Type 0 whe
   pub behind : BehindIs true u from 0 (r .next)
   pub meets : Meets base (leaf none ∷ []) (parents (nodesFrom u from base))
   pub node-bound : r .nodes + from ≤ r .next
+  pub bytes : r .bytes ≡ nodesLength (rootRule (firstProps (nodesFrom u from base))) (nodesFrom u from base)
+  pub byte-bound : r .bytes + lengthLimit * from ≤ lengthLimit * r .next

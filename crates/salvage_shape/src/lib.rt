@@ -1,14 +1,22 @@
-// The shape of a tree, from the tokens of its slice alone: how many nodes it has, how many of them stand in brackets when it is written, and how deep it is then.
+// The shape of a tree, from the tokens of its slice alone: how many nodes it has, how many of them stand in brackets when it is written, how deep it is then, and how
+// many bytes its properties take once it is mended.
 ghost use mathlib.Core.Path.{_≡_};
 ghost use mathlib.Core.Bool.{true};
 ghost use Prim.Native.Nat.{_+_, _≤_, _<_, max};
 ghost use lib.ListN.{length};
+ghost use Rattle.lexer.specs.Token.{lexAt};
+ghost use Rattle.lexer.specs.Step.{propAt};
 ghost use Rattle.tables.specs.Numbers.{textLimit, depthLimit};
+ghost use Rattle.parser.specs.Game.{props};
+ghost use Rattle.salvage_form.specs.Measured.{lengthLimit};
+ghost use Rattle.salvage_form.specs.Rooted.{rootRule};
 ghost use Rattle.parser_tree.specs.LocalsTurns.{BehindIs};
 ghost use Rattle.parser_step.specs.LocalsActs.{stackOf, hasChild, mayOpen};
 ghost use Rattle.salvage_shape.specs.LocalsChain.{sumIn, heightIn, chainHeight, joinedTo, endedBy, bracketsMore, cellAt, chainKept, freshOf, cellsOf, closeAll};
+ghost use Rattle.salvage_shape.specs.LocalsSum.{nameStays, keptLength, ruleAfter};
 ghost use Rattle.salvage_shape.specs.LocalsWalk.{ShapeReady, ShapeIs};
 use lexer::Step;
+use salvage_form::root::RootRule;
 use tables::NONE;
 
 // The most that a sum of heights may be; no tree comes near it.
@@ -23,12 +31,13 @@ struct Chain {
     top: usize,
 }
 
-// The place behind a slice; how many nodes its tree has, how many stand in brackets; the depth, 1 where there is no node.
+// The place behind a slice; how many nodes its tree has, how many stand in brackets; the depth, 1 where there is no node; the lengths of the properties that stay.
 pub struct TreeShape {
     pub next: usize,
     pub nodes: usize,
     pub brackets: usize,
     pub depth: usize,
+    pub bytes: usize,
 }
 
 // The greater of two numbers.
@@ -242,6 +251,43 @@ fn skip_slice(s: &[u8], from: usize, opened: usize) -> usize
     }
 }
 
+// Does a property stay, by its raw identifier.
+fn stays(name: &[u8], bad: bool) -> bool
+    ensures { λ r. ⌜ r ≡ nameStays bad (now (name .entry)) ⌝ }
+{
+    if parts_props::reads_as(name, &name[..0]) {
+        return false;
+    }
+    if bad {
+        return !parts_props::reads_as(name, b"GM");
+    }
+    true
+}
+
+// The length of the property that starts at i and whose first `[` is at k, 0 where it is removed.
+fn kept_length(s: &[u8], root: RootRule, i: usize, k: usize) -> usize
+    requires { ⌜ (length (now s) ≤ textLimit) × (i ≤ k) × (k ≤ length (now s)) ⌝ }
+    ensures { λ r. ⌜ (r ≡ keptLength root (propAt (now (s .entry)) i k)) × (r ≤ lengthLimit) ⌝ }
+{
+    if !stays(&s[i..k], root.bad) {
+        return 0;
+    }
+    salvage_form::property_length(s, root.rule, i, k)
+}
+
+// What holds of the properties of a node that follow a place: of the first node's, what they say; of any other's, the rule so far, and none is removed.
+fn node_rule(s: &[u8], at: usize, first: bool, was: RootRule) -> RootRule
+    ensures { λ r. ⌜ r ≡ ruleAfter first (rootRule (props (lexAt (now (s .entry)) at .toks))) was ⌝ }
+{
+    if first {
+        return salvage_form::root::root_rule(s, at);
+    }
+    RootRule {
+        rule: was.rule,
+        bad: false,
+    }
+}
+
 // The shape of the tree of the slice that starts at a place, its first node numbered `base`.
 pub fn shape_of(s: &[u8], from: usize, base: usize) -> TreeShape
     requires { ⌜ ShapeReady (now s) from base ⌝ }
@@ -263,6 +309,11 @@ pub fn shape_of(s: &[u8], from: usize, base: usize) -> TreeShape
         plus: 0,
         top: 0,
     };
+    let mut root = RootRule {
+        rule: 0,
+        bad: false,
+    };
+    let mut bytes: usize = 0;
     loop {
         match lexer::next_token(s, at) {
             Step::Start(i) => {
@@ -272,6 +323,7 @@ pub fn shape_of(s: &[u8], from: usize, base: usize) -> TreeShape
                         nodes: n - base,
                         brackets: brackets,
                         depth: finish(&marks, &cells, depth, fresh, c) + 1,
+                        bytes: bytes,
                     };
                 }
                 stack[depth] = cur;
@@ -288,6 +340,7 @@ pub fn shape_of(s: &[u8], from: usize, base: usize) -> TreeShape
                         nodes: n - base,
                         brackets: brackets,
                         depth: finish(&marks, &cells, depth, fresh, c) + 1,
+                        bytes: bytes,
                     };
                 }
                 depth -= 1;
@@ -298,6 +351,7 @@ pub fn shape_of(s: &[u8], from: usize, base: usize) -> TreeShape
                 at = i + 1;
             }
             Step::Node(i) => {
+                root = node_rule(s, i + 1, n == base, root);
                 keep(&mut cells, depth, fresh, c);
                 brackets += more(c.kids);
                 c = joined(fresh, c);
@@ -307,15 +361,17 @@ pub fn shape_of(s: &[u8], from: usize, base: usize) -> TreeShape
                 follows = true;
                 at = i + 1;
             }
-            Step::Property(_, _, next) => {
+            Step::Property(i, k, next) => {
                 if !follows {
                     return TreeShape {
                         next: skip_slice(s, at, depth),
                         nodes: n - base,
                         brackets: brackets,
                         depth: finish(&marks, &cells, depth, fresh, c) + 1,
+                        bytes: bytes,
                     };
                 }
+                bytes += kept_length(s, root, i, k);
                 at = next;
             }
             Step::Refused(_, _) => {
@@ -324,6 +380,7 @@ pub fn shape_of(s: &[u8], from: usize, base: usize) -> TreeShape
                     nodes: n - base,
                     brackets: brackets,
                     depth: finish(&marks, &cells, depth, fresh, c) + 1,
+                    bytes: bytes,
                 };
             }
             Step::Done => {
@@ -332,6 +389,7 @@ pub fn shape_of(s: &[u8], from: usize, base: usize) -> TreeShape
                     nodes: n - base,
                     brackets: brackets,
                     depth: finish(&marks, &cells, depth, fresh, c) + 1,
+                    bytes: bytes,
                 };
             }
         }

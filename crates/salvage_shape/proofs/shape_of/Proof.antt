@@ -1,32 +1,26 @@
 -- `salvage_shape::shape_of` meets its contract. Assumes nothing.
-use borrow.Author.Needs.{needs}
-use denote.Ref.{now}
-use Rattle.lists.proofs.Prelude.{_-_, refl, ap, length, arith, not-true, not-false}
-use Rattle.lexer.specs.Token.{Lexed}
-use Rattle.lexer.proofs.Within.{found-within}
-use Rattle.parser.proofs.Meets.{meets}
-use Rattle.salvage_list.proofs.Going.{start-deep}
-use Rattle.salvage_shape.proofs.Turns.{more-least}
-use Rattle.salvage_shape.proofs.Walking.{Walking, walking-first, walking-few, walking-low, none-over}
-use Rattle.salvage_shape.proofs.Lists.{start-over, walking-start, end-over, walking-end}
 use Rattle.salvage_shape.proofs.Nodes.{walking-open, walking-node, prop-over, walking-prop}
+use Rattle.salvage_shape.proofs.Lists.{start-over, walking-start, end-over, walking-end}
+use Rattle.salvage_shape.proofs.Walking.{Walking, walking-first, walking-few, walking-low, none-over}
+use Rattle.salvage_shape.proofs.Turns.{more-least}
+use Rattle.salvage_list.proofs.Going.{start-deep}
+use Rattle.parser.proofs.Meets.{meets}
+use Rattle.lexer.proofs.Within.{found-within}
+use Rattle.lexer.specs.Token.{Lexed}
+use Rattle.lists.proofs.Prelude.{_-_, refl, ap, length, arith, not-true, not-false}
+use denote.Ref.{now}
+use borrow.Author.Needs.{needs}
 use Rattle.salvage_shape.proofs.shape_of.Statement.{statement}
 use Rattle.salvage_shape.proofs.shape_of.Tie as tie
 
 abbrev Inv-loop : tie.InvT-loop
-Inv-loop s from base stack₀ marks₀ cells₀ at₀ depth₀ cur₀ n₀ follows₀ fresh₀ brackets₀ c₀ stack marks cells at depth cur n follows fresh brackets c = Walking s from base stack marks cells at depth cur n follows fresh brackets c
+Inv-loop s from base stack₀ marks₀ cells₀ at₀ depth₀ cur₀ n₀ follows₀ fresh₀ brackets₀ c₀ root₀ bytes₀ stack marks cells at depth cur n follows fresh brackets c root bytes = Walking s from base stack marks cells at depth cur n follows fresh brackets c root bytes
 
 abbrev μ-loop : tie.MeasureT-loop
-μ-loop s from base stack₀ marks₀ cells₀ at₀ depth₀ cur₀ n₀ follows₀ fresh₀ brackets₀ c₀ stack marks cells at depth cur n follows fresh brackets c = length s - at
-
-loop-holds : tie.Need-loop-holds Inv-loop μ-loop
-loop-holds c = walking-first _ _ _ (c .before .pre) refl refl refl
+μ-loop s from base stack₀ marks₀ cells₀ at₀ depth₀ cur₀ n₀ follows₀ fresh₀ brackets₀ c₀ root₀ bytes₀ stack marks cells at depth cur n follows fresh brackets c root bytes = length s - at
 
 skip-slice-requires : tie.Need-skip-slice-requires Inv-loop μ-loop
 skip-slice-requires c κs = ((c .before .before .before .before .before .before .before .loop .inv .go) .short, (c .before .before .before .before .before .before .before .loop .inv .go) .skip .inside, (c .before .before .before .before .before .before .before .loop .inv .go) .deep)
-
-add-t28 : tie.Need-add-t28 Inv-loop μ-loop
-add-t28 c = let h = walking-low (c .before .before .before .before .before .before .before .before .before .before .before .loop .inv) (c .finish .ensures) in omega (arith, h)
 
 returns : tie.Need-returns Inv-loop μ-loop
 returns c = let w = (found-within (now (c .before .before .before .before .before .before .before .before .before .before .before .before .before .args .s)) _ _ _ (c .before .before .before .before .before .before .before .before .before .before .next-token .ensures) (c .before .before .before .before .before .before .before .before .i .given .1)) in start-over (c .before .before .before .before .before .before .before .before .before .before .before .loop .inv) (w .0) (w .1) (meets (now (c .before .before .before .before .before .before .before .before .before .before .before .before .before .args .s)) (c .before .before .before .before .before .before .before .before .before .before .before .loop .at) (c .before .before .before .before .before .before .before .before .before .before .next-token .ensures) (c .before .before .before .before .before .before .before .before .i .given .1)) (c .before .before .before .before .before .may-open .ensures) (not-true _ (c .before .before .before .before .if1 .taken)) (c .before .before .before .skip-slice .ensures) (c .finish .ensures)
@@ -46,20 +40,11 @@ loop-less c = let w = (found-within (now (c .before .before .before .before .bef
 loop-again : tie.Need-loop-again Inv-loop μ-loop
 loop-again c = let w = (found-within (now (c .before .before .before .before .before .before .before .before .before .args .s)) _ _ _ (c .before .before .before .before .before .before .next-token .ensures) (c .before .before .before .before .i .given .1)) in walking-start (c .before .before .before .before .before .before .before .loop .inv) (w .0) (w .1) (meets (now (c .before .before .before .before .before .before .before .before .before .args .s)) (c .before .before .before .before .before .before .before .loop .at) (c .before .before .before .before .before .before .next-token .ensures) (c .before .before .before .before .i .given .1)) (c .before .may-open .ensures) (not-false _ (c .if1 .left)) (start-deep (c .before .before .before .before .before .before .before .loop .inv .go) (w .0) (w .1) (meets (now (c .before .before .before .before .before .before .before .before .before .args .s)) (c .before .before .before .before .before .before .before .loop .at) (c .before .before .before .before .before .before .next-token .ensures) (c .before .before .before .before .i .given .1))) refl refl
 
-add-t35 : tie.Need-add-t35 Inv-loop μ-loop
-add-t35 c = let w = (found-within (now (c .before .before .before .before .before .before .before .args .s)) _ _ _ (c .before .before .before .before .next-token .ensures) (c .before .before .i2 .given .1)) in omega arith
-
-add-t40 : tie.Need-add-t40 Inv-loop μ-loop
-add-t40 c = let h = walking-low (c .before .before .before .before .before .before .before .before .loop .inv) (c .finish2 .ensures) in omega (arith, h)
+add-t39 : tie.Need-add-t39 Inv-loop μ-loop
+add-t39 c = let w = (found-within (now (c .before .before .before .before .before .before .before .args .s)) _ _ _ (c .before .before .before .before .next-token .ensures) (c .before .before .i2 .given .1)) in omega arith
 
 returns-2 : tie.Need-returns-2 Inv-loop μ-loop
 returns-2 c = let w = (found-within (now (c .before .before .before .before .before .before .before .before .before .before .args .s)) _ _ _ (c .before .before .before .before .before .before .before .next-token .ensures) (c .before .before .before .before .before .i2 .given .1)) in end-over (c .before .before .before .before .before .before .before .before .loop .inv) (w .0) (w .1) (meets (now (c .before .before .before .before .before .before .before .before .before .before .args .s)) (c .before .before .before .before .before .before .before .before .loop .at) (c .before .before .before .before .before .before .before .next-token .ensures) (c .before .before .before .before .before .i2 .given .1)) (c .before .before .before .if2 .taken) (c .finish2 .ensures)
-
-sub-depth : tie.Need-sub-depth Inv-loop μ-loop
-sub-depth c = let l = c .if2 .left in omega (arith, l)
-
-load-requires : tie.Need-load-requires Inv-loop μ-loop
-load-requires c κs = let l = c .before .if2 .left in let d = (c .before .before .before .before .before .before .loop .inv .go) .deep in omega (arith, l, d)
 
 array-read-cur : tie.Need-array-read-cur Inv-loop μ-loop
 array-read-cur c = let l = c .before .before .before .if2 .left in let d = (c .before .before .before .before .before .before .before .before .loop .inv .go) .deep in let a = (c .before .before .before .before .before .before .before .before .loop .inv .go) .array in omega (arith, l, d, a)
@@ -76,44 +61,38 @@ loop-less-2 c = let w = (found-within (now (c .before .before .before .before .b
 loop-again-2 : tie.Need-loop-again-2 Inv-loop μ-loop
 loop-again-2 c = let w = (found-within (now (c .before .before .before .before .before .before .before .before .before .before .args .s)) _ _ _ (c .before .before .before .before .before .before .before .next-token .ensures) (c .before .before .before .before .before .i2 .given .1)) in walking-end (c .before .before .before .before .before .before .before .before .loop .inv) (w .0) (w .1) (meets (now (c .before .before .before .before .before .before .before .before .before .before .args .s)) (c .before .before .before .before .before .before .before .before .loop .at) (c .before .before .before .before .before .before .before .next-token .ensures) (c .before .before .before .before .before .i2 .given .1)) (c .before .before .before .if2 .left) refl (c .before .load .ensures) (c .ended .ensures) refl
 
-keep-requires : tie.Need-keep-requires Inv-loop μ-loop
-keep-requires c κs = ((c .before .before .before .before .before .loop .inv .go) .deep, walking-open (c .before .before .before .before .before .loop .inv))
-
 add-brackets : tie.Need-add-brackets Inv-loop μ-loop
-add-brackets c = let f = walking-few (c .before .before .before .before .before .before .before .loop .inv) in let m = c .more .ensures in let l = more-least (c .before .before .before .before .before .before .before .loop .c .kids) in omega (arith, f .2, f .4, m, l)
+add-brackets c = let f = walking-few (c .before .before .before .before .before .before .before .before .loop .inv) in let m = c .more .ensures in let l = more-least (c .before .before .before .before .before .before .before .before .loop .c .kids) in omega (arith, f .2, f .4, m, l)
 
 add-at-3 : tie.Need-add-at-3 Inv-loop μ-loop
-add-at-3 c = let w = (found-within (now (c .before .before .before .before .before .before .before .before .before .before .args .s)) _ _ _ (c .before .before .before .before .before .before .before .next-token .ensures) (c .before .before .before .before .before .i3 .given .1)) in omega arith
+add-at-3 c = let w = (found-within (now (c .before .before .before .before .before .before .before .before .before .before .before .args .s)) _ _ _ (c .before .before .before .before .before .before .before .before .next-token .ensures) (c .before .before .before .before .before .before .i3 .given .1)) in omega arith
 
 loop-less-3 : tie.Need-loop-less-3 Inv-loop μ-loop
-loop-less-3 c = let w = (found-within (now (c .before .before .before .before .before .before .before .before .before .before .args .s)) _ _ _ (c .before .before .before .before .before .before .before .next-token .ensures) (c .before .before .before .before .before .i3 .given .1)) in omega arith
+loop-less-3 c = let w = (found-within (now (c .before .before .before .before .before .before .before .before .before .before .before .args .s)) _ _ _ (c .before .before .before .before .before .before .before .before .next-token .ensures) (c .before .before .before .before .before .before .i3 .given .1)) in omega arith
 
 loop-again-3 : tie.Need-loop-again-3 Inv-loop μ-loop
-loop-again-3 c = let w = (found-within (now (c .before .before .before .before .before .before .before .before .before .before .args .s)) _ _ _ (c .before .before .before .before .before .before .before .next-token .ensures) (c .before .before .before .before .before .i3 .given .1)) in walking-node (c .before .before .before .before .before .before .before .before .loop .inv) (w .0) (w .1) (meets (now (c .before .before .before .before .before .before .before .before .before .before .args .s)) (c .before .before .before .before .before .before .before .before .loop .at) (c .before .before .before .before .before .before .before .next-token .ensures) (c .before .before .before .before .before .i3 .given .1)) refl (c .before .before .keep .ensures) (c .before .more .ensures) (c .joined .ensures)
+loop-again-3 c = let w = (found-within (now (c .before .before .before .before .before .before .before .before .before .before .before .args .s)) _ _ _ (c .before .before .before .before .before .before .before .before .next-token .ensures) (c .before .before .before .before .before .before .i3 .given .1)) in walking-node (c .before .before .before .before .before .before .before .before .before .loop .inv) (w .0) (w .1) (meets (now (c .before .before .before .before .before .before .before .before .before .before .before .args .s)) (c .before .before .before .before .before .before .before .before .before .loop .at) (c .before .before .before .before .before .before .before .before .next-token .ensures) (c .before .before .before .before .before .before .i3 .given .1)) refl (c .before .before .keep .ensures) (c .before .more .ensures) (c .joined .ensures) (c .before .before .before .before .node-rule .ensures)
 
 skip-slice-requires-2 : tie.Need-skip-slice-requires-2 Inv-loop μ-loop
 skip-slice-requires-2 c κs = ((c .before .before .before .before .before .loop .inv .go) .short, (c .before .before .before .before .before .loop .inv .go) .skip .inside, (c .before .before .before .before .before .loop .inv .go) .deep)
 
-add-t58 : tie.Need-add-t58 Inv-loop μ-loop
-add-t58 c = let h = walking-low (c .before .before .before .before .before .before .before .before .before .loop .inv) (c .finish3 .ensures) in omega (arith, h)
-
 returns-3 : tie.Need-returns-3 Inv-loop μ-loop
-returns-3 c = prop-over (c .before .before .before .before .before .before .before .before .before .loop .inv) _ _ _ (meets (now (c .before .before .before .before .before .before .before .before .before .before .before .args .s)) (c .before .before .before .before .before .before .before .before .before .loop .at) (c .before .before .before .before .before .before .before .before .next-token .ensures) (c .before .before .before .before .before .before .next .given .1)) (not-true _ (c .before .before .before .before .if3 .taken)) (c .before .before .before .skip-slice2 .ensures) (c .finish3 .ensures)
+returns-3 c = prop-over (c .before .before .before .before .before .before .before .before .before .loop .inv) _ _ _ (meets (now (c .before .before .before .before .before .before .before .before .before .before .before .args .s)) (c .before .before .before .before .before .before .before .before .before .loop .at) (c .before .before .before .before .before .before .before .before .next-token .ensures) (c .before .before .before .before .before .before .i4 .given .1)) (not-true _ (c .before .before .before .before .if3 .taken)) (c .before .before .before .skip-slice2 .ensures) (c .finish3 .ensures)
+
+kept-length-requires : tie.Need-kept-length-requires Inv-loop μ-loop
+kept-length-requires c κs = let w = (found-within (now (c .before .before .before .before .before .before .before .args .s)) _ _ _ (c .before .before .before .before .next-token .ensures) (c .before .before .i4 .given .1)) in ((c .before .before .before .before .before .loop .inv .go) .short, w .1, omega arith)
+
+add-bytes : tie.Need-add-bytes Inv-loop μ-loop
+add-bytes c = let b = (c .before .before .before .before .before .before .loop .inv .sums .bound) in let h = c .kept-length .ensures .1 in let s = (c .before .before .before .before .before .before .loop .inv .go) .short in let i = (c .before .before .before .before .before .before .loop .inv .go) .skip .inside in omega (arith, b, h, s, i)
 
 loop-less-4 : tie.Need-loop-less-4 Inv-loop μ-loop
-loop-less-4 c = let w = (found-within (now (c .before .before .before .before .before .before .before .args .s)) _ _ _ (c .before .before .before .before .next-token .ensures) (c .before .before .next .given .1)) in omega arith
+loop-less-4 c = let w = (found-within (now (c .before .before .before .before .before .before .before .before .args .s)) _ _ _ (c .before .before .before .before .before .next-token .ensures) (c .before .before .before .i4 .given .1)) in omega arith
 
 loop-again-4 : tie.Need-loop-again-4 Inv-loop μ-loop
-loop-again-4 c = let w = (found-within (now (c .before .before .before .before .before .before .before .args .s)) _ _ _ (c .before .before .before .before .next-token .ensures) (c .before .before .next .given .1)) in walking-prop (c .before .before .before .before .before .loop .inv) _ _ _ (meets (now (c .before .before .before .before .before .before .before .args .s)) (c .before .before .before .before .before .loop .at) (c .before .before .before .before .next-token .ensures) (c .before .before .next .given .1)) (omega arith) (w .4) (not-false _ (c .if3 .left))
-
-add-t63 : tie.Need-add-t63 Inv-loop μ-loop
-add-t63 c = let h = walking-low (c .before .before .before .before .before .before .loop .inv) (c .finish4 .ensures) in omega (arith, h)
+loop-again-4 c = let w = (found-within (now (c .before .before .before .before .before .before .before .before .args .s)) _ _ _ (c .before .before .before .before .before .next-token .ensures) (c .before .before .before .i4 .given .1)) in walking-prop (c .before .before .before .before .before .before .loop .inv) _ _ _ (meets (now (c .before .before .before .before .before .before .before .before .args .s)) (c .before .before .before .before .before .before .loop .at) (c .before .before .before .before .before .next-token .ensures) (c .before .before .before .i4 .given .1)) (omega arith) (w .4) (not-false _ (c .before .if3 .left)) (c .kept-length .ensures .0) (c .kept-length .ensures .1)
 
 returns-4 : tie.Need-returns-4 Inv-loop μ-loop
 returns-4 c = none-over (c .before .before .before .before .before .before .loop .inv) (ap (λ (z : Lexed). z .toks) (meets (now (c .before .before .before .before .before .before .before .before .args .s)) (c .before .before .before .before .before .before .loop .at) (c .before .before .before .before .before .next-token .ensures) (c .before .before .before .enum-told .given .1))) (c .finish4 .ensures)
-
-add-t68 : tie.Need-add-t68 Inv-loop μ-loop
-add-t68 c = let h = walking-low (c .before .before .before .before .before .before .loop .inv) (c .finish5 .ensures) in omega (arith, h)
 
 returns-5 : tie.Need-returns-5 Inv-loop μ-loop
 returns-5 c = none-over (c .before .before .before .before .before .before .loop .inv) (ap (λ (z : Lexed). z .toks) (meets (now (c .before .before .before .before .before .before .before .before .args .s)) (c .before .before .before .before .before .before .loop .at) (c .before .before .before .before .before .next-token .ensures) (c .before .before .before .enum-told2 .given .1))) (c .finish5 .ensures)
@@ -124,14 +103,14 @@ shape-of-spec =
     (tie.spec
     Inv-loop
     μ-loop
-    loop-holds
+    (λ c. walking-first _ _ _ (c .before .pre) refl refl refl)
     (λ c κs. search needs)
     (λ c. search needs)
     (λ c κs. (c .before .before .before .before .before .loop .inv .go) .deep)
     skip-slice-requires
     (λ c. walking-few (c .before .before .before .before .before .before .before .before .loop .inv) .3)
     (λ c κs. (c .before .before .before .before .before .before .before .before .before .before .loop .inv .go) .deep)
-    add-t28
+    (λ c. let h = walking-low (c .before .before .before .before .before .before .before .before .before .before .before .loop .inv) (c .finish .ensures) in omega (arith, h))
     returns
     (λ c. let d = (c .before .before .before .before .before .before .before .loop .inv .go) .deep in omega arith)
     array-write-stack
@@ -141,13 +120,13 @@ shape-of-spec =
     loop-less
     loop-again
     (λ c. search needs)
-    add-t35
+    add-t39
     (λ c. walking-few (c .before .before .before .before .before .loop .inv) .3)
     (λ c κs. (c .before .before .before .before .before .before .before .loop .inv .go) .deep)
-    add-t40
+    (λ c. let h = walking-low (c .before .before .before .before .before .before .before .before .loop .inv) (c .finish2 .ensures) in omega (arith, h))
     returns-2
-    sub-depth
-    load-requires
+    (λ c. let l = c .if2 .left in omega (arith, l))
+    (λ c κs. let l = c .before .if2 .left in let d = (c .before .before .before .before .before .before .loop .inv .go) .deep in omega (arith, l, d))
     (λ c κs. search needs)
     (λ c. let d = (c .before .before .before .before .before .before .before .before .loop .inv .go) .deep in omega arith)
     array-read-cur
@@ -156,12 +135,14 @@ shape-of-spec =
     loop-less-2
     loop-again-2
     (λ c. search needs)
-    keep-requires
+    (λ c. let w = (found-within (now (c .before .before .before .before .before .before .args .s)) _ _ _ (c .before .before .before .next-token .ensures) (c .before .i3 .given .1)) in omega arith)
+    (λ c κs. search needs)
+    (λ c κs. ((c .before .before .before .before .before .before .loop .inv .go) .deep, walking-open (c .before .before .before .before .before .before .loop .inv)))
     (λ c κs. search needs)
     add-brackets
     (λ c κs. search needs)
-    (λ c. let f = walking-few (c .before .before .before .before .before .before .before .before .loop .inv) in omega (arith, f .4))
-    (λ c. let f = walking-few (c .before .before .before .before .before .before .before .before .loop .inv) in omega (arith, f .4))
+    (λ c. let f = walking-few (c .before .before .before .before .before .before .before .before .before .loop .inv) in omega (arith, f .4))
+    (λ c. let f = walking-few (c .before .before .before .before .before .before .before .before .before .loop .inv) in omega (arith, f .4))
     add-at-3
     loop-less-3
     loop-again-3
@@ -169,17 +150,19 @@ shape-of-spec =
     skip-slice-requires-2
     (λ c. walking-few (c .before .before .before .before .before .before .loop .inv) .3)
     (λ c κs. (c .before .before .before .before .before .before .before .before .loop .inv .go) .deep)
-    add-t58
+    (λ c. let h = walking-low (c .before .before .before .before .before .before .before .before .before .loop .inv) (c .finish3 .ensures) in omega (arith, h))
     returns-3
+    kept-length-requires
+    add-bytes
     loop-less-4
     loop-again-4
     (λ c. search needs)
     (λ c. walking-few (c .before .before .before .loop .inv) .3)
     (λ c κs. (c .before .before .before .before .before .loop .inv .go) .deep)
-    add-t63
+    (λ c. let h = walking-low (c .before .before .before .before .before .before .loop .inv) (c .finish4 .ensures) in omega (arith, h))
     returns-4
     (λ c. search needs)
     (λ c. walking-few (c .before .before .before .loop .inv) .3)
     (λ c κs. (c .before .before .before .before .before .loop .inv .go) .deep)
-    add-t68
+    (λ c. let h = walking-low (c .before .before .before .before .before .before .loop .inv) (c .finish5 .ensures) in omega (arith, h))
     returns-5)

@@ -1,0 +1,4 @@
+pub mod Accepts
+pub mod Measuring
+pub mod Texts
+pub mod Unique

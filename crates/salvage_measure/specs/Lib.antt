@@ -1,0 +1,2 @@
+pub mod LocalsMeasure
+pub mod Measure

@@ -1,0 +1,42 @@
+-- The result measured slice by slice, in the code's own terms. Nothing public is stated by these.
+use Rattle.lists.specs.Prelude.{ℕ, _+_, _-_, _*_, _≤_, _≡_, max, true, List, length}
+use Rattle.lists.specs.All.{All}
+use Rattle.text_utf8.specs.Text.{Utf, whole, part, bad}
+use Rattle.lexer.specs.Token.{lexAt}
+use Rattle.parser.specs.Split.{Slices, no, slices, splitByGametree}
+use Rattle.parser.specs.Read.{tokenize}
+use Rattle.parser.specs.LocalsSlice.{firstSlices, Shallow}
+use Rattle.salvage_form.specs.Measured.{lengthLimit}
+use Rattle.salvage_list.specs.LocalsWalk.{ListReady}
+use Rattle.salvage_size.specs.LocalsSlices.{slicesLength, slicesDepth}
+use Rattle.salvage_measure.specs.declared.Measured.{Measured}
+
+-- so many bytes, and so deep
+abbrev pub measured : (bytes depth : ℕ) → Measured
+measured b d = record { bytes = b; depth = d }
+
+-- nothing
+abbrev pub unmeasured : Measured
+unmeasured = measured 0 0
+
+-- of slices
+abbrev pub slicesMeasure : Slices → Measured
+slicesMeasure (no r) = unmeasured
+slicesMeasure (slices ss) = measured (slicesLength 0 ss) (slicesDepth 0 ss)
+
+-- of a text
+abbrev pub utfMeasure : Utf → List ℕ → Measured
+utfMeasure (whole k) t = slicesMeasure (splitByGametree true (tokenize k t .toks))
+utfMeasure (part k s n r c) t = unmeasured
+utfMeasure (bad p) t = unmeasured
+
+-- k slices are measured, the next starts at `at`; its nodes are numbered from base on
+pub record SlicesMeasured (u : List ℕ) (from count at base bytes depth k : ℕ) : Type 0 where
+  pub ready : ListReady u from count
+  pub inside : at ≤ length u
+  pub below : k ≤ count
+  pub nodes : base ≤ at + k
+  pub shallow : All (Shallow 0) (firstSlices (count - k) (lexAt u at .toks))
+  pub long : slicesLength 0 (firstSlices count (lexAt u from .toks)) ≡ bytes + slicesLength base (firstSlices (count - k) (lexAt u at .toks))
+  pub deep : slicesDepth 0 (firstSlices count (lexAt u from .toks)) ≡ max depth (slicesDepth base (firstSlices (count - k) (lexAt u at .toks)))
+  pub bound : bytes ≤ (lengthLimit + 3) * at + 3 * k

@@ -1,0 +1,4 @@
+pub mod Deepest
+pub mod Examples
+pub mod Slices
+pub mod Writing

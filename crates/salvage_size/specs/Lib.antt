@@ -1,0 +1,2 @@
+pub mod LocalsSize
+pub mod LocalsSlices
