@@ -18,7 +18,7 @@
 #include <stdio.h>
 #include <sys/resource.h>
 
-enum { TEXT = 4096, OUT = 16384, NEW = 512, ROOM = 250, TABLES = 4 };
+enum { TEXT = 4096, OUT = 16384, NEW = 512, FEED = 2048, ROOM = 250, TABLES = 4 };
 static const size_t strides[TABLES] = {SGF_TREE_STRIDE, SGF_NODE_STRIDE, SGF_PROPERTY_STRIDE, SGF_VALUE_STRIDE};
 
 /* The lent arrays. The tables are lent in whole numbers of four bytes. */
@@ -305,26 +305,33 @@ static void check_again(size_t length) {
     REQUIRE(w.number == 0 && w.length == length && memcmp(again, lent[OUTS].at, length) == 0);
 }
 
-/* A new value: a point, or of words, or a longer one of one part over and over, which is closed. */
-static size_t make_value(uint8_t *to) {
+/* Two or three letters, as of a point. */
+static size_t make_point(uint8_t *to) {
+    static const char letters[] = "aabbcdtAZ:5";
+    size_t length = 2 + (draw(8) == 0);
+    for (size_t i = 0; i < length; i++) {
+        to[i] = (uint8_t)letters[draw(sizeof letters - 1)];
+    }
+    return length;
+}
+
+/* One part over and over, which is closed. */
+static size_t make_parts(uint8_t *to) {
     static const char *const parts[] = {"x", "\xC3\xA9", "\\]", "a\\\\", "\xE3\x80\x80 "};
-    if (draw(3) == 0) {
-        static const char letters[] = "aabbcdtAZ:5";
-        size_t length = 2 + (draw(8) == 0);
-        for (size_t i = 0; i < length; i++) {
-            to[i] = (uint8_t)letters[draw(sizeof letters - 1)];
-        }
-        return length;
-    }
-    if (draw(4) != 3) {
-        return make(to, NEW, 4, WORDS);
-    }
     const char *part = parts[draw(5)];
     size_t size = strlen(part), length = size * draw(NEW / 4);
     for (size_t at = 0; at < length; at += size) {
         memcpy(to + at, part, size);
     }
     return length;
+}
+
+/* A new value: a point, or of words, or a longer one. */
+static size_t make_value(uint8_t *to) {
+    if (draw(3) == 0) {
+        return make_point(to);
+    }
+    return draw(4) != 3 ? make(to, NEW, 4, WORDS) : make_parts(to);
 }
 
 static void edit(size_t k) {
@@ -443,22 +450,23 @@ static void session(void) {
     }
 }
 
-/* A feed of up to three corrections from value k on, in the lent bytes; now and then damaged. */
-static void make_feed(size_t k) {
-    uint8_t feed[NEW], new[NEW];
-    uint32_t count = draw(4);
-    size_t at = sgf_feed_begin(count, feed, sizeof feed).length;
-    for (uint32_t i = 0; i < count; i++) {
-        size_t length = make(new, 100, 4, draw(3) == 2 ? WORDS : GOOD);
-        SgfWriting w = sgf_feed_add(k + i, new, length, feed + at, sizeof feed - at);
+/* A feed of up to seven corrections of values up to k and behind it, most of which may be taken; now and then damaged. */
+static uint32_t make_feed(size_t k) {
+    uint8_t feed[FEED], new[NEW];
+    uint32_t count = draw(8);
+    size_t at = sgf_feed_begin(count, feed, sizeof feed).length, value = draw(4) == 3 ? k : draw((uint32_t)(k % TEXT) + 1);
+    for (uint32_t i = 0; i < count; i++, value += 1 + (draw(8) == 7 ? draw(200) : 0)) {
+        size_t length = draw(16) == 15 ? make_value(new) : draw(4) == 3 ? make_parts(new) : make_point(new);
+        SgfWriting w = sgf_feed_add(value, new, length, feed + at, sizeof feed - at);
         REQUIRE(w.number == 0 || w.number == 14 || w.number == 24);
         at += w.length;
     }
-    if (at > 0 && draw(3) == 2) {
+    if (at > 0 && draw(4) == 3) {
         feed[draw((uint32_t)at)] = (uint8_t)draw(256);
     }
     lend(&lent[NEWS], at, draw(4) == 3);
     memcpy(lent[NEWS].at, feed, at);
+    return count;
 }
 
 static const uint32_t FEED_MAY = UINT32_C(1) << 19 | UINT32_C(1) << 24 | 1 << 16 | 1 << 17 | 1 << 2 | 1 << 18;
@@ -485,8 +493,9 @@ static void lookup(size_t k) {
 }
 
 /* A feed applied: every value's bytes are what the lookup handed out. */
+static unsigned long feeds, corrections;
 static void correct(size_t k) {
-    make_feed(k % TEXT);
+    uint32_t count = make_feed(k % TEXT);
     uint8_t handed[NEW + TEXT];
     size_t old_used = used, asked = draw((uint32_t)(counts.values % TEXT) + 1), length = 0;
     SgfPart p = sgf_corrected(RECORD, BYTES(NEWS), asked);
@@ -514,7 +523,11 @@ static void correct(size_t k) {
         SgfSpan span = sgf_value(RECORD, asked);
         REQUIRE(span.number == 0 && span.to - span.from == length && memcmp(lent[TEXTS].at + span.from, handed, length) == 0);
     }
+    feeds++;
+    corrections += count;
+    tell(CORRECT, 0, count);
     tell(CORRECT, 1, used > old_used ? used - old_used : 0);
+    tell(CORRECT, 2, old_used > used ? old_used - used : 0);
     if (is_strict) {
         check_fresh();
     }
@@ -978,7 +991,7 @@ static void begin(void) {
         }
         make_room(&lent[TEXTS], TEXT + ROOM);
         make_room(&lent[OUTS], OUT);
-        make_room(&lent[NEWS], NEW);
+        make_room(&lent[NEWS], FEED);
         make_room(&lent[LISTS], 4 * (SGF_CHANGE_STRIDE * SGF_CHANGES_FOR(TEXT + ROOM) + 4));
         memset(states, 1, sizeof states);
         memset(first, 1, sizeof first);
@@ -1030,6 +1043,7 @@ int main(int argc, char **argv) {
     }
     printf("\nboards: %lu, %lu nodes along their lines; %lu after edits, of which %lu had changed", boards, steps_along, boards_fresh, boards_changed);
     printf("\nsessions: %lu, of %lu edits, undone and redone", sessions, undone);
+    printf("\nfeeds applied: %lu, of %lu corrections", feeds, corrections);
     printf("\nsalvaged: %lu, with %lu changes", salvaged, changed);
     printf("\nmemory: %ld KB after a tenth of them, %ld KB at the end\n", before, after);
     return after > before;
