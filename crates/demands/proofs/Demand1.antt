@@ -1,6 +1,6 @@
 -- Demand 1, total: any bytes, settings and lent tables get an answer; each refusal is given exactly when the scope says; a refusal changes no lent byte or row. Assumes nothing.
 -- That every input has an answer, and one only, is each contract itself, which has no premise (demands/proofs/UniqueExported). Said here of the exported functions, by their numbers;
--- what a refusal leaves is said of the functions below them as well. When the reader's definition refuses, and with which number, is said of `read`. The functions of the later requests: Demand1Requests, Demand1Feeds, Demand1Blocks.
+-- what a refusal leaves is said of the functions below them as well. When the reader's definition refuses, and with which number, is said of `read`. The functions of the later requests: Demand1Requests, Demand1Feeds, Demand1Salvage, Demand1Blocks.
 use Rattle.lists.proofs.Prelude.{ℕ, _≤_, _<_, true, false, List, _≡_, ap, length, Bool}
 use Rattle.text_chars.specs.Table.{WellFormed, BadFrom}
 use Rattle.text_utf8.specs.Trim.{trimmed}

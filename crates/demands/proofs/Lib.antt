@@ -10,6 +10,7 @@ pub mod Demand1Blocks
 pub mod Demand1Feeds
 pub mod Demand1Lenient
 pub mod Demand1Requests
+pub mod Demand1Salvage
 pub mod Demand1Texts
 pub mod Demand1Trees
 pub mod Demand2
@@ -34,6 +35,7 @@ pub mod Refusals
 pub mod Rereadings
 pub mod RoundTrip
 pub mod Salvaged
+pub mod SalvagedAs
 pub mod Sessions
 pub mod Texts
 pub mod UniqueExported

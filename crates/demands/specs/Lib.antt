@@ -3,6 +3,7 @@ pub mod Cells
 pub mod Holding
 pub mod Lists
 pub mod Requests
+pub mod Salvages
 pub mod Sessions
 pub mod Settings
 pub mod When
