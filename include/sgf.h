@@ -41,9 +41,9 @@
 
 /* The version of this header; sgf_version() is that of the archive, equal where both are of one release. */
 #define SGF_VERSION_MAJOR 0
-#define SGF_VERSION_MINOR 9
+#define SGF_VERSION_MINOR 10
 #define SGF_VERSION_PATCH 0
-#define SGF_VERSION_STRING "0.9.0"
+#define SGF_VERSION_STRING "0.10.0"
 #define SGF_VERSION (SGF_VERSION_MAJOR * UINT32_C(65536) + SGF_VERSION_MINOR * UINT32_C(256) + SGF_VERSION_PATCH)
 
 #ifdef __cplusplus
