@@ -41,13 +41,16 @@ fn measure_slices(s: &[u8], from: usize, count: usize) -> Measured
     requires { ⌜ ListReady (now s) from count ⌝ }
     ensures { λ r. ⌜ r ≡ slicesMeasure (splitByGametree true (lexAt (now (s .entry)) from .toks)) ⌝ }
 {
+    let mut stack = [0u32; 1024];
+    let mut marks = [false; 1024];
+    let mut cells = [0usize; 4096];
     let mut at = from;
     let mut base: usize = 0;
     let mut bytes: usize = 0;
     let mut depth: usize = 0;
     let mut k: usize = 0;
     while k < count {
-        let x = salvage_shape::shape_of(s, at, base);
+        let x = salvage_shape::shape_of(s, at, base, &mut stack, &mut marks, &mut cells);
         let nodes = greater(1, x.nodes);
         at = x.next;
         base += nodes;

@@ -1,6 +1,6 @@
 -- What the walk of a slice for its shape asks for and gives. Nothing public is stated by these.
-use Rattle.lists.specs.Prelude.{ℕ, _+_, _*_, _≤_, _≡_, true, List, [], _∷_, length}
-use Rattle.tables.specs.Numbers.{textLimit, none}
+use Rattle.lists.specs.Prelude.{ℕ, _+_, _*_, _≤_, _≡_, Bool, true, List, [], _∷_, length}
+use Rattle.tables.specs.Numbers.{textLimit, depthLimit, none}
 use Rattle.tables.specs.Rows.{parents}
 use Rattle.parser.specs.LocalsSlice.{Shallow}
 use Rattle.parser_tree.specs.LocalsTurns.{BehindIs}
@@ -11,6 +11,12 @@ use Rattle.salvage_form.specs.Rooted.{rootRule}
 use Rattle.salvage_shape.specs.LocalsSum.{nodesLength}
 use Rattle.salvage_shape.specs.LocalsShape.{leaf, Meets, shapeDepth, bracketsOf}
 use Rattle.salvage_shape.specs.declared.TreeShape.{TreeShape}
+
+-- the arrays that the walk is lent: of each list that may be open the node that it stands under, whether it is new, and four numbers
+pub record Arrays (a : List ℕ) (ma : List Bool) (ca : List ℕ) : Type 0 where
+  pub stack : length a ≡ depthLimit
+  pub marks : length ma ≡ depthLimit
+  pub cells : length ca ≡ depthLimit * 4
 
 -- what the walk asks for
 pub record ShapeReady (u : List ℕ) (from base : ℕ) : Type 0 where

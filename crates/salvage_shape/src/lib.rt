@@ -14,7 +14,7 @@ ghost use Rattle.parser_tree.specs.LocalsTurns.{BehindIs};
 ghost use Rattle.parser_step.specs.LocalsActs.{stackOf, hasChild, mayOpen};
 ghost use Rattle.salvage_shape.specs.LocalsChain.{sumIn, heightIn, chainHeight, joinedTo, endedBy, bracketsMore, cellAt, chainKept, freshOf, cellsOf, closeAll};
 ghost use Rattle.salvage_shape.specs.LocalsSum.{nameStays, keptLength, ruleAfter};
-ghost use Rattle.salvage_shape.specs.LocalsWalk.{ShapeReady, ShapeIs};
+ghost use Rattle.salvage_shape.specs.LocalsWalk.{Arrays, ShapeReady, ShapeIs};
 use lexer::Step;
 use salvage_form::root::RootRule;
 use tables::NONE;
@@ -288,14 +288,18 @@ fn node_rule(s: &[u8], at: usize, first: bool, was: RootRule) -> RootRule
     }
 }
 
-// The shape of the tree of the slice that starts at a place, its first node numbered `base`.
-pub fn shape_of(s: &[u8], from: usize, base: usize) -> TreeShape
-    requires { ⌜ ShapeReady (now s) from base ⌝ }
-    ensures { λ r. ⌜ ShapeIs (now (s .entry)) from base r ⌝ }
+// The shape of the tree of the slice that starts at a place, its first node numbered `base`. What the arrays hold does not matter, before or after.
+pub fn shape_of(
+    s: &[u8],
+    from: usize,
+    base: usize,
+    stack: &mut [u32; 1024],
+    marks: &mut [bool; 1024],
+    cells: &mut [usize; 4096],
+) -> TreeShape
+    requires { ⌜ ShapeReady (now s) from base × Arrays (now stack) (now marks) (now cells) ⌝ }
+    ensures { λ r. ⌜ ShapeIs (now (s .entry)) from base r × Arrays (now (stack .exit)) (now (marks .exit)) (now (cells .exit)) ⌝ }
 {
-    let mut stack = [0u32; 1024];
-    let mut marks = [false; 1024];
-    let mut cells = [0usize; 4096];
     let mut at = from;
     let mut depth: usize = 0;
     let mut cur = NONE;
@@ -317,12 +321,12 @@ pub fn shape_of(s: &[u8], from: usize, base: usize) -> TreeShape
     loop {
         match lexer::next_token(s, at) {
             Step::Start(i) => {
-                if !may_open(&stack, depth, base, n) {
+                if !may_open(stack, depth, base, n) {
                     return TreeShape {
                         next: skip_slice(s, at, depth),
                         nodes: n - base,
                         brackets: brackets,
-                        depth: finish(&marks, &cells, depth, fresh, c) + 1,
+                        depth: finish(marks, cells, depth, fresh, c) + 1,
                         bytes: bytes,
                     };
                 }
@@ -339,12 +343,12 @@ pub fn shape_of(s: &[u8], from: usize, base: usize) -> TreeShape
                         next: i + 1,
                         nodes: n - base,
                         brackets: brackets,
-                        depth: finish(&marks, &cells, depth, fresh, c) + 1,
+                        depth: finish(marks, cells, depth, fresh, c) + 1,
                         bytes: bytes,
                     };
                 }
                 depth -= 1;
-                c = ended(fresh, c, load(&cells, depth));
+                c = ended(fresh, c, load(cells, depth));
                 cur = stack[depth];
                 fresh = marks[depth];
                 follows = false;
@@ -352,7 +356,7 @@ pub fn shape_of(s: &[u8], from: usize, base: usize) -> TreeShape
             }
             Step::Node(i) => {
                 root = node_rule(s, i + 1, n == base, root);
-                keep(&mut cells, depth, fresh, c);
+                keep(cells, depth, fresh, c);
                 brackets += more(c.kids);
                 c = joined(fresh, c);
                 fresh = false;
@@ -367,7 +371,7 @@ pub fn shape_of(s: &[u8], from: usize, base: usize) -> TreeShape
                         next: skip_slice(s, at, depth),
                         nodes: n - base,
                         brackets: brackets,
-                        depth: finish(&marks, &cells, depth, fresh, c) + 1,
+                        depth: finish(marks, cells, depth, fresh, c) + 1,
                         bytes: bytes,
                     };
                 }
@@ -379,7 +383,7 @@ pub fn shape_of(s: &[u8], from: usize, base: usize) -> TreeShape
                     next: at,
                     nodes: n - base,
                     brackets: brackets,
-                    depth: finish(&marks, &cells, depth, fresh, c) + 1,
+                    depth: finish(marks, cells, depth, fresh, c) + 1,
                     bytes: bytes,
                 };
             }
@@ -388,7 +392,7 @@ pub fn shape_of(s: &[u8], from: usize, base: usize) -> TreeShape
                     next: at,
                     nodes: n - base,
                     brackets: brackets,
-                    depth: finish(&marks, &cells, depth, fresh, c) + 1,
+                    depth: finish(marks, cells, depth, fresh, c) + 1,
                     bytes: bytes,
                 };
             }

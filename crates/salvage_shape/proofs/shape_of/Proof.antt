@@ -23,13 +23,13 @@ skip-slice-requires : tie.Need-skip-slice-requires Inv-loop μ-loop
 skip-slice-requires c κs = ((c .before .before .before .before .before .before .before .loop .inv .go) .short, (c .before .before .before .before .before .before .before .loop .inv .go) .skip .inside, (c .before .before .before .before .before .before .before .loop .inv .go) .deep)
 
 returns : tie.Need-returns Inv-loop μ-loop
-returns c = let w = (found-within (now (c .before .before .before .before .before .before .before .before .before .before .before .before .before .args .s)) _ _ _ (c .before .before .before .before .before .before .before .before .before .before .next-token .ensures) (c .before .before .before .before .before .before .before .before .i .given .1)) in start-over (c .before .before .before .before .before .before .before .before .before .before .before .loop .inv) (w .0) (w .1) (meets (now (c .before .before .before .before .before .before .before .before .before .before .before .before .before .args .s)) (c .before .before .before .before .before .before .before .before .before .before .before .loop .at) (c .before .before .before .before .before .before .before .before .before .before .next-token .ensures) (c .before .before .before .before .before .before .before .before .i .given .1)) (c .before .before .before .before .before .may-open .ensures) (not-true _ (c .before .before .before .before .if1 .taken)) (c .before .before .before .skip-slice .ensures) (c .finish .ensures)
+returns c = (let w = (found-within (now (c .before .before .before .before .before .before .before .before .before .before .before .before .before .args .s)) _ _ _ (c .before .before .before .before .before .before .before .before .before .before .next-token .ensures) (c .before .before .before .before .before .before .before .before .i .given .1)) in start-over (c .before .before .before .before .before .before .before .before .before .before .before .loop .inv) (w .0) (w .1) (meets (now (c .before .before .before .before .before .before .before .before .before .before .before .before .before .args .s)) (c .before .before .before .before .before .before .before .before .before .before .before .loop .at) (c .before .before .before .before .before .before .before .before .before .before .next-token .ensures) (c .before .before .before .before .before .before .before .before .i .given .1)) (c .before .before .before .before .before .may-open .ensures) (not-true _ (c .before .before .before .before .if1 .taken)) (c .before .before .before .skip-slice .ensures) (c .finish .ensures), record { stack = c .before .before .before .before .before .before .before .before .before .before .before .loop .inv .go .array; marks = c .before .before .before .before .before .before .before .before .before .before .before .loop .inv .marked; cells = c .before .before .before .before .before .before .before .before .before .before .before .loop .inv .kept })
 
-array-write-stack : tie.Need-array-write-stack Inv-loop μ-loop
-array-write-stack c = let w = (found-within (now (c .before .before .before .before .before .before .before .before .before .args .s)) _ _ _ (c .before .before .before .before .before .before .next-token .ensures) (c .before .before .before .before .i .given .1)) in let d = start-deep (c .before .before .before .before .before .before .before .loop .inv .go) (w .0) (w .1) (meets (now (c .before .before .before .before .before .before .before .before .before .args .s)) (c .before .before .before .before .before .before .before .loop .at) (c .before .before .before .before .before .before .next-token .ensures) (c .before .before .before .before .i .given .1)) in let a = (c .before .before .before .before .before .before .before .loop .inv .go) .array in omega (arith, d, a)
+element-write-stack : tie.Need-element-write-stack Inv-loop μ-loop
+element-write-stack c = let w = (found-within (now (c .before .before .before .before .before .before .before .before .before .args .s)) _ _ _ (c .before .before .before .before .before .before .next-token .ensures) (c .before .before .before .before .i .given .1)) in let d = start-deep (c .before .before .before .before .before .before .before .loop .inv .go) (w .0) (w .1) (meets (now (c .before .before .before .before .before .before .before .before .before .args .s)) (c .before .before .before .before .before .before .before .loop .at) (c .before .before .before .before .before .before .next-token .ensures) (c .before .before .before .before .i .given .1)) in let a = (c .before .before .before .before .before .before .before .loop .inv .go) .array in omega (arith, d, a)
 
-array-write-marks : tie.Need-array-write-marks Inv-loop μ-loop
-array-write-marks c = let w = (found-within (now (c .before .before .before .before .before .before .before .before .before .args .s)) _ _ _ (c .before .before .before .before .before .before .next-token .ensures) (c .before .before .before .before .i .given .1)) in let d = start-deep (c .before .before .before .before .before .before .before .loop .inv .go) (w .0) (w .1) (meets (now (c .before .before .before .before .before .before .before .before .before .args .s)) (c .before .before .before .before .before .before .before .loop .at) (c .before .before .before .before .before .before .next-token .ensures) (c .before .before .before .before .i .given .1)) in let a = (c .before .before .before .before .before .before .before .loop .inv) .marked in omega (arith, d, a)
+element-write-marks : tie.Need-element-write-marks Inv-loop μ-loop
+element-write-marks c = let w = (found-within (now (c .before .before .before .before .before .before .before .before .before .args .s)) _ _ _ (c .before .before .before .before .before .before .next-token .ensures) (c .before .before .before .before .i .given .1)) in let d = start-deep (c .before .before .before .before .before .before .before .loop .inv .go) (w .0) (w .1) (meets (now (c .before .before .before .before .before .before .before .before .before .args .s)) (c .before .before .before .before .before .before .before .loop .at) (c .before .before .before .before .before .before .next-token .ensures) (c .before .before .before .before .i .given .1)) in let a = (c .before .before .before .before .before .before .before .loop .inv) .marked in omega (arith, d, a)
 
 add-at : tie.Need-add-at Inv-loop μ-loop
 add-at c = let w = (found-within (now (c .before .before .before .before .before .before .before .before .before .args .s)) _ _ _ (c .before .before .before .before .before .before .next-token .ensures) (c .before .before .before .before .i .given .1)) in omega arith
@@ -44,22 +44,22 @@ add-t39 : tie.Need-add-t39 Inv-loop μ-loop
 add-t39 c = let w = (found-within (now (c .before .before .before .before .before .before .before .args .s)) _ _ _ (c .before .before .before .before .next-token .ensures) (c .before .before .i2 .given .1)) in omega arith
 
 returns-2 : tie.Need-returns-2 Inv-loop μ-loop
-returns-2 c = let w = (found-within (now (c .before .before .before .before .before .before .before .before .before .before .args .s)) _ _ _ (c .before .before .before .before .before .before .before .next-token .ensures) (c .before .before .before .before .before .i2 .given .1)) in end-over (c .before .before .before .before .before .before .before .before .loop .inv) (w .0) (w .1) (meets (now (c .before .before .before .before .before .before .before .before .before .before .args .s)) (c .before .before .before .before .before .before .before .before .loop .at) (c .before .before .before .before .before .before .before .next-token .ensures) (c .before .before .before .before .before .i2 .given .1)) (c .before .before .before .if2 .taken) (c .finish2 .ensures)
+returns-2 c = (let w = (found-within (now (c .before .before .before .before .before .before .before .before .before .before .args .s)) _ _ _ (c .before .before .before .before .before .before .before .next-token .ensures) (c .before .before .before .before .before .i2 .given .1)) in end-over (c .before .before .before .before .before .before .before .before .loop .inv) (w .0) (w .1) (meets (now (c .before .before .before .before .before .before .before .before .before .before .args .s)) (c .before .before .before .before .before .before .before .before .loop .at) (c .before .before .before .before .before .before .before .next-token .ensures) (c .before .before .before .before .before .i2 .given .1)) (c .before .before .before .if2 .taken) (c .finish2 .ensures), record { stack = c .before .before .before .before .before .before .before .before .loop .inv .go .array; marks = c .before .before .before .before .before .before .before .before .loop .inv .marked; cells = c .before .before .before .before .before .before .before .before .loop .inv .kept })
 
-array-read-cur : tie.Need-array-read-cur Inv-loop μ-loop
-array-read-cur c = let l = c .before .before .before .if2 .left in let d = (c .before .before .before .before .before .before .before .before .loop .inv .go) .deep in let a = (c .before .before .before .before .before .before .before .before .loop .inv .go) .array in omega (arith, l, d, a)
+element-copy-out-cur : tie.Need-element-copy-out-cur Inv-loop μ-loop
+element-copy-out-cur c = let l = c .before .before .before .if2 .left in let d = (c .before .before .before .before .before .before .before .before .loop .inv .go) .deep in let a = (c .before .before .before .before .before .before .before .before .loop .inv .go) .array in omega (arith, l, d, a)
 
-array-read-fresh : tie.Need-array-read-fresh Inv-loop μ-loop
-array-read-fresh c = let l = c .before .before .before .if2 .left in let d = (c .before .before .before .before .before .before .before .before .loop .inv .go) .deep in let a = (c .before .before .before .before .before .before .before .before .loop .inv) .marked in omega (arith, l, d, a)
+element-copy-out-fresh : tie.Need-element-copy-out-fresh Inv-loop μ-loop
+element-copy-out-fresh c = let l = c .before .before .before .before .if2 .left in let d = (c .before .before .before .before .before .before .before .before .before .loop .inv .go) .deep in let a = (c .before .before .before .before .before .before .before .before .before .loop .inv) .marked in omega (arith, l, d, a)
 
 add-at-2 : tie.Need-add-at-2 Inv-loop μ-loop
-add-at-2 c = let w = (found-within (now (c .before .before .before .before .before .before .before .before .before .before .args .s)) _ _ _ (c .before .before .before .before .before .before .before .next-token .ensures) (c .before .before .before .before .before .i2 .given .1)) in omega arith
+add-at-2 c = let w = (found-within (now (c .before .before .before .before .before .before .before .before .before .before .before .before .args .s)) _ _ _ (c .before .before .before .before .before .before .before .before .before .next-token .ensures) (c .before .before .before .before .before .before .before .i2 .given .1)) in omega arith
 
 loop-less-2 : tie.Need-loop-less-2 Inv-loop μ-loop
-loop-less-2 c = let w = (found-within (now (c .before .before .before .before .before .before .before .before .before .before .args .s)) _ _ _ (c .before .before .before .before .before .before .before .next-token .ensures) (c .before .before .before .before .before .i2 .given .1)) in omega arith
+loop-less-2 c = let w = (found-within (now (c .before .before .before .before .before .before .before .before .before .before .before .before .args .s)) _ _ _ (c .before .before .before .before .before .before .before .before .before .next-token .ensures) (c .before .before .before .before .before .before .before .i2 .given .1)) in omega arith
 
 loop-again-2 : tie.Need-loop-again-2 Inv-loop μ-loop
-loop-again-2 c = let w = (found-within (now (c .before .before .before .before .before .before .before .before .before .before .args .s)) _ _ _ (c .before .before .before .before .before .before .before .next-token .ensures) (c .before .before .before .before .before .i2 .given .1)) in walking-end (c .before .before .before .before .before .before .before .before .loop .inv) (w .0) (w .1) (meets (now (c .before .before .before .before .before .before .before .before .before .before .args .s)) (c .before .before .before .before .before .before .before .before .loop .at) (c .before .before .before .before .before .before .before .next-token .ensures) (c .before .before .before .before .before .i2 .given .1)) (c .before .before .before .if2 .left) refl (c .before .load .ensures) (c .ended .ensures) refl
+loop-again-2 c = let w = (found-within (now (c .before .before .before .before .before .before .before .before .before .before .before .before .args .s)) _ _ _ (c .before .before .before .before .before .before .before .before .before .next-token .ensures) (c .before .before .before .before .before .before .before .i2 .given .1)) in walking-end (c .before .before .before .before .before .before .before .before .before .before .loop .inv) (w .0) (w .1) (meets (now (c .before .before .before .before .before .before .before .before .before .before .before .before .args .s)) (c .before .before .before .before .before .before .before .before .before .before .loop .at) (c .before .before .before .before .before .before .before .before .before .next-token .ensures) (c .before .before .before .before .before .before .before .i2 .given .1)) (c .before .before .before .before .before .if2 .left) refl (c .before .before .before .load .ensures) (c .before .before .ended .ensures) refl
 
 add-brackets : tie.Need-add-brackets Inv-loop μ-loop
 add-brackets c = let f = walking-few (c .before .before .before .before .before .before .before .before .loop .inv) in let m = c .more .ensures in let l = more-least (c .before .before .before .before .before .before .before .before .loop .c .kids) in omega (arith, f .2, f .4, m, l)
@@ -77,7 +77,7 @@ skip-slice-requires-2 : tie.Need-skip-slice-requires-2 Inv-loop μ-loop
 skip-slice-requires-2 c κs = ((c .before .before .before .before .before .loop .inv .go) .short, (c .before .before .before .before .before .loop .inv .go) .skip .inside, (c .before .before .before .before .before .loop .inv .go) .deep)
 
 returns-3 : tie.Need-returns-3 Inv-loop μ-loop
-returns-3 c = prop-over (c .before .before .before .before .before .before .before .before .before .loop .inv) _ _ _ (meets (now (c .before .before .before .before .before .before .before .before .before .before .before .args .s)) (c .before .before .before .before .before .before .before .before .before .loop .at) (c .before .before .before .before .before .before .before .before .next-token .ensures) (c .before .before .before .before .before .before .i4 .given .1)) (not-true _ (c .before .before .before .before .if3 .taken)) (c .before .before .before .skip-slice2 .ensures) (c .finish3 .ensures)
+returns-3 c = (prop-over (c .before .before .before .before .before .before .before .before .before .loop .inv) _ _ _ (meets (now (c .before .before .before .before .before .before .before .before .before .before .before .args .s)) (c .before .before .before .before .before .before .before .before .before .loop .at) (c .before .before .before .before .before .before .before .before .next-token .ensures) (c .before .before .before .before .before .before .i4 .given .1)) (not-true _ (c .before .before .before .before .if3 .taken)) (c .before .before .before .skip-slice2 .ensures) (c .finish3 .ensures), record { stack = c .before .before .before .before .before .before .before .before .before .loop .inv .go .array; marks = c .before .before .before .before .before .before .before .before .before .loop .inv .marked; cells = c .before .before .before .before .before .before .before .before .before .loop .inv .kept })
 
 kept-length-requires : tie.Need-kept-length-requires Inv-loop μ-loop
 kept-length-requires c κs = let w = (found-within (now (c .before .before .before .before .before .before .before .args .s)) _ _ _ (c .before .before .before .before .next-token .ensures) (c .before .before .i4 .given .1)) in ((c .before .before .before .before .before .loop .inv .go) .short, w .1, omega arith)
@@ -92,10 +92,10 @@ loop-again-4 : tie.Need-loop-again-4 Inv-loop μ-loop
 loop-again-4 c = let w = (found-within (now (c .before .before .before .before .before .before .before .before .args .s)) _ _ _ (c .before .before .before .before .before .next-token .ensures) (c .before .before .before .i4 .given .1)) in walking-prop (c .before .before .before .before .before .before .loop .inv) _ _ _ (meets (now (c .before .before .before .before .before .before .before .before .args .s)) (c .before .before .before .before .before .before .loop .at) (c .before .before .before .before .before .next-token .ensures) (c .before .before .before .i4 .given .1)) (omega arith) (w .4) (not-false _ (c .before .if3 .left)) (c .kept-length .ensures .0) (c .kept-length .ensures .1)
 
 returns-4 : tie.Need-returns-4 Inv-loop μ-loop
-returns-4 c = none-over (c .before .before .before .before .before .before .loop .inv) (ap (λ (z : Lexed). z .toks) (meets (now (c .before .before .before .before .before .before .before .before .args .s)) (c .before .before .before .before .before .before .loop .at) (c .before .before .before .before .before .next-token .ensures) (c .before .before .before .enum-told .given .1))) (c .finish4 .ensures)
+returns-4 c = (none-over (c .before .before .before .before .before .before .loop .inv) (ap (λ (z : Lexed). z .toks) (meets (now (c .before .before .before .before .before .before .before .before .args .s)) (c .before .before .before .before .before .before .loop .at) (c .before .before .before .before .before .next-token .ensures) (c .before .before .before .enum-told .given .1))) (c .finish4 .ensures), record { stack = c .before .before .before .before .before .before .loop .inv .go .array; marks = c .before .before .before .before .before .before .loop .inv .marked; cells = c .before .before .before .before .before .before .loop .inv .kept })
 
 returns-5 : tie.Need-returns-5 Inv-loop μ-loop
-returns-5 c = none-over (c .before .before .before .before .before .before .loop .inv) (ap (λ (z : Lexed). z .toks) (meets (now (c .before .before .before .before .before .before .before .before .args .s)) (c .before .before .before .before .before .before .loop .at) (c .before .before .before .before .before .next-token .ensures) (c .before .before .before .enum-told2 .given .1))) (c .finish5 .ensures)
+returns-5 c = (none-over (c .before .before .before .before .before .before .loop .inv) (ap (λ (z : Lexed). z .toks) (meets (now (c .before .before .before .before .before .before .before .before .args .s)) (c .before .before .before .before .before .before .loop .at) (c .before .before .before .before .before .next-token .ensures) (c .before .before .before .enum-told2 .given .1))) (c .finish5 .ensures), record { stack = c .before .before .before .before .before .before .loop .inv .go .array; marks = c .before .before .before .before .before .before .loop .inv .marked; cells = c .before .before .before .before .before .before .loop .inv .kept })
 
 pub shape-of-spec : {M : Type 1} → statement M
 shape-of-spec =
@@ -103,7 +103,7 @@ shape-of-spec =
     (tie.spec
     Inv-loop
     μ-loop
-    (λ c. walking-first _ _ _ (c .before .pre) refl refl refl)
+    (λ c. walking-first _ _ _ (c .before .pre .0) (c .before .pre .1 .stack) (c .before .pre .1 .marks) (c .before .pre .1 .cells))
     (λ c κs. search needs)
     (λ c. search needs)
     (λ c κs. (c .before .before .before .before .before .loop .inv .go) .deep)
@@ -113,8 +113,8 @@ shape-of-spec =
     (λ c. let h = walking-low (c .before .before .before .before .before .before .before .before .before .before .before .loop .inv) (c .finish .ensures) in omega (arith, h))
     returns
     (λ c. let d = (c .before .before .before .before .before .before .before .loop .inv .go) .deep in omega arith)
-    array-write-stack
-    array-write-marks
+    element-write-stack
+    element-write-marks
     (λ c. let d = (c .before .before .before .before .before .before .before .loop .inv .go) .deep in omega arith)
     add-at
     loop-less
@@ -129,8 +129,8 @@ shape-of-spec =
     (λ c κs. let l = c .before .if2 .left in let d = (c .before .before .before .before .before .before .loop .inv .go) .deep in omega (arith, l, d))
     (λ c κs. search needs)
     (λ c. let d = (c .before .before .before .before .before .before .before .before .loop .inv .go) .deep in omega arith)
-    array-read-cur
-    array-read-fresh
+    element-copy-out-cur
+    element-copy-out-fresh
     add-at-2
     loop-less-2
     loop-again-2
