@@ -25,11 +25,12 @@
  * One exception. Rows lent to sgf_block and sgf_close are working room until the close. After a close that is accepted
  * the rows behind its count are 0, after one that is refused all rows; only number 20 leaves them as they were.
  *
- * Stack, in bytes, on aarch64 (x86-64 within 130 bytes of it): sgf_board 23,104 and sgf_board_next 19,904, both measured
- * on x86-64, sgf_go_value 11,392, sgf_write 8,832, sgf_write_length 10,240 at most, sgf_go_by_rule 5,696, sgf_read_strict
- * and sgf_read_lenient 5,440, those that count rows or say why 6,144 at most, sgf_salvage 49,152 at most, sgf_tally 4,096
- * at most, sgf_simple_value, sgf_simple_property and sgf_entry 1,900 at most; of the others sgf_block 1,536, sgf_correct,
- * sgf_corrected and sgf_feed_check 1,536 at most, the rest 1,024 at most. docs/MEMORY.md has each function's bound, which
+ * Stack, in bytes, on aarch64 (x86-64 within 130 bytes of it but for sgf_go_value, 14,080, and sgf_go_by_rule, 8,384):
+ * sgf_board 22,976 and sgf_board_next 19,776, both measured on x86-64, sgf_go_value 11,392, sgf_write 8,832,
+ * sgf_write_length 10,240 at most, sgf_go_by_rule 5,696, sgf_read_strict and sgf_read_lenient 5,440, those that count
+ * rows or say why 6,144 at most, sgf_salvage 49,152 at most, sgf_tally 4,096 at most, sgf_simple_value,
+ * sgf_simple_property and sgf_entry 1,900 at most; of the others sgf_block 1,536, sgf_correct, sgf_corrected and
+ * sgf_feed_check 1,536 at most, the rest 1,024 at most. docs/MEMORY.md has each function's bound, which
  * examples/c/stack.c tests.
  */
 #ifndef SGF_H
@@ -219,7 +220,8 @@ enum {
 /* A row of the list: a kind, the number of a tree or a property, and a place; 0 where the kind has none. */
 enum { SGF_CHANGE_KIND = 0, SGF_CHANGE_NUMBER = 1, SGF_CHANGE_PLACE = 2, SGF_CHANGE_STRIDE = 3 };
 
-/* Rows of the list that suffice for any text of n bytes. */
+/* Rows of the list that suffice for any text of n bytes; with the counts of sgf_count_lenient 2 * trees + properties + 1
+ * suffice. */
 #define SGF_CHANGES_FOR(n) (2 * SGF_TREES_FOR(n) + SGF_PROPERTIES_FOR(n) + 1)
 
 /* A number and a place; how many bytes and changes were written, and the used rows of the tables. */
@@ -237,7 +239,8 @@ typedef struct {
  * decided before anything is written. After 0 the tables hold the lenient reading, whose numbers the changes name.
  * sgf_count_lenient gives 1 and 9 where they are the text's own, and the counts of the tables after 14.
  * Memory: beside the tables SGF_CHANGES_FOR(n) rows of the list and up to SGF_TEXT_LIMIT bytes of output; with less it
- * may be 14. It is meant for an archive, not for a box. */
+ * may be 14. With tables by sgf_count_lenient and such a list only the output can lack then. It is meant for an archive,
+ * not for a box. */
 SgfSalvage sgf_salvage(const uint8_t *text, size_t text_len, uint32_t *trees, size_t trees_len,
                        uint32_t *nodes, size_t nodes_len, uint32_t *properties, size_t properties_len,
                        uint32_t *values, size_t values_len, uint32_t *changes, size_t changes_len,

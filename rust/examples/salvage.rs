@@ -17,7 +17,7 @@ fn main() -> ExitCode {
     let saved = match salvage(&text) {
         Ok(saved) => saved,
         Err(error) => {
-            eprintln!("{}: refused {}: {}", file.display(), error.number(), error.meaning());
+            eprintln!("{}: refused {}, of the text or of what it gives: {}", file.display(), error.number(), error.meaning());
             return ExitCode::from(1);
         }
     };

@@ -74,7 +74,8 @@ impl<'t> Salvaged<'t> {
 /// the game that its kept GM gives. That a tree's end is added, that values are written in another form, and that a
 /// game type changes with nothing removed, is not listed. Salvaged again the text stays as it is, with nothing listed.
 ///
-/// Refused are texts that are too long, too deep or not UTF-8, and those whose result would be too long or too deep.
+/// Refused are texts that are too long, too deep or not UTF-8, and those whose result would be too long or too deep:
+/// the number is then of the result, and [`Error::explain`] has nothing to say of the text.
 ///
 /// # Panics
 ///
