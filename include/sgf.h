@@ -239,8 +239,8 @@ typedef struct {
  * decided before anything is written. After 0 the tables hold the lenient reading, whose numbers the changes name.
  * sgf_count_lenient gives 1 and 9 where they are the text's own, and the counts of the tables after 14.
  * Memory: beside the tables SGF_CHANGES_FOR(n) rows of the list and up to SGF_TEXT_LIMIT bytes of output; with less it
- * may be 14. With tables by sgf_count_lenient and such a list only the output can lack then. It is meant for an archive,
- * not for a box. */
+ * may be 14. With tables by sgf_count_lenient and such a list only the output can lack then: examples/c/salvage.c. It is
+ * meant for an archive, not for a box. */
 SgfSalvage sgf_salvage(const uint8_t *text, size_t text_len, uint32_t *trees, size_t trees_len,
                        uint32_t *nodes, size_t nodes_len, uint32_t *properties, size_t properties_len,
                        uint32_t *values, size_t values_len, uint32_t *changes, size_t changes_len,
