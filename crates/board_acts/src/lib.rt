@@ -3,7 +3,7 @@ ghost use mathlib.Core.Path.{_≡_};
 ghost use mathlib.Core.Bool.{true, false, _&&_};
 ghost use lib.Dec.{eqb};
 ghost use Rattle.lists.specs.Pick.{pick};
-ghost use Rattle.board_play.specs.Play.{settable, playable};
+ghost use Rattle.board_play.specs.Play.{Player, settable, playable};
 ghost use Rattle.board_play.specs.Steps.{sets, plays, oneIf, sumUpTo};
 ghost use Rattle.board_acts.specs.Acts.{setSums, takeSums, setCounts, takeCounts, BoardActIs};
 
@@ -158,13 +158,10 @@ pub fn play_act(
     count_taken(then, colour, whole.taken, whole.lost)
 }
 
-// Whether the colour is x, and a stone of it was put on an empty point without taking any.
-fn quiet(colour: u8, x: u8, stood: u8, taken: usize, lost: usize) -> bool
-    ensures { λ r. ⌜ (r ≡ true → (colour ≡ x) × (stood ≡ 0) × (taken ≡ 0) × (lost ≡ 0)) ⌝ }
+// Whether a stone was put on an empty point without taking any.
+fn quiet(stood: u8, taken: usize, lost: usize) -> bool
+    ensures { λ r. ⌜ (r ≡ true → (stood ≡ 0) × (taken ≡ 0) × (lost ≡ 0)) ⌝ }
 {
-    if colour != x {
-        return false;
-    }
     if stood != 0 {
         return false;
     }
@@ -172,6 +169,23 @@ fn quiet(colour: u8, x: u8, stood: u8, taken: usize, lost: usize) -> bool
         return false;
     }
     lost == 0
+}
+
+// The sums after a stone was played; where it was put on an empty point without taking any, at once.
+fn count_played(state: BoardState, colour: u8, stood: u8, taken: usize, lost: usize) -> BoardState
+    requires { ⌜ Player colour ⌝ }
+    ensures { λ r. ⌜ r ≡ takeCounts colour taken lost (setCounts colour stood state) ⌝ }
+{
+    if quiet(stood, taken, lost) {
+        if colour == 1 {
+            let black = count_set(state, 1, 0);
+            return count_taken(black, 1, 0, 0);
+        }
+        let white = count_set(state, 2, 0);
+        return count_taken(white, 2, 0, 0);
+    }
+    let then = count_set(state, colour, stood);
+    count_taken(then, colour, taken, lost)
 }
 
 // Plays a stone near the move; nothing changes where it cannot be played, or where the board is not known to be settled.
@@ -193,15 +207,6 @@ pub fn play_settled(
     if !settled {
         return state;
     }
-    let met = board_play::play_near(stones, columns, rows, p, colour);
-    if quiet(colour, 1, met.stood, met.taken, met.lost) {
-        let black = count_set(state, 1, 0);
-        return count_taken(black, 1, 0, 0);
-    }
-    if quiet(colour, 2, met.stood, met.taken, met.lost) {
-        let white = count_set(state, 2, 0);
-        return count_taken(white, 2, 0, 0);
-    }
-    let then = count_set(state, colour, met.stood);
-    count_taken(then, colour, met.taken, met.lost)
+    let met = board_play::play_point(stones, columns, rows, p, colour);
+    count_played(state, colour, met.stood, met.taken, met.lost)
 }

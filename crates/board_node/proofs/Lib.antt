@@ -1,4 +1,6 @@
+pub mod Idle
 pub mod Moves
+pub mod Names
 pub mod Nodes
 pub mod Rows
 pub mod Seen

@@ -1,5 +1,5 @@
 -- A move that is seen at once is all that its node does. Assumes nothing.
-use Rattle.lists.proofs.Prelude.{ℕ, suc, _+_, _*_, _-_, _/_, _<_, _≤_, Bool, true, false, _&&_, _||_, true≢false, _≡_, refl, sym, ap, ap₂, _∙_, subst, List, [], _∷_, _++_, length, getD, take, drop, drop-cons, pick, leb, leb-true, le-leb, eqb, eqb-true, eq-eqb, ne-eqb, ltb, lt-ltb, arith}
+use Rattle.lists.proofs.Prelude.{ℕ, suc, _+_, _*_, _-_, _/_, _<_, _≤_, Bool, true, false, _&&_, _||_, true≢false, _≡_, refl, sym, ap, ap₂, _∙_, subst, List, [], _∷_, _++_, length, getD, pick, leb, leb-true, le-leb, eqb, eqb-true, eq-eqb, ne-eqb, ltb, lt-ltb, arith}
 use Rattle.lists.proofs.Tests.{and-both, same-or}
 use Rattle.lists.specs.Same.{same}
 use Rattle.tables.proofs.Cases.{either-bool}
@@ -20,9 +20,11 @@ use Rattle.board_play.specs.Play.{playable}
 use Rattle.board_play.specs.Steps.{Act, plays}
 use Rattle.board_node.specs.Node.{setupColour, moveColour, ttPass, moveActs, setupsOf, movesOf, actsOf}
 use Rattle.board_node.specs.Seen.{MoveSeenIs}
-use Rattle.board_node.specs.LocalsSeen.{PointSeen, ValueSeen, RowSeen}
+use Rattle.board_node.specs.LocalsSeen.{Idle, PointSeen, ValueSeen, RowSeen}
 use Rattle.board_node.specs.declared.MoveSeen.{MoveSeen}
+use Rattle.board_node.proofs.Idle.{idle-rows}
 use Rattle.board_node.proofs.Moves.{one-letter, move-plays, moves-by, setups-none, move-player}
+use Rattle.board_node.proofs.Names.{two-cut, name-one}
 
 -- whose move a letter names
 pub letter-none : (b : ℕ) → eqb b 0x42 ≡ false → eqb b 0x57 ≡ false → 0 ≡ moveColour (readIdentifier (b ∷ []))
@@ -100,25 +102,10 @@ point-seen w h c a b la ma lb mb x y e f =
       row = λ n. (omega arith, omega arith);
     }
 
--- a cut of one byte, and of two
-one-cut : (s : List ℕ) (from to : ℕ) → to - from ≡ 1 → from < length s → cut s from to ≡ getD s from 0 ∷ []
-one-cut s from to e h = ap (λ (n : ℕ). take n (drop from s)) e ∙ ap (take 1) (drop-cons s from 0 h)
-
-two-cut : (s : List ℕ) (from to : ℕ) → to - from ≡ 2 → to ≤ length s → cut s from to ≡ getD s from 0 ∷ getD s (from + 1) 0 ∷ []
-two-cut s from to e h =
-    let k : suc from ≡ from + 1 = omega arith in
-    ap (λ (n : ℕ). take n (drop from s)) e
-    ∙ (ap (take 2) (drop-cons s from 0 (omega arith))
-    ∙ (ap (λ (z : ℕ). getD s from 0 ∷ take 1 (drop z s)) k
-    ∙ ap (λ (z : List ℕ). getD s from 0 ∷ take 1 z) (drop-cons s (from + 1) 0 (omega arith))))
-
 -- whose move a property named by one letter is
 pub mover-seen : (text pr : List ℕ) (p : ℕ) {at end : ℕ} → at ≡ nameFromAt pr p → end ≡ nameToAt pr p → end - at ≡ 1 → at < length text → p < length pr / propertyStride
     → {c : ℕ} → c ≡ moveColour (readIdentifier (getD text at 0 ∷ [])) → c ≡ moveColour (readIdentifier (identifierAt text pr p))
-unfolding identifierAt
-mover-seen text pr p {at} {end} d e one h l g =
-    let i : cut text (nameFromAt pr p) (nameToAt pr p) ≡ getD text at 0 ∷ [] = ap₂ (cut text) (sym d) (sym e) ∙ one-cut text at end one h in
-    g ∙ rw (lt-ltb p (length pr / propertyStride) l) (ap (λ (z : List ℕ). moveColour (readIdentifier z)) (sym i))
+mover-seen text pr p d e one h l g = g ∙ ap (λ (z : List ℕ). moveColour (readIdentifier z)) (name-one text pr p d e one h l)
 
 -- the move of a value of two bytes
 pub value-seen : (w h c : ℕ) (text vl : List ℕ) (v : ℕ) {at end : ℕ} → at ≡ getD vl (v * 2) 0 → end ≡ getD vl (v * 2 + 1) 0 → end - at ≡ 2 → end ≤ length text
@@ -179,15 +166,18 @@ row-unseen w h p e = record { sets-none = λ n. absurd (n e); moves = λ n. absu
 pub node-unseen : (w h : ℕ) (ps : List Property) {r : MoveSeen} → r .colour ≡ 0 → MoveSeenIs w h ps r
 node-unseen w h ps e = record { acts = λ n. absurd (n e); can = λ n. absurd (n e) }
 
--- the one property of a node
-pub node-seen : (w h : ℕ) (text pr vl : List ℕ) (first count : ℕ) {r : MoveSeen} → count ≡ 1 → first < length pr / propertyStride
-    → RowSeen w h (propertyAt text pr vl first) r → MoveSeenIs w h (propertiesAt text pr vl first count) r
+-- a move, and rows behind it that do nothing
+pub node-seen : (w h : ℕ) (text pr vl : List ℕ) (first count : ℕ) {r : MoveSeen} → 0 < count → first + count ≤ length pr / propertyStride
+    → ((p : ℕ) → first + 1 ≤ p → p < first + count → Idle (readIdentifier (identifierAt text pr p))) → RowSeen w h (propertyAt text pr vl first) r
+    → MoveSeenIs w h (propertiesAt text pr vl first count) r
 unfolding propertiesAt tabulate
-node-seen w h text pr vl first count {r} e l x =
-    let k : rowsFrom pr first count ≡ suc 0 = omega arith in
+node-seen w h text pr vl first count {r} s l idle x =
+    let k : rowsFrom pr first count ≡ suc (count - 1) = omega arith in
+    let y = idle-rows w h (propertyAt text pr vl) (count - 1) (suc first) (λ p i j. idle p (omega arith) (omega arith)) in
     record {
       acts = λ n.
           ap (λ (j : ℕ). actsOf w h (tabulate (propertyAt text pr vl) first j)) k
-          ∙ ap₂ (λ (a b : List Act). (a ++ []) ++ (b ++ [])) (sym (x .sets-none n)) (x .moves n);
+          ∙ ap₂ (λ (a b : List Act). a ++ b) (ap₂ (λ (a b : List Act). a ++ b) (sym (x .sets-none n)) (y .0))
+          (ap₂ (λ (a b : List Act). a ++ b) (x .moves n) (y .1));
       can = x .can;
     }

@@ -4,8 +4,13 @@ use Rattle.go_points.specs.Area.{letterOf}
 use Rattle.parts_props.specs.Props.{Property}
 use Rattle.board_play.specs.Play.{playable}
 use Rattle.board_play.specs.Steps.{plays}
-use Rattle.board_node.specs.Node.{setupsOf, movesOf}
+use Rattle.board_node.specs.Node.{setupColour, moveColour, setupsOf, movesOf}
 use Rattle.board_node.specs.declared.MoveSeen.{MoveSeen}
+
+-- a property of that name neither sets nor moves
+pub record Idle (id : List ℕ) : Type 0 where
+  pub sets-none : 2 < setupColour id
+  pub moves-none : moveColour id < 1
 
 -- where r has a colour, it is c at (x, y), a point of the board
 pub record PointSeen (w h c x y : ℕ) (r : MoveSeen) : Type 0 where

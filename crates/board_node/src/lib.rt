@@ -1,5 +1,6 @@
 // The acts of one node upon a position: what its setup sets, then what its moves play.
 ghost use mathlib.Core.Path.{_≡_};
+ghost use mathlib.Core.Bool.{true};
 ghost use mathlib.Core.List.{List, [], _∷_};
 ghost use Prim.Native.Nat.{ℕ, _-_, _/_, _<_, _≤_};
 ghost use lib.ListN.{length};
@@ -16,7 +17,7 @@ ghost use Rattle.board_play.specs.Steps.{sets};
 ghost use Rattle.board_node.specs.Node.{setupColour, moveColour, setsFrom, moveActs, setupsOf, movesOf, allSetups, allMoves};
 ghost use Rattle.board_node.specs.Answer.{noState, positionOf, answerOf, refusedNode, NodeIs};
 ghost use Rattle.board_node.specs.LocalsTurn.{TurnIs, MovesIs, SetupsFrom, SetupIs};
-ghost use Rattle.board_node.specs.LocalsSeen.{PointSeen, ValueSeen, RowSeen};
+ghost use Rattle.board_node.specs.LocalsSeen.{Idle, PointSeen, ValueSeen, RowSeen};
 ghost use Rattle.board_node.specs.Seen.{MoveSeenIs};
 use board_acts::BoardState;
 use board_acts::Sums;
@@ -622,7 +623,67 @@ fn seen_row(
     seen_value(columns, rows, text, values, start, colour)
 }
 
-// The move of the one property of row `first`, where that is all that the node does and it is seen at once.
+// Whether one letter names neither setup nor a move.
+fn idle_letter(b: u8) -> bool
+    ensures { λ r. ⌜ (r ≡ true → Idle (readIdentifier (b ∷ []))) ⌝ }
+{
+    letter_colour(b) == 0
+}
+
+// Whether two letters are seen to name neither setup nor a move: capitals, the first of which is not A.
+fn idle_pair(a: u8, b: u8) -> bool
+    ensures { λ r. ⌜ (r ≡ true → Idle (readIdentifier (a ∷ b ∷ []))) ⌝ }
+{
+    if a <= b'A' {
+        return false;
+    }
+    if b'Z' < a {
+        return false;
+    }
+    if b < b'A' {
+        return false;
+    }
+    b <= b'Z'
+}
+
+// Whether property p is seen to be neither setup nor a move.
+fn idle_row(text: &[u8], properties: &[u32], p: usize) -> bool
+    requires { ⌜ p < length (now properties) / propertyStride ⌝ }
+    ensures { λ r. ⌜ (r ≡ true → Idle (readIdentifier (identifierAt (now (text .entry)) (now (properties .entry)) p))) ⌝ }
+{
+    let at = lists::wide(properties[p * tables::PROPERTY_STRIDE]);
+    let end = lists::wide(properties[p * tables::PROPERTY_STRIDE + tables::PROPERTY_END]);
+    if end <= at {
+        return false;
+    }
+    if text.len() < end {
+        return false;
+    }
+    if end - at == 2 {
+        return idle_pair(text[at], text[at + 1]);
+    }
+    if end - at != 1 {
+        return false;
+    }
+    idle_letter(text[at])
+}
+
+// Whether the properties from row `first` up to row `to` are seen to be neither setup nor moves.
+fn idle_rows(text: &[u8], properties: &[u32], first: usize, to: usize) -> bool
+    requires { ⌜ (first < to → to ≤ length (now properties) / propertyStride) ⌝ }
+    ensures { λ r. ⌜ (r ≡ true → (p : ℕ) → first ≤ p → p < to → Idle (readIdentifier (identifierAt (now (text .entry)) (now (properties .entry)) p))) ⌝ }
+{
+    let mut p = first;
+    while p < to {
+        if !idle_row(text, properties, p) {
+            return false;
+        }
+        p += 1;
+    }
+    true
+}
+
+// The move of row `first`, the first property of a node, where that is all that the node does and it is seen at once.
 pub fn seen_move(
     columns: usize,
     rows: usize,
@@ -634,10 +695,17 @@ pub fn seen_move(
 ) -> MoveSeen
     ensures { λ r. ⌜ MoveSeenIs columns rows (propertiesAt (now (text .entry)) (now (properties .entry)) (now (values .entry)) first count) r ⌝ }
 {
-    if count != 1 {
+    let all = properties.len() / tables::PROPERTY_STRIDE;
+    if all <= first {
         return unseen();
     }
-    if properties.len() / tables::PROPERTY_STRIDE <= first {
+    if all - first < count {
+        return unseen();
+    }
+    if count == 0 {
+        return unseen();
+    }
+    if !idle_rows(text, properties, first + 1, first + count) {
         return unseen();
     }
     seen_row(columns, rows, text, properties, values, first)

@@ -21,8 +21,8 @@ module _ (w h c p : ℕ) (b x y : List ℕ) (m n k l : ℕ) where
         taken-once w h c (g .between) x y k l s (g .second),
       )
 
-  near-once : PlaysNear w h c p b x m k → PlaysNear w h c p b y n l → (x ≡ y) × (m ≡ n) × (k ≡ l)
-  near-once f g =
+  pub play-point-once : PlaysNear w h c p b x m k → PlaysNear w h c p b y n l → (x ≡ y) × (m ≡ n) × (k ≡ l)
+  play-point-once f g =
       let e = takes-of-once (Touches w h (set b p c) (otherOf c) p) w h (otherOf c) (set b p c) (f .between) (g .between) m n (f .first) (g .first) in
       let s : TakesOf (Joined w h (g .between) c p) w h c (g .between) x k = subst (λ (z : List ℕ). TakesOf (Joined w h z c p) w h c z x k) (e .0) (f .second) in
       let o = takes-of-once (Joined w h (g .between) c p) w h c (g .between) x y k l s (g .second) in
@@ -47,4 +47,4 @@ module _ (w h c p : ℕ) (b x y : List ℕ) (m n k l : ℕ) where
 
   pub play-near-once : (s t : ℕ) → PlayIs (PlaysNear w h c p b x m k) w h c p b x s m k → PlayIs (PlaysNear w h c p b y n l) w h c p b y t n l
       → (x ≡ y) × (s ≡ t) × (m ≡ n) × (k ≡ l)
-  play-near-once s t f g = play-once s t near-once f g
+  play-near-once s t f g = play-once s t play-point-once f g

@@ -1,5 +1,7 @@
 // A stone set, and a stone played: whatever stood there, then the stones of the other colour that have no liberty go, then those of its own.
 ghost use mathlib.Core.Path.{_≡_};
+ghost use mathlib.Core.Bool.{true};
+ghost use Rattle.board_groups.specs.Board.{at};
 ghost use Rattle.board_play.specs.Play.{SetIs, playable, Plays, PlaysNear, PlayIs};
 
 // What stood at the point, how many stones of the other colour went, and how many of the mover's.
@@ -82,6 +84,30 @@ pub fn play_near(
     let stood = set_stone(stones, p, colour);
     let taken = board_take::take_beside(stones, columns, rows, p, other);
     let lost = board_take::take_group(stones, columns, rows, p, colour);
+    StonePlayed {
+        stood: stood,
+        taken: taken,
+        lost: lost,
+    }
+}
+
+// The same of a stone that can be played, without asking whether it can.
+pub fn play_point(
+    stones: &mut [u8; 2704],
+    columns: usize,
+    rows: usize,
+    p: usize,
+    colour: u8,
+) -> StonePlayed
+    requires { ⌜ playable columns rows colour p ≡ true ⌝ }
+    ensures { λ r. ⌜ (r .stood ≡ at (now (stones .entry)) p)
+        × PlaysNear columns rows colour p (now (stones .entry)) (now (stones .exit)) (r .taken) (r .lost) ⌝ }
+{
+    let x = p / 52;
+    let y = p % 52;
+    let stood = set_stone(stones, p, colour);
+    let taken = board_take::take_sides(stones, columns, rows, p, x, y, 3 - colour);
+    let lost = board_take::take_point(stones, columns, rows, p, x, y, colour);
     StonePlayed {
         stood: stood,
         taken: taken,

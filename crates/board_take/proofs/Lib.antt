@@ -6,6 +6,7 @@ pub mod Queue
 pub mod Settling
 pub mod Short
 pub mod Sides
+pub mod Spots
 pub mod Sweeping
 pub mod Taking
 pub mod Unique

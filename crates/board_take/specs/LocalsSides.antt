@@ -19,6 +19,11 @@ downOf h p = pick (ltb (p % 52 + 1) h && ltb (p % 52 + 1) 52) (p + 1) 2704
 unfoldable pub upOf : ℕ → ℕ
 upOf p = pick (ltb 0 (p % 52)) (p - 1) 2704
 
+-- p is the point of column x and row y
+pub record Spot (x y p : ℕ) : Type 0 where
+  pub column : x ≡ p / 52
+  pub row : y ≡ p % 52
+
 -- a place beside p is empty
 pub record Free (w h : ℕ) (b : List ℕ) (p : ℕ) : Type 0 where
   pub point : ℕ
@@ -36,9 +41,13 @@ pub record FreeAsked (w h : ℕ) (b : List ℕ) (p : ℕ) (stop r : Bool) : Type
   pub yes-free : r ≡ true → Free w h b p
   pub no-free : stop ≡ true → r ≡ false → Free w h b p → ⊥
 
+-- the place is one, and c stands there
+unfoldable pub colourAt : (b : List ℕ) (c q : ℕ) → Bool
+colourAt b c q = ltb q 2704 && eqb (at b q) c
+
 -- the place is one, and empty
-unfoldable pub emptyAt : (b : List ℕ) (q : ℕ) → Bool
-emptyAt b q = ltb q 2704 && eqb (at b q) 0
+abbrev pub emptyAt : (b : List ℕ) (q : ℕ) → Bool
+emptyAt b q = colourAt b 0 q
 
 -- the place is one, and empty or of colour c
 unfoldable pub heldAt : (b : List ℕ) (c q : ℕ) → Bool

@@ -1,11 +1,11 @@
 // Stones taken off: all groups of a colour that have no liberty, or one group. A flood marks places; specs/LocalsFlood is for private functions alone.
 ghost use mathlib.Core.Path.{_≡_};
 ghost use mathlib.Core.Bool.{true, false, not, _&&_};
-ghost use Prim.Native.Nat.{ℕ, _+_, _≤_, _<_};
+ghost use Prim.Native.Nat.{ℕ, _+_, _/_, _%_, _≤_, _<_};
 ghost use lib.ListN.{length, getD};
 ghost use Rattle.board_groups.specs.Board.{at, onBoard};
-ghost use Rattle.board_groups.specs.Groups.{Stone, Liberty, TakesGroup};
-ghost use Rattle.board_take.specs.LocalsSides.{rightOf, leftOf, downOf, upOf, emptyAt, heldAt, standsAt, Free, FreeIs, FreeAsked};
+ghost use Rattle.board_groups.specs.Groups.{Stone, Liberty, TakesGroup, TakesBeside};
+ghost use Rattle.board_take.specs.LocalsSides.{rightOf, leftOf, downOf, upOf, colourAt, emptyAt, heldAt, standsAt, Spot, Free, FreeIs, FreeAsked};
 ghost use Rattle.board_take.specs.LocalsShort.{ShortGrew, SettledTo, FewGrew, FewIs};
 ghost use Rattle.board_take.specs.LocalsFlood.{Marked, Found, Queued, Went, Here, Around, Seed, SeedAt, Unmarked, Coloured, GrowIs, Swept};
 ghost use Rattle.board_take.specs.Take.{TakesAll, TakesOne, TakesNear, SettledSeen};
@@ -69,21 +69,73 @@ fn empty_at(stones: &[u8; 2704], q: usize) -> bool
     false
 }
 
+// The colour stands at the place in the next column.
+fn right_is(stones: &[u8; 2704], p: usize, x: usize, columns: usize, colour: u8) -> bool
+    requires { ⌜ (p < 2704) × (x ≡ p / 52) ⌝ }
+    ensures { λ r. ⌜ r ≡ colourAt (now (stones .entry)) colour (rightOf columns p) ⌝ }
+{
+    if (x + 1 < columns) & (p + 52 < 2704) {
+        return stones[p + 52] == colour;
+    }
+    false
+}
+
+// The colour stands at the place in the column before.
+fn left_is(stones: &[u8; 2704], p: usize, colour: u8) -> bool
+    requires { ⌜ p < 2704 ⌝ }
+    ensures { λ r. ⌜ r ≡ colourAt (now (stones .entry)) colour (leftOf p) ⌝ }
+{
+    if 52 <= p {
+        return stones[p - 52] == colour;
+    }
+    false
+}
+
+// The colour stands at the place in the next row.
+fn down_is(stones: &[u8; 2704], p: usize, y: usize, rows: usize, colour: u8) -> bool
+    requires { ⌜ (p < 2704) × (y ≡ p % 52) ⌝ }
+    ensures { λ r. ⌜ r ≡ colourAt (now (stones .entry)) colour (downOf rows p) ⌝ }
+{
+    if (y + 1 < rows) & (y + 1 < 52) {
+        return stones[p + 1] == colour;
+    }
+    false
+}
+
+// The colour stands at the place in the row before.
+fn up_is(stones: &[u8; 2704], p: usize, y: usize, colour: u8) -> bool
+    requires { ⌜ (p < 2704) × (y ≡ p % 52) ⌝ }
+    ensures { λ r. ⌜ r ≡ colourAt (now (stones .entry)) colour (upOf p) ⌝ }
+{
+    if 0 < y {
+        return stones[p - 1] == colour;
+    }
+    false
+}
+
+// A point beside p, which is (x, y), is empty.
+fn free_at(stones: &[u8; 2704], p: usize, x: usize, y: usize, columns: usize, rows: usize) -> bool
+    requires { ⌜ (onBoard columns rows p ≡ true) × Spot x y p ⌝ }
+    ensures { λ r. ⌜ FreeIs columns rows (now (stones .entry)) p r ⌝ }
+{
+    if right_is(stones, p, x, columns, 0) {
+        return true;
+    }
+    if left_is(stones, p, 0) {
+        return true;
+    }
+    if down_is(stones, p, y, rows, 0) {
+        return true;
+    }
+    up_is(stones, p, y, 0)
+}
+
 // A point beside p is empty.
 fn free(stones: &[u8; 2704], p: usize, columns: usize, rows: usize) -> bool
     requires { ⌜ onBoard columns rows p ≡ true ⌝ }
     ensures { λ r. ⌜ FreeIs columns rows (now (stones .entry)) p r ⌝ }
 {
-    if empty_at(stones, right(p, columns)) {
-        return true;
-    }
-    if empty_at(stones, left(p)) {
-        return true;
-    }
-    if empty_at(stones, down(p, rows)) {
-        return true;
-    }
-    empty_at(stones, up(p))
+    free_at(stones, p, p / 52, p % 52, columns, rows)
 }
 
 // Puts a place on the queue where a stone of the colour stands there and it is not marked.
@@ -616,6 +668,140 @@ pub fn take_beside(
     let c = take_side(stones, columns, rows, down(p, rows), colour);
     let d = take_side(stones, columns, rows, up(p), colour);
     a + b + c + d
+}
+
+// Takes off the group of the stone at p, which is (x, y), where it has no liberty, and gives the number of its stones, else 0.
+fn take_stone(
+    stones: &mut [u8; 2704],
+    columns: usize,
+    rows: usize,
+    p: usize,
+    x: usize,
+    y: usize,
+    colour: u8,
+) -> usize
+    requires { ⌜ (colour ≡ 0 → ⊥) × Stone columns rows (now stones) colour p × Spot x y p ⌝ }
+    ensures { λ r. ⌜ TakesGroup columns rows colour p (now (stones .entry)) (now (stones .exit)) r × (r ≤ 2704) ⌝ }
+{
+    if free_at(stones, p, x, y, columns, rows) {
+        return 0;
+    }
+    take_short(stones, columns, rows, p, colour)
+}
+
+// The same of the place in the next column, where a stone of the colour stands there.
+fn take_right(
+    stones: &mut [u8; 2704],
+    columns: usize,
+    rows: usize,
+    p: usize,
+    x: usize,
+    y: usize,
+    colour: u8,
+) -> usize
+    requires { ⌜ (colour ≡ 0 → ⊥) × (onBoard columns rows p ≡ true) × Spot x y p ⌝ }
+    ensures { λ r. ⌜ TakesGroup columns rows colour (rightOf columns p) (now (stones .entry)) (now (stones .exit)) r × (r ≤ 2704) ⌝ }
+{
+    if right_is(stones, p, x, columns, colour) {
+        return take_stone(stones, columns, rows, p + 52, x + 1, y, colour);
+    }
+    0
+}
+
+// The same of the place in the column before.
+fn take_left(
+    stones: &mut [u8; 2704],
+    columns: usize,
+    rows: usize,
+    p: usize,
+    x: usize,
+    y: usize,
+    colour: u8,
+) -> usize
+    requires { ⌜ (colour ≡ 0 → ⊥) × (onBoard columns rows p ≡ true) × Spot x y p ⌝ }
+    ensures { λ r. ⌜ TakesGroup columns rows colour (leftOf p) (now (stones .entry)) (now (stones .exit)) r × (r ≤ 2704) ⌝ }
+{
+    if left_is(stones, p, colour) {
+        return take_stone(stones, columns, rows, p - 52, x - 1, y, colour);
+    }
+    0
+}
+
+// The same of the place in the next row.
+fn take_down(
+    stones: &mut [u8; 2704],
+    columns: usize,
+    rows: usize,
+    p: usize,
+    x: usize,
+    y: usize,
+    colour: u8,
+) -> usize
+    requires { ⌜ (colour ≡ 0 → ⊥) × (onBoard columns rows p ≡ true) × Spot x y p ⌝ }
+    ensures { λ r. ⌜ TakesGroup columns rows colour (downOf rows p) (now (stones .entry)) (now (stones .exit)) r × (r ≤ 2704) ⌝ }
+{
+    if down_is(stones, p, y, rows, colour) {
+        return take_stone(stones, columns, rows, p + 1, x, y + 1, colour);
+    }
+    0
+}
+
+// The same of the place in the row before.
+fn take_up(
+    stones: &mut [u8; 2704],
+    columns: usize,
+    rows: usize,
+    p: usize,
+    x: usize,
+    y: usize,
+    colour: u8,
+) -> usize
+    requires { ⌜ (colour ≡ 0 → ⊥) × (onBoard columns rows p ≡ true) × Spot x y p ⌝ }
+    ensures { λ r. ⌜ TakesGroup columns rows colour (upOf p) (now (stones .entry)) (now (stones .exit)) r × (r ≤ 2704) ⌝ }
+{
+    if up_is(stones, p, y, colour) {
+        return take_stone(stones, columns, rows, p - 1, x, y - 1, colour);
+    }
+    0
+}
+
+// Takes off the group of a point of the board, (x, y), where it is of the colour and has no liberty, and gives the number of its stones, else 0.
+pub fn take_point(
+    stones: &mut [u8; 2704],
+    columns: usize,
+    rows: usize,
+    p: usize,
+    x: usize,
+    y: usize,
+    colour: u8,
+) -> usize
+    requires { ⌜ (colour ≡ 0 → ⊥) × (onBoard columns rows p ≡ true) × Spot x y p ⌝ }
+    ensures { λ r. ⌜ TakesGroup columns rows colour p (now (stones .entry)) (now (stones .exit)) r ⌝ }
+{
+    if stones[p] != colour {
+        return 0;
+    }
+    take_stone(stones, columns, rows, p, x, y, colour)
+}
+
+// Takes off the groups of the colour beside a point of the board, (x, y), that have no liberty, and gives the number of their stones.
+pub fn take_sides(
+    stones: &mut [u8; 2704],
+    columns: usize,
+    rows: usize,
+    p: usize,
+    x: usize,
+    y: usize,
+    colour: u8,
+) -> usize
+    requires { ⌜ (colour ≡ 0 → ⊥) × (onBoard columns rows p ≡ true) × Spot x y p ⌝ }
+    ensures { λ r. ⌜ TakesBeside columns rows colour p (now (stones .entry)) (now (stones .exit)) r ⌝ }
+{
+    let after = take_right(stones, columns, rows, p, x, y, colour);
+    let before = take_left(stones, columns, rows, p, x, y, colour);
+    let below = take_down(stones, columns, rows, p, x, y, colour);
+    let above = take_up(stones, columns, rows, p, x, y, colour);
+    after + before + below + above
 }
 
 // The place is one, and empty or of the colour.

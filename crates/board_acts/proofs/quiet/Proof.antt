@@ -10,10 +10,7 @@ returns-2 : tie.Need-returns-2
 returns-2 c = λ e. absurd (true≢false (sym e))
 
 returns-3 : tie.Need-returns-3
-returns-3 c = λ e. absurd (true≢false (sym e))
-
-returns-4 : tie.Need-returns-4
-returns-4 c = λ e. (c .before .before .if1 .left, c .before .if2 .left, c .if3 .left, eqb-true _ _ e)
+returns-3 c = λ e. (c .before .if1 .left, c .if2 .left, eqb-true _ _ e)
 
 pub quiet-spec : {M : Type 1} → statement M
-quiet-spec = tie.close (tie.spec returns returns-2 returns-3 returns-4)
+quiet-spec = tie.close (tie.spec returns returns-2 returns-3)
