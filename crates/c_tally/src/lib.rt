@@ -104,7 +104,7 @@ pub fn line(
             passes: 0,
             tag: 0,
         },
-        WrittenTally::Done(n, counted) => SgfLine {
+        WrittenTally::Done(n, counted, tag) => SgfLine {
             number: 0,
             reserved: 0,
             length: n,
@@ -113,7 +113,7 @@ pub fn line(
             black: counted.black,
             white: counted.white,
             passes: counted.passes,
-            tag: season_tag::tag(&out[..n]),
+            tag: tag,
         },
     }
 }
