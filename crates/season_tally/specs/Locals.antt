@@ -4,7 +4,8 @@ use Rattle.lists.specs.Same.{same}
 use Rattle.values.specs.Read.{readIdentifier}
 use Rattle.parts_props.specs.Props.{identifierAt}
 use Rattle.parts.specs.Rows.{valuesAt}
-use Rattle.go.specs.Value.{goValue}
+use Rattle.go.specs.Value.{valueBy, goValue}
+use Rattle.go_shape.specs.declared.Shape.the-variants.{OneMove}
 use Rattle.tables.specs.Columns.{treeStride, nodeStride, rootAt, firstPropAt, firstValAt, valCountAt}
 use Rattle.tables.specs.Each.{sum}
 use Rattle.season_tag.specs.Tag.{tagOf}
@@ -12,7 +13,7 @@ use Rattle.season_tally.specs.declared.Moves.{Moves}
 use Rattle.season_tally.specs.declared.Tagged.{Tagged}
 use Rattle.season_tally.specs.declared.Played.{Played}
 use Rattle.season_tally.specs.declared.Played.the-variants.{Black, White, Passed, Nothing}
-use Rattle.season_tally.specs.Tally.{playedBy, isBlack, isWhite, isPassed}
+use Rattle.season_tally.specs.Tally.{movedBy, playedBy, isBlack, isWhite, isPassed}
 
 -- whose move a read identifier names: that of B, of W, or none
 unfoldable pub moverOf : (name : List ℕ) → Played
@@ -23,6 +24,10 @@ unfoldable pub playedAt : (rule : ℕ) (text pr vl : List ℕ) → ℕ → Playe
 playedAt rule text pr vl p =
     let name = readIdentifier (identifierAt text pr p) in
     playedBy name (goValue rule name (valuesAt text vl (firstValAt pr p) (valCountAt pr p)) .value)
+
+-- values that are one point under every rule: a move to it is its colour's
+abbrev pub AlwaysMoves : List (List ℕ) → Type 0
+AlwaysMoves vs = (rule : ℕ) (mine : Played) → movedBy mine (valueBy rule OneMove vs .value) ≡ mine
 
 -- one property more
 abbrev pub onePlayed : Moves → Played → Moves

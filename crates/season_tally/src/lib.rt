@@ -11,12 +11,13 @@ ghost use mathlib.Core.List.{[], _∷_};
 ghost use Prim.Native.Nat.{_-_, _^_, _<_, _≤_};
 ghost use Rattle.tables.specs.Memory.{memory};
 ghost use Rattle.values.specs.Read.{readIdentifier};
+ghost use Rattle.parts.specs.Rows.{valuesAt};
 ghost use Rattle.go.specs.Value.{isGo};
 ghost use Rattle.fit.specs.Fit.{Fit};
 ghost use Rattle.fit.specs.Record.{recordIn};
 ghost use Rattle.season_tag.specs.Tag.{tagOf};
 ghost use Rattle.season_tally.specs.Tally.{movedBy, countsAs, tallyOf, tallyAnswer, WriteTallyIs};
-ghost use Rattle.season_tally.specs.Locals.{RootsLent, moverOf, playedAt, nextFirst, onePlayed, Goes, Counted, BelowAll, TagsFirst};
+ghost use Rattle.season_tally.specs.Locals.{RootsLent, moverOf, playedAt, nextFirst, onePlayed, Goes, Counted, BelowAll, TagsFirst, AlwaysMoves};
 
 // What a property counts as: a move of a colour to a point, a pass of either, or nothing.
 pub enum Played {
@@ -113,6 +114,34 @@ fn mover(identifier: &[u8]) -> Played
     Played::Nothing
 }
 
+// Whether the values are one, and a point under every rule: two small letters, the first before `t`. Most moves are.
+fn is_point(text: &[u8], values: &[u32], first: usize, count: usize) -> bool
+    ensures { λ r. ⌜ (r ≡ true → AlwaysMoves (valuesAt (now (text .entry)) (now (values .entry)) first count)) ⌝ }
+{
+    if count != 1 {
+        return false;
+    }
+    let value = parts::value_at(text, values, first, 0);
+    if value.len() != 2 {
+        return false;
+    }
+    let a = value[0];
+    let b = value[1];
+    if a < b'a' {
+        return false;
+    }
+    if b's' < a {
+        return false;
+    }
+    if b < b'a' {
+        return false;
+    }
+    if b'z' < b {
+        return false;
+    }
+    true
+}
+
 // What property p counts as in a tree with this rule.
 fn played_at(rule: u32, text: &[u8], properties: &[u32], values: &[u32], p: usize) -> Played
     ensures { λ r. ⌜ r ≡ playedAt rule (now (text .entry)) (now (properties .entry)) (now (values .entry)) p ⌝ }
@@ -129,6 +158,9 @@ fn played_at(rule: u32, text: &[u8], properties: &[u32], values: &[u32], p: usiz
     }
     let first = lists::wide(properties[p * tables::PROPERTY_STRIDE + tables::PROPERTY_FIRST]);
     let count = lists::wide(properties[p * tables::PROPERTY_STRIDE + tables::PROPERTY_COUNT]);
+    if is_point(text, values, first, count) {
+        return mine;
+    }
     moved(
         mine,
         go::value::value_by(rule, Shape::OneMove, text, values, first, count),
