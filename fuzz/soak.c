@@ -8,9 +8,10 @@
  * written nothing and its number is one that the call may give; tables of a reading fit; after an accepted edit of a
  * strict reading the tables are those of a fresh one, and so is the board at a node; the board at a node is the one along
  * its line, node by node, and its sums are right; a session of edits is undone and redone, step by step, to the same
- * used bytes and the same tables; a writing reads back, and is written again as the same bytes; a salvage that is
- * accepted leaves the lenient reading in its tables, its result reads strictly, and is salvaged again as the same bytes
- * with an empty list. The process holds no more memory at the end than after a tenth of them. */
+ * used bytes and the same tables; a writing reads back, and is written again as the same bytes; a line is what writing,
+ * tally and tag say; a salvage that is accepted leaves the lenient reading in its tables, its result reads strictly, and
+ * is salvaged again as the same bytes with an empty list. The process holds no more memory at the end than after a tenth
+ * of them. */
 #define _GNU_SOURCE
 #include "lent.h"
 #include "sgf.h"
@@ -43,7 +44,7 @@ enum { NUMBERS_END = 25 };
 static unsigned long operations, accepted, refusals[NUMBERS_END];
 
 /* What a fuzzer is told beside the code that was reached: which call gave which number, and sizes by their bits. */
-enum { READ, WALK, FITS, VALUE, DISPLAY, DISPLAY_VALUE, GO_VALUE, GO_BY_RULE, SIZE, ENTRY, SIMPLE_VALUE, SIMPLE_PROPERTY, TALLY, WRITE, BLOCKS, ESCAPE, BOARD, TAG, NAMED, NEXT, SALVAGE, EDIT, SESSION, LOOKUP, CORRECT, CALLS };
+enum { READ, WALK, FITS, VALUE, DISPLAY, DISPLAY_VALUE, GO_VALUE, GO_BY_RULE, SIZE, ENTRY, SIMPLE_VALUE, SIMPLE_PROPERTY, TALLY, LINE, WRITE, BLOCKS, ESCAPE, BOARD, TAG, NAMED, NEXT, SALVAGE, EDIT, SESSION, LOOKUP, CORRECT, CALLS };
 #ifdef FUZZER
 __attribute__((section("__libfuzzer_extra_counters")))
 #endif
@@ -712,6 +713,24 @@ static void season(void) {
     REQUIRE(t.black == black && t.white == white && t.passes == passes);
 }
 
+/* The line of a record, beside a writing into as many bytes, its tally and the tag of what was written. */
+static void line(void) {
+    static uint8_t written[OUT];
+    SgfLine l = sgf_line(RECORD, BYTES(OUTS));
+    bool good = answered(LINE, l.number, MAY(19) | MAY(15) | MAY(14), MAY(OUTS));
+    stays_but(OUTS, 0, l.length);
+    SgfWriting w = sgf_write(RECORD, written, lent[OUTS].length);
+    REQUIRE(l.reserved == 0 && l.number == w.number && l.length == w.length && memcmp(lent[OUTS].at, written, l.length) == 0);
+    tell(LINE, 0, l.length);
+    if (!good) {
+        REQUIRE((l.trees | l.nodes | l.black | l.white | l.passes) == 0 && l.tag == 0);
+        return;
+    }
+    SgfTally t = sgf_tally(RECORD);
+    REQUIRE(l.trees == t.trees && l.nodes == t.nodes && l.black == t.black && l.white == t.white && l.passes == t.passes);
+    REQUIRE(l.tag == sgf_tag(written, w.length));
+}
+
 /* Any part of the text as an identifier. */
 static void entry(void) {
     size_t length = lent[TEXTS].length, from = draw((uint32_t)length + 1), to = from + draw((uint32_t)(length - from) + 1);
@@ -954,6 +973,7 @@ static void call(int what) {
     case GO_BY_RULE: go_by_rule(k); break;
     case SIZE: size(draw(8) == 7 ? k : k % 4); break;
     case TALLY: season(); break;
+    case LINE: line(); break;
     case WRITE: write_text(); break;
     case SESSION: session(); break;
     case LOOKUP: lookup(k); break;

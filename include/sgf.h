@@ -27,8 +27,8 @@
  *
  * Stack, in bytes, on aarch64 (x86-64 within 130 bytes of it but for sgf_go_value, 14,080, and sgf_go_by_rule, 8,384):
  * sgf_board 22,976 and sgf_board_next 19,776, both measured on x86-64, sgf_go_value 11,392, sgf_write 8,832,
- * sgf_write_length 10,240 at most, sgf_go_by_rule 5,696, sgf_read_strict and sgf_read_lenient 5,440, those that count
- * rows or say why 6,144 at most, sgf_salvage 49,152 at most, sgf_tally 4,096 at most, sgf_simple_value,
+ * sgf_write_length and sgf_line 10,240 at most, sgf_go_by_rule 5,696, sgf_read_strict and sgf_read_lenient 5,440, those
+ * that count rows or say why 6,144 at most, sgf_salvage 49,152 at most, sgf_tally 4,096 at most, sgf_simple_value,
  * sgf_simple_property and sgf_entry 1,900 at most; of the others sgf_block 1,536, sgf_correct, sgf_corrected and
  * sgf_feed_check 1,536 at most, the rest 1,024 at most. docs/MEMORY.md has each function's bound, which
  * examples/c/stack.c tests.
@@ -671,6 +671,19 @@ typedef struct {
  * pass, as sgf_go_value says them. Properties are counted, not nodes; an invalid one counts nowhere. Number: 19; all else
  * is then 0. */
 SgfTally sgf_tally(SGF_RECORD);
+
+/* A number; how many bytes were written; the tally; the tag of the writing. */
+typedef struct {
+    uint32_t number, reserved;
+    size_t length;
+    size_t trees, nodes, black, white, passes;
+    uint64_t tag;
+} SgfLine;
+
+/* The line of a record in a season's report, since 0.11.0: what sgf_write, sgf_tally and sgf_tag of the writing give, by one
+ * call with one check that the tables fit. `out` has the writing, of `length` bytes, and what was behind it. Numbers:
+ * 19, 15, 14, as sgf_write; `out` is then as it was, and all else is 0. */
+SgfLine sgf_line(SGF_RECORD, uint8_t *out, size_t out_len);
 
 #ifdef __cplusplus
 }

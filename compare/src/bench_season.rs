@@ -19,6 +19,17 @@ fn record(text: &str, tables: &mut [Vec<u32>; 4], out: &mut [u8], counted: bool)
     tally + if counted { ffi::tag(&out[..written.length]) } else { written.length as u64 }
 }
 
+/// The same by one call for writing, tally and tag.
+fn line(text: &str, tables: &mut [Vec<u32>; 4], out: &mut [u8]) -> u64 {
+    let [trees, nodes, properties, values] = tables;
+    let reading = library::read_strict(text.as_bytes(), 0, [trees, nodes, properties, values]);
+    assert_eq!(reading.number, 0);
+    let h = Held { text: text.as_bytes(), used: text.len(), counts: reading.counts, tables: [&tables[0], &tables[1], &tables[2], &tables[3]] };
+    let line = ffi::line(&h, out);
+    assert_eq!(line.number, 0);
+    (line.nodes as u64).wrapping_add(line.tag)
+}
+
 /// Prints both.
 pub fn run() {
     let bytes: Vec<u8> = (0..1usize << 18).map(|i| (i * 2_654_435_761 >> 13) as u8).collect();
@@ -38,12 +49,16 @@ pub fn run() {
     let texts: Vec<String> = (0..50).map(|k| game(5_000 + k)).collect();
     let rows = sufficient(6_000);
     let mut lent = [0, 1, 2, 3].map(|t| vec![0u32; rows[t] * STRIDES[t]]);
-    let mut again = lent.clone();
+    let (mut again, mut once) = (lent.clone(), lent.clone());
     let mut out = vec![0u8; 400_000];
-    let mut other = out.clone();
-    let [counted, alone] = in_turn([
+    let (mut other, mut third) = (out.clone(), out.clone());
+    let [counted, by_line, alone] = in_turn([
         &mut || {
             black_box(texts.iter().map(|text| record(text, &mut lent, &mut out, true)).fold(0, u64::wrapping_add));
+            None
+        },
+        &mut || {
+            black_box(texts.iter().map(|text| line(text, &mut once, &mut third)).fold(0, u64::wrapping_add));
             None
         },
         &mut || {
@@ -53,4 +68,5 @@ pub fn run() {
     ])
     .map(|time| time.as_secs_f64() * 1e3 * 20.0);
     println!("a season of 1,000 records of 5 KB, ms: {counted:.2}, reading and writing alone {alone:.2}, ratio {:.2}", counted / alone);
+    println!("the same by sgf_read_strict and sgf_line, ms: {by_line:.2}, reading and writing alone {alone:.2}, ratio {:.2}", by_line / alone);
 }

@@ -1,7 +1,7 @@
-//! Tags beside the same loop in plain Rust, and tallies beside the crate's own tree and beside the scope's words.
+//! Tags beside the same loop in plain Rust, tallies beside the crate's own tree and beside the scope's words, and lines beside both.
 use crate::ffi;
 use crate::go_values::in_order;
-use crate::held::Held;
+use crate::held::{Counts, Held};
 use crate::library::Mode;
 use crate::oracle;
 use crate::plain_fit::identifier;
@@ -10,7 +10,7 @@ use crate::plain_size::{self, GO as PASSES};
 use crate::plain_write::{self, raw_values};
 use crate::report::{count, same};
 use crate::rng::Rng;
-use crate::whole::Whole;
+use crate::whole::{Fenced, Whole};
 use sgf_parse::go::{Move, Prop};
 use sgf_parse::GameTree;
 
@@ -97,7 +97,32 @@ fn theirs(trees: &[GameTree], passing: &[bool]) -> Five {
     five
 }
 
-/// Compares the tally of a text's record, read strictly and leniently; of tables that do not fit, 19; and the tag of its writing.
+/// The line of a record in rooms around the length of its writing: beside the scope's words, and beside the calls one by one.
+fn compare_line(h: &Held, five: Five) -> Result<(), String> {
+    let writing = plain_write::write(h);
+    let long = writing.as_ref().map_or(8, Vec::len);
+    for room in [0, long / 2, long - 1, long, long + 7] {
+        let (mut out, mut other) = (Fenced::<u8>::new(&[], room), Fenced::<u8>::new(&[], room));
+        let line = ffi::line(h, out.lent_mut());
+        let (number, length, [trees, nodes, black, white, passes], tag) = match &writing {
+            Err(number) => (*number, 0, [0; 5], 0),
+            Ok(_) if room < long => (14, 0, [0; 5], 0),
+            Ok(bytes) => (0, long, five, plain_tag(bytes)),
+        };
+        same("line", line, ffi::Line { number, reserved: 0, length, trees, nodes, black, white, passes, tag })?;
+        let written = ffi::write(h, other.lent_mut());
+        same("line beside a writing", (line.number, line.length), (written.number, written.length))?;
+        same("bytes of a line", &out, &other)?;
+        same("bytes behind a line", out.stands_from(length), true)?;
+        if number == 0 {
+            same("tally of a line", shown(0, [line.trees, line.nodes, line.black, line.white, line.passes]), ffi::tally(h))?;
+            same("tag of a line", line.tag, ffi::tag(&out.lent()[..length]))?;
+        }
+    }
+    Ok(())
+}
+
+/// Compares the tally and the line of a text's record, read strictly and leniently; of tables that do not fit, 19; and the tag of its writing.
 pub fn compare_tally(text: &[u8]) -> Result<(), String> {
     for mode in [Mode::Strict, Mode::Lenient] {
         let Some(whole) = Whole::read(text, mode, 0)? else { continue };
@@ -108,6 +133,12 @@ pub fn compare_tally(text: &[u8]) -> Result<(), String> {
         let mut unfit = h;
         unfit.counts.values += 1;
         same("tally of tables that do not fit", ffi::tally(&unfit), shown(19, [0; 5]))?;
+        compare_line(&h, five)?;
+        compare_line(&unfit, five)?;
+        for damaged in [Counts { trees: h.counts.trees + 1, ..h.counts }, Counts { nodes: h.counts.nodes - 1, ..h.counts }] {
+            compare_line(&Held { counts: damaged, ..h }, five)?;
+        }
+        compare_line(&Held { used: h.used + 1, ..h }, five)?;
         if let Ok(written) = plain_write::write(&h) {
             let mut out = vec![0; written.len()];
             let length = ffi::write(&h, &mut out).length;

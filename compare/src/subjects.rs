@@ -309,7 +309,7 @@ fn compare_blocks(scale: &Scale) -> bool {
     good & forged.close()
 }
 
-/// Tags and tallies; the stand-in has none.
+/// Tags, tallies and lines; the stand-in has none.
 #[cfg(stand_in)]
 fn compare_season(_: &Scale) -> bool {
     true
@@ -320,7 +320,7 @@ fn compare_season(scale: &Scale) -> bool {
     let mut tags = Report::new("tags", crate::season::compare_tag);
     crate::season::bytes(4_096, 1_000_000, &mut |bytes| tags.text(bytes));
     let good = tags.close();
-    let mut report = Report::new("tallies", crate::season::compare_tally);
+    let mut report = Report::new("tallies and lines", crate::season::compare_tally);
     texts::sequences(texts::WORDS, scale.words, &mut |text| report.text(text));
     report.group("all short sequences of words");
     size_texts::sizes(scale.size_symbols, &mut |text| report.text(text));

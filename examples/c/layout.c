@@ -215,12 +215,20 @@ static void check_sizes(void) {
     CHECK(sgf_size(RECORD, 0).number == SGF_NOT_FITTING && sgf_size(RECORD, 0).columns == 0);
 }
 
-/* Every field of a tally, and tags of known bytes. */
+/* Every field of a tally and of a line, and tags of known bytes. */
 static void check_season(void) {
+    uint8_t out[80];
     read_text("(;B[aa];W[bb](;B[tt])(;W[cc];W[dd][ee]))(;SZ[20]W[tt])(;GM[2]B[aa])", sgf_read_strict, 0);
     SgfTally t = sgf_tally(RECORD);
     CHECK(t.number == 0 && t.reserved == 0 && t.trees == 3 && t.nodes == 7 && t.black == 1 && t.white == 3 && t.passes == 1);
+    memset(out, 7, sizeof out);
+    SgfLine l = sgf_line(RECORD, out, sizeof out);
+    CHECK(l.number == 0 && l.reserved == 0 && l.length == 65 && l.trees == 3 && l.nodes == 7 && l.black == 1 && l.white == 3 && l.passes == 1);
+    CHECK(memcmp(out, "(;B[aa];W[bb](;B[])(;W[cc];W[dd][ee]))(;SZ[20]W[tt])(;GM[2]B[aa])\7", 66) == 0 && l.tag == sgf_tag(out, 65));
+    l = sgf_line(RECORD, out, 64);
+    CHECK(l.number == SGF_NO_ROOM && l.reserved == 0 && (l.length | l.trees | l.nodes | l.black | l.white | l.passes) == 0 && l.tag == 0);
     counts.nodes--;
+    CHECK(sgf_line(RECORD, out, sizeof out).number == SGF_NOT_FITTING && sgf_line(RECORD, out, sizeof out).tag == 0);
     t = sgf_tally(RECORD);
     CHECK(t.number == SGF_NOT_FITTING && t.reserved == 0 && (t.trees | t.nodes | t.black | t.white | t.passes) == 0);
     CHECK(sgf_tag(NULL, 0) == UINT64_C(0xcbf29ce484222325) && sgf_tag((const uint8_t *)"a", 1) == UINT64_C(0xaf63dc4c8601ec8c));

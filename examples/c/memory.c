@@ -72,6 +72,7 @@ int main(void) {
     SIZE(SgfReading);
     SIZE(SgfEdit);
     SIZE(SgfSalvage);
+    SIZE(SgfLine);
     SIZE(SgfGoValue);
     SIZE(SgfBoard);
     SIZE(SgfBlocks);

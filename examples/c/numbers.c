@@ -5,7 +5,7 @@
 #include <stdio.h>
 #include <string.h>
 
-enum { READ, FITS, VALUE, DISPLAY, GO_VALUE, WRITE, EDIT, CORRECT, CORRECTED, CHECK, SIZE, TALLY, BOARD, NEXT, TRIM, TOKEN, DISPLAY_VALUE, CALLS };
+enum { READ, FITS, VALUE, DISPLAY, GO_VALUE, WRITE, EDIT, CORRECT, CORRECTED, CHECK, SIZE, TALLY, LINE, BOARD, NEXT, TRIM, TOKEN, DISPLAY_VALUE, CALLS };
 enum { LENIENT = 1, SHORT = 4 };
 enum { FIT, DAMAGED, DEEPER }; /* the tables of a reading; with a game type that there is not; with a root of depth 1 */
 enum { ROOM = 64, ROWS = 1100, LONG = SGF_TEXT_LIMIT };
@@ -109,6 +109,11 @@ static const Row rows[] = {
     {0, 0, TALLY, "(;B[aa])", 0, FIT, 0, "", 0},
     {19, 0, TALLY, "(;B[aa])", 0, DAMAGED, 0, "", 0},
     {19, 0, TALLY, "(;B[aa])", 0, DEEPER, 0, "", 0},
+    {0, 0, LINE, "(;B[ab])", 0, FIT, 0, "", 8},
+    {14, 0, LINE, "(;B[ab])", 0, FIT, 0, "", 7},
+    {15, 0, LINE, "(;[x])", 0, FIT, 0, "", 0},
+    {19, 0, LINE, "(;[x])", 0, DAMAGED, 0, "", 0},
+    {19, 0, LINE, "(;B[ab])", 0, DEEPER, 0, "", 8},
     {0, 0, BOARD, "(;SZ[9];B[aa])", 0, FIT, 1, "", 0},
     {19, 0, BOARD, "(;SZ[9];B[aa])", 0, DAMAGED, 2, "", 0},
     {21, 0, BOARD, "(;SZ[9];B[aa])", 0, FIT, 2, "", 0},
@@ -226,6 +231,11 @@ static uint32_t answer(const Row *r, uint32_t how, size_t *place, bool *is_zero)
     case TALLY: {
         SgfTally a = sgf_tally(RECORD);
         *is_zero = (a.reserved | a.trees | a.nodes | a.black | a.white | a.passes) == 0;
+        return a.number;
+    }
+    case LINE: {
+        SgfLine a = sgf_line(RECORD, lent.out, r->room);
+        *is_zero = (a.reserved | a.length | a.trees | a.nodes | a.black | a.white | a.passes) == 0 && a.tag == 0;
         return a.number;
     }
     case BOARD: {

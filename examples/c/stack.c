@@ -48,6 +48,7 @@ static size_t feed_len;
 static uint32_t rows[SGF_TOKEN_STRIDE * ROWS];
 static SgfBlocks half, all;
 static SgfTally tally;
+static SgfLine line;
 static SgfWhy why;
 static SgfSalvage salvage;
 static uint32_t changes[SGF_CHANGE_STRIDE * ROWS];
@@ -84,6 +85,7 @@ NOTE(SgfGoValue, note_go_by_rule, uint32_t rule, const uint8_t *i, size_t n, con
 NOTE(SgfSize, note_size, SGF_RECORD, size_t tree)
 NOTE(SgfSize, note_tree_size, const uint8_t *t, size_t n, const uint32_t *a, size_t b, const uint32_t *c, size_t d, const uint32_t *e, size_t f, const uint32_t *g, size_t h, size_t tree)
 NOTE(SgfTally, note_tally, SGF_RECORD)
+NOTE(SgfLine, note_line, SGF_RECORD, uint8_t *to, size_t to_len)
 NOTE(SgfSalvage, note_salvage, const uint8_t *t, size_t n, uint32_t *r, size_t rl, uint32_t *d, size_t dl, uint32_t *p, size_t pl, uint32_t *v, size_t vl, uint32_t *c, size_t cl, uint8_t *o, size_t ol)
 NOTE(SgfBoard, note_board, SGF_RECORD, size_t k)
 NOTE(SgfBoard, note_board_next, SgfBoard on, const uint8_t *t, size_t n, const uint32_t *p, size_t m, const uint32_t *v, size_t l, size_t first, size_t count)
@@ -136,6 +138,7 @@ static void call_simple_property(void) {
 static void call_size(void) { size = EITHER(size)(RECORD, asked); }
 static void call_tree_size(void) { size = EITHER(tree_size)(text, used, TABLES, asked); }
 static void call_tally(void) { tally = EITHER(tally)(RECORD); }
+static void call_line(void) { line = EITHER(line)(RECORD, out, room); }
 static void call_board(void) { board = EITHER(board)(RECORD, asked); }
 static void call_board_next(void) {
     const uint32_t *row = nodes + asked * SGF_NODE_STRIDE;
@@ -187,6 +190,7 @@ static struct function {
     {"sgf_size", call_size, 0, 1024},
     {"sgf_tree_size", call_tree_size, 0, 1024},
     {"sgf_tally", call_tally, 0, 4096},
+    {"sgf_line", call_line, 0, 10240},
     {"sgf_board", call_board, 0, 24576},
     {"sgf_board_next", call_board_next, 0, 20480},
     {"sgf_write", call_write, 0, 10240},
@@ -302,6 +306,6 @@ int main(void) {
         }
     }
     (void)span, (void)entry, (void)simple, (void)display, (void)go, (void)writing, (void)edit, (void)trim, (void)token, (void)value, (void)number, (void)board;
-    (void)part, (void)check, (void)block, (void)closing, (void)tag, (void)tally, (void)why, (void)salvage;
+    (void)part, (void)check, (void)block, (void)closing, (void)tag, (void)tally, (void)line, (void)why, (void)salvage;
     return failed;
 }

@@ -66,6 +66,21 @@ pub struct Tally {
     pub passes: usize,
 }
 
+/// A number; how many bytes were written; the tally; the tag of the writing.
+#[repr(C)]
+#[derive(Debug, Clone, Copy, PartialEq, Eq)]
+pub struct Line {
+    pub number: u32,
+    pub reserved: u32,
+    pub length: usize,
+    pub trees: usize,
+    pub nodes: usize,
+    pub black: usize,
+    pub white: usize,
+    pub passes: usize,
+    pub tag: u64,
+}
+
 /// A number; whether there is a board size, 0 none, 1 one, 2 a wrong one; columns and rows; the rule of the tree.
 #[repr(C)]
 #[derive(Debug, Clone, Copy, PartialEq, Eq)]
@@ -251,6 +266,7 @@ declare! {
     const sgf_go_value(p: usize) -> GoValue;
     const sgf_size(tree: usize) -> Size;
     const sgf_tally() -> Tally;
+    const sgf_line(out: *mut u8, out_len: usize) -> Line;
     const sgf_board(node: usize) -> Board;
     const sgf_write(out: *mut u8, out_len: usize) -> Length;
     const sgf_write_length() -> Length;
@@ -505,6 +521,10 @@ pub fn size(h: &Held, tree: usize) -> Size {
 
 pub fn tally(h: &Held) -> Tally {
     over!(sgf_tally, h,)
+}
+
+pub fn line(h: &Held, out: &mut [u8]) -> Line {
+    over!(sgf_line, h, out.as_mut_ptr(), out.len())
 }
 
 pub fn tag(bytes: &[u8]) -> u64 {

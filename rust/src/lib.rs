@@ -90,7 +90,7 @@ pub use node::{GameType, Node, Tree};
 pub use property::{Property, Value, escape};
 pub use record::{ParseOptions, Record, parse, parse_lenient, parse_lenient_with_options, parse_with_options, serialize};
 pub use salvage::{Change, Salvaged, salvage};
-pub use season::{Tally, tag};
+pub use season::{Line, Tally, tag};
 pub use session::Session;
 pub use size::BoardSize;
 pub use tables::Tables;

@@ -1,4 +1,4 @@
-//! A season in numbers: tags and tallies.
+//! A season in numbers: tags, tallies and lines.
 #![forbid(unsafe_code)]
 use crate::{Error, Record, ffi};
 
@@ -15,6 +15,15 @@ pub struct Tally {
     pub white: usize,
     /// Properties B or W that are a pass.
     pub passes: usize,
+}
+
+/// The line of a record in a season's report: what [`Record::tally`] and [`Record::tag`] give.
+#[derive(Debug, Clone, Copy, PartialEq, Eq, Hash)]
+pub struct Line {
+    /// How much the record has.
+    pub tally: Tally,
+    /// The tag of its writing.
+    pub tag: u64,
 }
 
 /// The tag of bytes: FNV-1a, 64 bits. It is shown as 16 digits with `{:016x}`.
@@ -52,5 +61,37 @@ impl Record<'_> {
     pub fn tally(&self) -> Tally {
         let ffi::Tally { trees, nodes, black, white, passes, .. } = ffi::tally(&self.tables.held(&self.text));
         Tally { trees, nodes, black, white, passes }
+    }
+
+    /// Its tally and the tag of its writing by one call, which leaves the writing in `out`: in less time than by
+    /// [`tally`](Record::tally), [`to_sgf`](Record::to_sgf) and [`tag`]. Refused as `to_sgf` is; `out` is then as it was.
+    ///
+    /// ```
+    /// let mut out = vec![];
+    /// for text in ["(;B[aa];W[tt])", "(;AB[ab][aa];W[bb])"] {
+    ///     let record = ekimorepa::parse(text)?;
+    ///     let line = record.line(&mut out)?;
+    ///     assert_eq!((line.tally, line.tag), (record.tally(), record.tag()?));
+    ///     assert_eq!(out, record.to_sgf()?.as_bytes());
+    /// }
+    /// # Ok::<(), ekimorepa::Error>(())
+    /// ```
+    pub fn line(&self, out: &mut Vec<u8>) -> Result<Line, Error> {
+        let before = out.len();
+        out.resize(before.max(self.text.len() + 2), 0);
+        loop {
+            let ffi::Line { number, length, trees, nodes, black, white, passes, tag, .. } = ffi::line(&self.tables.held(&self.text), out);
+            match number {
+                0 => {
+                    out.truncate(length);
+                    return Ok(Line { tally: Tally { trees, nodes, black, white, passes }, tag });
+                }
+                14 => out.resize(self.written_len()?, 0),
+                number => {
+                    out.truncate(before);
+                    return Err(Error::new(number, 0));
+                }
+            }
+        }
     }
 }

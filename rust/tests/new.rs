@@ -1,5 +1,5 @@
 //! The lines of docs/FROM-SGF-PARSE.md, "What is new", as they stand there.
-use ekimorepa::{Blocks, Board, BoardSize, Change, Color, Counts, Entry, Error, Explanation, Feed, Move, NoPoint, Overlaid, Point, Record, Salvaged, Session, Simple, Step, Tally, Tokens, counts, escape, explain, parse, salvage, tag};
+use ekimorepa::{Blocks, Board, BoardSize, Change, Color, Counts, Entry, Error, Explanation, Feed, Line, Move, NoPoint, Overlaid, Point, Record, Salvaged, Session, Simple, Step, Tally, Tokens, counts, escape, explain, parse, salvage, tag};
 
 #[test]
 fn what_is_new() -> Result<(), Error> {
@@ -10,6 +10,7 @@ fn what_is_new() -> Result<(), Error> {
     let node = tree.nodes().last().unwrap();
     let property = tree.root().get_property("SZ").unwrap();
     let mut rows = [[0; 3]; 8];
+    let mut written = vec![];
 
     // boards with captures, and the size of a board
     let board: Board = node.board()?;
@@ -43,9 +44,10 @@ fn what_is_new() -> Result<(), Error> {
     // a damaged text: one that `parse` accepts, and what was changed
     let saved: Salvaged = salvage("(;B[aa];x[1];W[b")?;
     let listed: &[Change] = &saved.changes;
-    // a season: the tag of a record's writing, and its tally
+    // a season: the tag of a record's writing, and its tally; both and the writing by one call
     let tagged: u64 = record.tag()?;
     let tally: Tally = record.tally();
+    let line: Line = record.line(&mut written)?;
 
     assert_eq!((stone, size), (Some(Color::Black), BoardSize::Sized(9, 9)));
     assert_eq!((corrected, applied, set, undone), (Some(&b"the centre"[..]), Ok(()), Ok(()), true));
@@ -53,6 +55,7 @@ fn what_is_new() -> Result<(), Error> {
     assert_eq!((alone.as_str(), played), (text, Ok(Move::Move(Point { x: 2, y: 2 }))));
     assert!(why.to_string().contains("child"), "{why}");
     assert_eq!((rows_needed.nodes, long, tagged, tally.black), (2, text.len(), tag(text.as_bytes()), 1));
+    assert_eq!((line, written.as_slice()), (Line { tally, tag: tagged }, text.as_bytes()));
     assert_eq!((saved.text.as_str(), listed), ("(;B[aa];;)", &[Change::NamelessRemoved { property: 1 }, Change::TailDropped { place: 13 }][..]));
     Ok(())
 }

@@ -1,5 +1,5 @@
-//! Tags and tallies, as request [14] decides them.
-use ekimorepa::{Tally, parse, parse_lenient, tag};
+//! Tags, tallies and lines, as request [14] decides them.
+use ekimorepa::{Line, Tally, parse, parse_lenient, tag};
 
 fn tally(text: &str) -> [usize; 5] {
     let Tally { trees, nodes, black, white, passes } = parse(text).unwrap().tally();
@@ -45,4 +45,27 @@ fn after_edits() {
     record.set_value(0, old).unwrap();
     assert_eq!(record.tag().unwrap(), before);
     assert_eq!(parse_lenient("").unwrap().tally(), Tally { trees: 1, nodes: 1, ..Tally::default() });
+}
+
+#[test]
+fn lines() {
+    let mut out = b"before".to_vec();
+    let line = parse(" (;B[aa];W[tt])").unwrap().line(&mut out).unwrap();
+    assert_eq!(line, Line { tally: Tally { trees: 1, nodes: 2, black: 1, white: 0, passes: 1 }, tag: tag(b"(;B[aa];W[])") });
+    assert_eq!(out, b"(;B[aa];W[])");
+    // a writing that is longer than its text, and longer than what was there
+    let record = parse("(;AB[aa:ZZ])").unwrap();
+    let line = record.line(&mut out).unwrap();
+    assert_eq!((line.tally, line.tag), (record.tally(), record.tag().unwrap()));
+    assert_eq!((out.len(), &out[..]), (record.written_len().unwrap(), record.to_sgf().unwrap().as_bytes()));
+    // a refusal leaves what was there, short or long
+    for mut was in [vec![], b"was".to_vec(), vec![7; 100]] {
+        let kept = was.clone();
+        assert_eq!(parse("(;b[aa])").unwrap().line(&mut was).unwrap_err().name(), "EmptyIdentifier");
+        assert_eq!(was, kept);
+    }
+    // leniently, and in an array that has more than enough
+    let mut ample = vec![7; 100];
+    assert_eq!(parse_lenient("").unwrap().line(&mut ample).unwrap().tally, Tally { trees: 1, nodes: 1, ..Tally::default() });
+    assert_eq!(ample, b"(;)");
 }

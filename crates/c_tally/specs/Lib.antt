@@ -1,1 +1,2 @@
+pub mod LineInC
 pub mod TallyInC

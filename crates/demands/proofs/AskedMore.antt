@@ -35,7 +35,7 @@ use Rattle.demands.proofs.Numbers.{exactly}
 -- ---- sgf_tally
 
 module _ (m : Memory) (r : SgfTally) (s : r ≡ tallyOrNumber m) where
-  tallied : Fit m ≡ true → r ≡ tallyInC (Tallied (tallyOf (recordIn m)))
+  pub tallied : Fit m ≡ true → r ≡ tallyInC (Tallied (tallyOf (recordIn m)))
   unfolding tallyAnswer
   tallied f = s ∙ ap (λ (b : Bool). tallyInC (pick b (Tallied (tallyOf (recordIn m))) NotTallied)) f
 

@@ -1,6 +1,6 @@
 -- Demand 1 of the exported functions of the later requests, each over its contract: the numbers that it can give, each exactly when, and what a refusal leaves. Where nothing is said of memory,
 -- all of it is lent for reading only, or none is. Blocks: Demand1Blocks; corrections: Demand1Feeds. sgf_version, sgf_next_value, sgf_entry and sgf_tag give no number and refuse nothing. Assumes nothing.
-use Rattle.lists.proofs.Prelude.{ℕ, _<_, Bool, true, false, List, _↔_, _≡_, ap, _∙_}
+use Rattle.lists.proofs.Prelude.{ℕ, _<_, Bool, true, false, List, _↔_, _≡_, ap, _∙_, length, take}
 use Rattle.lists.specs.Same.{same}
 use Rattle.values.specs.Read.{readIdentifier}
 use Rattle.tables.specs.Memory.{Memory}
@@ -11,6 +11,8 @@ use Rattle.parser.specs.Read.{refused, read, readStrict, readLenient}
 use Rattle.reader.specs.Lent.{Lent, rowsCounted}
 use Rattle.c_answers.specs.Structs.{readingInC}
 use Rattle.c_answers.specs.declared.SgfReading.{SgfReading}
+use Rattle.c_answers.specs.declared.SgfWriting.{SgfWriting}
+use Rattle.sgf.specs.ChangeInC.{WriteInC}
 use Rattle.sgf.specs.NamedInC.{namedInC}
 use Rattle.sgf.specs.ReadInC.{ReadInC}
 use Rattle.why.specs.Why.{explained}
@@ -19,7 +21,10 @@ use Rattle.c_why.specs.declared.SgfWhy.{SgfWhy}
 use Rattle.why_says.specs.Clear.{Clear, LenientClear}
 use Rattle.why_says.proofs.Laws as why
 use Rattle.season_tally.specs.declared.TallyAnswer.the-variants.{NotFitting as NotTallied}
+use Rattle.season_tag.specs.Tag.{tagOf}
 use Rattle.c_tally.specs.TallyInC.{tallyInC, tallyOrNumber}
+use Rattle.c_tally.specs.LineInC.{noLineInC, LineInC}
+use Rattle.c_tally.specs.declared.SgfLine.{SgfLine}
 use Rattle.c_tally.specs.declared.SgfTally.{SgfTally}
 use Rattle.ff4_values.specs.declared.Simple.{Simple}
 use Rattle.ask_simple.specs.AskSimple.{simpleAnswer}
@@ -28,13 +33,14 @@ use Rattle.c_simple.specs.declared.SgfSimple.{SgfSimple}
 use Rattle.c_size.specs.SizeInC.{sizeInC}
 use Rattle.c_size.specs.declared.SgfSize.{SgfSize}
 use Rattle.demands.specs.Cells.{countsRead}
-use Rattle.demands.specs.Lists.{OneOf, countNumbers, lenientCountNumbers, fitsNumbers, accessNumbers}
-use Rattle.demands.specs.Requests.{CountsAs, EndsAt, BlamedFor}
+use Rattle.demands.specs.Lists.{OneOf, countNumbers, lenientCountNumbers, fitsNumbers, accessNumbers, writerNumbers}
+use Rattle.demands.specs.Requests.{CountsAs, EndsAt, BlamedFor, writingOf, tallyIn}
 use Rattle.demands.specs.Settings.{SameAnswer}
-use Rattle.demands.specs.When.{Exactly, Answered, Unanswered}
+use Rattle.demands.specs.When.{Exactly, Writes, Unwritten, Answered, Unanswered}
 use Rattle.demands.proofs.AskedMore as asked
 use Rattle.demands.proofs.Counts as count
 use Rattle.demands.proofs.Explained as told
+use Rattle.demands.proofs.Lined as line
 -- sgf_board: 19, 21, 22, 23, and all else 0 where it is refused; sgf_board_next: 23, or the number of the board given
 pub use Rattle.board_laws.proofs.Exactly.{board-exactly, board-zeros, next-exactly}
 -- sgf_entry: a section exactly where FF[4] lists the read identifier, whatever its length
@@ -100,6 +106,33 @@ module _ (m : Memory) (r : SgfTally) (s : r ≡ tallyOrNumber m) where
   -- refused: all else is 0
   pub tally-zeros : 0 < r .number → r ≡ tallyInC NotTallied
   tally-zeros = asked.tally-zeros m r s
+
+module _ (m : Memory) (out out′ : List ℕ) (r : SgfLine) (s : LineInC m out out′ r) where
+  -- sgf_line: 19, 15, 14, exactly where sgf_write gives them
+  pub line-exactly : Exactly (r .number) (Writes m (length out)) (Unwritten m (length out))
+  line-exactly = line.line-exactly m out out′ r s
+
+  pub line-numbers : OneOf writerNumbers (r .number)
+  line-numbers = line.line-listed m out out′ r s
+
+  -- any other number than 0 leaves every byte of the output
+  pub line-stays : 0 < r .number → out′ ≡ out
+  line-stays = line.line-stays m out out′ r s
+
+  -- refused: all else is 0
+  pub line-zeros : 0 < r .number → r ≡ noLineInC (r .number)
+  line-zeros = line.line-zeros m out out′ r s
+
+  -- beside sgf_write into the same bytes: its number, its length and every byte of the output
+  pub line-as-written : (q : SgfWriting) (v : List ℕ) → WriteInC m out v q → (q ≡ writingOf r) × (v ≡ out′)
+  line-as-written = line.line-written m out out′ r s
+
+  -- accepted, beside sgf_tally: all of it; and the tag is what sgf_tag gives of the bytes written
+  pub line-as-tallied : r .number ≡ 0 → (t : SgfTally) → t ≡ tallyOrNumber m → t ≡ tallyIn r
+  line-as-tallied = line.line-tallied m out out′ r s
+
+  pub line-as-tagged : r .number ≡ 0 → r .tag ≡ tagOf (take (r .length) out′)
+  line-as-tagged = line.line-tagged m out out′ r s
 
 module _ (m : Memory) (p : ℕ) (r : SgfSimple) (s : r ≡ simpleAnswerInC (simpleAnswer m p)) where
   -- sgf_simple_value: 19, 16

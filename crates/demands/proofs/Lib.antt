@@ -28,6 +28,7 @@ pub mod Fed
 pub mod FedApplied
 pub mod FedInto
 pub mod Lengths
+pub mod Lined
 pub mod Listed
 pub mod Numbers
 pub mod Readings

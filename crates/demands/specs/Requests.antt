@@ -16,6 +16,9 @@ use Rattle.why_blame.specs.Numbered.{factReason}
 use Rattle.why_blame.specs.declared.Fact.{Fact}
 use Rattle.c_why.specs.WhyInC.{shownFact}
 use Rattle.c_why.specs.declared.SgfWhy.{SgfWhy}
+use Rattle.c_answers.specs.declared.SgfWriting.{SgfWriting}
+use Rattle.c_tally.specs.declared.SgfLine.{SgfLine}
+use Rattle.c_tally.specs.declared.SgfTally.{SgfTally}
 use Rattle.why_says.specs.Behind.{LooseAt}
 use Rattle.why_says.specs.Says.{FactSays}
 use Rattle.feed.specs.Feed.{Entry, listing}
@@ -96,3 +99,13 @@ pub data PutBecause (held : Bool) (bytes out : List ℕ) : (number : ℕ) → Ty
   large : held ≡ false → PutBecause held bytes out 24
   full : held ≡ true → length out < length bytes → PutBecause held bytes out 14
   put : held ≡ true → length bytes ≤ length out → PutBecause held bytes out 0
+
+-- ---- a line
+
+-- what a line has of a writing: the number and the length
+abbrev pub writingOf : SgfLine → SgfWriting
+writingOf r = record { number = r .number; reserved = r .reserved; length = r .length }
+
+-- and of a tally
+abbrev pub tallyIn : SgfLine → SgfTally
+tallyIn r = record { number = r .number; reserved = r .reserved; trees = r .trees; nodes = r .nodes; black = r .black; white = r .white; passes = r .passes }

@@ -1,7 +1,7 @@
 -- A line by what the calls of its code answer. Assumes nothing.
-use Rattle.lists.proofs.Prelude.{ℕ, _≤_, Bool, true, false, List, _++_, _≡_, refl, sym, ap, ap₂, _∙_, subst, length, take, drop, ltb, take-length, take-at, pick}
+use Rattle.lists.proofs.Prelude.{ℕ, Bool, true, false, List, _≡_, refl, sym, ap, ap₂, _∙_, subst, length, take-length, pick}
 use Rattle.lists.proofs.Tests.{never}
-use Rattle.tables.specs.Record.{Tree, allNodes, allProps}
+use Rattle.tables.specs.Record.{Tree}
 use Rattle.tables.specs.Rows.{tables, countsOf}
 use Rattle.tables.specs.Memory.{Memory, memory}
 use Rattle.tables.specs.Numbers.{numberOf}
@@ -13,15 +13,12 @@ use Rattle.tables.specs.declared.Reason.the-variants.{NoRoom}
 use Rattle.fit.specs.Fit.{Fit}
 use Rattle.fit.specs.Record.{recordOf, rowsOf, recordIn}
 use Rattle.parser.specs.Read.{Answer, refused, accepted, read, readStrict}
-use Rattle.reader.specs.Lent.{Lent, roomy, stored, answers, leaves, ReadIs}
+use Rattle.reader.specs.Lent.{Lent, roomy, answers, ReadIs}
 use Rattle.reader_laws.proofs.Lent.{read-rows, read-fits}
-use Rattle.serialize.specs.Branch.{nameless}
-use Rattle.serialize.specs.Form.{writing, written, output, WriteIs}
+use Rattle.serialize.specs.Form.{writing, written, output}
 use Rattle.serialize.specs.declared.Written.{Written}
 use Rattle.serialize.specs.declared.Written.the-variants.{Wrote, Refused as NotWritten}
-use Rattle.serialize.proofs.Room.{answer-length}
-use Rattle.season_tag.specs.Tag.{tagOf}
-use Rattle.season_tally.specs.Tally.{tallyOf, tallyWith, WriteTallyIs}
+use Rattle.season_tally.specs.Tally.{tallyWith, WriteTallyIs}
 use Rattle.season_tally.specs.declared.WrittenTally.{WrittenTally}
 use Rattle.season_tally.specs.declared.WrittenTally.the-variants.{Done, Undone}
 use Rattle.season_totals.specs.declared.Line.{Line}
@@ -29,52 +26,21 @@ use Rattle.season_totals.specs.declared.Line.the-variants.{Refused, Counted}
 use Rattle.season_totals.specs.declared.Tally.{Tally}
 use Rattle.season.specs.Season.{writtenWith, lineBy, lineOf, lineLeaves, LineIs, RecordLineIs}
 
--- what the writer answered
+-- the line of a record by its writing and counting
 module _ (m : Memory) (out out′ : List ℕ) {r : WrittenTally} (x : WriteTallyIs m out out′ r) where
-  pub as-written : WriteIs m out out′ (written m (length out))
-  as-written = record { is = refl; bytes = x .bytes }
-
-  pub was-written : {n : ℕ} {t : Tally} → r ≡ Done n t → (written m (length out) ≡ Wrote n) × (t ≡ tallyOf (recordIn m))
-  was-written {n} {t} h = go (written m (length out)) (sym h ∙ x .answer)
+  pub line-refused : {k : Reason} → r ≡ Undone k → {n : ℕ} → n ≡ numberOf k → RecordLineIs m out out′ (Refused n)
+  line-refused {k} h {n} e = record { line = ap Refused e ∙ go (written m (length out)) (sym h ∙ x .answer); bytes = x .bytes }
     where
-      go : (w : Written) → Done n t ≡ tallyWith w (recordIn m) → (w ≡ Wrote n) × (t ≡ tallyOf (recordIn m))
-      go (Wrote k) e = (cc, cc)
-      go (NotWritten k) e = never cc
-
-  pub was-refused : {k : Reason} → r ≡ Undone k → written m (length out) ≡ NotWritten k
-  was-refused {k} h = go (written m (length out)) (sym h ∙ x .answer)
-    where
-      go : (w : Written) → Undone k ≡ tallyWith w (recordIn m) → w ≡ NotWritten k
+      go : (w : Written) → Undone k ≡ tallyWith w (recordIn m) → Refused (numberOf k) ≡ lineBy w (recordIn m)
       go (Wrote n) e = never cc
-      go (NotWritten j) e = cc
+      go (NotWritten j) e = let d : k ≡ j = cc in ap (λ (z : Reason). Refused (numberOf z)) d
 
-module _ (m : Memory) (out : List ℕ) where
-  module _ (out′ : List ℕ) {w : Written} (x : WriteIs m out out′ w) where
-    left-bytes : out′ ≡ output (written m (length out)) (writing (recordIn m)) out
-    left-bytes = x .bytes ∙ ap (λ (z : Written). output z (writing (recordIn m)) out) (x .is)
-
-    by-writer : lineBy w (recordIn m) ≡ lineBy (written m (length out)) (recordIn m)
-    by-writer = ap (λ (z : Written). lineBy z (recordIn m)) (x .is)
-
-    pub line-refused : {r : Reason} → w ≡ NotWritten r → {n : ℕ} → n ≡ numberOf r → RecordLineIs m out out′ (Refused n)
-    line-refused h e = record { line = ap Refused e ∙ ap (λ (z : Written). lineBy z (recordIn m)) (sym h) ∙ by-writer; bytes = left-bytes }
-
-    module _ {n : ℕ} (h : w ≡ Wrote n) where
-      long : n ≡ length (writing (recordIn m))
-      long = let ts = recordIn m in answer-length (Fit m) (nameless (allProps (allNodes ts))) (ltb (length out) (length (writing ts))) n (writing ts) (sym h ∙ x .is)
-
-      -- the first bytes are the writing
-      pub wrote-first : take n out′ ≡ writing (recordIn m)
-      wrote-first =
-          let ts = recordIn m in
-          ap₂ (λ (k : ℕ) (z : List ℕ). take k z) long (x .bytes ∙ ap (λ (z : Written). output z (writing ts) out) h) ∙ take-at (writing ts) (drop n out) (length (writing ts)) refl
-
-      pub line-counted : {t : Tally} {g : ℕ} → t ≡ tallyOf (recordIn m) → g ≡ tagOf (take n out′) → RecordLineIs m out out′ (Counted t g)
-      line-counted a b =
-          record {
-            line = ap₂ (λ (t : Tally) (g : ℕ). Counted t g) a (b ∙ ap tagOf wrote-first) ∙ ap (λ (z : Written). lineBy z (recordIn m)) (sym h) ∙ by-writer;
-            bytes = left-bytes;
-          }
+  pub line-counted : {n : ℕ} {t : Tally} {g : ℕ} → r ≡ Done n t g → RecordLineIs m out out′ (Counted t g)
+  line-counted {n} {t} {g} h = record { line = go (written m (length out)) (sym h ∙ x .answer); bytes = x .bytes }
+    where
+      go : (w : Written) → Done n t g ≡ tallyWith w (recordIn m) → Counted t g ≡ lineBy w (recordIn m)
+      go (Wrote k) e = cc
+      go (NotWritten k) e = never cc
 
 -- a reading that is refused
 turned : (a : Answer) (before after : Lent) (x : Reason) (p : ℕ) → ReadIs a before after (NotRead x p) → (out : List ℕ) → LineIs a before after out out (Refused (numberOf x))

@@ -17,6 +17,7 @@ use Rattle.serialize.specs.declared.Written.{Written}
 use Rattle.serialize.specs.declared.Written.the-variants.{Wrote, Refused as NotWritten}
 use Rattle.season_tag.specs.Tag.{tagOf}
 use Rattle.season_tally.specs.Tally.{tallyOf, countsAs, isBlack, isWhite, isPassed}
+use Rattle.season_tally.proofs.Writes.{wrote-first}
 use Rattle.season_tally.specs.declared.Played.{Played}
 use Rattle.season_tally.specs.declared.Played.the-variants.{Black, White, Passed, Nothing}
 use Rattle.season_totals.specs.Totals.{noSums, lineSums, totalsOf, smallSums}
@@ -26,7 +27,6 @@ use Rattle.season_totals.specs.declared.Line.the-variants.{Unread, Refused, Cou
 use Rattle.season_totals.specs.declared.Tally.{Tally}
 use Rattle.season_totals.proofs.Theorems.{totals-fit}
 use Rattle.season.specs.Season.{writtenWith, lineBy, lineOf, LineIs, RecordLineIs, SeasonLine}
-use Rattle.season.proofs.Lines.{wrote-first}
 
 by-counted : (w : Written) (ts : List Tree) (c : Tally) (g : ℕ) → Counted c g ≡ lineBy w ts → (c ≡ tallyOf ts) × (g ≡ tagOf (writing ts))
 by-counted (Wrote n) ts c g e = (cc, cc)

@@ -25,7 +25,7 @@ pub fn record_line(
 {
     match season_tally::write_tally(text, used, counts, trees, nodes, properties, values, out) {
         WrittenTally::Undone(reason) => Line::Refused(tables::number(reason)),
-        WrittenTally::Done(n, tally) => Line::Counted(tally, season_tag::tag(&out[..n])),
+        WrittenTally::Done(_, tally, tag) => Line::Counted(tally, tag),
     }
 }
 

@@ -1,8 +1,8 @@
-// A tag of bytes: FNV-1a, 64 bits. The product modulo 2 to the 64, one byte, all bytes, and the tag as 16 hex digits.
+// A tag of bytes: FNV-1a, 64 bits. The product modulo 2 to the 64, one byte, some bytes more, all bytes, and the tag as 16 hex digits.
 ghost use mathlib.Core.Path.{_≡_};
 ghost use Prim.Native.Nat.{_*_, _%_, _^_};
 ghost use Rattle.store_bytes.specs.LocalsWrote.{Wrote};
-ghost use Rattle.season_tag.specs.Tag.{tagStep, tagOf};
+ghost use Rattle.season_tag.specs.Tag.{tagStep, tagFrom, tagOf};
 ghost use Rattle.season_tag.specs.Hex.{hexDigit, hexOf};
 
 // The product modulo 2 to the 64, by halves of 32 bits.
@@ -26,18 +26,25 @@ fn step(h: u64, b: u8) -> u64
     product(h ^ (b as u64), 1099511628211)
 }
 
-// The tag of the bytes. The start is a product with 1 for the compiler's sake: where the prime is the only second factor
-// it makes a product two multiplications and a shift, and else one multiplication.
-pub fn tag(s: &[u8]) -> u64
-    ensures { λ r. ⌜ r ≡ tagOf (now (s .entry)) ⌝ }
+// A tag that goes on over more bytes.
+pub fn tag_on(from: u64, s: &[u8]) -> u64
+    ensures { λ r. ⌜ r ≡ tagFrom from (now (s .entry)) ⌝ }
 {
-    let mut h = product(14695981039346656037, 1);
+    let mut h = from;
     let mut i = 0;
     while i < s.len() {
         h = step(h, s[i]);
         i += 1;
     }
     h
+}
+
+// The tag of the bytes. The start is a product with 1 for the compiler's sake: where the prime is the only second factor
+// it makes a product two multiplications and a shift, and else one multiplication.
+pub fn tag(s: &[u8]) -> u64
+    ensures { λ r. ⌜ r ≡ tagOf (now (s .entry)) ⌝ }
+{
+    tag_on(product(14695981039346656037, 1), s)
 }
 
 // The letter of a digit below 16; of any other number, that of its last digit.

@@ -13,6 +13,7 @@ use Rattle.ask.specs.Ask.{noProp, goAt}
 use Rattle.serialize.specs.Form.{writing, written, output}
 use Rattle.serialize.specs.declared.Written.{Written}
 use Rattle.serialize.specs.declared.Written.the-variants.{Wrote, Refused}
+use Rattle.season_tag.specs.Tag.{tagOf}
 use Rattle.season_totals.specs.declared.Tally.{Tally}
 use Rattle.season_tally.specs.declared.Played.{Played}
 use Rattle.season_tally.specs.declared.Played.the-variants.{Black, White, Passed, Nothing}
@@ -75,9 +76,9 @@ tallyOf ts =
 unfoldable pub tallyAnswer : Memory → TallyAnswer
 tallyAnswer m = pick (Fit m) (Tallied (tallyOf (recordIn m))) NotFitting
 
--- what the writer answers, with the record's tally where it wrote
+-- what the writer answers, with the record's tally and the tag of its writing where it wrote
 abbrev pub tallyWith : Written → List Tree → WrittenTally
-tallyWith (Wrote n) ts = Done n (tallyOf ts)
+tallyWith (Wrote n) ts = Done n (tallyOf ts) (tagOf (writing ts))
 tallyWith (Refused r) ts = Undone r
 
 -- the answer, and the lent bytes after it as the writer leaves them

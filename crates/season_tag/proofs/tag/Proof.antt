@@ -1,39 +1,12 @@
 -- `season_tag::tag` meets its contract. Assumes nothing.
-use Rattle.lists.proofs.Prelude.{_-_, _≡_, refl, ap, _∙_, arith, needs, length, drop}
+use Rattle.lists.proofs.Prelude.{ap, _∙_, needs}
 use Rattle.season_tag.specs.Tag.{tagFrom, tagOf}
-use Rattle.season_tag.proofs.Tags.{tag-turn, tag-end}
 use Rattle.season_tag.proofs.tag.Statement.{statement}
 use Rattle.season_tag.proofs.tag.Tie as tie
 
-abbrev Inv-loop : tie.InvT-loop
-Inv-loop s h₀ i₀ h i = tagFrom h (drop i s) ≡ tagFrom h₀ s
-
-abbrev μ-loop : tie.MeasureT-loop
-μ-loop s h₀ i₀ h i = length s - i
-
-loop-again : tie.Need-loop-again Inv-loop μ-loop
-loop-again c =
-    let l = c .before .before .before in
-    tag-turn (l .before .before .before .args .s .now) (l .loop .i) (l .loop .h) (c .step .result) _ (c .before .before .loop-test .taken) (c .step .ensures) (l .loop .inv)
-
-returns : tie.Need-returns Inv-loop μ-loop
+returns : tie.Need-returns
 unfolding tagOf
-returns c =
-    let p = c .before .before in
-    let s = p .before .before .args .s .now in
-    tag-end s (c .before .loop .i) (c .before .loop .h) _ (c .loop-test .left) (c .before .loop .inv) ∙ ap (λ v. tagFrom v s) (p .product .ensures)
+returns c = c .tag-on .ensures ∙ ap (λ v. tagFrom v (c .before .before .before .args .s .now)) (c .before .product .ensures)
 
 pub tag-spec : {M : Type 1} → statement M
-tag-spec =
-    tie.close
-    (tie.spec
-    Inv-loop
-    μ-loop
-    (λ c κs. search needs)
-    (λ c. refl)
-    (λ c. omega arith)
-    (λ c κs. search needs)
-    (λ c. omega arith)
-    (λ c. omega arith)
-    loop-again
-    returns)
+tag-spec = tie.close (tie.spec (λ c κs. search needs) (λ c κs. search needs) returns)

@@ -1,21 +1,30 @@
 -- `season_tally::count` meets its contract. Assumes nothing.
-use Rattle.lists.proofs.Prelude.{needs}
+use Rattle.lists.proofs.Prelude.{arith, needs}
 use Rattle.tables.specs.Memory.{memory}
 use Rattle.fit.proofs.Clauses.{fit-clauses}
 use Rattle.season_tally.proofs.Walk.{tally-is}
+use Rattle.season_tally.proofs.Tagging.{tags-all}
 use Rattle.season_tally.proofs.count.Statement.{statement}
 use Rattle.season_tally.proofs.count.Tie as tie
-use Rattle.season_tally.proofs.count.Reads as reads
-use Rattle.season_tally.proofs.count.Lts as lts
-use Rattle.season_tally.proofs.count_moves.Reads as count-moves-reads
 
--- src/lib.rt:193:9
 count-moves-requires : tie.Need-count-moves-requires
 count-moves-requires c κs = search needs
 
--- src/lib.rt:179:1
+sub-rest : tie.Need-sub-tag-on
+sub-rest c = let w = c .before .before .count-moves .ensures .1 .within in search needs
+
+rest-start : tie.Need-part-tag-on-start
+rest-start c = let w = c .before .before .count-moves .ensures .1 .within in search needs
+
+rest-end : tie.Need-part-tag-on-end
+rest-end c = let w = c .before .before .count-moves .ensures .1 .within in search needs
+
 returns : tie.Need-returns
-returns c = tally-is (fit-clauses (memory (c .before .before .before .before .before .before .args .text .now) (c .before .before .before .before .before .before .args .used) (c .before .before .before .before .before .before .args .counts) (c .before .before .before .before .before .before .args .trees .now) (c .before .before .before .before .before .before .args .nodes .now) (c .before .before .before .before .before .before .args .properties .now) (c .before .before .before .before .before .before .args .values .now)) (c .before .before .before .before .before .before .pre)) (c .count-moves .result) (c .count-moves .ensures)
+returns c =
+    let s = c .before .before .before .before .before .before .before .before .before .before .before in
+    let a = s .args in
+    let g = c .before .before .before .before .count-moves in
+    (tally-is (fit-clauses (memory (a .text .now) (a .used) (a .counts) (a .trees .now) (a .nodes .now) (a .properties .now) (a .values .now)) (s .pre)) (g .result .moves) (g .ensures .0), tags-all (a .bytes .now) (g .ensures .1) (c .tag-on .ensures))
 
 pub count-spec : {M : Type 1} → statement M
-count-spec = tie.close (tie.spec count-moves-requires returns)
+count-spec = tie.close (tie.spec count-moves-requires sub-rest rest-start rest-end (λ c κs. search needs) returns)

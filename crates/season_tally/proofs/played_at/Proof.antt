@@ -1,5 +1,5 @@
 -- `season_tally::played_at` meets its contract. Assumes nothing.
-use Rattle.lists.proofs.Prelude.{needs}
+use Rattle.lists.proofs.Prelude.{refl, sym, needs}
 use Rattle.tables.proofs.Cases.{refused, passed}
 use Rattle.season_tally.proofs.Playing.{played-other, played-missing, not-nothing, found-none, found-some}
 use Rattle.season_tally.proofs.played_at.Statement.{statement}
@@ -21,8 +21,15 @@ returns-4 : tie.Need-returns-4
 returns-4 c =
     let a = c .before .before .before .before .before .before .before .before .before .before .before .before .before .before .before .args in
     found-some (a .rule) (a .text .now) (a .properties .now) (a .values .now) (a .p) (passed (c .before .before .before .before .before .before .before .before .before .before .before .is-go .ensures) (c .before .before .before .before .before .before .before .before .before .before .if1 .left)) _ (c .before .before .before .before .before .before .before .before .identifier-at .ensures)
-    _ (c .before .before .before .before .before .before .before .mover .ensures) _ _ (c .before .before .before .before .wide .ensures) (c .before .before .wide2 .ensures) _ (c .before .value-by .ensures) _
-    (not-nothing _ (c .before .before .before .before .before .before .match .keys2)) (c .moved .ensures)
+    _ (c .before .before .before .before .before .before .before .mover .ensures) _ _ (c .before .before .before .before .wide .ensures) (c .before .before .wide2 .ensures) _ refl _
+    (not-nothing _ (c .before .before .before .before .before .before .match .keys2)) (sym (c .before .is-point .ensures (c .if3 .taken) (a .rule) _))
+
+returns-5 : tie.Need-returns-5
+returns-5 c =
+    let a = c .before .before .before .before .before .before .before .before .before .before .before .before .before .before .before .before .before .args in
+    found-some (a .rule) (a .text .now) (a .properties .now) (a .values .now) (a .p) (passed (c .before .before .before .before .before .before .before .before .before .before .before .before .before .is-go .ensures) (c .before .before .before .before .before .before .before .before .before .before .before .before .if1 .left)) _ (c .before .before .before .before .before .before .before .before .before .before .identifier-at .ensures)
+    _ (c .before .before .before .before .before .before .before .before .before .mover .ensures) _ _ (c .before .before .before .before .before .before .wide .ensures) (c .before .before .before .before .wide2 .ensures) _ (c .before .value-by .ensures) _
+    (not-nothing _ (c .before .before .before .before .before .before .before .before .match .keys2)) (c .moved .ensures)
 
 pub played-at-spec : {M : Type 1} → statement M
 played-at-spec =
@@ -46,5 +53,7 @@ played-at-spec =
     (λ c. search needs)
     (λ c κs. search needs)
     (λ c κs. search needs)
+    returns-4
     (λ c κs. search needs)
-    returns-4)
+    (λ c κs. search needs)
+    returns-5)
