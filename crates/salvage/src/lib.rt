@@ -67,7 +67,8 @@ pub fn salvage(
         (lent (now (trees .exit)) (now (nodes .exit)) (now (properties .exit)) (now (values .exit)))
         (now (changes .entry)) (now (changes .exit)) (now (out .entry)) (now (out .exit)) r ⌝ }
 {
-    let result = salvage_measure::measure(text);
+    let weighed = salvage_measure::weigh(text);
+    let result = weighed.result;
     let bytes = result.bytes;
     let depth = result.depth;
     if tables::TEXT_LIMIT < bytes {
@@ -76,7 +77,7 @@ pub fn salvage(
     if tables::DEPTH_LIMIT < depth {
         return SalvageAnswer::Refused(Reason::TooDeep, 0);
     }
-    let count = salvage_list::count_changes(text);
+    let count = weighed.changes;
     if changes.len() / CHANGE_STRIDE < count {
         return SalvageAnswer::Refused(Reason::NoRoom, 0);
     }

@@ -1,20 +1,22 @@
 -- Lengths of the values of each shape as they are written, and of a property. Assumes nothing.
-use Rattle.lists.proofs.Prelude.{ℕ, _+_, _-_, _≤_, _<_, _≡_, refl, sym, ap, _∙_, Bool, List, [], _∷_, _++_, map, arith, length, length-append, take, slice, take-length, le-leb, and-false, lt-leb}
-use types.Run.{OneOf}
+use Rattle.lists.proofs.Prelude.{ℕ, _+_, _-_, _≤_, _<_, _≡_, refl, sym, ap, _∙_, Bool, List, [], _∷_, _++_, map, arith, length, length-append, take, slice, take-length, eqb, true, false, _&&_, le-leb, and-false, lt-leb}
+use types.Run.{OneOf, miss}
 use denote.Enum.Declared.{tagOf}
-use Rattle.values.specs.Read.{readIdentifier}
+use Rattle.values.specs.Read.{readIdentifier, readValue}
 use Rattle.values.specs.Decimal.{decimal}
 use Rattle.lexer.specs.Step.{propAt}
 use Rattle.tables.specs.Numbers.{textLimit}
 use Rattle.parts.specs.Rows.{valueAt, valuesAt}
 use Rattle.go_points.specs.declared.Value.{Value as Read}
-use Rattle.go_points.specs.declared.Value.the-variants.{Invalid, Pass, Move, Handicap, Points}
+use Rattle.go_points.specs.declared.Value.the-variants.{Other, Invalid, Pass, Move, Handicap, Points}
+use Rattle.go_points.specs.Area.{moveOf}
 use Rattle.go_points.proofs.Value as value
 use Rattle.go_shape.specs.declared.Shape.{Shape}
 use Rattle.go_shape.specs.declared.Shape.the-variants.{OneMove, OneNumber, ManyPoints, Unread}
 use Rattle.go.specs.Normal.{pointsFrom, normalBy, normal}
 use Rattle.go.proofs.Choosing.{by-alone}
-use Rattle.go.specs.Value.{unmarked, marked, pointsOf, valueBy}
+use Rattle.go.specs.Value.{moveUnder, unmarked, marked, pointsOf, valueBy}
+use Rattle.go.proofs.Playing.{play-pass, play-point}
 use Rattle.serialize_values.specs.LocalsForm.{formBy, rawsText}
 use Rattle.serialize_values.proofs.Forms.{set-raw, set-points, one-pass, one-point, one-stones, one-raw}
 use Rattle.lists.proofs.Tests.{never}
@@ -58,6 +60,45 @@ module _ (rule : ℕ) (s : Shape) (v : List ℕ) {x : Read} (e : unmarked x ≡ 
       let o = none-length in
       let w : length (rawsText (v ∷ [])) ≡ length (rawsText (formBy rule s (v ∷ []))) = ap boxed (one-raw rule s (v ∷ []) e h t) in
       omega arith
+
+-- ---- a move
+
+module _ (rule : ℕ) (v : List ℕ) {x : Read} (e : x ≡ moveOf (readValue v)) where
+  move-value : {y : Read} → y ≡ moveUnder rule x → unmarked y ≡ valueBy rule OneMove (v ∷ [])
+  unfolding valueBy
+  move-value h = ap unmarked (h ∙ ap (moveUnder rule) e)
+
+  pub move-pass : x ≡ Pass → 2 ≡ length (rawsText (formBy rule OneMove (v ∷ [])))
+  unfolding moveUnder
+  move-pass q = alone-pass rule OneMove v (move-value (ap (moveUnder rule) (sym q))) refl
+
+  pub move-corner : {a b : ℕ} → x ≡ Move a b → (eqb rule 0 && (eqb a 19 && eqb b 19)) ≡ true → 2 ≡ length (rawsText (formBy rule OneMove (v ∷ [])))
+  move-corner q h = alone-pass rule OneMove v (move-value (play-pass rule q h)) refl
+
+  pub move-point : {a b : ℕ} → x ≡ Move a b → (eqb rule 0 && (eqb a 19 && eqb b 19)) ≡ false → 4 ≡ length (rawsText (formBy rule OneMove (v ∷ [])))
+  move-point q h = alone-point rule OneMove v (move-value (play-point rule q h)) refl
+
+  pub move-stones : {n r : ℕ} → x ≡ Handicap n → r ≡ length (decimal n) → r + 2 ≡ length (rawsText (formBy rule OneMove (v ∷ [])))
+  unfolding moveUnder
+  move-stones {n} q h = alone-stones rule OneMove v (move-value (ap (moveUnder rule) (sym q))) refl h
+
+  pub move-raw : OneOf (0 ∷ 1 ∷ 5 ∷ []) (tagOf value.the-type x) → length v + 2 ≡ length (rawsText (formBy rule OneMove (v ∷ [])))
+  unfolding moveUnder
+  move-raw t = alone-raw rule OneMove v (move-value (stays x t)) (λ z. never (cc)) t
+    where
+      stays : (y : Read) → OneOf (0 ∷ 1 ∷ 5 ∷ []) (tagOf value.the-type y) → y ≡ moveUnder rule y
+      stays Other h = refl
+      stays Invalid h = refl
+      stays Pass h = refl
+      stays (Move a b) h = absurd (miss (0 ∷ 1 ∷ 5 ∷ []) 3 tt h)
+      stays (Handicap n) h = refl
+      stays Points h = refl
+
+-- ---- raw values
+
+pub form-unread : (rule : ℕ) (vs : List (List ℕ)) → vs ≡ formBy rule Unread vs
+unfolding formBy valueBy normalBy
+form-unread rule vs = refl
 
 -- ---- none, or several, of a shape that is no set
 

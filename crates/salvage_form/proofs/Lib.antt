@@ -2,6 +2,7 @@
 pub mod Counted
 pub mod Lengths
 pub mod Measuring
+pub mod Rooting
 pub mod Roots
 pub mod Scanned
 pub mod Unique

@@ -10,7 +10,7 @@ ghost use Rattle.values.specs.Read.{readIdentifier};
 ghost use Rattle.values.specs.Decimal.{decimal};
 ghost use Rattle.tables.specs.Numbers.{textLimit};
 ghost use Rattle.go.specs.Normal.{pointsFrom, normal};
-ghost use Rattle.go_shape.specs.declared.Shape.the-variants.{ManyPoints};
+ghost use Rattle.go_shape.specs.declared.Shape.the-variants.{OneMove, ManyPoints};
 ghost use Rattle.serialize_values.specs.LocalsForm.{formBy, rawsText};
 ghost use Rattle.salvage_form.specs.Measured.{rawsAt, lengthLimit, propertyLength};
 ghost use Rattle.salvage_form.specs.LocalsMeasured.{formLimit, formLength};
@@ -94,11 +94,32 @@ fn count_digits(n: u64) -> usize
     values::spell::put_decimal(&mut none, 0, n)
 }
 
+// The length of one value that is to be a move.
+fn move_length(rule: u32, value: &[u8]) -> usize
+    requires { ⌜ length (now value) ≤ textLimit ⌝ }
+    ensures { λ r. ⌜ (r ≡ length (rawsText (formBy rule OneMove (now (value .entry) ∷ [])))) × (r ≤ formLimit) ⌝ }
+{
+    match go_points::read_move(value) {
+        Value::Pass => 2,
+        Value::Move(x, y) => {
+            if (rule == 0) & ((x == 19) & (y == 19)) {
+                return 2;
+            }
+            4
+        }
+        Value::Handicap(n) => count_digits(n) + 2,
+        _ => value.len() + 2,
+    }
+}
+
 // The length of one value of a shape that is no set.
 fn alone_length(rule: u32, shape: Shape, value: &[u8]) -> usize
     requires { ⌜ (length (now value) ≤ textLimit) × (shape ≡ ManyPoints → ⊥) ⌝ }
     ensures { λ r. ⌜ (r ≡ length (rawsText (formBy rule shape (now (value .entry) ∷ [])))) × (r ≤ formLimit) ⌝ }
 {
+    if let Shape::OneMove = shape {
+        return move_length(rule, value);
+    }
     let rows = [0u32, value.len() as u32];
     match go::value::value_by(rule, shape, value, &rows, 0, 1) {
         Value::Pass => 2,
@@ -133,6 +154,9 @@ fn values_length(s: &[u8], k: usize, rule: u32, name: &[u8]) -> usize
     let shape = go_shape::shape_of(name);
     if let Shape::ManyPoints = shape {
         return set_length(s, k);
+    }
+    if let Shape::Unread = shape {
+        return raw_length(s, k);
     }
     one_length(s, k, rule, shape)
 }

@@ -3,14 +3,19 @@ ghost use mathlib.Core.Path.{_≡_};
 ghost use mathlib.Core.List.{map};
 ghost use Rattle.values.specs.Read.{readValue};
 ghost use Rattle.lexer.specs.Token.{lexAt};
-ghost use Rattle.parser.specs.Game.{props, gameProps};
+ghost use Rattle.lists.specs.Pick.{pick};
+ghost use Rattle.lexer.specs.Step.{valsAt};
+ghost use Rattle.parser.specs.Game.{props, gameVals, gameProps};
 ghost use Rattle.parser_game.specs.LocalsGame.{typeOf};
 ghost use Rattle.go_size.specs.Size.{sizeOf};
+ghost use Rattle.parser_game.specs.declared.GameType.the-variants.{Is};
 ghost use Rattle.go_size.specs.Root.{rootSize, sizeOfValues, sizeIn};
+ghost use Rattle.go_size.specs.declared.RootSize.the-variants.{Absent};
 ghost use Rattle.fit_rule.specs.Rule.{propertyOf};
 ghost use Rattle.salvage_mend.specs.Mend.{gmsAmong};
 ghost use Rattle.salvage_form.specs.Measured.{rawsAt};
 ghost use Rattle.salvage_form.specs.Rooted.{rootRule};
+ghost use Rattle.salvage_form.specs.LocalsRooted.{ruledBy};
 use go_size::RootSize;
 use go_size::Size;
 use lexer::Step;
@@ -99,12 +104,41 @@ fn root_size(s: &[u8], from: usize) -> RootSize
     RootSize::Absent
 }
 
-// Of the tree whose root's properties are those that follow the place `at`: its rule once it is mended, and whether the root's GMs are removed.
-pub fn root_rule(s: &[u8], at: usize) -> RootRule
-    ensures { λ r. ⌜ r ≡ rootRule (props (lexAt (now (s .entry)) at .toks)) ⌝ }
+// One of two places.
+fn either(first: bool, a: usize, b: usize) -> usize
+    ensures { λ r. ⌜ r ≡ pick first a b ⌝ }
 {
-    let size = root_size(s, at);
-    match root_game(s, at) {
+    if first {
+        return a;
+    }
+    b
+}
+
+// The same, where none or one of the properties reads SZ: the place of its first `[`.
+fn size_found(s: &[u8], found: bool, k: usize) -> RootSize
+    ensures { λ r. ⌜ r ≡ pick found (sizeOfValues (rawsAt (now (s .entry)) k)) Absent ⌝ }
+{
+    if found {
+        return size_values(s, k);
+    }
+    RootSize::Absent
+}
+
+// The game type, where none or one of the properties reads GM: the place of its first `[`.
+fn game_found(s: &[u8], found: bool, k: usize) -> GameType
+    ensures { λ r. ⌜ r ≡ pick found (typeOf (gameVals (valsAt (now (s .entry)) k))) (Is 0) ⌝ }
+{
+    if found {
+        return parser_game::game_values(s, k);
+    }
+    GameType::Is(0)
+}
+
+// By the game type and the size.
+fn rule_by(game: GameType, size: RootSize) -> RootRule
+    ensures { λ r. ⌜ r ≡ ruledBy game size ⌝ }
+{
+    match game {
         GameType::Is(k) => RootRule {
             rule: fit_rule::rule_of(k, size),
             bad: false,
@@ -114,4 +148,40 @@ pub fn root_rule(s: &[u8], at: usize) -> RootRule
             bad: true,
         },
     }
+}
+
+// Of the tree whose root's properties are those that follow the place `at`, GM and SZ looked for one after the other.
+fn rule_apart(s: &[u8], at: usize) -> RootRule
+    ensures { λ r. ⌜ r ≡ rootRule (props (lexAt (now (s .entry)) at .toks)) ⌝ }
+{
+    rule_by(root_game(s, at), root_size(s, at))
+}
+
+// Of the tree whose root's properties are those that follow the place `from`: its rule once it is mended, and whether the root's GMs are removed. Most roots have at
+// most one GM and one SZ, and are then walked once.
+pub fn root_rule(s: &[u8], from: usize) -> RootRule
+    ensures { λ r. ⌜ r ≡ rootRule (props (lexAt (now (s .entry)) from .toks)) ⌝ }
+{
+    let mut at = from;
+    let mut game = false;
+    let mut g: usize = 0;
+    let mut sized = false;
+    let mut z: usize = 0;
+    loop {
+        let Step::Property(i, j, e) = lexer::next_token(s, at) else {
+            break;
+        };
+        let name = &s[i..j];
+        let gm = parts_props::reads_as(name, b"GM");
+        let sz = parts_props::reads_as(name, b"SZ");
+        if (gm & game) | (sz & sized) {
+            return rule_apart(s, from);
+        }
+        at = e;
+        g = either(gm, j, g);
+        z = either(sz, j, z);
+        game = game | gm;
+        sized = sized | sz;
+    }
+    rule_by(game_found(s, game, g), size_found(s, sized, z))
 }

@@ -1,4 +1,5 @@
 pub mod Accepts
+pub mod Counting
 pub mod Measuring
 pub mod Texts
 pub mod Unique

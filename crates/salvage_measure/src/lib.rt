@@ -1,14 +1,15 @@
-// How long the text is that salvage makes of a text, and how deep its trees stand in each other: found over the tokens, without tables.
+// How long the text is that salvage makes of a text, how deep its trees stand in each other, and how many entries its list has: found over the tokens, without tables.
 ghost use mathlib.Core.Path.{_≡_};
-ghost use mathlib.Core.Bool.{true};
 ghost use Prim.Native.Nat.{_+_, _*_, _≤_, max};
 ghost use lib.ListN.{length};
 ghost use Rattle.lexer.specs.Token.{lexAt};
 ghost use Rattle.tables.specs.Numbers.{textLimit};
-ghost use Rattle.parser.specs.Split.{splitByGametree};
+ghost use Rattle.salvage_list.specs.Listed.{tailOf};
+ghost use Rattle.salvage_list.specs.ListRows.{textChanges};
 ghost use Rattle.salvage_list.specs.LocalsWalk.{ListReady};
-ghost use Rattle.salvage_measure.specs.Measure.{textMeasure};
-ghost use Rattle.salvage_measure.specs.LocalsMeasure.{slicesMeasure};
+ghost use Rattle.salvage_measure.specs.Measure.{textMeasure, WeighedIs};
+ghost use Rattle.salvage_measure.specs.LocalsMeasure.{measured, TokensWeighed};
+use lexer::Step;
 use parser::Survey;
 use text_utf8::Trimmed;
 
@@ -16,6 +17,12 @@ use text_utf8::Trimmed;
 pub struct Measured {
     pub bytes: usize,
     pub depth: usize,
+}
+
+// What salvage makes of a text: its bytes and depth, and how many entries the list of changes has.
+pub struct Weighed {
+    pub result: Measured,
+    pub changes: usize,
 }
 
 // The greater of two numbers.
@@ -36,10 +43,37 @@ fn tree_length(nodes: usize, brackets: usize, bytes: usize) -> usize
     2 + nodes + brackets * 2 + bytes
 }
 
+// These numbers.
+fn together(bytes: usize, depth: usize, changes: usize) -> Weighed
+    ensures { λ r. ⌜ (r .result ≡ measured bytes depth) × (r .changes ≡ changes) ⌝ }
+{
+    Weighed {
+        result: Measured {
+            bytes: bytes,
+            depth: depth,
+        },
+        changes: changes,
+    }
+}
+
+// How many entries the list has of the first token from a place on, failing or not: one, or none where there is no token.
+fn count_tail(s: &[u8], at: usize) -> usize
+    ensures { λ r. ⌜ (r ≡ length (tailOf (lexAt (now (s .entry)) at .toks) (lexAt (now (s .entry)) at .end))) × (r ≤ 1) ⌝ }
+{
+    match lexer::next_token(s, at) {
+        Step::Start(_) => 1,
+        Step::End(_) => 1,
+        Step::Node(_) => 1,
+        Step::Property(_, _, _) => 1,
+        Step::Refused(_, _) => 1,
+        Step::Done => 0,
+    }
+}
+
 // Of `count` slices from a place on.
-fn measure_slices(s: &[u8], from: usize, count: usize) -> Measured
+fn weigh_slices(s: &[u8], from: usize, count: usize) -> Weighed
     requires { ⌜ ListReady (now s) from count ⌝ }
-    ensures { λ r. ⌜ r ≡ slicesMeasure (splitByGametree true (lexAt (now (s .entry)) from .toks)) ⌝ }
+    ensures { λ r. ⌜ TokensWeighed (lexAt (now (s .entry)) from) r ⌝ }
 {
     let mut stack = [0u32; 1024];
     let mut marks = [false; 1024];
@@ -48,6 +82,7 @@ fn measure_slices(s: &[u8], from: usize, count: usize) -> Measured
     let mut base: usize = 0;
     let mut bytes: usize = 0;
     let mut depth: usize = 0;
+    let mut listed: usize = 0;
     let mut k: usize = 0;
     while k < count {
         let x = salvage_shape::shape_of(s, at, base, &mut stack, &mut marks, &mut cells);
@@ -56,23 +91,35 @@ fn measure_slices(s: &[u8], from: usize, count: usize) -> Measured
         base += nodes;
         bytes += tree_length(nodes, x.brackets, x.bytes);
         depth = greater(depth, x.depth);
+        listed += x.listed + (nodes - x.nodes);
         k += 1;
     }
-    Measured {
-        bytes: bytes,
-        depth: depth,
-    }
+    together(bytes, depth, listed + count_tail(s, at))
 }
 
 // Of the tokens from a place on. Where there is no slice, the empty one is written `(;)`.
-fn measure_tokens(s: &[u8], from: usize) -> Measured
+fn weigh_tokens(s: &[u8], from: usize) -> Weighed
     requires { ⌜ (length (now s) ≤ textLimit) × (from ≤ length (now s)) ⌝ }
-    ensures { λ r. ⌜ r ≡ slicesMeasure (splitByGametree true (lexAt (now (s .entry)) from .toks)) ⌝ }
+    ensures { λ r. ⌜ TokensWeighed (lexAt (now (s .entry)) from) r ⌝ }
 {
     match parser::survey_lenient(s, from) {
-        Survey::Refused(_, _) => Measured { bytes: 0, depth: 0 },
-        Survey::Empty => Measured { bytes: 3, depth: 1 },
-        Survey::Slices(count) => measure_slices(s, from, count),
+        Survey::Refused(_, _) => together(0, 0, 0),
+        Survey::Empty => together(3, 1, 1 + count_tail(s, from)),
+        Survey::Slices(count) => weigh_slices(s, from, count),
+    }
+}
+
+// Of the text that salvage makes of a text, and of its list; of a text that is refused, of nothing.
+pub fn weigh(text: &[u8]) -> Weighed
+    ensures { λ r. ⌜ WeighedIs (textMeasure (now (text .entry))) (textChanges (now (text .entry))) r ⌝ }
+{
+    if tables::TEXT_LIMIT < text.len() {
+        return together(0, 0, 0);
+    }
+    match text_utf8::trim(text) {
+        Trimmed::NotUtf8(_) => together(0, 0, 0),
+        Trimmed::Blank => weigh_tokens(&text[..0], 0),
+        Trimmed::Kept(first, last) => weigh_tokens(&text[..last], first),
     }
 }
 
@@ -80,12 +127,6 @@ fn measure_tokens(s: &[u8], from: usize) -> Measured
 pub fn measure(text: &[u8]) -> Measured
     ensures { λ r. ⌜ r ≡ textMeasure (now (text .entry)) ⌝ }
 {
-    if tables::TEXT_LIMIT < text.len() {
-        return Measured { bytes: 0, depth: 0 };
-    }
-    match text_utf8::trim(text) {
-        Trimmed::NotUtf8(_) => Measured { bytes: 0, depth: 0 },
-        Trimmed::Blank => measure_tokens(&text[..0], 0),
-        Trimmed::Kept(first, last) => measure_tokens(&text[..last], first),
-    }
+    let x = weigh(text);
+    x.result
 }

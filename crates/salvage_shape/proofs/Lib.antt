@@ -1,6 +1,7 @@
 -- `crates::proofs` meets its contract. Assumes nothing.
 pub mod Chains
 pub mod Depths
+pub mod Entries
 pub mod Examples
 pub mod Kept
 pub mod Latest

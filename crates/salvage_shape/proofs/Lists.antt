@@ -4,7 +4,7 @@ use Rattle.lexer.specs.Token.{start, end, Lexed, lexed, lexAt}
 use Rattle.tables.specs.Numbers.{depthLimit, none}
 use Rattle.tables.specs.Record.{Node}
 use Rattle.tables.specs.Rows.{parents}
-use Rattle.parser.specs.Walk.{walk, halted, walks, closes}
+use Rattle.parser.specs.Walk.{Walk, walk, halted, walks, closes}
 use Rattle.parser.specs.LocalsSlice.{sliceFrom, Shallow}
 use Rattle.parser_step.specs.LocalsActs.{stackOf, mayOpen}
 use Rattle.parser_step.proofs.Stacks.{stack-none, stack-pop}
@@ -13,10 +13,11 @@ use Rattle.parser_tree.proofs.Stacks.{stack-push}
 use Rattle.parser_tree.proofs.Lines.{Line, line-open, line-shut}
 use Rattle.parser_tree.proofs.Behind.{skipping-start, skipping-end, skipping-last, skipping-behind, slice-end, shallow-end}
 use Rattle.salvage_form.specs.declared.root.RootRule.{RootRule}
-use Rattle.salvage_list.specs.Listed.{walkNodes}
-use Rattle.salvage_list.specs.LocalsWalk.{nodesFrom}
+use Rattle.why_blame.specs.Blame.{Blame}
+use Rattle.salvage_list.specs.Listed.{cutOf, walkNodes}
+use Rattle.salvage_list.specs.LocalsWalk.{nodesFrom, cutFrom}
 use Rattle.salvage_list.proofs.Ends.{last-slice, popped}
-use Rattle.salvage_list.proofs.Going.{here, blames-on, walkeds-on, stopped-nodes, start-slice, start-walk}
+use Rattle.salvage_list.proofs.Going.{here, blames-on, walkeds-on, stops-here, stopped-nodes, start-slice, start-walk}
 use Rattle.salvage_shape.specs.LocalsChain.{heightLimit, endedBy, cellAt, cellsOf, freshOf, closeAll}
 use Rattle.salvage_shape.specs.LocalsWalk.{ShapeIs}
 use Rattle.salvage_shape.specs.declared.Chain.{Chain}
@@ -25,8 +26,8 @@ use Rattle.salvage_shape.proofs.Sums.{summed-on}
 use Rattle.salvage_shape.proofs.Turns.{marks-pop, cells-pop, marks-push, cells-push}
 use Rattle.salvage_shape.proofs.Walking.{Walking, shaped-as, walking-few, shape-over}
 
-module _ {u : List ℕ} {from base : ℕ} {a : List ℕ} {ma : List Bool} {ca : List ℕ} {at d cur n : ℕ} {g f : Bool} {brackets : ℕ} {c : Chain} {root : RootRule} {bytes : ℕ}
-    (x : Walking u from base a ma ca at d cur n g f brackets c root bytes) where
+module _ {u : List ℕ} {from base : ℕ} {a : List ℕ} {ma : List Bool} {ca : List ℕ} {at d cur n : ℕ} {g f : Bool} {brackets : ℕ} {c : Chain} {root : RootRule} {bytes listed : ℕ}
+    (x : Walking u from base a ma ca at d cur n g f brackets c root bytes listed) where
   abbrev ds : List ℕ
   ds = parents (x .go .ns)
 
@@ -41,13 +42,14 @@ module _ {u : List ℕ} {from base : ℕ} {a : List ℕ} {ma : List Bool} {ca : 
   module _ {i : ℕ} (lo : at ≤ i) (hi : i < length u) where
     module _ (q : lexAt u at ≡ lexed (start i ∷ []) (lexAt u (i + 1))) {b : Bool} (m : b ≡ mayOpen base n (stackOf a d)) where
       pub start-over : b ≡ false → {r : ℕ} → BehindIs true u at d r → {h : ℕ} → h ≡ closeAll f c (freshOf ma d) (cellsOf ca d)
-          → ShapeIs u from base (record { next = r; nodes = n - base; brackets = brackets; depth = h + 1; bytes = bytes })
+          → ShapeIs u from base (record { next = r; nodes = n - base; brackets = brackets; depth = h + 1; bytes = bytes; listed = listed + 1 })
       start-over z {r} bh eh =
           let w : walks true base (here (x .go)) (start i) ≡ halted (x .go .ns) =
           start-walk (x .go) lo hi q m ∙ ap (λ (y : Bool). pick y (walk cur (cur ∷ stackOf a d) false (x .go .ns)) (halted (x .go .ns))) z in
           shape-over x (stopped-nodes (x .go) (start i) (sliceFrom (suc d) (lexAt u (i + 1) .toks)) (start-slice (x .go) lo hi q) w) (skipping-behind (x .go .skip) bh) (bh .on) eh
+          (λ j. ap length (stops-here (x .go) (start i) (sliceFrom (suc d) (lexAt u (i + 1) .toks)) (start-slice (x .go) lo hi q) w j))
 
-      pub walking-start : b ≡ true → d < depthLimit → {a2 : List ℕ} → a2 ≡ set a d cur → {ma2 : List Bool} → ma2 ≡ set ma d f → Walking u from base a2 ma2 ca (i + 1) (d + 1) cur n false true brackets c root bytes
+      pub walking-start : b ≡ true → d < depthLimit → {a2 : List ℕ} → a2 ≡ set a d cur → {ma2 : List Bool} → ma2 ≡ set ma d f → Walking u from base a2 ma2 ca (i + 1) (d + 1) cur n false true brackets c root bytes listed
       unfolding Shallow
       walking-start z dl {a2} ea {ma2} em =
           let ar = x .go .array in
@@ -89,8 +91,8 @@ module _ {u : List ℕ} {from base : ℕ} {a : List ℕ} {ma : List Bool} {ca : 
     -- ---- an end
 
     module _ (q : lexAt u at ≡ lexed (end i ∷ []) (lexAt u (i + 1))) where
-      pub end-over : d ≤ 1 → {h : ℕ} → h ≡ closeAll f c (freshOf ma d) (cellsOf ca d) → ShapeIs u from base (record { next = i + 1; nodes = n - base; brackets = brackets; depth = h + 1; bytes = bytes })
-      end-over l eh = shape-over x (nodes d refl l) (skipping-last (x .go .skip) lo hi q l) (omega arith) eh
+      pub end-over : d ≤ 1 → {h : ℕ} → h ≡ closeAll f c (freshOf ma d) (cellsOf ca d) → ShapeIs u from base (record { next = i + 1; nodes = n - base; brackets = brackets; depth = h + 1; bytes = bytes; listed = listed + (1 - d) })
+      end-over l eh = shape-over x (nodes d refl l) (skipping-last (x .go .skip) lo hi q l) (omega arith) eh (cuts d refl l)
         where
           nodes : (k : ℕ) → d ≡ k → k ≤ 1 → nodesFrom u from base ≡ reverse (x .go .ns)
           nodes zero z w =
@@ -99,8 +101,17 @@ module _ {u : List ℕ} {from base : ℕ} {a : List ℕ} {ma : List Bool} {ca : 
               let h : d ≡ 0 → ⊥ = λ y. omega arith in
               ap walkNodes (walkeds-on (x .go) (end i) [] (last-slice (x .go) lo hi q (omega arith)) (popped (x .go) lo hi q h))
 
+          cuts : (k : ℕ) → d ≡ k → k ≤ 1 → (j : ℕ) → length (cutOf j (cutFrom u from base)) ≡ 1 - d
+          cuts zero z w j =
+              ap length (stops-here (x .go) (end i) [] (last-slice (x .go) lo hi q (omega arith)) (ap (λ (st : List ℕ). closes true cur st (x .go .ns)) (stack-none a d z)) j)
+              ∙ (omega (arith, z))
+          cuts (suc k) z w j =
+              let h : d ≡ 0 → ⊥ = λ y. omega arith in
+              ap (λ (b : Blame Walk). length (cutOf j b)) (blames-on (x .go) (end i) [] (last-slice (x .go) lo hi q (omega arith)) (popped (x .go) lo hi q h) refl)
+              ∙ (omega (arith, z))
+
       pub walking-end : 1 < d → {cur2 : ℕ} → cur2 ≡ getD a (d - 1) 0 → {e c2 : Chain} → e ≡ cellAt ca (d - 1) → c2 ≡ endedBy f c e → {f2 : Bool} → f2 ≡ getD ma (d - 1) false
-          → Walking u from base a ma ca (i + 1) (d - 1) cur2 n false f2 brackets c2 root bytes
+          → Walking u from base a ma ca (i + 1) (d - 1) cur2 n false f2 brackets c2 root bytes listed
       walking-end l {cur2} ec {e} {c2} ee ef {f2} em =
           let de = x .go .deep in
           let fe = x .go .few in

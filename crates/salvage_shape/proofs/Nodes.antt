@@ -13,23 +13,23 @@ use Rattle.parser_step.proofs.Stacks.{stack-none, stack-pop}
 use Rattle.parser_tree.specs.LocalsTurns.{BehindIs}
 use Rattle.parser_tree.proofs.Lines.{Line, line-node, line-prop}
 use Rattle.parser_tree.proofs.Behind.{skipping-node, skipping-behind, skipping-prop}
-use Rattle.salvage_form.specs.Measured.{lengthLimit}
 use Rattle.salvage_form.specs.Rooted.{rootRule}
 use Rattle.salvage_form.specs.declared.root.RootRule.{RootRule}
-use Rattle.salvage_list.proofs.Going.{here, blames-on, walkeds-on, stopped-nodes}
+use Rattle.salvage_list.proofs.Going.{here, blames-on, walkeds-on, stops-here, stopped-nodes}
 use Rattle.salvage_list.proofs.Props.{node-slice, prop-slice}
 use Rattle.salvage_shape.specs.LocalsChain.{heightLimit, joinedTo, bracketsMore, chainKept, cellsOf, freshOf, closeAll}
-use Rattle.salvage_shape.specs.LocalsSum.{keptLength, ruleAfter}
-use Rattle.salvage_shape.specs.LocalsWalk.{ShapeIs}
+use Rattle.salvage_shape.specs.LocalsSum.{ruleAfter}
+use Rattle.salvage_shape.specs.LocalsWalk.{FateIs, ShapeIs}
 use Rattle.salvage_shape.specs.declared.Chain.{Chain}
+use Rattle.salvage_shape.specs.declared.Fate.{Fate}
 use Rattle.salvage_shape.proofs.Chains.{Stands}
 use Rattle.salvage_shape.proofs.Shaping.{Shaped, shaped-new, shaped-more}
 use Rattle.salvage_shape.proofs.Sums.{Summed, summed-node, summed-prop}
 use Rattle.salvage_shape.proofs.Turns.{marks-pop, cells-pop, cells-put, put-length}
 use Rattle.salvage_shape.proofs.Walking.{Walking, parents-length, shaped-as, walking-few, shape-over}
 
-module _ {u : List ℕ} {from base : ℕ} {a : List ℕ} {ma : List Bool} {ca : List ℕ} {at d cur n : ℕ} {g f : Bool} {brackets : ℕ} {c : Chain} {root : RootRule} {bytes : ℕ}
-    (x : Walking u from base a ma ca at d cur n g f brackets c root bytes) where
+module _ {u : List ℕ} {from base : ℕ} {a : List ℕ} {ma : List Bool} {ca : List ℕ} {at d cur n : ℕ} {g f : Bool} {brackets : ℕ} {c : Chain} {root : RootRule} {bytes listed : ℕ}
+    (x : Walking u from base a ma ca at d cur n g f brackets c root bytes listed) where
   abbrev ds : List ℕ
   ds = parents (x .go .ns)
 
@@ -70,7 +70,7 @@ module _ {u : List ℕ} {from base : ℕ} {a : List ℕ} {ma : List Bool} {ca : 
 
     pub walking-node : {cur2 : ℕ} → cur2 ≡ n → {ca2 : List ℕ} → ca2 ≡ chainKept f ca d c → {k : ℕ} → k ≡ bracketsMore (c .kids) → {c2 : Chain} → c2 ≡ joinedTo f c
         → {root2 : RootRule} → root2 ≡ ruleAfter (eqb n base) (rootRule (props (lexAt u (i + 1) .toks))) root
-        → Walking u from base a ma ca2 (i + 1) d cur2 (n + 1) true false (brackets + k) c2 root2 bytes
+        → Walking u from base a ma ca2 (i + 1) d cur2 (n + 1) true false (brackets + k) c2 root2 bytes listed
     unfolding Shallow
     walking-node {cur2} ec {ca2} ek {k} eb {c2} ej er =
         let fe = x .go .few in
@@ -113,17 +113,18 @@ module _ {u : List ℕ} {from base : ℕ} {a : List ℕ} {ma : List Bool} {ca : 
 
   module _ (i k e : ℕ) (q : lexAt u at ≡ lexed (prop (propAt u i k) e ∷ []) (lexAt u e)) where
     pub prop-over : g ≡ false → {r : ℕ} → BehindIs true u at d r → {h : ℕ} → h ≡ closeAll f c (freshOf ma d) (cellsOf ca d)
-        → ShapeIs u from base (record { next = r; nodes = n - base; brackets = brackets; depth = h + 1; bytes = bytes })
+        → ShapeIs u from base (record { next = r; nodes = n - base; brackets = brackets; depth = h + 1; bytes = bytes; listed = listed + 1 })
     unfolding propAt
     prop-over z bh eh =
         let w : walks true base (here (x .go)) (prop (propAt u i k) e) ≡ halted (x .go .ns) = ap (λ (b : Bool). gated true b (propAt u i k) cur (stackOf a d) (x .go .ns)) z in
         shape-over x (stopped-nodes (x .go) (prop (propAt u i k) e) (sliceFrom d (lexAt u e .toks)) (prop-slice (x .go) i k e q) w) (skipping-behind (x .go .skip) bh) (bh .on) eh
+        (λ j. ap length (stops-here (x .go) (prop (propAt u i k) e) (sliceFrom d (lexAt u e .toks)) (prop-slice (x .go) i k e q) w j))
 
-    pub walking-prop : at < e → e ≤ length u → g ≡ true → {y : ℕ} → y ≡ keptLength root (propAt u i k) → y ≤ lengthLimit → Walking u from base a ma ca e d cur n g f brackets c root (bytes + y)
+    pub walking-prop : at < e → e ≤ length u → g ≡ true → {y : Fate} → FateIs root (propAt u i k) y → Walking u from base a ma ca e d cur n g f brackets c root (bytes + y .bytes) (listed + y .listed)
     unfolding Shallow
-    walking-prop lo hi z {y} ek lk = by (x .go .ns) refl (x .go .some z)
+    walking-prop lo hi z {y} ek = by (x .go .ns) refl (x .go .some z)
       where
-        by : (ns : List Node) → x .go .ns ≡ ns → 0 < length (x .go .ns) → Walking u from base a ma ca e d cur n g f brackets c root (bytes + y)
+        by : (ns : List Node) → x .go .ns ≡ ns → 0 < length (x .go .ns) → Walking u from base a ma ca e d cur n g f brackets c root (bytes + y .bytes) (listed + y .listed)
         by [] v l = absurd (let o : length (x .go .ns) ≡ 0 = ap length v in omega arith)
         by (m ∷ ms) v l =
             let fe = x .go .few in
@@ -151,5 +152,5 @@ module _ {u : List ℕ} {from base : ℕ} {a : List ℕ} {ma : List Bool} {ca : 
               shape = subst (λ (o : List Node). Shaped base (parents o) cur f c (stackOf a d) (freshOf ma d) (cellsOf ca d) brackets) v (x .shape);
               marked = x .marked;
               kept = x .kept;
-              sums = summed-prop (subst (λ (o : List Node). Summed u from base o at root bytes) v (x .sums)) (propAt u i k) lo ek lk;
+              sums = summed-prop (subst (λ (o : List Node). Summed u from base o at root bytes listed) v (x .sums)) (propAt u i k) lo (ek .bytes) (ek .bound) (ek .listed);
             }

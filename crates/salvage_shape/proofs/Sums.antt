@@ -12,12 +12,15 @@ use Rattle.fit_rule.specs.Rule.{firstProps}
 use Rattle.salvage_form.specs.Measured.{lengthLimit}
 use Rattle.salvage_form.specs.Rooted.{rootRule}
 use Rattle.salvage_form.specs.declared.root.RootRule.{RootRule}
+use Rattle.salvage_mend.specs.Changes.{propChange, nodesChanges}
 use Rattle.salvage_list.specs.Listed.{walkNodes}
 use Rattle.salvage_list.specs.LocalsWalk.{nodesFrom}
 use Rattle.salvage_list.proofs.Going.{Going, here, walkeds-on}
 use Rattle.salvage_list.proofs.Props.{node-slice}
-use Rattle.salvage_list.proofs.Rooted.{endNodes, rootProps, root-open, nodes-end}
-use Rattle.salvage_shape.specs.LocalsSum.{keptLength, propsLength, nodesLength, ruleAfter}
+use Rattle.salvage_list.proofs.Puts.{prop-few}
+use Rattle.salvage_list.proofs.Rooted.{endNodes, rootProps, root-open, nodes-end, props-node, props-prop}
+use Rattle.salvage_shape.specs.LocalsSum.{keptLength, propsLength, nodesLength, propsListed, nodesListed, ruleAfter}
+use Rattle.salvage_shape.proofs.Entries.{rootFor, listBack, lists-append, list-reverse, nodes-listed}
 
 -- ---- the properties of the first node are those that follow it
 
@@ -40,12 +43,6 @@ first-props base cur c st ts =
 pub lengths-append : (rule : ℕ) (bad : Bool) (xs ys : List Prop) → propsLength rule bad (xs ++ ys) ≡ propsLength rule bad xs + propsLength rule bad ys
 lengths-append rule bad [] ys = omega arith
 lengths-append rule bad (x ∷ xs) ys = let h = lengths-append rule bad xs ys in omega (arith, h)
-
--- the rule of the last of these nodes, last first
-abbrev pub rootFor : RootRule → List Node → RootRule
-rootFor r [] = record { rule = 0; bad = false }
-rootFor r (n ∷ []) = r
-rootFor r (n ∷ m ∷ ns) = record { rule = r .rule; bad = false }
 
 -- the lengths of the properties of these nodes, last first
 abbrev pub sumBack : RootRule → List Node → ℕ
@@ -73,31 +70,41 @@ sum-reverse r (n ∷ m ∷ ns) =
 abbrev pub ruleFrom : List ℕ → (from base : ℕ) → RootRule
 ruleFrom u from base = rootRule (firstProps (nodesFrom u from base))
 
--- ns: the nodes so far, last first; what holds of the last of them, and the lengths of the properties so far
-pub record Summed (u : List ℕ) (from base : ℕ) (ns : List Node) (at : ℕ) (root : RootRule) (bytes : ℕ) : Type 0 where
+-- ns: the nodes so far, last first; what holds of the last of them; the lengths of the properties so far, and their entries
+pub record Summed (u : List ℕ) (from base : ℕ) (ns : List Node) (at : ℕ) (root : RootRule) (bytes listed : ℕ) : Type 0 where
   pub rules : root ≡ rootFor (ruleFrom u from base) ns
   pub sum : bytes ≡ sumBack (ruleFrom u from base) ns
   pub bound : bytes + lengthLimit * from ≤ lengthLimit * at
+  pub list : listed ≡ listBack (ruleFrom u from base) ns
+  pub few : listed + from ≤ at
+  pub props : length (allProps (reverse ns)) + from ≤ at
 
-pub summed-first : (u : List ℕ) (from base : ℕ) → Summed u from base [] from (record { rule = 0; bad = false }) 0
-summed-first u from base = record { rules = refl; sum = refl; bound = omega arith }
+pub summed-first : (u : List ℕ) (from base : ℕ) → Summed u from base [] from (record { rule = 0; bad = false }) 0 0
+summed-first u from base = record { rules = refl; sum = refl; bound = omega arith; list = refl; few = omega arith; props = omega arith }
 
-module _ {u : List ℕ} {from base : ℕ} {ns : List Node} {at : ℕ} {root : RootRule} {bytes : ℕ} (x : Summed u from base ns at root bytes) where
-  pub summed-on : {bt : ℕ} → at ≤ bt → Summed u from base ns bt root bytes
-  summed-on h = let b = x .bound in record { rules = x .rules; sum = x .sum; bound = omega (arith, b, h) }
+module _ {u : List ℕ} {from base : ℕ} {ns : List Node} {at : ℕ} {root : RootRule} {bytes listed : ℕ} (x : Summed u from base ns at root bytes listed) where
+  pub summed-on : {bt : ℕ} → at ≤ bt → Summed u from base ns bt root bytes listed
+  summed-on h =
+      let b = x .bound in
+      let f = x .few in
+      let p = x .props in
+      record { rules = x .rules; sum = x .sum; bound = omega (arith, b, h); list = x .list; few = omega (arith, f, h); props = omega (arith, p, h) }
 
   pub summed-all : nodesFrom u from base ≡ reverse ns → bytes ≡ nodesLength (ruleFrom u from base) (nodesFrom u from base)
   summed-all e = x .sum ∙ sum-reverse (ruleFrom u from base) ns ∙ ap (nodesLength (ruleFrom u from base)) (sym e)
 
+  pub listed-all : nodesFrom u from base ≡ reverse ns → (k : ℕ) → listed ≡ length (nodesChanges k (nodesFrom u from base))
+  listed-all e k = x .list ∙ list-reverse (ruleFrom u from base) ns ∙ ap (nodesListed (ruleFrom u from base)) (sym e) ∙ sym (nodes-listed k (nodesFrom u from base))
+
 -- a property joins the last node
-module _ {u : List ℕ} {from base : ℕ} {m : Node} {ms : List Node} {at : ℕ} {root : RootRule} {bytes : ℕ} (x : Summed u from base (m ∷ ms) at root bytes) where
+module _ {u : List ℕ} {from base : ℕ} {m : Node} {ms : List Node} {at : ℕ} {root : RootRule} {bytes listed : ℕ} (x : Summed u from base (m ∷ ms) at root bytes listed) where
   rule-joined : (p : Prop) (vs : List Node) → rootFor (ruleFrom u from base) (m ∷ vs) ≡ rootFor (ruleFrom u from base) (record { parent = m .parent; props = m .props ++ (p ∷ []) } ∷ vs)
   rule-joined p [] = refl
   rule-joined p (v ∷ vs) = refl
 
-  pub summed-prop : (p : Prop) {e k : ℕ} → at < e → k ≡ keptLength root p → k ≤ lengthLimit
-      → Summed u from base (record { parent = m .parent; props = m .props ++ (p ∷ []) } ∷ ms) e root (bytes + k)
-  summed-prop p {e} {k} h q l =
+  pub summed-prop : (p : Prop) {e k j : ℕ} → at < e → k ≡ keptLength root p → k ≤ lengthLimit → j ≡ length (propChange (root .bad) 0 p)
+      → Summed u from base (record { parent = m .parent; props = m .props ++ (p ∷ []) } ∷ ms) e root (bytes + k) (listed + j)
+  summed-prop p {e} {k} {j} h q l z =
       let R : RootRule = rootFor (ruleFrom u from base) (m ∷ ms) in
       let a = lengths-append (R .rule) (R .bad) (m .props) (p ∷ []) in
       let s = x .sum in
@@ -105,7 +112,23 @@ module _ {u : List ℕ} {from base : ℕ} {m : Node} {ms : List Node} {at : ℕ}
       let y : sumBack (ruleFrom u from base) (record { parent = m .parent; props = m .props ++ (p ∷ []) } ∷ ms) ≡ propsLength (R .rule) (R .bad) (m .props ++ (p ∷ [])) + sumBack (ruleFrom u from base) ms =
       ap (λ (z : RootRule). propsLength (z .rule) (z .bad) (m .props ++ (p ∷ [])) + sumBack (ruleFrom u from base) ms) (sym (rule-joined p ms)) in
       let b = x .bound in
-      record { rules = x .rules ∙ rule-joined p ms; sum = omega (arith, a, s, w, y); bound = omega (arith, b, h, l) }
+      let la = lists-append (R .bad) (m .props) (p ∷ []) in
+      let ls = x .list in
+      let lw : j ≡ length (propChange (R .bad) 0 p) = z ∙ ap (λ (v : RootRule). length (propChange (v .bad) 0 p)) (x .rules) in
+      let ly : listBack (ruleFrom u from base) (record { parent = m .parent; props = m .props ++ (p ∷ []) } ∷ ms) ≡ propsListed (R .bad) (m .props ++ (p ∷ [])) + listBack (ruleFrom u from base) ms =
+      ap (λ (v : RootRule). propsListed (v .bad) (m .props ++ (p ∷ [])) + listBack (ruleFrom u from base) ms) (sym (rule-joined p ms)) in
+      let f = x .few in
+      let pf = prop-few (root .bad) 0 p in
+      let pb = x .props in
+      let pp = props-prop m p ms in
+      record {
+        rules = x .rules ∙ rule-joined p ms;
+        sum = omega (arith, a, s, w, y);
+        bound = omega (arith, b, h, l);
+        list = omega (arith, la, ls, lw, ly);
+        few = omega (arith, f, h, z, pf);
+        props = omega (arith, pb, pp, h);
+      }
 
 -- a node
 module _ {u : List ℕ} {from base : ℕ} {a : List ℕ} {at d cur n : ℕ} {g : Bool} (x : Going u from base a at d cur n g) {i : ℕ} (lo : at ≤ i) (hi : i < length u)
@@ -133,6 +156,20 @@ module _ {u : List ℕ} {from base : ℕ} {a : List ℕ} {at d cur n : ℕ} {g :
       rule-same [] = refl
       rule-same (v ∷ vs) = refl
 
-  pub summed-node : {root root2 : RootRule} {bytes : ℕ} → Summed u from base (x .ns) at root bytes → root2 ≡ ruleAfter (eqb n base) (rootRule (props (lexAt u (i + 1) .toks))) root
-      → Summed u from base (record { parent = cur; props = [] } ∷ x .ns) (i + 1) root2 bytes
-  summed-node y h = let b = y .bound in let s = y .sum in record { rules = rule-node (x .ns) refl (y .rules) h; sum = omega (arith, s); bound = omega (arith, b, lo) }
+  pub summed-node : {root root2 : RootRule} {bytes listed : ℕ} → Summed u from base (x .ns) at root bytes listed → root2 ≡ ruleAfter (eqb n base) (rootRule (props (lexAt u (i + 1) .toks))) root
+      → Summed u from base (record { parent = cur; props = [] } ∷ x .ns) (i + 1) root2 bytes listed
+  summed-node y h =
+      let b = y .bound in
+      let s = y .sum in
+      let l = y .list in
+      let f = y .few in
+      let pb = y .props in
+      let pn : length (allProps (reverse (record { parent = cur; props = [] } ∷ x .ns))) ≡ length (allProps (reverse (x .ns))) = ap length (props-node cur (x .ns)) in
+      record {
+        rules = rule-node (x .ns) refl (y .rules) h;
+        sum = omega (arith, s);
+        bound = omega (arith, b, lo);
+        list = omega (arith, l);
+        few = omega (arith, f, lo);
+        props = omega (arith, pb, pn, lo);
+      }

@@ -2,17 +2,18 @@
 use Rattle.lists.proofs.Prelude.{_≡_, refl, sym, ap, _∙_, subst, ℕ, suc, _+_, _-_, _*_, _≤_, _<_, arith, add-one, Bool, true, false, false≢true, List, [], _∷_, _++_, reverse, reverse-cons, length, length-reverse}
 use Rattle.lexer.specs.Token.{Tok, lexAt}
 use Rattle.tables.specs.Numbers.{textLimit, depthLimit, none}
-use Rattle.tables.specs.Record.{Node}
+use Rattle.tables.specs.Record.{Node, allProps}
 use Rattle.tables.specs.Rows.{parents}
-use Rattle.parser.specs.Walk.{walk, walked}
+use Rattle.parser.specs.Walk.{Walk, walk, walks, walked}
 use Rattle.parser.specs.LocalsSlice.{sliceFrom}
 use Rattle.parser_step.specs.LocalsActs.{stackOf}
 use Rattle.parser_tree.specs.LocalsTurns.{BehindIs}
 use Rattle.parser_tree.proofs.Lines.{line-first}
 use Rattle.parser_tree.proofs.Behind.{skipping-first, skipping-over}
 use Rattle.salvage_form.specs.declared.root.RootRule.{RootRule}
-use Rattle.salvage_list.specs.Listed.{walkNodes}
-use Rattle.salvage_list.specs.LocalsWalk.{nodesFrom}
+use Rattle.why_blame.specs.Blame.{Blame, blame, isStopped}
+use Rattle.salvage_list.specs.Listed.{cutOf, walkNodes}
+use Rattle.salvage_list.specs.LocalsWalk.{nodesFrom, cutFrom}
 use Rattle.salvage_list.proofs.Going.{Going, here}
 use Rattle.salvage_shape.specs.LocalsShape.{leaf, Meets, shapeDepth, bracketsOf}
 use Rattle.salvage_shape.specs.LocalsChain.{heightLimit, noChain, cellsOf, freshOf, closeAll}
@@ -21,7 +22,7 @@ use Rattle.salvage_shape.specs.declared.Chain.{Chain}
 use Rattle.salvage_shape.proofs.Shaping.{Shaped, shaped-first, shaped-depth, shaped-low, shaped-brackets}
 use Rattle.salvage_shape.proofs.Latest.{meets-forward}
 use Rattle.salvage_shape.proofs.Siblings.{brackets-few}
-use Rattle.salvage_shape.proofs.Sums.{Summed, summed-first, summed-on, summed-all}
+use Rattle.salvage_shape.proofs.Sums.{Summed, summed-first, summed-on, summed-all, listed-all}
 
 -- ---- parents
 
@@ -50,15 +51,15 @@ shaped-as {base} {ds} {cur} {f} {c} {brackets} {st} {st2} {ms} {ms2} {es} {es2} 
     (subst (λ (z : List Bool). Shaped base ds cur f c st2 z es brackets) b (subst (λ (z : List ℕ). Shaped base ds cur f c z ms es brackets) a x))
 
 -- the walk, and the shape so far
-pub record Walking (u : List ℕ) (from base : ℕ) (a : List ℕ) (ma : List Bool) (ca : List ℕ) (at d cur n : ℕ) (g f : Bool) (brackets : ℕ) (c : Chain) (root : RootRule) (bytes : ℕ) : Type 0 where
+pub record Walking (u : List ℕ) (from base : ℕ) (a : List ℕ) (ma : List Bool) (ca : List ℕ) (at d cur n : ℕ) (g f : Bool) (brackets : ℕ) (c : Chain) (root : RootRule) (bytes listed : ℕ) : Type 0 where
   pub go : Going u from base a at d cur n g
   pub shape : Shaped base (parents (go .ns)) cur f c (stackOf a d) (freshOf ma d) (cellsOf ca d) brackets
   pub marked : length ma ≡ depthLimit
   pub kept : length ca ≡ depthLimit * 4
-  pub sums : Summed u from base (go .ns) at root bytes
+  pub sums : Summed u from base (go .ns) at root bytes listed
 
 pub walking-first : {u : List ℕ} {from base : ℕ} (a : List ℕ) (ma : List Bool) (ca : List ℕ) → ShapeReady u from base → length a ≡ depthLimit → length ma ≡ depthLimit → length ca ≡ depthLimit * 4
-    → Walking u from base a ma ca from 0 none base false false 0 noChain (record { rule = 0; bad = false }) 0
+    → Walking u from base a ma ca from 0 none base false false 0 noChain (record { rule = 0; bad = false }) 0 0
 unfolding stackOf freshOf cellsOf
 walking-first {u} {from} {base} a ma ca x h i j =
     record {
@@ -84,8 +85,8 @@ walking-first {u} {from} {base} a ma ca x h i j =
       sums = summed-first u from base;
     }
 
-module _ {u : List ℕ} {from base : ℕ} {a : List ℕ} {ma : List Bool} {ca : List ℕ} {at d cur n : ℕ} {g f : Bool} {brackets : ℕ} {c : Chain} {root : RootRule} {bytes : ℕ}
-    (x : Walking u from base a ma ca at d cur n g f brackets c root bytes) where
+module _ {u : List ℕ} {from base : ℕ} {a : List ℕ} {ma : List Bool} {ca : List ℕ} {at d cur n : ℕ} {g f : Bool} {brackets : ℕ} {c : Chain} {root : RootRule} {bytes listed : ℕ}
+    (x : Walking u from base a ma ca at d cur n g f brackets c root bytes listed) where
   abbrev ds : List ℕ
   ds = parents (x .go .ns)
 
@@ -111,11 +112,12 @@ module _ {u : List ℕ} {from base : ℕ} {a : List ℕ} {ma : List Bool} {ca : 
 
   -- ---- where the walk ends
 
-  module _ (en : nodesFrom u from base ≡ reverse (x .go .ns)) {next : ℕ} (bh : BehindIs true u from 0 next) (on : at ≤ next) {h : ℕ} (eh : h ≡ closeAll f c (freshOf ma d) (cellsOf ca d)) where
+  module _ (en : nodesFrom u from base ≡ reverse (x .go .ns)) {next : ℕ} (bh : BehindIs true u from 0 next) (on : at ≤ next) {h : ℕ} (eh : h ≡ closeAll f c (freshOf ma d) (cellsOf ca d))
+      {cuts : ℕ} (ec : (i : ℕ) → length (cutOf i (cutFrom u from base)) ≡ cuts) where
     all : parents (nodesFrom u from base) ≡ reverse ds
     all = ap parents en ∙ parents-reverse (x .go .ns)
 
-    pub shape-over : ShapeIs u from base (record { next = next; nodes = n - base; brackets = brackets; depth = h + 1; bytes = bytes })
+    pub shape-over : ShapeIs u from base (record { next = next; nodes = n - base; brackets = brackets; depth = h + 1; bytes = bytes; listed = listed + cuts })
     shape-over =
         let q = x .go .count in
         let e : length (nodesFrom u from base) ≡ length (x .go .ns) = ap length en ∙ length-reverse (x .go .ns) in
@@ -129,12 +131,16 @@ module _ {u : List ℕ} {from base : ℕ} {a : List ℕ} {ma : List Bool} {ca : 
           node-bound = omega (arith, q, w, on);
           bytes = summed-all (x .sums) en;
           byte-bound = summed-on (x .sums) on .bound;
+          listed = λ i p. let l = listed-all (x .sums) en p in let k = ec i in omega (arith, l, k);
+          prop-bound = let b = summed-on (x .sums) on .props in let k : length (allProps (nodesFrom u from base)) ≡ length (allProps (reverse (x .go .ns))) = ap (λ (z : List Node). length (allProps z)) en in omega (arith, b, k);
         }
 
   -- ---- no token is left
 
-  pub none-over : lexAt u at .toks ≡ [] → {h : ℕ} → h ≡ closeAll f c (freshOf ma d) (cellsOf ca d) → ShapeIs u from base (record { next = at; nodes = n - base; brackets = brackets; depth = h + 1; bytes = bytes })
+  pub none-over : lexAt u at .toks ≡ [] → {h : ℕ} → h ≡ closeAll f c (freshOf ma d) (cellsOf ca d) → ShapeIs u from base (record { next = at; nodes = n - base; brackets = brackets; depth = h + 1; bytes = bytes; listed = listed })
   unfolding sliceFrom
-  none-over z eh =
+  none-over z {h} eh =
       let k : sliceFrom d (lexAt u at .toks) ≡ [] = ap (sliceFrom d) z in
-      shape-over (ap walkNodes (x .go .walkeds ∙ ap (walked true base (here (x .go))) k)) (skipping-over (x .go .skip) (ap (λ (t : List Tok). t ++ []) z)) (omega arith) eh
+      subst (λ (l : ℕ). ShapeIs u from base (record { next = at; nodes = n - base; brackets = brackets; depth = h + 1; bytes = bytes; listed = l })) (omega arith)
+      (shape-over (ap walkNodes (x .go .walkeds ∙ ap (walked true base (here (x .go))) k)) (skipping-over (x .go .skip) (ap (λ (t : List Tok). t ++ []) z)) (omega arith) eh
+      (λ i. ap (λ (b : Blame Walk). length (cutOf i b)) (x .go .blames ∙ ap (blame (walks true base) isStopped (here (x .go)) (x .go .pre)) k)))

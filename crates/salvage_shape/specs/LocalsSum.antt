@@ -6,6 +6,7 @@ use Rattle.lexer.specs.Token.{Prop}
 use Rattle.tables.specs.Record.{Node, allProps}
 use Rattle.parser.specs.Game.{GM}
 use Rattle.salvage_mend.specs.Mend.{propStays}
+use Rattle.salvage_mend.specs.Changes.{propChange}
 use Rattle.salvage_form.specs.Measured.{lengthOf}
 use Rattle.salvage_form.specs.declared.root.RootRule.{RootRule}
 
@@ -26,6 +27,16 @@ propsLength rule bad (p ∷ ps) = pick (propStays bad p) (lengthOf rule p) 0 + p
 abbrev pub nodesLength : RootRule → List Node → ℕ
 nodesLength r [] = 0
 nodesLength r (n ∷ ns) = propsLength (r .rule) (r .bad) (n .props) + propsLength (r .rule) false (allProps ns)
+
+-- how many entries the list of changes has of properties; bad: they are those of a root whose GMs are removed
+abbrev pub propsListed : (bad : Bool) → List Prop → ℕ
+propsListed bad [] = 0
+propsListed bad (p ∷ ps) = length (propChange bad 0 p) + propsListed bad ps
+
+-- of the properties of a tree's nodes, its root first
+abbrev pub nodesListed : RootRule → List Node → ℕ
+nodesListed r [] = 0
+nodesListed r (n ∷ ns) = propsListed (r .bad) (n .props) + propsListed false (allProps ns)
 
 -- what holds of the properties of the next node: of the first, x; of any other, the rule so far, and none is removed
 abbrev pub ruleAfter : (first : Bool) → (x was : RootRule) → RootRule

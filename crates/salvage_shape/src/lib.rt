@@ -8,13 +8,12 @@ ghost use Rattle.lexer.specs.Token.{lexAt};
 ghost use Rattle.lexer.specs.Step.{propAt};
 ghost use Rattle.tables.specs.Numbers.{textLimit, depthLimit};
 ghost use Rattle.parser.specs.Game.{props};
-ghost use Rattle.salvage_form.specs.Measured.{lengthLimit};
 ghost use Rattle.salvage_form.specs.Rooted.{rootRule};
 ghost use Rattle.parser_tree.specs.LocalsTurns.{BehindIs};
 ghost use Rattle.parser_step.specs.LocalsActs.{stackOf, hasChild, mayOpen};
 ghost use Rattle.salvage_shape.specs.LocalsChain.{sumIn, heightIn, chainHeight, joinedTo, endedBy, bracketsMore, cellAt, chainKept, freshOf, cellsOf, closeAll};
-ghost use Rattle.salvage_shape.specs.LocalsSum.{nameStays, keptLength, ruleAfter};
-ghost use Rattle.salvage_shape.specs.LocalsWalk.{Arrays, ShapeReady, ShapeIs};
+ghost use Rattle.salvage_shape.specs.LocalsSum.{nameStays, ruleAfter};
+ghost use Rattle.salvage_shape.specs.LocalsWalk.{FateIs, Arrays, ShapeReady, ShapeIs};
 use lexer::Step;
 use salvage_form::root::RootRule;
 use tables::NONE;
@@ -31,13 +30,21 @@ struct Chain {
     top: usize,
 }
 
-// The place behind a slice; how many nodes its tree has, how many stand in brackets; the depth, 1 where there is no node; the lengths of the properties that stay.
+// What becomes of a property: its length once it is mended, 0 where it is removed; how many entries the list of changes has of it.
+struct Fate {
+    bytes: usize,
+    listed: usize,
+}
+
+// The place behind a slice; how many nodes its tree has, how many stand in brackets; the depth, 1 where there is no node; the lengths of the properties that stay;
+// how many entries the list of changes has of its properties and of its end.
 pub struct TreeShape {
     pub next: usize,
     pub nodes: usize,
     pub brackets: usize,
     pub depth: usize,
     pub bytes: usize,
+    pub listed: usize,
 }
 
 // The greater of two numbers.
@@ -264,15 +271,29 @@ fn stays(name: &[u8], bad: bool) -> bool
     true
 }
 
-// The length of the property that starts at i and whose first `[` is at k, 0 where it is removed.
-fn kept_length(s: &[u8], root: RootRule, i: usize, k: usize) -> usize
+// Of the property that starts at i and whose first `[` is at k: its length, and how many entries it has.
+fn fate_at(s: &[u8], root: RootRule, i: usize, k: usize) -> Fate
     requires { ⌜ (length (now s) ≤ textLimit) × (i ≤ k) × (k ≤ length (now s)) ⌝ }
-    ensures { λ r. ⌜ (r ≡ keptLength root (propAt (now (s .entry)) i k)) × (r ≤ lengthLimit) ⌝ }
+    ensures { λ r. ⌜ FateIs root (propAt (now (s .entry)) i k) r ⌝ }
 {
-    if !stays(&s[i..k], root.bad) {
-        return 0;
+    let name = &s[i..k];
+    if !stays(name, root.bad) {
+        return Fate {
+            bytes: 0,
+            listed: 1,
+        };
     }
-    salvage_form::property_length(s, root.rule, i, k)
+    let bytes = salvage_form::property_length(s, root.rule, i, k);
+    if parts_props::reads_as(name, name) {
+        return Fate {
+            bytes: bytes,
+            listed: 0,
+        };
+    }
+    Fate {
+        bytes: bytes,
+        listed: 1,
+    }
 }
 
 // What holds of the properties of a node that follow a place: of the first node's, what they say; of any other's, the rule so far, and none is removed.
@@ -318,6 +339,7 @@ pub fn shape_of(
         bad: false,
     };
     let mut bytes: usize = 0;
+    let mut listed: usize = 0;
     loop {
         match lexer::next_token(s, at) {
             Step::Start(i) => {
@@ -328,6 +350,7 @@ pub fn shape_of(
                         brackets: brackets,
                         depth: finish(marks, cells, depth, fresh, c) + 1,
                         bytes: bytes,
+                        listed: listed + 1,
                     };
                 }
                 stack[depth] = cur;
@@ -345,6 +368,7 @@ pub fn shape_of(
                         brackets: brackets,
                         depth: finish(marks, cells, depth, fresh, c) + 1,
                         bytes: bytes,
+                        listed: listed + (1 - depth),
                     };
                 }
                 depth -= 1;
@@ -373,9 +397,12 @@ pub fn shape_of(
                         brackets: brackets,
                         depth: finish(marks, cells, depth, fresh, c) + 1,
                         bytes: bytes,
+                        listed: listed + 1,
                     };
                 }
-                bytes += kept_length(s, root, i, k);
+                let x = fate_at(s, root, i, k);
+                bytes += x.bytes;
+                listed += x.listed;
                 at = next;
             }
             Step::Refused(_, _) => {
@@ -385,6 +412,7 @@ pub fn shape_of(
                     brackets: brackets,
                     depth: finish(marks, cells, depth, fresh, c) + 1,
                     bytes: bytes,
+                    listed: listed,
                 };
             }
             Step::Done => {
@@ -394,6 +422,7 @@ pub fn shape_of(
                     brackets: brackets,
                     depth: finish(marks, cells, depth, fresh, c) + 1,
                     bytes: bytes,
+                    listed: listed,
                 };
             }
         }

@@ -4,6 +4,8 @@ use Rattle.salvage_shape.proofs.Lists.{start-over, walking-start, end-o
 use Rattle.salvage_shape.proofs.Walking.{Walking, walking-first, walking-few, walking-low, none-over}
 use Rattle.salvage_shape.proofs.Turns.{more-least}
 use Rattle.salvage_list.proofs.Going.{start-deep}
+use Rattle.salvage_list.proofs.Puts.{prop-few}
+use Rattle.lexer.specs.Step.{propAt}
 use Rattle.parser.proofs.Meets.{meets}
 use Rattle.lexer.proofs.Within.{found-within}
 use Rattle.lexer.specs.Token.{Lexed}
@@ -14,10 +16,10 @@ use Rattle.salvage_shape.proofs.shape_of.Statement.{statement}
 use Rattle.salvage_shape.proofs.shape_of.Tie as tie
 
 abbrev Inv-loop : tie.InvT-loop
-Inv-loop s from base stack₀ marks₀ cells₀ at₀ depth₀ cur₀ n₀ follows₀ fresh₀ brackets₀ c₀ root₀ bytes₀ stack marks cells at depth cur n follows fresh brackets c root bytes = Walking s from base stack marks cells at depth cur n follows fresh brackets c root bytes
+Inv-loop s from base stack₀ marks₀ cells₀ at₀ depth₀ cur₀ n₀ follows₀ fresh₀ brackets₀ c₀ root₀ bytes₀ listed₀ stack marks cells at depth cur n follows fresh brackets c root bytes listed = Walking s from base stack marks cells at depth cur n follows fresh brackets c root bytes listed
 
 abbrev μ-loop : tie.MeasureT-loop
-μ-loop s from base stack₀ marks₀ cells₀ at₀ depth₀ cur₀ n₀ follows₀ fresh₀ brackets₀ c₀ root₀ bytes₀ stack marks cells at depth cur n follows fresh brackets c root bytes = length s - at
+μ-loop s from base stack₀ marks₀ cells₀ at₀ depth₀ cur₀ n₀ follows₀ fresh₀ brackets₀ c₀ root₀ bytes₀ listed₀ stack marks cells at depth cur n follows fresh brackets c root bytes listed = length s - at
 
 skip-slice-requires : tie.Need-skip-slice-requires Inv-loop μ-loop
 skip-slice-requires c κs = ((c .before .before .before .before .before .before .before .loop .inv .go) .short, (c .before .before .before .before .before .before .before .loop .inv .go) .skip .inside, (c .before .before .before .before .before .before .before .loop .inv .go) .deep)
@@ -40,8 +42,8 @@ loop-less c = let w = (found-within (now (c .before .before .before .before .bef
 loop-again : tie.Need-loop-again Inv-loop μ-loop
 loop-again c = let w = (found-within (now (c .before .before .before .before .before .before .before .before .before .args .s)) _ _ _ (c .before .before .before .before .before .before .next-token .ensures) (c .before .before .before .before .i .given .1)) in walking-start (c .before .before .before .before .before .before .before .loop .inv) (w .0) (w .1) (meets (now (c .before .before .before .before .before .before .before .before .before .args .s)) (c .before .before .before .before .before .before .before .loop .at) (c .before .before .before .before .before .before .next-token .ensures) (c .before .before .before .before .i .given .1)) (c .before .may-open .ensures) (not-false _ (c .if1 .left)) (start-deep (c .before .before .before .before .before .before .before .loop .inv .go) (w .0) (w .1) (meets (now (c .before .before .before .before .before .before .before .before .before .args .s)) (c .before .before .before .before .before .before .before .loop .at) (c .before .before .before .before .before .before .next-token .ensures) (c .before .before .before .before .i .given .1))) refl refl
 
-add-t39 : tie.Need-add-t39 Inv-loop μ-loop
-add-t39 c = let w = (found-within (now (c .before .before .before .before .before .before .before .args .s)) _ _ _ (c .before .before .before .before .next-token .ensures) (c .before .before .i2 .given .1)) in omega arith
+add-t42 : tie.Need-add-t42 Inv-loop μ-loop
+add-t42 c = let w = (found-within (now (c .before .before .before .before .before .before .before .args .s)) _ _ _ (c .before .before .before .before .next-token .ensures) (c .before .before .i2 .given .1)) in omega arith
 
 returns-2 : tie.Need-returns-2 Inv-loop μ-loop
 returns-2 c = (let w = (found-within (now (c .before .before .before .before .before .before .before .before .before .before .args .s)) _ _ _ (c .before .before .before .before .before .before .before .next-token .ensures) (c .before .before .before .before .before .i2 .given .1)) in end-over (c .before .before .before .before .before .before .before .before .loop .inv) (w .0) (w .1) (meets (now (c .before .before .before .before .before .before .before .before .before .before .args .s)) (c .before .before .before .before .before .before .before .before .loop .at) (c .before .before .before .before .before .before .before .next-token .ensures) (c .before .before .before .before .before .i2 .given .1)) (c .before .before .before .if2 .taken) (c .finish2 .ensures), record { stack = c .before .before .before .before .before .before .before .before .loop .inv .go .array; marks = c .before .before .before .before .before .before .before .before .loop .inv .marked; cells = c .before .before .before .before .before .before .before .before .loop .inv .kept })
@@ -79,17 +81,17 @@ skip-slice-requires-2 c κs = ((c .before .before .before .before .before .loop 
 returns-3 : tie.Need-returns-3 Inv-loop μ-loop
 returns-3 c = (prop-over (c .before .before .before .before .before .before .before .before .before .loop .inv) _ _ _ (meets (now (c .before .before .before .before .before .before .before .before .before .before .before .args .s)) (c .before .before .before .before .before .before .before .before .before .loop .at) (c .before .before .before .before .before .before .before .before .next-token .ensures) (c .before .before .before .before .before .before .i4 .given .1)) (not-true _ (c .before .before .before .before .if3 .taken)) (c .before .before .before .skip-slice2 .ensures) (c .finish3 .ensures), record { stack = c .before .before .before .before .before .before .before .before .before .loop .inv .go .array; marks = c .before .before .before .before .before .before .before .before .before .loop .inv .marked; cells = c .before .before .before .before .before .before .before .before .before .loop .inv .kept })
 
-kept-length-requires : tie.Need-kept-length-requires Inv-loop μ-loop
-kept-length-requires c κs = let w = (found-within (now (c .before .before .before .before .before .before .before .args .s)) _ _ _ (c .before .before .before .before .next-token .ensures) (c .before .before .i4 .given .1)) in ((c .before .before .before .before .before .loop .inv .go) .short, w .1, omega arith)
+fate-at-requires : tie.Need-fate-at-requires Inv-loop μ-loop
+fate-at-requires c κs = let w = (found-within (now (c .before .before .before .before .before .before .before .args .s)) _ _ _ (c .before .before .before .before .next-token .ensures) (c .before .before .i4 .given .1)) in ((c .before .before .before .before .before .loop .inv .go) .short, w .1, omega arith)
 
 add-bytes : tie.Need-add-bytes Inv-loop μ-loop
-add-bytes c = let b = (c .before .before .before .before .before .before .loop .inv .sums .bound) in let h = c .kept-length .ensures .1 in let s = (c .before .before .before .before .before .before .loop .inv .go) .short in let i = (c .before .before .before .before .before .before .loop .inv .go) .skip .inside in omega (arith, b, h, s, i)
+add-bytes c = let b = (c .before .before .before .before .before .before .before .loop .inv .sums .bound) in let h = c .before .fate-at .ensures .bound in let s = (c .before .before .before .before .before .before .before .loop .inv .go) .short in let i = (c .before .before .before .before .before .before .before .loop .inv .go) .skip .inside in omega (arith, b, h, s, i)
 
 loop-less-4 : tie.Need-loop-less-4 Inv-loop μ-loop
-loop-less-4 c = let w = (found-within (now (c .before .before .before .before .before .before .before .before .args .s)) _ _ _ (c .before .before .before .before .before .next-token .ensures) (c .before .before .before .i4 .given .1)) in omega arith
+loop-less-4 c = let w = (found-within (now (c .before .before .before .before .before .before .before .before .before .before .args .s)) _ _ _ (c .before .before .before .before .before .before .before .next-token .ensures) (c .before .before .before .before .before .i4 .given .1)) in omega arith
 
 loop-again-4 : tie.Need-loop-again-4 Inv-loop μ-loop
-loop-again-4 c = let w = (found-within (now (c .before .before .before .before .before .before .before .before .args .s)) _ _ _ (c .before .before .before .before .before .next-token .ensures) (c .before .before .before .i4 .given .1)) in walking-prop (c .before .before .before .before .before .before .loop .inv) _ _ _ (meets (now (c .before .before .before .before .before .before .before .before .args .s)) (c .before .before .before .before .before .before .loop .at) (c .before .before .before .before .before .next-token .ensures) (c .before .before .before .i4 .given .1)) (omega arith) (w .4) (not-false _ (c .before .if3 .left)) (c .kept-length .ensures .0) (c .kept-length .ensures .1)
+loop-again-4 c = let w = (found-within (now (c .before .before .before .before .before .before .before .before .before .before .args .s)) _ _ _ (c .before .before .before .before .before .before .before .next-token .ensures) (c .before .before .before .before .before .i4 .given .1)) in walking-prop (c .before .before .before .before .before .before .before .before .loop .inv) _ _ _ (meets (now (c .before .before .before .before .before .before .before .before .before .before .args .s)) (c .before .before .before .before .before .before .before .before .loop .at) (c .before .before .before .before .before .before .before .next-token .ensures) (c .before .before .before .before .before .i4 .given .1)) (omega arith) (w .4) (not-false _ (c .before .before .before .if3 .left)) (c .before .before .fate-at .ensures)
 
 returns-4 : tie.Need-returns-4 Inv-loop μ-loop
 returns-4 c = (none-over (c .before .before .before .before .before .before .loop .inv) (ap (λ (z : Lexed). z .toks) (meets (now (c .before .before .before .before .before .before .before .before .args .s)) (c .before .before .before .before .before .before .loop .at) (c .before .before .before .before .before .next-token .ensures) (c .before .before .before .enum-told .given .1))) (c .finish4 .ensures), record { stack = c .before .before .before .before .before .before .loop .inv .go .array; marks = c .before .before .before .before .before .before .loop .inv .marked; cells = c .before .before .before .before .before .before .loop .inv .kept })
@@ -111,6 +113,7 @@ shape-of-spec =
     (λ c. walking-few (c .before .before .before .before .before .before .before .before .loop .inv) .3)
     (λ c κs. (c .before .before .before .before .before .before .before .before .before .before .loop .inv .go) .deep)
     (λ c. let h = walking-low (c .before .before .before .before .before .before .before .before .before .before .before .loop .inv) (c .finish .ensures) in omega (arith, h))
+    (λ c. let l = (c .before .before .before .before .before .before .before .before .before .before .before .loop .inv .sums .few) in let s = (c .before .before .before .before .before .before .before .before .before .before .before .loop .inv .go) .short in let i = (c .before .before .before .before .before .before .before .before .before .before .before .loop .inv .go) .skip .inside in omega (arith, l, s, i))
     returns
     (λ c. let d = (c .before .before .before .before .before .before .before .loop .inv .go) .deep in omega arith)
     element-write-stack
@@ -120,10 +123,11 @@ shape-of-spec =
     loop-less
     loop-again
     (λ c. search needs)
-    add-t39
+    add-t42
     (λ c. walking-few (c .before .before .before .before .before .loop .inv) .3)
     (λ c κs. (c .before .before .before .before .before .before .before .loop .inv .go) .deep)
     (λ c. let h = walking-low (c .before .before .before .before .before .before .before .before .loop .inv) (c .finish2 .ensures) in omega (arith, h))
+    (λ c. let l = (c .before .before .before .before .before .before .before .before .loop .inv .sums .few) in let s = (c .before .before .before .before .before .before .before .before .loop .inv .go) .short in let i = (c .before .before .before .before .before .before .before .before .loop .inv .go) .skip .inside in omega (arith, l, s, i))
     returns-2
     (λ c. let l = c .if2 .left in omega (arith, l))
     (λ c κs. let l = c .before .if2 .left in let d = (c .before .before .before .before .before .before .loop .inv .go) .deep in omega (arith, l, d))
@@ -151,9 +155,11 @@ shape-of-spec =
     (λ c. walking-few (c .before .before .before .before .before .before .loop .inv) .3)
     (λ c κs. (c .before .before .before .before .before .before .before .before .loop .inv .go) .deep)
     (λ c. let h = walking-low (c .before .before .before .before .before .before .before .before .before .loop .inv) (c .finish3 .ensures) in omega (arith, h))
+    (λ c. let l = (c .before .before .before .before .before .before .before .before .before .loop .inv .sums .few) in let s = (c .before .before .before .before .before .before .before .before .before .loop .inv .go) .short in let i = (c .before .before .before .before .before .before .before .before .before .loop .inv .go) .skip .inside in omega (arith, l, s, i))
     returns-3
-    kept-length-requires
+    fate-at-requires
     add-bytes
+    (λ c. let l = (c .before .before .before .before .before .before .before .before .loop .inv .sums .few) in let s = (c .before .before .before .before .before .before .before .before .loop .inv .go) .short in let i = (c .before .before .before .before .before .before .before .before .loop .inv .go) .skip .inside in let h = c .before .before .fate-at .ensures .listed in let f = prop-few (c .before .before .before .before .before .before .before .before .loop .root .bad) 0 (propAt (now (c .before .before .before .before .before .before .before .before .before .before .args .s)) (c .before .before .before .before .before .i4 .given .0 .0) (c .before .before .before .before .before .i4 .given .0 .1 .0)) in omega (arith, l, s, i, h, f))
     loop-less-4
     loop-again-4
     (λ c. search needs)
