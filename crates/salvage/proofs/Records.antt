@@ -1,42 +1,25 @@
 -- The record and the list are written whole once all is decided. Assumes nothing.
-use Rattle.lists.proofs.Prelude.{ℕ, _+_, _*_, _/_, _≤_, Bool, List, [], _∷_, _≡_, refl, sym, ap, ap₂, _∙_, arith, length, drop, pick, _++_, length-append, le-ltb, le-leb}
-use Rattle.lists.proofs.Tests.{never}
+use Rattle.lists.proofs.Prelude.{ℕ, _+_, _*_, _/_, _≤_, Bool, List, [], _∷_, _≡_, refl, ap, ap₂, _∙_, arith, length, pick, _++_, length-append, le-leb}
+use Rattle.store_bytes.specs.LocalsWrote.{Wrote}
+use Rattle.store_bytes.proofs.Written.{wrote-all}
 use Rattle.tables.specs.Memory.{Memory}
 use Rattle.tables.specs.Flat.{over}
-use Rattle.tables.specs.Numbers.{textLimit}
-use Rattle.tables.specs.declared.Reason.{Reason}
 use Rattle.fit.specs.Record.{recordIn}
-use Rattle.serialize.specs.Form.{writing, output}
-use Rattle.serialize.specs.declared.Written.{Written}
-use Rattle.serialize.specs.declared.Written.the-variants.{Wrote, Refused as NotWritten}
+use Rattle.serialize.specs.Form.{writing}
 use Rattle.salvage_mend.specs.Changes.{Change, emptyRoot, unnamed, removedGM, spelledAnew, cutShort, tailDropped}
 use Rattle.salvage_mend.specs.Mend.{mended}
-use Rattle.serialize.specs.Mended.{writtenMended, MendedIs}
 use Rattle.salvage_list.specs.ListRows.{changeRow, changeRows, withChanges}
 use Rattle.salvage.specs.LocalsRecord.{Decided, WrittenWhole}
-use Rattle.salvage.specs.declared.SalvageAnswer.the-variants.{Done, Refused}
+use Rattle.salvage.specs.declared.SalvageAnswer.the-variants.{Done}
 
 module _ (m : Memory) (cs : List Change) (list out : List ℕ) {k : ℕ} (d : Decided m cs list out k) where
   abbrev w : List ℕ
   w = writing (mended (recordIn m))
 
-  writer-is : writtenMended m (length out) ≡ Wrote (length w)
-  writer-is = rw (d .fits, le-ltb textLimit (length w) (d .short), le-ltb (length out) (length w) (d .room)) refl
-
-  module _ {out′ : List ℕ} {x : Written} (z : MendedIs m out out′ x) where
-    -- does not arise
-    pub record-refused : {r : Reason} → x ≡ NotWritten r → WrittenWhole m cs list list out out′ (Refused r 0)
-    record-refused {r} h = let q : NotWritten r ≡ Wrote (length w) = sym h ∙ z .is ∙ writer-is in never cc
-
-    pub record-done : {n : ℕ} → x ≡ Wrote n → {list′ : List ℕ} → list′ ≡ over (changeRows cs) list → WrittenWhole m cs list list′ out out′ (Done (m .counts) n k)
-    record-done {n} h y =
-        let e : Wrote n ≡ Wrote (length w) = sym h ∙ z .is ∙ writer-is in
-        let q : n ≡ length w = cc in
-        record {
-          answer = ap₂ (λ (a b : ℕ). Done (m .counts) a b) q (d .count);
-          changes = y;
-          bytes = z .bytes ∙ ap (λ (v : Written). output v w out) h ∙ ap (λ (a : ℕ). w ++ drop a out) q;
-        }
+  pub record-done : {out′ : List ℕ} {n : ℕ} → Wrote w out 0 out′ n → {list′ : List ℕ} → list′ ≡ over (changeRows cs) list → WrittenWhole m cs list list′ out out′ (Done (m .counts) n k)
+  record-done {n = n} x y =
+      let q : n ≡ length w = omega (arith, x .place, d .short) in
+      record { answer = ap₂ (λ (a b : ℕ). Done (m .counts) a b) q (d .count); changes = y; bytes = wrote-all x (d .room) }
 
 -- ---- the list
 

@@ -1,6 +1,5 @@
 // Salvage: out of any text one that strict reading accepts, and a list of what was changed. All is decided over the tokens before anything is written: then the text is
 // read leniently into lent tables, and its record is mended as it is written.
-use serialize::Written;
 use tables::Counts;
 use tables::Lenient;
 use tables::Reason;
@@ -19,7 +18,7 @@ pub enum SalvageAnswer {
 // Numbers in a row of the list.
 const CHANGE_STRIDE: usize = 3;
 
-// Of a record in the tables of its text, where there is room: the result and the list of so many changes. The writer does not refuse.
+// Of a record in the tables of its text, where there is room: the result and the list of so many changes.
 fn write_record(
     text: &[u8],
     counts: Counts,
@@ -37,7 +36,7 @@ fn write_record(
         (wholeText (now (text .entry)) counts (now (trees .entry)) (now (nodes .entry)) (now (properties .entry)) (now (values .entry)))
         (textChanges (now (text .entry))) (now (changes .entry)) (now (changes .exit)) (now (out .entry)) (now (out .exit)) r ⌝ }
 {
-    match serialize::write_mended(
+    let n = serialize::put_mended(
         text,
         text.len(),
         counts,
@@ -46,15 +45,11 @@ fn write_record(
         properties,
         values,
         out,
-    ) {
-        Written::Refused(reason) => SalvageAnswer::Refused(reason, 0),
-        Written::Wrote(n) => {
-            if 0 < count {
-                salvage_list::put_all(text, changes);
-            }
-            SalvageAnswer::Done(counts, n, count)
-        }
+    );
+    if 0 < count {
+        salvage_list::put_all(text, changes);
     }
+    SalvageAnswer::Done(counts, n, count)
 }
 
 // Reads a text leniently into the lent tables, writes the mended record to `out` and what was changed to `changes`.

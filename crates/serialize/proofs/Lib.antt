@@ -6,7 +6,6 @@ pub mod Corners
 pub mod Joined
 pub mod Linked
 pub mod Measured
-pub mod Mending
 pub mod OpenPath
 pub mod PropTexts
 pub mod Room

@@ -27,7 +27,7 @@ use Rattle.serialize.proofs.Linked.{linked-is}
 use Rattle.tables.specs.LocalsNames.{NameHeld}
 
 -- the measure leaves its empty part, and so the bytes lent
-pub measure-kept : {w e : List ℕ} {need : ℕ} (out : List ℕ) → Wrote w [] 0 e need → e ++ out ≡ out
+measure-kept : {w e : List ℕ} {need : ℕ} (out : List ℕ) → Wrote w [] 0 e need → e ++ out ≡ out
 measure-kept {w} out m = ap (λ (z : List ℕ). z ++ out) (m .bytes ∙ sets-out [] 0 w (omega arith))
 
 -- a value stands behind its bracket

@@ -3,4 +3,3 @@ pub mod Form
 pub mod Locals
 pub mod LocalsWalk
 pub mod LocalsWrite
-pub mod Mended

@@ -5,8 +5,12 @@ mod property; // property.rt: the properties of a node
 mod walk; // walk.rt: node by node along the links
 
 ghost use mathlib.Core.Path.{_≡_};
-ghost use Rattle.serialize.specs.Form.{writtenLength, WriteIs};
-ghost use Rattle.serialize.specs.Mended.{mendedLength, MendedIs};
+ghost use mathlib.Core.Bool.{true};
+ghost use Rattle.store_bytes.specs.LocalsWrote.{Wrote};
+ghost use Rattle.fit.specs.Fit.{Fit};
+ghost use Rattle.fit.specs.Record.{recordIn};
+ghost use Rattle.salvage_mend.specs.Mend.{mended};
+ghost use Rattle.serialize.specs.Form.{writing, writtenLength, WriteIs};
 ghost use Rattle.tables.specs.Memory.{memory};
 use tables::Reason;
 
@@ -107,8 +111,8 @@ pub fn write_length(
     Written::Wrote(need)
 }
 
-// The writing of the mended record into `out`, measured before its first byte is written.
-pub fn write_mended(
+// The writing of the mended record into `out`, as far as it has room, of tables that fit.
+pub fn put_mended(
     text: &[u8],
     used: usize,
     counts: tables::Counts,
@@ -117,70 +121,17 @@ pub fn write_mended(
     properties: &[u32],
     values: &[u32],
     out: &mut [u8],
-) -> Written
-    ensures { λ r. ⌜ MendedIs
-        (memory (now (text .entry)) used counts (now (trees .entry)) (now (nodes .entry)) (now (properties .entry)) (now (values .entry)))
-        (now (out .entry)) (now (out .exit)) r ⌝ }
+) -> usize
+    requires { ⌜ Fit (memory (now text) used counts (now trees) (now nodes) (now properties) (now values)) ≡ true ⌝ }
+    ensures { λ r. ⌜ Wrote
+        (writing (mended (recordIn
+        (memory (now (text .entry)) used counts (now (trees .entry)) (now (nodes .entry)) (now (properties .entry)) (now (values .entry))))))
+        (now (out .entry)) 0 (now (out .exit)) r ⌝ }
 {
-    if !fit::fits(text, used, counts, trees, nodes, properties, values) {
-        return Written::Refused(Reason::NotFitting);
-    }
     let used_text = &text[..used];
-    let n = counts.nodes;
     let corners = walk::any_corner(used_text, values, counts.values);
-    let nowhere = &mut out[..0];
-    let need = walk::put_all(
-        nowhere,
-        used_text,
-        trees,
-        nodes,
-        n,
-        properties,
-        values,
-        corners,
-        true,
-    );
-    if tables::TEXT_LIMIT < need {
-        return Written::Refused(Reason::TextTooLong);
-    }
-    if out.len() < need {
-        return Written::Refused(Reason::NoRoom);
-    }
-    let length = walk::put_all(
+    walk::put_all(
         out,
-        used_text,
-        trees,
-        nodes,
-        n,
-        properties,
-        values,
-        corners,
-        true,
-    );
-    Written::Wrote(length)
-}
-
-// The length of that writing without an output: what `write_mended` answers where there is room for anything.
-pub fn mended_length(
-    text: &[u8],
-    used: usize,
-    counts: tables::Counts,
-    trees: &[u32],
-    nodes: &[u32],
-    properties: &[u32],
-    values: &[u32],
-) -> Written
-    ensures { λ r. ⌜ r ≡ mendedLength
-        (memory (now (text .entry)) used counts (now (trees .entry)) (now (nodes .entry)) (now (properties .entry)) (now (values .entry))) ⌝ }
-{
-    if !fit::fits(text, used, counts, trees, nodes, properties, values) {
-        return Written::Refused(Reason::NotFitting);
-    }
-    let used_text = &text[..used];
-    let corners = walk::any_corner(used_text, values, counts.values);
-    let mut none = [0u8; 1];
-    let count = walk::put_all(
-        &mut none[..0],
         used_text,
         trees,
         nodes,
@@ -189,9 +140,5 @@ pub fn mended_length(
         values,
         corners,
         true,
-    );
-    if tables::TEXT_LIMIT < count {
-        return Written::Refused(Reason::TextTooLong);
-    }
-    Written::Wrote(count)
+    )
 }

@@ -1,34 +1,41 @@
 -- `salvage::write_record` meets its contract. Assumes nothing.
-use Rattle.salvage.proofs.Records.{record-refused, record-done, rows-put, rows-none}
+use Rattle.salvage.specs.LocalsRecord.{wholeText}
+use Rattle.salvage.proofs.Records.{record-done, rows-put, rows-none}
 use Rattle.salvage_list.specs.ListRows.{textChanges}
-use Rattle.tables.specs.Memory.{memory}
-use Rattle.lists.proofs.Prelude.{length}
 use Rattle.salvage_list.proofs.Texts.{rows-with}
 use borrow.Author.Needs.{needs}
 use Rattle.salvage.proofs.write_record.Statement.{statement}
 use Rattle.salvage.proofs.write_record.Tie as tie
 
+put-mended-requires : tie.Need-put-mended-requires
+put-mended-requires c κs = c .before .before .before .before .before .before .before .before .pre .fits
+
 returns : tie.Need-returns
-returns c = record-refused (memory (c .before .before .before .before .before .before .before .before .before .before .before .before .before .before .args .text .now) (length (c .before .before .before .before .before .before .before .before .before .before .before .before .before .before .args .text .now)) (c .before .before .before .before .before .before .before .before .before .before .before .before .before .before .args .counts) (c .before .before .before .before .before .before .before .before .before .before .before .before .before .before .args .trees .now) (c .before .before .before .before .before .before .before .before .before .before .before .before .before .before .args .nodes .now) (c .before .before .before .before .before .before .before .before .before .before .before .before .before .before .args .properties .now) (c .before .before .before .before .before .before .before .before .before .before .before .before .before .before .args .values .now)) (textChanges (c .before .before .before .before .before .before .before .before .before .before .before .before .before .before .args .text .now)) (c .before .before .before .before .before .before .before .before .before .before .before .before .before .before .args .changes .now) (c .before .before .before .before .before .before .before .before .before .before .before .before .before .before .args .out .now) (c .before .before .before .before .before .before .before .before .before .before .before .before .before .before .pre) (c .before .before .before .before .before .write-mended .ensures) (c .before .reason .given .1)
+returns c =
+    let entry = c .before .before .before .before .before .before .before .before .before .before .before .before .before .before .before .before in
+    let args = entry .args in
+    let d = entry .pre in
+    let cs = textChanges (args .text .now) in
+    let list = args .changes .now in
+    record-done (wholeText (args .text .now) (args .counts) (args .trees .now) (args .nodes .now) (args .properties .now) (args .values .now)) cs list (args .out .now) d (c .before .before .before .before .before .before .before .put-mended .ensures) (rows-put cs list (rows-with cs (d .count) (d .rows) (c .before .before .put-all .ensures)) (d .count) (d .rows))
 
 returns-2 : tie.Need-returns-2
-returns-2 c = record-done (memory (c .before .before .before .before .before .before .before .before .before .before .before .before .before .before .before .before .before .before .before .args .text .now) (length (c .before .before .before .before .before .before .before .before .before .before .before .before .before .before .before .before .before .before .before .args .text .now)) (c .before .before .before .before .before .before .before .before .before .before .before .before .before .before .before .before .before .before .before .args .counts) (c .before .before .before .before .before .before .before .before .before .before .before .before .before .before .before .before .before .before .before .args .trees .now) (c .before .before .before .before .before .before .before .before .before .before .before .before .before .before .before .before .before .before .before .args .nodes .now) (c .before .before .before .before .before .before .before .before .before .before .before .before .before .before .before .before .before .before .before .args .properties .now) (c .before .before .before .before .before .before .before .before .before .before .before .before .before .before .before .before .before .before .before .args .values .now)) (textChanges (c .before .before .before .before .before .before .before .before .before .before .before .before .before .before .before .before .before .before .before .args .text .now)) (c .before .before .before .before .before .before .before .before .before .before .before .before .before .before .before .before .before .before .before .args .changes .now) (c .before .before .before .before .before .before .before .before .before .before .before .before .before .before .before .before .before .before .before .args .out .now) (c .before .before .before .before .before .before .before .before .before .before .before .before .before .before .before .before .before .before .before .pre) (c .before .before .before .before .before .before .before .before .before .before .write-mended .ensures) (c .before .before .before .before .before .before .n .given .1) (rows-put (textChanges (c .before .before .before .before .before .before .before .before .before .before .before .before .before .before .before .before .before .before .before .args .text .now)) (c .before .before .before .before .before .before .before .before .before .before .before .before .before .before .before .before .before .before .before .args .changes .now) (rows-with (textChanges (c .before .before .before .before .before .before .before .before .before .before .before .before .before .before .before .before .before .before .before .args .text .now)) (c .before .before .before .before .before .before .before .before .before .before .before .before .before .before .before .before .before .before .before .pre .count) (c .before .before .before .before .before .before .before .before .before .before .before .before .before .before .before .before .before .before .before .pre .rows) (c .before .before .put-all .ensures)) (c .before .before .before .before .before .before .before .before .before .before .before .before .before .before .before .before .before .before .before .pre .count) (c .before .before .before .before .before .before .before .before .before .before .before .before .before .before .before .before .before .before .before .pre .rows))
-
-returns-3 : tie.Need-returns-3
-returns-3 c = record-done (memory (c .before .before .before .before .before .before .before .before .before .before .before .before .before .before .before .args .text .now) (length (c .before .before .before .before .before .before .before .before .before .before .before .before .before .before .before .args .text .now)) (c .before .before .before .before .before .before .before .before .before .before .before .before .before .before .before .args .counts) (c .before .before .before .before .before .before .before .before .before .before .before .before .before .before .before .args .trees .now) (c .before .before .before .before .before .before .before .before .before .before .before .before .before .before .before .args .nodes .now) (c .before .before .before .before .before .before .before .before .before .before .before .before .before .before .before .args .properties .now) (c .before .before .before .before .before .before .before .before .before .before .before .before .before .before .before .args .values .now)) (textChanges (c .before .before .before .before .before .before .before .before .before .before .before .before .before .before .before .args .text .now)) (c .before .before .before .before .before .before .before .before .before .before .before .before .before .before .before .args .changes .now) (c .before .before .before .before .before .before .before .before .before .before .before .before .before .before .before .args .out .now) (c .before .before .before .before .before .before .before .before .before .before .before .before .before .before .before .pre) (c .before .before .before .before .before .before .write-mended .ensures) (c .before .before .n .given .1) (rows-none (textChanges (c .before .before .before .before .before .before .before .before .before .before .before .before .before .before .before .args .text .now)) (c .before .before .before .before .before .before .before .before .before .before .before .before .before .before .before .args .changes .now) (c .before .before .before .before .before .before .before .before .before .before .before .before .before .before .before .pre .count) (c .if1 .left))
+returns-2 c =
+    let entry = c .before .before .before .before .before .before .before .before .before .before .before .before in
+    let args = entry .args in
+    let d = entry .pre in
+    let cs = textChanges (args .text .now) in
+    let list = args .changes .now in
+    record-done (wholeText (args .text .now) (args .counts) (args .trees .now) (args .nodes .now) (args .properties .now) (args .values .now)) cs list (args .out .now) d (c .before .before .before .put-mended .ensures) (rows-none cs list (d .count) (c .if1 .left))
 
 pub write-record-spec : {M : Type 1} → statement M
 write-record-spec =
     tie.close
     (tie.spec
+    put-mended-requires
     (λ c κs. search needs)
     (λ c. search needs)
-    (λ c. search needs)
-    (λ c κs. search needs)
     (λ c. search needs)
     returns
     (λ c. search needs)
-    (λ c. search needs)
-    returns-2
-    (λ c. search needs)
-    returns-3)
+    returns-2)
