@@ -6,7 +6,7 @@ use Rattle.lexer.specs.Token.{Prop, Tok, prop}
 use Rattle.lexer.specs.Step.{valsAt, propAt}
 use Rattle.parser.specs.Game.{gameVals, gameProps, props}
 use Rattle.parser_game.specs.declared.GameType.{GameType}
-use Rattle.parser_game.specs.declared.GameType.the-variants.{Is}
+use Rattle.parser_game.specs.declared.GameType.the-variants.{Is, Refused}
 use Rattle.parser_game.specs.LocalsGame.{typeOf}
 use Rattle.fit.specs.Record.{rawsOf}
 use Rattle.go_size.specs.Root.{sizeOfValues, sizeIn}
@@ -15,7 +15,10 @@ use Rattle.go_size.specs.declared.RootSize.the-variants.{Absent}
 use Rattle.fit_rule.specs.Rule.{propertyOf}
 use Rattle.salvage_mend.specs.Mend.{gmsAmong}
 use Rattle.salvage_form.specs.Measured.{rawsAt}
-use Rattle.salvage_form.proofs.Roots.{Gathered, gathered-other, gathered-one, gathered-by, gathered-none, asIs, game-by, game-absent, sizesAmong, size-by, size-absent}
+use Rattle.salvage_form.specs.Rooted.{rootRule}
+use Rattle.salvage_form.specs.LocalsRooted.{ruledBy}
+use Rattle.salvage_form.specs.declared.root.RootRule.{RootRule}
+use Rattle.salvage_form.proofs.Roots.{Gathered, rule-good, rule-bad, gathered-other, gathered-one, gathered-by, gathered-none, asIs, game-by, game-absent, sizesAmong, size-by, size-absent}
 
 pub neither : (a b : Bool) → (a || b) ≡ false → (a ≡ false) × (b ≡ false)
 neither true b h = absurd (false≢true (sym h))
@@ -54,3 +57,10 @@ module _ {s : List ℕ} {l r : List Tok} {found : Bool} {k : ℕ} (e : props r �
       by : (c : Bool) → found ≡ c → x ≡ sizeIn (map propertyOf (props l))
       by true hc = let z = gathered-by y refl e hc in size-by (props l) s (z .0) k (z .1) (h ∙ ap (λ (u : Bool). pick u (sizeOfValues (rawsAt s k)) Absent) hc)
       by false hc = h ∙ ap (λ (u : Bool). pick u (sizeOfValues (rawsAt s k)) Absent) hc ∙ size-absent (props l) (gathered-none y refl e hc)
+
+pub rule-is : (ps : List Prop) {z : RootSize} → z ≡ sizeIn (map propertyOf ps) → {x : GameType} → x ≡ typeOf (gameProps (gmsAmong ps)) → {r : RootRule} → r ≡ ruledBy x z → r ≡ rootRule ps
+rule-is ps {z} ez {x} ex {r} h = by x refl
+  where
+    by : (y : GameType) → x ≡ y → r ≡ rootRule ps
+    by (Is k) e = h ∙ ap (λ (g : GameType). ruledBy g z) e ∙ rule-good ps ez ex e refl
+    by (Refused q) e = h ∙ ap (λ (g : GameType). ruledBy g z) e ∙ rule-bad ps ez ex e refl

@@ -1,3 +1,4 @@
 pub mod LocalsMeasured
+pub mod LocalsRooted
 pub mod Measured
 pub mod Rooted

@@ -15,6 +15,7 @@ ghost use Rattle.fit_rule.specs.Rule.{propertyOf};
 ghost use Rattle.salvage_mend.specs.Mend.{gmsAmong};
 ghost use Rattle.salvage_form.specs.Measured.{rawsAt};
 ghost use Rattle.salvage_form.specs.Rooted.{rootRule};
+ghost use Rattle.salvage_form.specs.LocalsRooted.{ruledBy};
 use go_size::RootSize;
 use go_size::Size;
 use lexer::Step;
@@ -133,12 +134,11 @@ fn game_found(s: &[u8], found: bool, k: usize) -> GameType
     GameType::Is(0)
 }
 
-// Of the tree whose root's properties are those that follow the place `at`, GM and SZ looked for one after the other.
-fn rule_apart(s: &[u8], at: usize) -> RootRule
-    ensures { λ r. ⌜ r ≡ rootRule (props (lexAt (now (s .entry)) at .toks)) ⌝ }
+// By the game type and the size.
+fn rule_by(game: GameType, size: RootSize) -> RootRule
+    ensures { λ r. ⌜ r ≡ ruledBy game size ⌝ }
 {
-    let size = root_size(s, at);
-    match root_game(s, at) {
+    match game {
         GameType::Is(k) => RootRule {
             rule: fit_rule::rule_of(k, size),
             bad: false,
@@ -148,6 +148,13 @@ fn rule_apart(s: &[u8], at: usize) -> RootRule
             bad: true,
         },
     }
+}
+
+// Of the tree whose root's properties are those that follow the place `at`, GM and SZ looked for one after the other.
+fn rule_apart(s: &[u8], at: usize) -> RootRule
+    ensures { λ r. ⌜ r ≡ rootRule (props (lexAt (now (s .entry)) at .toks)) ⌝ }
+{
+    rule_by(root_game(s, at), root_size(s, at))
 }
 
 // Of the tree whose root's properties are those that follow the place `from`: its rule once it is mended, and whether the root's GMs are removed. Most roots have at
@@ -176,15 +183,5 @@ pub fn root_rule(s: &[u8], from: usize) -> RootRule
         game = game | gm;
         sized = sized | sz;
     }
-    let size = size_found(s, sized, z);
-    match game_found(s, game, g) {
-        GameType::Is(k) => RootRule {
-            rule: fit_rule::rule_of(k, size),
-            bad: false,
-        },
-        GameType::Refused(_) => RootRule {
-            rule: fit_rule::rule_of(0, size),
-            bad: true,
-        },
-    }
+    rule_by(game_found(s, game, g), size_found(s, sized, z))
 }

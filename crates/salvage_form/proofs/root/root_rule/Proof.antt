@@ -13,8 +13,8 @@ use Rattle.parser_game.proofs.Gather.{no-property}
 use Rattle.fit.specs.Record.{rawsOf}
 use Rattle.go_size.specs.Root.{SZ}
 use Rattle.salvage_mend.specs.Mend.{gmsAmong}
-use Rattle.salvage_form.proofs.Roots.{Gathered, gathered-first, asIs, gm-step, sizesAmong, sz-step, rule-good, rule-bad}
-use Rattle.salvage_form.proofs.Rooting.{neither, gathered-on, game-from, size-from}
+use Rattle.salvage_form.proofs.Roots.{Gathered, gathered-first, asIs, gm-step, sizesAmong, sz-step}
+use Rattle.salvage_form.proofs.Rooting.{neither, gathered-on, game-from, size-from, rule-is}
 use Rattle.salvage_form.proofs.root.root_rule.Statement.{statement}
 use Rattle.salvage_form.proofs.root.root_rule.Tie as tie
 
@@ -44,10 +44,7 @@ unfolding propAt
 loop-again c = let w = (found-within (now (c .before .before .before .before .before .before .before .before .before .before .before .before .before .before .args .s)) _ _ _ (c .before .before .before .before .before .before .before .before .before .before .before .next-token .ensures) (c .before .before .before .before .before .before .before .before .before .i .given .1)) in let n = neither (c .before .before .before .before .before .reads-as .result && c .before .before .before .before .before .before .before .before .before .before .before .before .loop .game) (c .before .before .before .reads-as2 .result && c .before .before .before .before .before .before .before .before .before .before .before .before .loop .sized) (c .before .before .if1 .left) in let q = ap (λ (z : Lexed). z .toks) (meets (now (c .before .before .before .before .before .before .before .before .before .before .before .before .before .before .args .s)) (c .before .before .before .before .before .before .before .before .before .before .before .before .loop .at) (c .before .before .before .before .before .before .before .before .before .before .before .next-token .ensures) (c .before .before .before .before .before .before .before .before .before .i .given .1)) in let p = part-is (now (c .before .before .before .before .before .before .before .before .before .before .before .before .before .before .args .s)) (c .before .before .before .before .before .before .before .before .before .i .given .0 .0) (c .before .before .before .before .before .before .before .before .before .i .given .0 .1 .0) (w .1) (omega arith) in (gathered-on (c .before .before .before .before .before .before .before .before .before .before .before .before .loop .inv .0) GM gm-step _ _ _ _ q (c .before .before .before .before .before .reads-as .ensures ∙ ap (λ (z : List ℕ). same (readIdentifier z) GM) p) (n .0) (c .before .either .ensures), gathered-on (c .before .before .before .before .before .before .before .before .before .before .before .before .loop .inv .1) SZ sz-step _ _ _ _ q (c .before .before .before .reads-as2 .ensures ∙ ap (λ (z : List ℕ). same (readIdentifier z) SZ) p) (n .1) (c .either2 .ensures))
 
 returns-2 : tie.Need-returns-2 Inv-loop μ-loop
-returns-2 c = let n = no-property (now (c .before .before .before .before .before .before .before .before .before .before .args .s)) _ (c .before .before .before .before .before .before .before .next-token .ensures) (c .before .before .before .before .before .before .match .keys2) in rule-good (props (lexAt (now (c .before .before .before .before .before .before .before .before .before .before .args .s)) (c .before .before .before .before .before .before .before .before .before .before .args .from) .toks)) (size-from n (c .before .before .before .before .before .before .before .before .loop .inv .1) (c .before .before .before .before .before .size-found .ensures)) (game-from n (c .before .before .before .before .before .before .before .before .loop .inv .0) (c .before .before .before .before .game-found .ensures)) (c .before .before .k .given .1) (c .rule-of .ensures)
-
-returns-3 : tie.Need-returns-3 Inv-loop μ-loop
-returns-3 c = let n = no-property (now (c .before .before .before .before .before .before .before .before .before .args .s)) _ (c .before .before .before .before .before .before .next-token .ensures) (c .before .before .before .before .before .match .keys2) in rule-bad (props (lexAt (now (c .before .before .before .before .before .before .before .before .before .args .s)) (c .before .before .before .before .before .before .before .before .before .args .from) .toks)) (size-from n (c .before .before .before .before .before .before .before .loop .inv .1) (c .before .before .before .before .size-found .ensures)) (game-from n (c .before .before .before .before .before .before .before .loop .inv .0) (c .before .before .before .game-found .ensures)) (c .before .enum-told .given .1) (c .rule-of2 .ensures)
+returns-2 c = let n = no-property (now (c .before .before .before .before .before .before .before .args .s)) _ (c .before .before .before .before .next-token .ensures) (c .before .before .before .match .keys2) in rule-is (props (lexAt (now (c .before .before .before .before .before .before .before .args .s)) (c .before .before .before .before .before .before .before .args .from) .toks)) (size-from n (c .before .before .before .before .before .loop .inv .1) (c .before .size-found .ensures)) (game-from n (c .before .before .before .before .before .loop .inv .0) (c .before .before .game-found .ensures)) (c .rule-by .ensures)
 
 pub root-rule-spec : {M : Type 1} → statement M
 root-rule-spec =
@@ -73,9 +70,5 @@ root-rule-spec =
     loop-again
     (λ c κs. search needs)
     (λ c κs. search needs)
-    (λ c. search needs)
     (λ c κs. search needs)
-    (λ c. search needs)
-    (λ c κs. search needs)
-    returns-2
-    returns-3)
+    returns-2)
