@@ -166,13 +166,7 @@ pub fn put_all(text: &[u8], rows: &mut [u32]) -> usize
 }
 
 // The entries of a text whose slices are found: the place of the first token, the end of what trimming keeps, and how many they are.
-pub fn put_found(
-    text: &[u8],
-    first: usize,
-    last: usize,
-    count: usize,
-    rows: &mut [u32],
-) -> usize
+pub fn put_found(text: &[u8], first: usize, last: usize, count: usize, rows: &mut [u32]) -> usize
     requires { ⌜ SlicesFound (now text) first last count ⌝ }
     ensures { λ r. ⌜ EntriesPut (now (rows .entry)) 0 (textChanges (now (text .entry))) r (now (rows .exit)) ⌝ }
 {

@@ -108,7 +108,14 @@ fn weigh_slices(s: &[u8], from: usize, count: usize) -> Weighed
         listed += x.listed + (nodes - x.nodes);
         k += 1;
     }
-    together(bytes, depth, listed + count_tail(s, at), from, s.len(), count)
+    together(
+        bytes,
+        depth,
+        listed + count_tail(s, at),
+        from,
+        s.len(),
+        count,
+    )
 }
 
 // Of the tokens from a place on. Where there is no slice, the empty one is written `(;)`.

@@ -11,7 +11,7 @@ put-mended-requires : tie.Need-put-mended-requires
 put-mended-requires c κs = c .before .before .before .before .before .before .before .before .pre .0 .fits
 
 put-list-requires : tie.Need-put-list-requires
-put-list-requires c κs = c .pre .1
+put-list-requires c κs = c .before .before .before .before .before .before .before .before .before .before .before .before .before .pre .1
 
 returns : tie.Need-returns
 returns c =
