@@ -8,7 +8,7 @@ ghost use mathlib.Core.Path.{_≡_};
 ghost use Rattle.reader.specs.Lent.{lent};
 ghost use Rattle.salvage_list.specs.ListRows.{textChanges};
 ghost use Rattle.salvage_list.specs.LocalsPuts.{EntriesPut};
-ghost use Rattle.salvage_measure.specs.LocalsMeasure.{FoundIs};
+ghost use Rattle.salvage_measure.specs.LocalsMeasure.{SlicesTold};
 ghost use Rattle.salvage.specs.Salvage.{SalvageIs};
 ghost use Rattle.salvage.specs.LocalsRecord.{wholeText, Decided, WrittenWhole};
 
@@ -23,7 +23,7 @@ const CHANGE_STRIDE: usize = 3;
 
 // The list of a text, each entry where there is room; how many they are. The slices that are found are not looked for again.
 fn put_list(text: &[u8], weighed: Weighed, changes: &mut [u32]) -> usize
-    requires { ⌜ FoundIs (now text) weighed ⌝ }
+    requires { ⌜ SlicesTold (now text) weighed ⌝ }
     ensures { λ r. ⌜ EntriesPut (now (changes .entry)) 0 (textChanges (now (text .entry))) r (now (changes .exit)) ⌝ }
 {
     if 0 < weighed.slices {
@@ -46,7 +46,7 @@ fn write_record(
     out: &mut [u8],
 ) -> SalvageAnswer
     requires { ⌜ Decided (wholeText (now text) counts (now trees) (now nodes) (now properties) (now values))
-        (textChanges (now text)) (now changes) (now out) count × FoundIs (now text) weighed ⌝ }
+        (textChanges (now text)) (now changes) (now out) count × SlicesTold (now text) weighed ⌝ }
     ensures { λ r. ⌜ WrittenWhole
         (wholeText (now (text .entry)) counts (now (trees .entry)) (now (nodes .entry)) (now (properties .entry)) (now (values .entry)))
         (textChanges (now (text .entry))) (now (changes .entry)) (now (changes .exit)) (now (out .entry)) (now (out .exit)) r ⌝ }

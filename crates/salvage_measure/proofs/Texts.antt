@@ -15,7 +15,7 @@ use Rattle.parser.proofs.Texts.{lex-prefix}
 use Rattle.salvage_laws.specs.Result.{salvageOf}
 use Rattle.salvage_size.proofs.Slices.{slices-length, slices-depth}
 use Rattle.salvage_measure.specs.Measure.{measureOf, textMeasure}
-use Rattle.salvage_measure.specs.LocalsMeasure.{measured, unmeasured, slicesMeasure, utfMeasure, TokensWeighed, FoundFrom, FoundIs}
+use Rattle.salvage_measure.specs.LocalsMeasure.{measured, unmeasured, slicesMeasure, utfMeasure, TokensWeighed, SlicesToldFrom, SlicesTold}
 use Rattle.salvage_measure.specs.declared.Measured.{Measured}
 use Rattle.salvage_measure.specs.declared.Weighed.{Weighed}
 use Rattle.salvage_list.specs.LocalsWalk.{ListReady}
@@ -79,10 +79,10 @@ module _ (t : List ℕ) where
 
 -- ---- the slices that are told
 
-pub none-told : (t : List ℕ) (r : Weighed) → r .slices ≡ 0 → FoundIs t r
+pub none-told : (t : List ℕ) (r : Weighed) → r .slices ≡ 0 → SlicesTold t r
 none-told t r e h = absurd (omega (arith, e, h))
 
-pub found-told : (t : List ℕ) {f l : ℕ} {x : Trimmed} → length t ≤ textLimit → x ≡ trimmed t → x ≡ Kept f l → (r : Weighed) → FoundFrom (take l t) f r → FoundIs t r
+pub found-told : (t : List ℕ) {f l : ℕ} {x : Trimmed} → length t ≤ textLimit → x ≡ trimmed t → x ≡ Kept f l → (r : Weighed) → SlicesToldFrom (take l t) f r → SlicesTold t r
 found-told t {f} {l} h e q r w z =
     let y = w z in
     let k : trimmed t ≡ Kept f l = sym e ∙ q in

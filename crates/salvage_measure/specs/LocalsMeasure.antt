@@ -33,12 +33,12 @@ abbrev pub TokensWeighed : Lexed → Weighed → Type 0
 TokensWeighed l r = WeighedIs (slicesMeasure (splitByGametree true (l .toks))) (slicesChanges (splitByGametree true (l .toks)) l) r
 
 -- the slices that are told stand from this place to the end
-abbrev pub FoundFrom : (u : List ℕ) (from : ℕ) → Weighed → Type 0
-FoundFrom u from r = 0 < r .slices → (r .first ≡ from) × (r .last ≡ length u) × ListReady u from (r .slices)
+abbrev pub SlicesToldFrom : (u : List ℕ) (from : ℕ) → Weighed → Type 0
+SlicesToldFrom u from r = 0 < r .slices → (r .first ≡ from) × (r .last ≡ length u) × ListReady u from (r .slices)
 
 -- the slices that are told are those of the text
-abbrev pub FoundIs : List ℕ → Weighed → Type 0
-FoundIs t r = 0 < r .slices → SlicesFound t (r .first) (r .last) (r .slices)
+abbrev pub SlicesTold : List ℕ → Weighed → Type 0
+SlicesTold t r = 0 < r .slices → SlicesFound t (r .first) (r .last) (r .slices)
 
 -- of a text
 abbrev pub utfMeasure : Utf → List ℕ → Measured

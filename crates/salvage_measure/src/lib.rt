@@ -8,7 +8,7 @@ ghost use Rattle.salvage_list.specs.Listed.{tailOf};
 ghost use Rattle.salvage_list.specs.ListRows.{textChanges};
 ghost use Rattle.salvage_list.specs.LocalsWalk.{ListReady};
 ghost use Rattle.salvage_measure.specs.Measure.{textMeasure, WeighedIs};
-ghost use Rattle.salvage_measure.specs.LocalsMeasure.{measured, TokensWeighed, FoundFrom, FoundIs};
+ghost use Rattle.salvage_measure.specs.LocalsMeasure.{measured, TokensWeighed, SlicesToldFrom, SlicesTold};
 use lexer::Step;
 use parser::Survey;
 use text_utf8::Trimmed;
@@ -87,7 +87,7 @@ fn count_tail(s: &[u8], at: usize) -> usize
 // Of `count` slices from a place on.
 fn weigh_slices(s: &[u8], from: usize, count: usize) -> Weighed
     requires { ⌜ ListReady (now s) from count ⌝ }
-    ensures { λ r. ⌜ TokensWeighed (lexAt (now (s .entry)) from) r × FoundFrom (now (s .entry)) from r ⌝ }
+    ensures { λ r. ⌜ TokensWeighed (lexAt (now (s .entry)) from) r × SlicesToldFrom (now (s .entry)) from r ⌝ }
 {
     let mut stack = [0u32; 1024];
     let mut marks = [false; 1024];
@@ -121,7 +121,7 @@ fn weigh_slices(s: &[u8], from: usize, count: usize) -> Weighed
 // Of the tokens from a place on. Where there is no slice, the empty one is written `(;)`.
 fn weigh_tokens(s: &[u8], from: usize) -> Weighed
     requires { ⌜ (length (now s) ≤ textLimit) × (from ≤ length (now s)) ⌝ }
-    ensures { λ r. ⌜ TokensWeighed (lexAt (now (s .entry)) from) r × FoundFrom (now (s .entry)) from r ⌝ }
+    ensures { λ r. ⌜ TokensWeighed (lexAt (now (s .entry)) from) r × SlicesToldFrom (now (s .entry)) from r ⌝ }
 {
     match parser::survey_lenient(s, from) {
         Survey::Refused(_, _) => together(0, 0, 0, 0, 0, 0),
@@ -132,7 +132,7 @@ fn weigh_tokens(s: &[u8], from: usize) -> Weighed
 
 // Of the text that salvage makes of a text, and of its list; of a text that is refused, of nothing.
 pub fn weigh(text: &[u8]) -> Weighed
-    ensures { λ r. ⌜ WeighedIs (textMeasure (now (text .entry))) (textChanges (now (text .entry))) r × FoundIs (now (text .entry)) r ⌝ }
+    ensures { λ r. ⌜ WeighedIs (textMeasure (now (text .entry))) (textChanges (now (text .entry))) r × SlicesTold (now (text .entry)) r ⌝ }
 {
     if tables::TEXT_LIMIT < text.len() {
         return together(0, 0, 0, 0, 0, 0);
