@@ -1,11 +1,14 @@
 // Salvage: out of any text one that strict reading accepts, and a list of what was changed. All is decided over the tokens before anything is written: then the text is
 // read leniently into lent tables, and its record is mended as it is written.
+use salvage_measure::Weighed;
 use tables::Counts;
 use tables::Lenient;
 use tables::Reason;
 ghost use mathlib.Core.Path.{_≡_};
 ghost use Rattle.reader.specs.Lent.{lent};
 ghost use Rattle.salvage_list.specs.ListRows.{textChanges};
+ghost use Rattle.salvage_list.specs.LocalsPuts.{EntriesPut};
+ghost use Rattle.salvage_measure.specs.LocalsMeasure.{SlicesTold};
 ghost use Rattle.salvage.specs.Salvage.{SalvageIs};
 ghost use Rattle.salvage.specs.LocalsRecord.{wholeText, Decided, WrittenWhole};
 
@@ -18,6 +21,17 @@ pub enum SalvageAnswer {
 // Numbers in a row of the list.
 const CHANGE_STRIDE: usize = 3;
 
+// The list of a text, each entry where there is room; how many they are. The slices that are found are not looked for again.
+fn put_list(text: &[u8], weighed: Weighed, changes: &mut [u32]) -> usize
+    requires { ⌜ SlicesTold (now text) weighed ⌝ }
+    ensures { λ r. ⌜ EntriesPut (now (changes .entry)) 0 (textChanges (now (text .entry))) r (now (changes .exit)) ⌝ }
+{
+    if 0 < weighed.slices {
+        return salvage_list::put_found(text, weighed.first, weighed.last, weighed.slices, changes);
+    }
+    salvage_list::put_all(text, changes)
+}
+
 // Of a record in the tables of its text, where there is room: the result and the list of so many changes.
 fn write_record(
     text: &[u8],
@@ -27,11 +41,12 @@ fn write_record(
     properties: &[u32],
     values: &[u32],
     count: usize,
+    weighed: Weighed,
     changes: &mut [u32],
     out: &mut [u8],
 ) -> SalvageAnswer
     requires { ⌜ Decided (wholeText (now text) counts (now trees) (now nodes) (now properties) (now values))
-        (textChanges (now text)) (now changes) (now out) count ⌝ }
+        (textChanges (now text)) (now changes) (now out) count × SlicesTold (now text) weighed ⌝ }
     ensures { λ r. ⌜ WrittenWhole
         (wholeText (now (text .entry)) counts (now (trees .entry)) (now (nodes .entry)) (now (properties .entry)) (now (values .entry)))
         (textChanges (now (text .entry))) (now (changes .entry)) (now (changes .exit)) (now (out .entry)) (now (out .exit)) r ⌝ }
@@ -47,7 +62,7 @@ fn write_record(
         out,
     );
     if 0 < count {
-        salvage_list::put_all(text, changes);
+        put_list(text, weighed, changes);
     }
     SalvageAnswer::Done(counts, n, count)
 }
@@ -97,6 +112,7 @@ pub fn salvage(
             properties,
             values,
             count,
+            weighed,
             changes,
             out,
         ),

@@ -10,6 +10,7 @@ ghost use Rattle.tables.specs.Numbers.{textLimit};
 ghost use Rattle.parser.specs.Split.{splitByGametree};
 ghost use Rattle.salvage_list.specs.Listed.{tailOf, slicesChanges};
 ghost use Rattle.salvage_list.specs.ListRows.{textChanges, withChanges};
+ghost use Rattle.salvage_list.specs.LocalsFound.{SlicesFound};
 ghost use Rattle.salvage_list.specs.LocalsPuts.{entryLimit, EntriesPut, rootIf, cutIf, TailIs};
 ghost use Rattle.salvage_list.specs.LocalsWalk.{StandReady, TreeListed, ListReady};
 use lexer::Step;
@@ -162,6 +163,14 @@ pub fn put_all(text: &[u8], rows: &mut [u32]) -> usize
         Trimmed::Blank => put_tokens(&text[..0], 0, rows),
         Trimmed::Kept(first, last) => put_tokens(&text[..last], first, rows),
     }
+}
+
+// The entries of a text whose slices are found: the place of the first token, the end of what trimming keeps, and how many they are.
+pub fn put_found(text: &[u8], first: usize, last: usize, count: usize, rows: &mut [u32]) -> usize
+    requires { ⌜ SlicesFound (now text) first last count ⌝ }
+    ensures { λ r. ⌜ EntriesPut (now (rows .entry)) 0 (textChanges (now (text .entry))) r (now (rows .exit)) ⌝ }
+{
+    put_slices(&text[..last], first, count, rows)
 }
 
 // How many entries the list of a text has.

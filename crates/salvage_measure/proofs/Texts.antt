@@ -1,5 +1,5 @@
 -- From a text to its tokens, and from its slices to the writing of the mended record. Assumes nothing.
-use Rattle.lists.proofs.Prelude.{ℕ, _≤_, _<_, _≡_, refl, sym, ap, ap₂, _∙_, Bool, true, List, [], length, take, lt-ltb, le-ltb, pick}
+use Rattle.lists.proofs.Prelude.{ℕ, _≤_, _<_, _≡_, refl, sym, ap, ap₂, _∙_, subst, Bool, true, List, [], arith, length, length-take-le, take, lt-ltb, le-ltb, pick}
 use Rattle.text_utf8.specs.Text.{Ink, Utf, whole, part, bad, blank, inked, utfs}
 use Rattle.text_utf8.specs.Trim.{trimOf, trimmed}
 use Rattle.text_utf8.specs.declared.Trimmed.{Trimmed}
@@ -15,8 +15,10 @@ use Rattle.parser.proofs.Texts.{lex-prefix}
 use Rattle.salvage_laws.specs.Result.{salvageOf}
 use Rattle.salvage_size.proofs.Slices.{slices-length, slices-depth}
 use Rattle.salvage_measure.specs.Measure.{measureOf, textMeasure}
-use Rattle.salvage_measure.specs.LocalsMeasure.{measured, unmeasured, slicesMeasure, utfMeasure}
+use Rattle.salvage_measure.specs.LocalsMeasure.{measured, unmeasured, slicesMeasure, utfMeasure, TokensWeighed, SlicesToldFrom, SlicesTold}
 use Rattle.salvage_measure.specs.declared.Measured.{Measured}
+use Rattle.salvage_measure.specs.declared.Weighed.{Weighed}
+use Rattle.salvage_list.specs.LocalsWalk.{ListReady}
 use Rattle.salvage_measure.proofs.Accepts.{slices-accepted}
 
 -- ---- the result
@@ -74,3 +76,23 @@ module _ (t : List ℕ) where
       pub measured-kept : {f l : ℕ} → x ≡ Kept f l → {r : Measured} → r ≡ slicesMeasure (splitByGametree true (lexAt (take l t) f .toks)) → r ≡ textMeasure t
       measured-kept {f} {l} q w =
           w ∙ sym (ap (λ (z : Lexed). slicesMeasure (splitByGametree true (z .toks))) (lex-prefix t f l (trim-bounds t f l (sym e ∙ q) .1))) ∙ measured-by q
+
+-- ---- the slices that are told
+
+pub none-told : (t : List ℕ) (r : Weighed) → r .slices ≡ 0 → SlicesTold t r
+none-told t r e h = absurd (omega (arith, e, h))
+
+pub found-told : (t : List ℕ) {f l : ℕ} {x : Trimmed} → length t ≤ textLimit → x ≡ trimmed t → x ≡ Kept f l → (r : Weighed) → SlicesToldFrom (take l t) f r → SlicesTold t r
+found-told t {f} {l} h e q r w z =
+    let y = w z in
+    let k : trimmed t ≡ Kept f l = sym e ∙ q in
+    let el : r .last ≡ l = y .1 ∙ length-take-le l t (trim-bounds t f l k .1) in
+    record {
+      short = h;
+      kept = k ∙ ap₂ Kept (sym (y .0)) (sym el);
+      ready = subst (λ (n : ℕ). ListReady (take n t) (r .first) (r .slices)) (sym el) (subst (λ (n : ℕ). ListReady (take l t) n (r .slices)) (sym (y .0)) (y .2));
+    }
+
+pub blank-weighed : (r : Weighed) → r .result ≡ measured 3 1 → r .changes ≡ 1 → TokensWeighed (lexAt [] 0) r
+unfolding lexAt
+blank-weighed r a b = record { result = a; changes = b }

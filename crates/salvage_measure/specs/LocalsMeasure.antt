@@ -1,5 +1,5 @@
 -- The result measured slice by slice, in the code's own terms. Nothing public is stated by these.
-use Rattle.lists.specs.Prelude.{ℕ, _+_, _-_, _*_, _≤_, _≡_, max, true, List, [], length}
+use Rattle.lists.specs.Prelude.{ℕ, _+_, _-_, _*_, _≤_, _<_, _≡_, max, true, List, [], length}
 use Rattle.lists.specs.All.{All}
 use Rattle.text_utf8.specs.Text.{Utf, whole, part, bad}
 use Rattle.lexer.specs.Token.{Lexed, lexAt}
@@ -8,6 +8,7 @@ use Rattle.parser.specs.Read.{tokenize}
 use Rattle.parser.specs.LocalsSlice.{firstSlices, Shallow}
 use Rattle.salvage_form.specs.Measured.{lengthLimit}
 use Rattle.salvage_list.specs.Listed.{slicesChanges}
+use Rattle.salvage_list.specs.LocalsFound.{SlicesFound}
 use Rattle.salvage_list.specs.LocalsWalk.{ListReady, SlicesListed}
 use Rattle.salvage_size.specs.LocalsSlices.{slicesLength, slicesDepth}
 use Rattle.salvage_measure.specs.Measure.{WeighedIs}
@@ -30,6 +31,14 @@ slicesMeasure (slices ss) = measured (slicesLength 0 ss) (slicesDepth 0 ss)
 -- of tokens: the slices measured, and the list
 abbrev pub TokensWeighed : Lexed → Weighed → Type 0
 TokensWeighed l r = WeighedIs (slicesMeasure (splitByGametree true (l .toks))) (slicesChanges (splitByGametree true (l .toks)) l) r
+
+-- the slices that are told stand from this place to the end
+abbrev pub SlicesToldFrom : (u : List ℕ) (from : ℕ) → Weighed → Type 0
+SlicesToldFrom u from r = 0 < r .slices → (r .first ≡ from) × (r .last ≡ length u) × ListReady u from (r .slices)
+
+-- the slices that are told are those of the text
+abbrev pub SlicesTold : List ℕ → Weighed → Type 0
+SlicesTold t r = 0 < r .slices → SlicesFound t (r .first) (r .last) (r .slices)
 
 -- of a text
 abbrev pub utfMeasure : Utf → List ℕ → Measured

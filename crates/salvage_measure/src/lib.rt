@@ -8,7 +8,7 @@ ghost use Rattle.salvage_list.specs.Listed.{tailOf};
 ghost use Rattle.salvage_list.specs.ListRows.{textChanges};
 ghost use Rattle.salvage_list.specs.LocalsWalk.{ListReady};
 ghost use Rattle.salvage_measure.specs.Measure.{textMeasure, WeighedIs};
-ghost use Rattle.salvage_measure.specs.LocalsMeasure.{measured, TokensWeighed};
+ghost use Rattle.salvage_measure.specs.LocalsMeasure.{measured, TokensWeighed, SlicesToldFrom, SlicesTold};
 use lexer::Step;
 use parser::Survey;
 use text_utf8::Trimmed;
@@ -19,10 +19,14 @@ pub struct Measured {
     pub depth: usize,
 }
 
-// What salvage makes of a text: its bytes and depth, and how many entries the list of changes has.
+// What salvage makes of a text: its bytes and depth, and how many entries the list of changes has. Where the text has slices, the place of its first token, the end of
+// what trimming keeps, and how many slices there are; else 0.
 pub struct Weighed {
     pub result: Measured,
     pub changes: usize,
+    pub first: usize,
+    pub last: usize,
+    pub slices: usize,
 }
 
 // The greater of two numbers.
@@ -44,8 +48,15 @@ fn tree_length(nodes: usize, brackets: usize, bytes: usize) -> usize
 }
 
 // These numbers.
-fn together(bytes: usize, depth: usize, changes: usize) -> Weighed
-    ensures { λ r. ⌜ (r .result ≡ measured bytes depth) × (r .changes ≡ changes) ⌝ }
+fn together(
+    bytes: usize,
+    depth: usize,
+    changes: usize,
+    first: usize,
+    last: usize,
+    slices: usize,
+) -> Weighed
+    ensures { λ r. ⌜ (r .result ≡ measured bytes depth) × (r .changes ≡ changes) × (r .first ≡ first) × (r .last ≡ last) × (r .slices ≡ slices) ⌝ }
 {
     Weighed {
         result: Measured {
@@ -53,6 +64,9 @@ fn together(bytes: usize, depth: usize, changes: usize) -> Weighed
             depth: depth,
         },
         changes: changes,
+        first: first,
+        last: last,
+        slices: slices,
     }
 }
 
@@ -73,7 +87,7 @@ fn count_tail(s: &[u8], at: usize) -> usize
 // Of `count` slices from a place on.
 fn weigh_slices(s: &[u8], from: usize, count: usize) -> Weighed
     requires { ⌜ ListReady (now s) from count ⌝ }
-    ensures { λ r. ⌜ TokensWeighed (lexAt (now (s .entry)) from) r ⌝ }
+    ensures { λ r. ⌜ TokensWeighed (lexAt (now (s .entry)) from) r × SlicesToldFrom (now (s .entry)) from r ⌝ }
 {
     let mut stack = [0u32; 1024];
     let mut marks = [false; 1024];
@@ -94,31 +108,38 @@ fn weigh_slices(s: &[u8], from: usize, count: usize) -> Weighed
         listed += x.listed + (nodes - x.nodes);
         k += 1;
     }
-    together(bytes, depth, listed + count_tail(s, at))
+    together(
+        bytes,
+        depth,
+        listed + count_tail(s, at),
+        from,
+        s.len(),
+        count,
+    )
 }
 
 // Of the tokens from a place on. Where there is no slice, the empty one is written `(;)`.
 fn weigh_tokens(s: &[u8], from: usize) -> Weighed
     requires { ⌜ (length (now s) ≤ textLimit) × (from ≤ length (now s)) ⌝ }
-    ensures { λ r. ⌜ TokensWeighed (lexAt (now (s .entry)) from) r ⌝ }
+    ensures { λ r. ⌜ TokensWeighed (lexAt (now (s .entry)) from) r × SlicesToldFrom (now (s .entry)) from r ⌝ }
 {
     match parser::survey_lenient(s, from) {
-        Survey::Refused(_, _) => together(0, 0, 0),
-        Survey::Empty => together(3, 1, 1 + count_tail(s, from)),
+        Survey::Refused(_, _) => together(0, 0, 0, 0, 0, 0),
+        Survey::Empty => together(3, 1, 1 + count_tail(s, from), 0, 0, 0),
         Survey::Slices(count) => weigh_slices(s, from, count),
     }
 }
 
 // Of the text that salvage makes of a text, and of its list; of a text that is refused, of nothing.
 pub fn weigh(text: &[u8]) -> Weighed
-    ensures { λ r. ⌜ WeighedIs (textMeasure (now (text .entry))) (textChanges (now (text .entry))) r ⌝ }
+    ensures { λ r. ⌜ WeighedIs (textMeasure (now (text .entry))) (textChanges (now (text .entry))) r × SlicesTold (now (text .entry)) r ⌝ }
 {
     if tables::TEXT_LIMIT < text.len() {
-        return together(0, 0, 0);
+        return together(0, 0, 0, 0, 0, 0);
     }
     match text_utf8::trim(text) {
-        Trimmed::NotUtf8(_) => together(0, 0, 0),
-        Trimmed::Blank => weigh_tokens(&text[..0], 0),
+        Trimmed::NotUtf8(_) => together(0, 0, 0, 0, 0, 0),
+        Trimmed::Blank => together(3, 1, 1, 0, 0, 0),
         Trimmed::Kept(first, last) => weigh_tokens(&text[..last], first),
     }
 }

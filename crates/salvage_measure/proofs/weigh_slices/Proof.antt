@@ -2,7 +2,9 @@
 use Rattle.salvage_measure.proofs.Measuring.{measuring-first, measuring-ready, measuring-few, measuring-more, measuring-end}
 use Rattle.salvage_measure.proofs.Counting.{counting-first, counting-few, counting-more, counting-end, shape-few}
 use Rattle.salvage_measure.specs.LocalsMeasure.{SlicesMeasured, SlicesCounted}
-use Rattle.lists.proofs.Prelude.{arith, _-_, _+_, ap, _∙_, ℕ, refl}
+use Rattle.lists.proofs.Prelude.{arith, _-_, _+_, sym, ap, _∙_, subst, ℕ, refl}
+use denote.Ref.{now}
+use Rattle.salvage_list.specs.LocalsWalk.{ListReady}
 use Rattle.salvage_shape.specs.LocalsWalk.{Arrays}
 use borrow.Author.Needs.{needs}
 use Rattle.salvage_measure.proofs.weigh_slices.Statement.{statement}
@@ -51,7 +53,7 @@ add-together : tie.Need-add-together Inv-loop μ-loop
 add-together c = let f = counting-few (c .before .before .loop .inv .2) in let t = c .count-tail .ensures .1 in omega (arith, f, t)
 
 returns : tie.Need-returns Inv-loop μ-loop
-returns c = record { result = c .together .ensures .0 ∙ measuring-end (c .before .before .before .loop .inv .0) (c .before .before .loop-test .left); changes = c .together .ensures .1 ∙ counting-end (c .before .before .before .loop .inv .2) (c .before .before .loop-test .left) (ap (λ (z : ℕ). c .before .before .before .loop .listed + z) (c .before .count-tail .ensures .0)) }
+returns c = (record { result = c .together .ensures .0 ∙ measuring-end (c .before .before .before .loop .inv .0) (c .before .before .loop-test .left); changes = c .together .ensures .1 ∙ counting-end (c .before .before .before .loop .inv .2) (c .before .before .loop-test .left) (ap (λ (z : ℕ). c .before .before .before .loop .listed + z) (c .before .count-tail .ensures .0)) }, λ h. (c .together .ensures .2, c .together .ensures .3, subst (ListReady (now (c .before .before .before .before .before .args .s)) (c .before .before .before .before .before .args .from)) (sym (c .together .ensures .4)) (c .before .before .before .before .before .pre)))
 
 pub weigh-slices-spec : {M : Type 1} → statement M
 weigh-slices-spec =

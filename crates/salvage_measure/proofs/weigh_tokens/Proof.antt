@@ -18,10 +18,10 @@ add-together : tie.Need-add-together
 add-together c = let t = c .count-tail .ensures .1 in omega (arith, t)
 
 returns : tie.Need-returns
-returns c = record { result = c .together .ensures .0 ∙ tokens-refused (now (c .before .before .before .before .before .args .s)) (c .before .before .before .before .before .args .from) (c .before .before .before .survey-lenient .ensures) (c .before .enum-told .given .1); changes = let z = tokens-none (now (c .before .before .before .before .before .args .s)) (c .before .before .before .before .before .args .from) (c .before .before .before .survey-lenient .ensures) (c .before .enum-told .given .1) [] .next in let w = c .together .ensures .1 in omega (arith, z, w) }
+returns c = (record { result = c .together .ensures .0 ∙ tokens-refused (now (c .before .before .before .before .before .args .s)) (c .before .before .before .before .before .args .from) (c .before .before .before .survey-lenient .ensures) (c .before .enum-told .given .1); changes = let z = tokens-none (now (c .before .before .before .before .before .args .s)) (c .before .before .before .before .before .args .from) (c .before .before .before .survey-lenient .ensures) (c .before .enum-told .given .1) [] .next in let w = c .together .ensures .1 in omega (arith, z, w) }, λ h. let z = c .together .ensures .4 in absurd (omega (arith, z, h)))
 
 returns-2 : tie.Need-returns-2
-returns-2 c = record { result = c .together2 .ensures .0 ∙ tokens-bare (now (c .before .before .before .before .before .before .args .s)) (c .before .before .before .before .before .before .args .from) (c .before .before .before .before .survey-lenient .ensures) (c .before .before .enum-told2 .given .1); changes = let z = tokens-empty (now (c .before .before .before .before .before .before .args .s)) (c .before .before .before .before .before .before .args .from) (c .before .before .before .before .survey-lenient .ensures) (c .before .before .enum-told2 .given .1) (unput 0 (emptyRoot 0 ∷ []) refl) (unput 1 (tailOf (lexAt (now (c .before .before .before .before .before .before .args .s)) (c .before .before .before .before .before .before .args .from) .toks) (lexAt (now (c .before .before .before .before .before .before .args .s)) (c .before .before .before .before .before .before .args .from) .end)) (ap (λ (z : ℕ). 1 + z) (c .before .count-tail .ensures .0))) .next in let w = c .together2 .ensures .1 in omega (arith, z, w) }
+returns-2 c = (record { result = c .together2 .ensures .0 ∙ tokens-bare (now (c .before .before .before .before .before .before .args .s)) (c .before .before .before .before .before .before .args .from) (c .before .before .before .before .survey-lenient .ensures) (c .before .before .enum-told2 .given .1); changes = let z = tokens-empty (now (c .before .before .before .before .before .before .args .s)) (c .before .before .before .before .before .before .args .from) (c .before .before .before .before .survey-lenient .ensures) (c .before .before .enum-told2 .given .1) (unput 0 (emptyRoot 0 ∷ []) refl) (unput 1 (tailOf (lexAt (now (c .before .before .before .before .before .before .args .s)) (c .before .before .before .before .before .before .args .from) .toks) (lexAt (now (c .before .before .before .before .before .before .args .s)) (c .before .before .before .before .before .before .args .from) .end)) (ap (λ (z : ℕ). 1 + z) (c .before .count-tail .ensures .0))) .next in let w = c .together2 .ensures .1 in omega (arith, z, w) }, λ h. let z = c .together2 .ensures .4 in absurd (omega (arith, z, h)))
 
 pub weigh-tokens-spec : {M : Type 1} → statement M
 weigh-tokens-spec =
