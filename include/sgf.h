@@ -42,9 +42,9 @@
 
 /* The version of this header; sgf_version() is that of the archive, equal where both are of one release. */
 #define SGF_VERSION_MAJOR 0
-#define SGF_VERSION_MINOR 10
+#define SGF_VERSION_MINOR 11
 #define SGF_VERSION_PATCH 0
-#define SGF_VERSION_STRING "0.10.0"
+#define SGF_VERSION_STRING "0.11.0"
 #define SGF_VERSION (SGF_VERSION_MAJOR * UINT32_C(65536) + SGF_VERSION_MINOR * UINT32_C(256) + SGF_VERSION_PATCH)
 
 #ifdef __cplusplus
@@ -658,7 +658,8 @@ SgfClose sgf_close(SgfBlocks state, uint32_t *rows, size_t rows_len);
 /* ---- A season in numbers ----------------------------------------------------------------------------------- */
 
 /* The tag of bytes: FNV-1a, 64 bits. That of a record is the tag of what sgf_write gives, so that records which are
- * written alike have one tag. It is shown as 16 hex digits, highest first (`"%016" PRIx64` of <inttypes.h>). */
+ * written alike have one tag; their tallies may differ (`(;GMx[2];B[aa])`, read as Go, is written as `(;GM[2];B[aa])`,
+ * which is not). It is shown as 16 hex digits, highest first (`"%016" PRIx64` of <inttypes.h>). */
 uint64_t sgf_tag(const uint8_t *bytes, size_t bytes_len);
 
 /* A number; how many trees, nodes, moves of each colour without passes, and passes a record has. */
@@ -667,9 +668,9 @@ typedef struct {
     size_t trees, nodes, black, white, passes;
 } SgfTally;
 
-/* The tally of a record: over the properties of its Go trees, B that is a point, W that is a point, and B or W that is a
- * pass, as sgf_go_value says them. Properties are counted, not nodes; an invalid one counts nowhere. Number: 19; all else
- * is then 0. */
+/* The tally of a record: all its trees and nodes; and over the properties of its Go trees, B that is a point, W that is a
+ * point, on the board or not, and B or W that is a pass, as sgf_go_value says them. Properties are counted, not nodes; an
+ * invalid one counts nowhere. Number: 19; all else is then 0. */
 SgfTally sgf_tally(SGF_RECORD);
 
 /* A number; how many bytes were written; the tally; the tag of the writing. */
@@ -681,8 +682,9 @@ typedef struct {
 } SgfLine;
 
 /* The line of a record in a season's report, since 0.11.0: what sgf_write, sgf_tally and sgf_tag of the writing give, by one
- * call with one check that the tables fit. `out` has the writing, of `length` bytes, and what was behind it. Numbers:
- * 19, 15, 14, as sgf_write; `out` is then as it was, and all else is 0. */
+ * call with one check that the tables fit. `out` has the writing, of `length` bytes, and what was behind it; lend it as
+ * to sgf_write. Numbers: 19, 15, 14, as sgf_write; `out` is then as it was, and all else is 0. Call it after a reading
+ * that is accepted: the counts of a refused one are 0, and no trees are a record too, with an empty writing. */
 SgfLine sgf_line(SGF_RECORD, uint8_t *out, size_t out_len);
 
 #ifdef __cplusplus

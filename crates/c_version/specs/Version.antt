@@ -7,4 +7,4 @@ numbered major minor patch = major * 65536 + minor * 256 + patch
 
 -- that of this tree
 abbrev pub version : ℕ
-version = numbered 0 10 0
+version = numbered 0 11 0

@@ -4,7 +4,7 @@ ghost use Rattle.c_version.specs.Version.{version};
 
 const MAJOR: u32 = 0;
 
-const MINOR: u32 = 10;
+const MINOR: u32 = 11;
 
 const PATCH: u32 = 0;
 
