@@ -684,7 +684,8 @@ typedef struct {
 /* The line of a record in a season's report, since 0.11.0: what sgf_write, sgf_tally and sgf_tag of the writing give, by one
  * call with one check that the tables fit. `out` has the writing, of `length` bytes, and what was behind it; lend it as
  * to sgf_write. Numbers: 19, 15, 14, as sgf_write; `out` is then as it was, and all else is 0. Call it after a reading
- * that is accepted: the counts of a refused one are 0, and no trees are a record too, with an empty writing. */
+ * that is accepted: the counts of a refused one are 0, and no trees are a record too, with number 0, an empty writing and
+ * the tag of no bytes; where the text is not UTF-8 or too long it is 19. */
 SgfLine sgf_line(SGF_RECORD, uint8_t *out, size_t out_len);
 
 #ifdef __cplusplus

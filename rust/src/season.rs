@@ -63,8 +63,9 @@ impl Record<'_> {
         Tally { trees, nodes, black, white, passes }
     }
 
-    /// Its tally and the tag of its writing by one call, which leaves the writing in `out`: in less time than by
-    /// [`tally`](Record::tally), [`to_sgf`](Record::to_sgf) and [`tag`]. Refused as `to_sgf` is; `out` is then as it was.
+    /// Its tally and the tag of its writing by one call, which leaves the writing in `out`, in the place of what it held:
+    /// in less time than by [`tally`](Record::tally), [`to_sgf`](Record::to_sgf) and [`tag`]. Refused as `to_sgf` is;
+    /// `out` is then as it was.
     ///
     /// ```
     /// let mut out = vec![];
