@@ -27,6 +27,8 @@ use Rattle.tables.specs.declared.Lenient.the-variants as lenient
 use Rattle.tables.specs.declared.Reading.{Reading}
 use Rattle.tables.specs.declared.Reading.the-variants.{Accepted, Refused}
 use Rattle.parser.specs.Read.{readStrict, readLenient}
+use Rattle.reader.specs.LocalsKnown.{knownOf}
+use Rattle.reader.specs.declared.Known.{Known}
 use Rattle.reader.specs.Lent.{Lent, ReadIs, LenientIs}
 
 -- parser
@@ -39,6 +41,9 @@ survey-once len s from = once-is (surveyOf len (lexAt s from))
 
 pub plan-strict-once : (t : List ℕ) → Once (λ (r : Plan). r ≡ planText false t)
 plan-strict-once t = once-is (planText false t)
+
+pub known-once : (t : List ℕ) → Once (λ (r : Known). r ≡ knownOf t)
+known-once t = once-is (knownOf t)
 
 pub plan-lenient-once : (t : List ℕ) → Once (λ (r : Plan). r ≡ planText true t)
 plan-lenient-once t = once-is (planText true t)

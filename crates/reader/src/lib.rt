@@ -44,7 +44,7 @@ fn known_part(s: &[u8], first: usize, last: usize) -> Known
 }
 
 // What the census says of a text.
-fn known_text(text: &[u8]) -> Known
+pub fn known_text(text: &[u8]) -> Known
     ensures { λ r. ⌜ r ≡ knownOf (now (text .entry)) ⌝ }
 {
     if tables::TEXT_LIMIT < text.len() {
@@ -96,21 +96,23 @@ fn read_odd(
     }
 }
 
-// Reads a text, strictly or leniently. Most texts have nothing odd, and are then walked twice only.
-fn read(
+// Reads a text of which the census has said this. Most texts have nothing odd, and are then walked once more only.
+fn read_by(
     text: &[u8],
+    known: Known,
     lenient: bool,
     trees: &mut [u32],
     nodes: &mut [u32],
     properties: &mut [u32],
     values: &mut [u32],
 ) -> Reading
+    requires { ⌜ known ≡ knownOf (now text) ⌝ }
     ensures { λ r. ⌜ ReadIs (definition.read lenient (now (text .entry)))
         (lent (now (trees .entry)) (now (nodes .entry)) (now (properties .entry)) (now (values .entry)))
         (lent (now (trees .exit)) (now (nodes .exit)) (now (properties .exit)) (now (values .exit)))
         r ⌝ }
 {
-    match known_text(text) {
+    match known {
         Known::Nothing => read_odd(text, lenient, trees, nodes, properties, values),
         Known::Rows(first, last, counts) => slices::fill(
             &text[..last],
@@ -124,6 +126,24 @@ fn read(
             values,
         ),
     }
+}
+
+// Reads a text, strictly or leniently.
+fn read(
+    text: &[u8],
+    lenient: bool,
+    trees: &mut [u32],
+    nodes: &mut [u32],
+    properties: &mut [u32],
+    values: &mut [u32],
+) -> Reading
+    ensures { λ r. ⌜ ReadIs (definition.read lenient (now (text .entry)))
+        (lent (now (trees .entry)) (now (nodes .entry)) (now (properties .entry)) (now (values .entry)))
+        (lent (now (trees .exit)) (now (nodes .exit)) (now (properties .exit)) (now (values .exit)))
+        r ⌝ }
+{
+    let known = known_text(text);
+    read_by(text, known, lenient, trees, nodes, properties, values)
 }
 
 // Reads a text into the lent tables, strictly: the counts, or why it is refused and the place.
@@ -158,6 +178,24 @@ fn mild(reading: Reading) -> Lenient
             }
         }
     }
+}
+
+// Reads a text of which the census has said this into the lent tables, leniently: the counts, or one of four refusals.
+pub fn read_known(
+    text: &[u8],
+    known: Known,
+    trees: &mut [u32],
+    nodes: &mut [u32],
+    properties: &mut [u32],
+    values: &mut [u32],
+) -> Lenient
+    requires { ⌜ known ≡ knownOf (now text) ⌝ }
+    ensures { λ r. ⌜ LenientIs (definition.readLenient (now (text .entry)))
+        (lent (now (trees .entry)) (now (nodes .entry)) (now (properties .entry)) (now (values .entry)))
+        (lent (now (trees .exit)) (now (nodes .exit)) (now (properties .exit)) (now (values .exit)))
+        r ⌝ }
+{
+    mild(read_by(text, known, true, trees, nodes, properties, values))
 }
 
 // Reads a text into the lent tables, leniently: the counts, or one of four refusals.

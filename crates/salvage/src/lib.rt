@@ -82,7 +82,8 @@ pub fn salvage(
         (lent (now (trees .exit)) (now (nodes .exit)) (now (properties .exit)) (now (values .exit)))
         (now (changes .entry)) (now (changes .exit)) (now (out .entry)) (now (out .exit)) r ⌝ }
 {
-    let weighed = salvage_measure::weigh(text);
+    let known = reader::known_text(text);
+    let weighed = salvage_measure::weigh_known(text, known);
     let result = weighed.result;
     let bytes = result.bytes;
     let depth = result.depth;
@@ -99,7 +100,7 @@ pub fn salvage(
     if out.len() < bytes {
         return SalvageAnswer::Refused(Reason::NoRoom, 0);
     }
-    match reader::read_lenient(text, trees, nodes, properties, values) {
+    match reader::read_known(text, known, trees, nodes, properties, values) {
         Lenient::TextTooLong => SalvageAnswer::Refused(Reason::TextTooLong, 0),
         Lenient::NotUtf8(place) => SalvageAnswer::Refused(Reason::NotUtf8, place),
         Lenient::TooDeep => SalvageAnswer::Refused(Reason::TooDeep, 0),

@@ -6,11 +6,13 @@ ghost use Rattle.lexer.specs.Token.{lexAt};
 ghost use Rattle.tables.specs.Numbers.{textLimit};
 ghost use Rattle.salvage_list.specs.Listed.{tailOf};
 ghost use Rattle.salvage_list.specs.ListRows.{textChanges};
+ghost use Rattle.reader.specs.LocalsKnown.{knownOf};
 ghost use Rattle.salvage_list.specs.LocalsWalk.{ListReady};
 ghost use Rattle.salvage_measure.specs.Measure.{textMeasure, WeighedIs};
 ghost use Rattle.salvage_measure.specs.LocalsMeasure.{measured, TokensWeighed, SlicesToldFrom, SlicesTold};
 use lexer::Step;
 use parser::Survey;
+use reader::Known;
 use text_utf8::Trimmed;
 
 // How many bytes a text has, and how deep its trees stand in each other.
@@ -141,6 +143,17 @@ pub fn weigh(text: &[u8]) -> Weighed
         Trimmed::NotUtf8(_) => together(0, 0, 0, 0, 0, 0),
         Trimmed::Blank => together(3, 1, 1, 0, 0, 0),
         Trimmed::Kept(first, last) => weigh_tokens(&text[..last], first),
+    }
+}
+
+// The same of a text of which the census has said this: where it counts the rows, the slices are known and not looked for.
+pub fn weigh_known(text: &[u8], known: Known) -> Weighed
+    requires { ⌜ known ≡ knownOf (now text) ⌝ }
+    ensures { λ r. ⌜ WeighedIs (textMeasure (now (text .entry))) (textChanges (now (text .entry))) r × SlicesTold (now (text .entry)) r ⌝ }
+{
+    match known {
+        Known::Nothing => weigh(text),
+        Known::Rows(first, last, counts) => weigh_slices(&text[..last], first, counts.trees),
     }
 }
 
