@@ -10,6 +10,8 @@ use std::hint::black_box;
 use std::time::Instant;
 
 const MOVES: usize = 300;
+/// So often the ways take turns, each with so many rounds in a row, that other work on the machine does not meet one alone.
+const TURNS: usize = 50;
 const ROUNDS: usize = 400;
 
 /// A game of so many moves on empty points, none of them suicide.
@@ -160,9 +162,9 @@ fn run_worst() {
     }
 }
 
-/// The least time of some rounds, in nanoseconds.
-fn least(mut call: impl FnMut()) -> f64 {
-    (0..ROUNDS).map(|_| { let start = Instant::now(); call(); start.elapsed().as_nanos() as f64 }).fold(f64::MAX, f64::min)
+/// The least time of some rounds in a row, in nanoseconds.
+fn least(rounds: usize, call: &mut dyn FnMut()) -> f64 {
+    (0..rounds).map(|_| { let start = Instant::now(); call(); start.elapsed().as_nanos() as f64 }).fold(f64::MAX, f64::min)
 }
 
 pub fn run() {
@@ -173,17 +175,25 @@ pub fn run() {
     let (ours, theirs) = (ffi::board(&h, last), by_hand(&h));
     let alike = (0..361).all(|at| ours.stones[52 * (at / 19) + at % 19] == theirs.stones[(at / 19 + 1) * 21 + at % 19 + 1]);
     assert!(alike && (ours.black_off, ours.white_off) == (theirs.off[1], theirs.off[2]), "the boards differ");
-    let check = least(|| { black_box(held::fits(&h)); });
-    let whole_way = least(|| { black_box(ffi::board(&h, last)); });
-    let node_by_node = least(|| {
+    let mut node_by_node = || {
         let mut board = ffi::board(&h, 0);
         for node in 1..=last {
             let row = &h.tables[1][6 * node..][..6];
             board = ffi::board_next(board, h.text, h.tables[2], h.tables[3], row[3] as usize, row[4] as usize);
         }
         black_box(board);
-    });
-    let hand = least(|| { black_box(by_hand(&h)); });
+    };
+    let mut times = [f64::MAX; 4];
+    for _ in 0..TURNS {
+        let turn = [
+            least(ROUNDS, &mut || { black_box(held::fits(&h)); }),
+            least(ROUNDS, &mut || { black_box(ffi::board(&h, last)); }),
+            least(ROUNDS / 20, &mut node_by_node),
+            least(ROUNDS, &mut || { black_box(by_hand(&h)); }),
+        ];
+        times = [0, 1, 2, 3].map(|k| turn[k].min(times[k]));
+    }
+    let [check, whole_way, node_by_node, hand] = times;
     let a_move = |total: f64| total / MOVES as f64;
     println!("{MOVES} moves, {} and {} taken off, nanoseconds in all and a move:", ours.black_off, ours.white_off);
     println!("  sgf_fits alone           {check:9.0}");
