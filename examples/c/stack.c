@@ -176,7 +176,7 @@ static struct function {
     {"sgf_count_lenient", call_count_lenient, 0, 6144},
     {"sgf_why_strict", call_why_strict, 0, 6144},
     {"sgf_why_lenient", call_why_lenient, 0, 6144},
-    {"sgf_salvage", call_salvage, 0, 53248},
+    {"sgf_salvage", call_salvage, 0, 49152},
     {"sgf_fits", call_fits, 0, 1024},
     {"sgf_value", call_value, 0, 1024},
     {"sgf_display", call_display, 0, 1024},
