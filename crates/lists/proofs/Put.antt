@@ -1,5 +1,5 @@
 -- Rows put one behind the other. Assumes nothing.
-use Rattle.lists.proofs.Prelude.{◌≡◌, refl, sym, ap, ◌∙◌, subst, Bool, true, false, leb, leb-true, leb-false, List, [], ◌++◌, append_assoc, ℕ, ◌+◌, ◌-◌, ◌≤◌, arith, length, take, drop, take-append-drop, length-append, take_at, drop_at, drop-append-add, drop-drop, length-take-le}
+use Rattle.lists.proofs.Prelude.{◌≡◌, refl, sym, ap, ◌∙◌, subst, Bool, true, false, leb, leb-true, leb-false, List, [], ◌++◌, append_assoc, ℕ, ◌+◌, ◌≤◌, arith, length, take, drop, take-append-drop, length-append, take_at, drop_at, drop-append-add, drop-drop, length-take-le}
 use Rattle.lists.specs.Put.{put_at, PutIs, PutWhole}
 
 put-behind : (r d vs : List ℕ) (n : ℕ) → length r ≡ n → put_at (r ++ drop n d) n vs ≡ (r ++ vs) ++ drop (n + length vs) d
