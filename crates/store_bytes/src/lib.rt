@@ -1,4 +1,6 @@
 // Bytes put into lent memory as far as it has room. A walk over an empty part puts nothing and measures.
+#![tactic(auto)]
+
 ghost use Rattle.std.specs.Prelude.{◌≡◌, [], ◌∷◌, ◌+◌, ◌-◌, ◌^◌, ◌≤◌, min, length};
 ghost use Rattle.std.proofs.lemmas.List.Edits.{sets};
 ghost use Rattle.store_bytes.specs.LocalsWrote.{Wrote};
