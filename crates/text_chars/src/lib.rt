@@ -1,4 +1,6 @@
 // One character of UTF-8.
+#![tactic(auto)]
+
 ghost use Rattle.std.specs.Prelude.{◌≡◌, ◌&&◌, [], ◌∷◌, ◌*◌, ◌+◌, ◌-◌, ◌<◌, ◌≤◌, length, drop, get_or};
 ghost use Rattle.text_chars.specs.White.{within, white};
 ghost use Rattle.text_chars.specs.Table.{listed, scalar};
