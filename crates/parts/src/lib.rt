@@ -1,4 +1,6 @@
 // Raw values by their rows: two numbers a value, its start and its end in the text.
+#![tactic(auto)]
+
 ghost use Rattle.std.specs.Prelude.{◌≡◌, ◌+◌, min};
 ghost use Rattle.parts.specs.Rows.{value_at};
 
