@@ -1,5 +1,5 @@
 -- A copy within a list made in two parts. Assumes nothing.
-use Rattle.lists.proofs.Prelude.{◌≡◌, refl, sym, ap, ap₂, ◌∙◌, subst, List, ◌++◌, append_assoc, ℕ, ◌+◌, ◌-◌, ◌≤◌, arith, length, take, drop, take-append-drop, length-drop, paste, length_paste_head, length-take-le, drop-drop, drop_at, take_at, take-add, take-take, take-append-le, drop-append-le}
+use Rattle.lists.proofs.Prelude.{◌≡◌, sym, ap, ap₂, ◌∙◌, subst, List, ◌++◌, append_assoc, ℕ, ◌+◌, ◌-◌, ◌≤◌, arith, length, take, drop, take-append-drop, length-drop, paste, length_paste_head, length-take-le, drop-drop, drop_at, take_at, take-add, take-take, take-append-le, drop-append-le}
 use Rattle.lists.proofs.Places.{drop-take}
 
 -- bytes copied to where they stand
