@@ -1,4 +1,6 @@
 // Where a value closes: at the first `]` that no backslash escapes.
+#![tactic(auto)]
+
 mod runs; // runs.rt: runs of bytes that the scan steps over
 
 ghost use Rattle.std.specs.Prelude.{◌≡◌};

@@ -1,0 +1,15 @@
+use Rattle.lists.proofs.Prelude.{false≢true, arith}
+use Rattle.lexer_close.proofs.Leads.{close-pair}
+use Rattle.lexer_close.proofs.runs.is_pair.Goals as goal
+
+pub returns-then-s-i : goal.returns-then-s-i
+returns-then-s-i c = λ e. absurd (false≢true e)
+
+pub returns-then-s-i-lt3 : goal.returns-then-s-i-lt3
+returns-then-s-i-lt3 c = λ e. absurd (false≢true e)
+
+pub returns : goal.returns
+returns c = let t = c.if-s-i-lt3.false in
+    let u = c.if-s-i.false in
+    let a = c.args in
+    λ e. close-pair a.s.now a.i (omega arith) c.is_plain.ensures c.is_plain-2.ensures e
