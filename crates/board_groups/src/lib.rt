@@ -1,1 +1,3 @@
+#![tactic(auto)]
+
 // Groups of stones, their liberties and what is taken off, as relations on points (specs/), and their laws (proofs/). No code.
