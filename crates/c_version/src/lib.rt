@@ -1,4 +1,6 @@
 // The version of the library: VERSION, include/sgf.h, the Rust crate and the programs say the same one (.ci/version).
+#![tactic(auto)]
+
 ghost use Rattle.std.specs.Prelude.{◌≡◌};
 ghost use Rattle.c_version.specs.Version.{version};
 
