@@ -1,5 +1,5 @@
 -- One group more of a number that is read. Assumes nothing.
-use Rattle.lists.proofs.Prelude.{ℕ, zero, suc, ◌+◌, ◌-◌, ◌*◌, ◌/◌, ◌%◌, ◌≤◌, ◌<◌, ◌≡◌, refl, sym, ap, ap₂, ◌∙◌, Bool, true, false, not, ◌&&◌, List, [], ◌∷◌, ◌++◌, arith, add-one, length, drop, get_or, drop-cons, drop_of_length-le, length-drop, leb, leb-true, leb-false, ltb, eqb, lt-ltb, le-ltb, ne_eqb, pick}
+use Rattle.lists.proofs.Prelude.{ℕ, zero, suc, ◌+◌, ◌-◌, ◌*◌, ◌≤◌, ◌<◌, ◌≡◌, refl, sym, ap, ap₂, ◌∙◌, Bool, true, false, not, ◌&&◌, List, [], ◌∷◌, arith, add-one, length, drop, get_or, drop-cons, drop_of_length-le, length-drop, leb, leb-true, leb-false, ltb, eqb, lt-ltb, le-ltb, ne_eqb, pick}
 use Rattle.lists.proofs.Tests.{never}
 use native.Mathlib.Nat.{mul-add, mul_assoc, mul-le-mul_left}
 use Rattle.feed_numerals.specs.Numeral.{grouped, groups_from, numeral_at, numeral_limit}

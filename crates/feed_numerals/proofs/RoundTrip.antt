@@ -1,5 +1,5 @@
 -- What is spelled reads back, whatever follows; and what is read is spelled so: one form for each number. Assumes nothing.
-use Rattle.lists.proofs.Prelude.{ℕ, zero, suc, ◌+◌, ◌-◌, ◌*◌, ◌/◌, ◌%◌, ◌≤◌, ◌<◌, ◌≡◌, refl, sym, ap, ap₂, ◌∙◌, Bool, true, false, not, ◌&&◌, List, [], ◌∷◌, ◌++◌, arith, length, take, drop, ltb, eqb, ltb-true, ltb-false, lt-ltb, le-ltb, ne_eqb, eqb-false, pick, subst, drop-drop}
+use Rattle.lists.proofs.Prelude.{ℕ, zero, suc, ◌+◌, ◌-◌, ◌*◌, ◌/◌, ◌%◌, ◌≤◌, ◌<◌, ◌≡◌, refl, sym, ap, ap₂, ◌∙◌, Bool, true, false, not, ◌&&◌, List, [], ◌∷◌, ◌++◌, arith, length, drop, ltb, eqb, ltb-true, ltb-false, lt-ltb, le-ltb, ne_eqb, eqb-false, pick, subst, drop-drop}
 use Rattle.lists.specs.All.{All}
 use Rattle.feed_numerals.specs.Numeral.{grouped, groups_from, numeral_at, groups_of, spelled, numeral_limit}
 use Rattle.feed_numerals.specs.declared.Numeral.{Numeral}

@@ -1,5 +1,5 @@
 -- One group more of a number that is spelled, and how many there are. Assumes nothing.
-use Rattle.lists.proofs.Prelude.{ℕ, zero, suc, ◌+◌, ◌-◌, ◌/◌, ◌%◌, ◌≤◌, ◌<◌, ◌≡◌, refl, sym, ap, ◌∙◌, Bool, true, false, List, [], ◌∷◌, arith, length, ltb, lt-ltb, le-ltb, pick}
+use Rattle.lists.proofs.Prelude.{ℕ, zero, suc, ◌+◌, ◌-◌, ◌/◌, ◌%◌, ◌≤◌, ◌<◌, ◌≡◌, refl, sym, ap, ◌∙◌, Bool, true, false, [], ◌∷◌, arith, length, ltb, lt-ltb, le-ltb, pick}
 use Rattle.feed_numerals.specs.Numeral.{groups_of, spelled}
 
 pub groups-last : (g n : ℕ) → 0 < g → n < 0x80 → n ∷ [] ≡ groups_of g n

@@ -1,4 +1,6 @@
 // Numbers in groups of seven bits, lowest first: read at a place, and put.
+#![tactic(auto)]
+
 ghost use Rattle.std.specs.Prelude.{◌≡◌, ◌≤◌, length};
 ghost use Rattle.store_bytes.specs.LocalsWrote.{Wrote};
 ghost use Rattle.feed_numerals.specs.Numeral.{numeral_at, spelled, numeral_limit, Below};
