@@ -1,4 +1,6 @@
 // The scans of the token rules: white space, an identifier, a value and values, each from a place on.
+#![tactic(auto)]
+
 ghost use Rattle.std.specs.Prelude.{◌≡◌};
 ghost use Rattle.lexer_scan.specs.Scan.{space, skip_at, ident_at, value_step_at, values_end_at};
 
