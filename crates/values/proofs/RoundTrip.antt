@@ -1,5 +1,5 @@
 -- What is written reads back, over the number of digits and the bound. Assumes nothing.
-use Rattle.lists.proofs.Prelude.{ℕ, zero, suc, ◌+◌, ◌-◌, ◌*◌, ◌/◌, ◌%◌, ◌^◌, ◌≤◌, ◌<◌, ◌≡◌, ap, ◌∙◌, Bool, true, false, List, [], ◌∷◌, pow-suc, arith, ltb, ltb-true, le-leb, ne_eqb}
+use Rattle.lists.proofs.Prelude.{ℕ, zero, suc, ◌+◌, ◌*◌, ◌/◌, ◌%◌, ◌^◌, ◌≤◌, ◌<◌, ◌≡◌, ap, ◌∙◌, Bool, true, false, List, [], ◌∷◌, pow-suc, arith, ltb, ltb-true, le-leb, ne_eqb}
 use Rattle.lists.proofs.Pick.{pick-elim}
 use Rattle.values.specs.Read.{read_value}
 use Rattle.values.specs.Decimal.{digit_of, digits_from, decimal_of, spell, decimal}
