@@ -1,7 +1,7 @@
 -- Whether a point has an empty one beside it. Assumes nothing.
-use Rattle.lists.proofs.Prelude.{ℕ, ◌<◌, true, false, true≢false, ◌≡◌, sym, ap, ◌∙◌, List, ltb, eqb, ltb-true, lt-ltb, eqb-true, eq-eqb}
+use Rattle.lists.proofs.Prelude.{ℕ, true, false, true≢false, ◌≡◌, sym, ap, ◌∙◌, List, ltb, eqb, ltb-true, lt-ltb, eqb-true, eq-eqb}
 use Rattle.lists.proofs.Tests.{and_both}
-use Rattle.board_groups.specs.Board.{at, beside}
+use Rattle.board_groups.specs.Board.{at}
 use Rattle.board_groups.specs.Groups.{Stone}
 use Rattle.board_groups.proofs.Beside.{board-on, beside-step}
 use Rattle.board_take.specs.LocalsSides.{right_of, left_of, down_of, up_of, colour_at, empty_at, Free}

@@ -1,7 +1,7 @@
 -- The flood: what holds after each turn, and at its end. Assumes nothing.
 use Rattle.lists.proofs.Prelude.{ℕ, ◌+◌, ◌<◌, ◌≤◌, Bool, true, ⊎_elim, ◌≡◌, sym, subst, List, get_or, arith}
 use Rattle.lists.proofs.Tests.{same_or}
-use Rattle.board_groups.specs.Board.{at, on_board, beside}
+use Rattle.board_groups.specs.Board.{on_board, beside}
 use Rattle.board_groups.specs.Groups.{Stone, Joined, self, more}
 use Rattle.board_groups.proofs.Others.{joined-last}
 use Rattle.board_take.specs.LocalsSides.{Free}

@@ -3,7 +3,7 @@ use Rattle.lists.proofs.Prelude.{ℕ, ◌+◌, ◌-◌, ◌/◌, ◌%◌, ◌<�
 use Rattle.lists.proofs.Tests.{and_both, same_or}
 use Rattle.lists.proofs.Pick.{pick-elim}
 use Rattle.board_groups.specs.Board.{at, on_board}
-use Rattle.board_groups.specs.Groups.{Stone, Joined, self, more, Liberty, Settled}
+use Rattle.board_groups.specs.Groups.{Stone, self, more, Liberty, Settled}
 use Rattle.board_groups.proofs.Beside.{On, board-on, beside-sym}
 use Rattle.board_groups.proofs.Others.{liberty-shared}
 use Rattle.board_take.specs.LocalsSides.{right_of, left_of, down_of, up_of, empty_at, held_at, Free}

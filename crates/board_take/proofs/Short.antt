@@ -1,6 +1,5 @@
 -- A short search: what is on its queue is joined with the stone that it began at. Assumes nothing.
 use Rattle.lists.proofs.Prelude.{ℕ, ◌+◌, ◌<◌, ◌≤◌, Bool, true, false, ◌≡◌, refl, sym, ◌∙◌, subst, List, length, length-set, get_or, set, get_or-set_same, get_or-set_other, ltb, ltb-true, ltb-false, arith}
-use Rattle.board_groups.specs.Board.{at}
 use Rattle.board_groups.specs.Groups.{Stone, Joined, self, more, Liberty}
 use Rattle.board_groups.proofs.Beside.{On, board-on}
 use Rattle.board_groups.proofs.Others.{joined-last}

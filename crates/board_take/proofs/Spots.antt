@@ -1,7 +1,7 @@
 -- A point by its column and row, and the stones at its four sides. Assumes nothing.
-use Rattle.lists.proofs.Prelude.{ℕ, ◌+◌, ◌-◌, ◌/◌, ◌%◌, ◌≤◌, ◌<◌, Bool, true, false, ◌&&◌, false≢true, true≢false, ◌≡◌, refl, sym, ◌∙◌, subst, List, ltb, leb, eqb, pick, arith, ltb-true, leb-true}
+use Rattle.lists.proofs.Prelude.{ℕ, ◌+◌, ◌-◌, ◌/◌, ◌%◌, ◌≤◌, ◌<◌, Bool, true, false, ◌&&◌, false≢true, true≢false, ◌≡◌, refl, sym, ◌∙◌, subst, List, ltb, leb, pick, arith, ltb-true, leb-true}
 use Rattle.lists.proofs.Tests.{and_both}
-use Rattle.board_groups.specs.Board.{at, on_board}
+use Rattle.board_groups.specs.Board.{on_board}
 use Rattle.board_groups.specs.Groups.{Stone, TakesGroup}
 use Rattle.board_groups.proofs.Beside.{On, board-on}
 use Rattle.board_take.specs.LocalsSides.{right_of, left_of, down_of, up_of, colour_at, Spot}

@@ -1,4 +1,6 @@
 // Stones taken off: all groups of a colour that have no liberty, or one group. A flood marks places; specs/LocalsFlood is for private functions alone.
+#![tactic(auto)]
+
 ghost use Rattle.std.specs.Prelude.{◌≡◌, true, false, not, ◌&&◌, ℕ, ◌+◌, ◌/◌, ◌%◌, ◌≤◌, ◌<◌, length, get_or};
 ghost use Rattle.board_groups.specs.Board.{at, on_board};
 ghost use Rattle.board_groups.specs.Groups.{Stone, Liberty, TakesGroup, TakesBeside};
