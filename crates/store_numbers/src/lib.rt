@@ -1,4 +1,6 @@
 // Numbers put into lent tables where there is room.
+#![tactic(auto)]
+
 ghost use Rattle.std.specs.Prelude.{[], ◌∷◌};
 ghost use Rattle.lists.specs.Put.{PutWhole};
 
