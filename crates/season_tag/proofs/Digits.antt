@@ -1,6 +1,6 @@
 -- The digits of a number: how many, and read back. Assumes nothing.
-use Rattle.lists.proofs.Prelude.{ℕ, zero, suc, ◌+◌, ◌-◌, ◌*◌, ◌/◌, ◌%◌, ◌^◌, ◌<◌, ◌≤◌, ◌≡◌, refl, sym, ap, ◌∙◌, Bool, true, false, List, [], ◌∷◌, length, ltb, ltb-true, ltb-false, lt-ltb, le-ltb, arith, pow-suc, div-add-mod', mod-lt, pick}
-use Rattle.std.proofs.Common.{mod-eq_of_lt, zero-lt-suc, mul_assoc, mul_comm, add-mul}
+use Rattle.lists.proofs.Prelude.{ℕ, zero, suc, ◌+◌, ◌-◌, ◌*◌, ◌/◌, ◌%◌, ◌^◌, ◌<◌, ◌≤◌, ◌≡◌, refl, ap, ◌∙◌, Bool, true, false, length, ltb, ltb-true, ltb-false, lt-ltb, le-ltb, arith, pow-suc, div-add-mod', pick}
+use Rattle.std.proofs.Common.{zero-lt-suc, mul_assoc, mul_comm, add-mul}
 use native.Mathlib.Nat.{div-div-eq-div-mul, one-le-pow}
 use Rattle.season_tag.specs.Hex.{hex_digit, hex_digits, hex_of, digit_back, hex_from}
 

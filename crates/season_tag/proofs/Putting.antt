@@ -1,5 +1,5 @@
 -- Digits put one by one: what is put so far and what is to come. Assumes nothing.
-use Rattle.lists.proofs.Prelude.{ℕ, zero, suc, ◌+◌, ◌*◌, ◌/◌, ◌%◌, ◌^◌, ◌<◌, ◌≤◌, ◌≡◌, refl, sym, ap, ◌∙◌, List, [], ◌∷◌, ◌++◌, length, arith, pow-suc}
+use Rattle.lists.proofs.Prelude.{ℕ, zero, suc, ◌/◌, ◌%◌, ◌^◌, ◌<◌, ◌≤◌, ◌≡◌, refl, ap, ◌∙◌, List, [], ◌∷◌, length, arith, pow-suc}
 use Rattle.std.proofs.Common.{zero-lt-suc, mul-div_cancel}
 use native.Mathlib.Nat.{one-le-pow}
 use Rattle.store_bytes.specs.LocalsWrote.{Wrote}

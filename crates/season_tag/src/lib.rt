@@ -1,4 +1,6 @@
 // A tag of bytes: FNV-1a, 64 bits. The product modulo 2 to the 64, one byte, some bytes more, all bytes, and the tag as 16 hex digits.
+#![tactic(auto)]
+
 ghost use Rattle.std.specs.Prelude.{◌≡◌, ◌*◌, ◌%◌, ◌^◌};
 ghost use Rattle.store_bytes.specs.LocalsWrote.{Wrote};
 ghost use Rattle.season_tag.specs.Tag.{tag_step, tag_from, tag_of};
