@@ -1,4 +1,6 @@
 // What one value stands for in Go: a move, a number of stones, an area of points.
+#![tactic(auto)]
+
 ghost use Rattle.std.specs.Prelude.{◌≡◌, ◌∷◌, ◌-◌, ◌^◌, drop};
 ghost use Rattle.values.specs.Read.{read_value};
 ghost use Rattle.values.specs.Decimal.{decimal_of};
