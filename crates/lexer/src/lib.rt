@@ -1,11 +1,13 @@
 // The token rules of SGF: bytes to tokens with spans. The text is the part that trimming keeps, from the start of the buffer to its last place; places count from the start of the buffer.
+#![tactic(auto)]
+
 ghost use Rattle.std.specs.Prelude.{◌≡◌, ◌<◌, ◌^◌};
 ghost use Rattle.lexer_scan.specs.Scan.{values_end_at};
 ghost use Rattle.lexer.specs.Token.{fault_number};
 ghost use Rattle.lexer.specs.Step.{head_from, head_at, on_values, next_at, behind, SteppedIs};
 
 // What is wrong with a token.
-#[derive(Drop)]
+#[derive(Clone, Copy)]
 pub enum Fault {
     MissingPropertyIdentifier,
     UnexpectedEndOfPropertyIdentifier,
@@ -24,7 +26,7 @@ pub fn number(fault: Fault) -> u32
 }
 
 // How a token begins: as in `Step`, but of a property only its start and its first `[`. Its values follow by `next_value`, each scanned once.
-#[derive(Drop)]
+#[derive(Clone, Copy)]
 pub enum Head {
     Start(usize),
     End(usize),
@@ -67,7 +69,7 @@ pub fn next_head(s: &[u8], from: usize) -> Head
 }
 
 // The next token with its start (a property also with its first `[` and its end); or what is wrong with it and its start; or the end of the text.
-#[derive(Drop)]
+#[derive(Clone, Copy)]
 pub enum Step {
     Start(usize),
     End(usize),
@@ -102,13 +104,13 @@ pub fn next_token(s: &[u8], from: usize) -> Step
 }
 
 // A place from which tokens are taken.
-#[derive(Drop)]
+#[derive(Clone, Copy)]
 pub struct Cursor {
     pub at: usize,
 }
 
 // What stands next, and the cursor behind it. A refusal, and the end of the text, leave the cursor where it is.
-#[derive(Drop)]
+#[derive(Clone, Copy)]
 pub struct Stepped {
     pub token: Step,
     pub next: Cursor,
