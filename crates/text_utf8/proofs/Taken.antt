@@ -1,5 +1,5 @@
 -- From a place between characters the machine takes a sequence of table 3-7 whole. Assumes nothing.
-use Rattle.lists.proofs.Prelude.{◌≡◌, refl, ap, ◌∙◌, subst, ℕ, zero, suc, ◌+◌, ◌*◌, ◌-◌, ◌≤◌, arith, add-one, Bool, true, false, false≢true, List, [], ◌∷◌, length, take, drop, length-replicate, length-take-le, lt-leb, le-leb, ne_eqb}
+use Rattle.lists.proofs.Prelude.{◌≡◌, refl, ap, ◌∙◌, subst, ℕ, zero, suc, ◌+◌, ◌*◌, ◌-◌, ◌≤◌, arith, add-one, Bool, true, false≢true, List, [], ◌∷◌, length, take, drop, length-replicate, length-take-le, lt-leb, le-leb, ne_eqb}
 use Rattle.text_chars.specs.White.{white}
 use Rattle.text_utf8.specs.Text.{Ink, mark, Range, any, from-a0, to-9f, from-90, to-8f, Utf, whole, part, later, utf, utfs}
 use Rattle.text_chars.specs.Table.{to, table37, fits, listed, base, bits, scalar}

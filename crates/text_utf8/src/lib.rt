@@ -1,3 +1,5 @@
+#![tactic(auto)]
+
 ghost use Rattle.std.specs.Prelude.{◌≡◌, true, ℕ, ◌+◌, ◌-◌, ◌<◌, ◌≤◌, length, get_or};
 ghost use Rattle.text_utf8.specs.Text.{mark};
 ghost use Rattle.text_utf8.specs.Locals.{ink_of, Plain};
