@@ -16,7 +16,7 @@ use tables::{Counts, Reason};
 use value_display::{Displayed, Kind};
 
 // A display: its number of bytes, or why it is refused.
-#[derive(Drop)]
+#[derive(Clone, Copy)]
 pub enum DisplayAnswer {
     DisplayLength(usize),
     NoDisplay(Reason),
@@ -57,7 +57,7 @@ pub fn display(
 }
 
 // Why a Go value is not given, if it is not.
-#[derive(Drop)]
+#[derive(Clone, Copy)]
 pub enum Refusal {
     Not,
     Because(Reason),

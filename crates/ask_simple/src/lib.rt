@@ -13,7 +13,7 @@ use ff4_values::Simple;
 use tables::{Counts, Reason};
 
 // A simple value, or why it is not given.
-#[derive(Drop)]
+#[derive(Clone, Copy)]
 pub enum SimpleAnswer {
     Given(Simple),
     NoSimple(Reason),

@@ -6,7 +6,7 @@ ghost use Rattle.ask_value.specs.declared.Accessed.TheVariants.{Part};
 ghost use Rattle.ask_value.specs.Access.{accessed, raw_value};
 
 // A value's part of the text, or why there is none.
-#[derive(Drop)]
+#[derive(Clone, Copy)]
 pub enum Accessed {
     Part(usize, usize),
     Refused(tables::Reason),

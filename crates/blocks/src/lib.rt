@@ -14,7 +14,7 @@ use blocks_step::{Char, Left, Phase, Tokens, Utf8};
 
 // What is known between two blocks, as numbers; all zero is the start.
 #[repr(C)]
-#[derive(Drop)]
+#[derive(Clone, Copy)]
 pub struct BlocksState {
     pub total: u32,
     pub utf: u32,
@@ -32,7 +32,7 @@ pub struct BlocksState {
 
 // The same: the bytes so far and UTF-8; the end of the last character that is no white space, or 0;
 // the token rules and the rows after all of them, and after that character.
-#[derive(Drop)]
+#[derive(Clone, Copy)]
 pub struct BlocksKnown {
     pub total: u32,
     pub utf8: Utf8,
@@ -420,7 +420,7 @@ fn is_pair(s: &[u8], i: usize) -> bool
 }
 
 // A value of two such bytes, where a `[` opens one.
-#[derive(Drop)]
+#[derive(Clone, Copy)]
 pub enum Pair {
     Past(Phase),
     Other,
@@ -545,7 +545,7 @@ fn holds_white(stands: Phase) -> bool
 // ---- ASCII bytes
 
 // How far they were taken, and what is known there: the rules and the rows stand as after the last character that is no white space.
-#[derive(Drop)]
+#[derive(Clone, Copy)]
 pub struct Ran {
     pub to: usize,
     pub total: u32,
@@ -667,7 +667,7 @@ fn known_there(r: Ran) -> BlocksKnown
 }
 
 // How far bytes were taken, and what is known there.
-#[derive(Drop)]
+#[derive(Clone, Copy)]
 pub struct Went {
     pub to: usize,
     pub known: BlocksKnown,
@@ -712,7 +712,7 @@ fn step_on(k: BlocksKnown, bytes: &[u8], from: usize, rows: &mut [u32]) -> Went
 
 // The number, 0 or 20, and what is known then.
 #[repr(C)]
-#[derive(Drop)]
+#[derive(Clone, Copy)]
 pub struct Blocked {
     pub number: u32,
     pub state: BlocksState,
@@ -746,7 +746,7 @@ pub fn block(state: BlocksState, bytes: &[u8], rows: &mut [u32]) -> Blocked
 // ---- close
 
 // The end of the text: refused, with the number and the place; or so many rows; or so many and a property at last.
-#[derive(Drop)]
+#[derive(Clone, Copy)]
 pub enum Closing {
     Refused(u32, u32),
     Rows(u32),
@@ -798,7 +798,7 @@ fn clear(rows: &mut [u32], first: usize)
 
 // The number and place, the number of tokens, and that it is closed.
 #[repr(C)]
-#[derive(Drop)]
+#[derive(Clone, Copy)]
 pub struct Closed {
     pub number: u32,
     pub place: usize,

@@ -6,7 +6,7 @@ ghost use Rattle.blocks_step.specs.Decode.{range_of, decodes};
 ghost use Rattle.blocks_step.specs.Lean.{kind_of, property_phase, moves};
 
 // What is to come of a character: how many bytes, and from or to which byte the next one may be where not every later byte may.
-#[derive(Drop)]
+#[derive(Clone, Copy)]
 pub enum Left {
     One,
     TwoFromA0,
@@ -18,7 +18,7 @@ pub enum Left {
 }
 
 // Where UTF-8 stands between two bytes: between characters; within one, with its start and the bits so far; or bad from a place on.
-#[derive(Drop)]
+#[derive(Clone, Copy)]
 pub enum Utf8 {
     Whole,
     Within(Left, u32, u32),
@@ -26,7 +26,7 @@ pub enum Utf8 {
 }
 
 // What a byte does: it ends a character, white space or not; or UTF-8 stands elsewhere.
-#[derive(Drop)]
+#[derive(Clone, Copy)]
 pub enum Char {
     Ended(bool),
     Goes(Utf8),
@@ -131,7 +131,7 @@ pub fn utf8_next(stands: Utf8, at: u32, b: u8) -> Char
 
 // Where the token rules stand between two bytes: between tokens; in the identifier of the property that starts at a place, in a value of it,
 // there after a backslash, after a value; or it met a byte that is not ASCII in its identifier.
-#[derive(Drop)]
+#[derive(Clone, Copy)]
 pub enum Phase {
     Between,
     Ident(u32),
@@ -142,7 +142,7 @@ pub enum Phase {
 }
 
 // The tokens that a byte completes: none; one of one byte, by its kind; a property, by its start; or both.
-#[derive(Drop)]
+#[derive(Clone, Copy)]
 pub enum Tokens {
     Silent,
     Single(u32),
@@ -151,7 +151,7 @@ pub enum Tokens {
 }
 
 // What a byte does: the tokens that it completes, and where the rules stand then.
-#[derive(Drop)]
+#[derive(Clone, Copy)]
 pub struct Moved {
     pub tokens: Tokens,
     pub next: Phase,

@@ -160,7 +160,7 @@ fn seen_at(
 }
 
 // How far a run of moves came: to which node, and the sums there.
-#[derive(Drop)]
+#[derive(Clone, Copy)]
 pub struct RunEnd {
     pub at: usize,
     pub state: BoardState,

@@ -7,14 +7,14 @@ ghost use Rattle.board_acts.specs.Acts.{set_sums, take_sums, set_counts, take_co
 
 // Of one colour, how many stones were put on and taken off; also as a C caller sees them.
 #[repr(C)]
-#[derive(Drop)]
+#[derive(Clone, Copy)]
 pub struct Sums {
     pub on: u64,
     pub off: u64,
 }
 
 // The sums of both colours; whether every stone on the board is known to have a liberty.
-#[derive(Drop)]
+#[derive(Clone, Copy)]
 pub struct BoardState {
     pub black: Sums,
     pub white: Sums,

@@ -35,14 +35,14 @@ pub struct NodeAnswer {
 }
 
 // What one step leaves: whether it is refused, and the sums.
-#[derive(Drop)]
+#[derive(Clone, Copy)]
 pub struct Turn {
     pub refused: bool,
     pub state: BoardState,
 }
 
 // A move that is seen at once: whose it is, and its place; colour 0 where none is seen.
-#[derive(Drop)]
+#[derive(Clone, Copy)]
 pub struct MoveSeen {
     pub colour: u8,
     pub place: usize,

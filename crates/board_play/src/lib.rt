@@ -4,7 +4,7 @@ ghost use Rattle.board_groups.specs.Board.{at};
 ghost use Rattle.board_play.specs.Play.{SetIs, playable, Plays, PlaysNear, PlayIs};
 
 // What stood at the point, how many stones of the other colour went, and how many of the mover's.
-#[derive(Drop)]
+#[derive(Clone, Copy)]
 pub struct StonePlayed {
     pub stood: u8,
     pub taken: usize,

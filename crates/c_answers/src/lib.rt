@@ -16,7 +16,7 @@ use value_display::Displayed;
 
 // Number 0 and the counts of used rows; or the number of a refusal and its place, the counts 0. In both cases the settings that were ignored.
 #[repr(C)]
-#[derive(Drop)]
+#[derive(Clone, Copy)]
 pub struct SgfReading {
     pub number: u32,
     pub ignored: u32,
@@ -64,7 +64,7 @@ pub fn lenient_in_c(ignored: u32, lenient: Lenient) -> SgfReading
 
 // Number 0 and the span of a value between its brackets; or the number of a refusal and an empty span.
 #[repr(C)]
-#[derive(Drop)]
+#[derive(Clone, Copy)]
 pub struct SgfSpan {
     pub number: u32,
     pub reserved: u32,
@@ -94,7 +94,7 @@ pub fn span_in_c(accessed: Accessed) -> SgfSpan
 
 // Number 0 and the number of bytes displayed; or the number of a refusal and 0.
 #[repr(C)]
-#[derive(Drop)]
+#[derive(Clone, Copy)]
 pub struct SgfDisplay {
     pub number: u32,
     pub reserved: u32,
@@ -163,7 +163,7 @@ const HANDICAP: u32 = 4;
 const POINTS: u32 = 5;
 
 // The numbers of a Go value beside its marks.
-#[derive(Drop)]
+#[derive(Clone, Copy)]
 struct Figures {
     kind: u32,
     x: u32,
@@ -249,7 +249,7 @@ pub fn unmarked_in_c(value: Value) -> SgfGoValue
 
 // Number 0 and the number of bytes written; or the number of a refusal and 0.
 #[repr(C)]
-#[derive(Drop)]
+#[derive(Clone, Copy)]
 pub struct SgfWriting {
     pub number: u32,
     pub reserved: u32,
@@ -276,7 +276,7 @@ pub fn writing_in_c(written: Written) -> SgfWriting
 
 // Number 0, the new used length and the counts; or the number of a refusal and its place, all else 0.
 #[repr(C)]
-#[derive(Drop)]
+#[derive(Clone, Copy)]
 pub struct SgfEdit {
     pub number: u32,
     pub reserved: u32,

@@ -12,7 +12,7 @@ use tables::Counts;
 
 // Number 0, whether the bytes stand in the record (source 0) or in the feed (1), and their span there; or the number of a refusal and its place, all else 0.
 #[repr(C)]
-#[derive(Drop)]
+#[derive(Clone, Copy)]
 pub struct SgfPart {
     pub number: u32,
     pub source: u32,
@@ -23,7 +23,7 @@ pub struct SgfPart {
 
 // Number 0; or the number of a refusal and its place.
 #[repr(C)]
-#[derive(Drop)]
+#[derive(Clone, Copy)]
 pub struct SgfCheck {
     pub number: u32,
     pub reserved: u32,

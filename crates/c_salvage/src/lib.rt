@@ -8,7 +8,7 @@ use tables::Counts;
 
 // Number 0, how many bytes and changes were written and the counts of the tables; or the number of a refusal and its place, all else 0.
 #[repr(C)]
-#[derive(Drop)]
+#[derive(Clone, Copy)]
 pub struct SgfSalvage {
     pub number: u32,
     pub reserved: u32,

@@ -8,7 +8,7 @@ use ff4_values::Simple;
 
 // What FF[4] lists of a property; all 0 where it does not list it.
 #[repr(C)]
-#[derive(Drop)]
+#[derive(Clone, Copy)]
 pub struct SgfEntry {
     pub kind: u32,
     pub property_type: u32,
@@ -30,7 +30,7 @@ pub fn entry_in_c(entry: Entry) -> SgfEntry
 
 // A simple value: kind 0 other, 1 invalid, 2 none, 3 a Double of size 1 or 2, 4 a Color, 1 black and 2 white, 5 a Number by its sign and its size; number 0 or a refusal's.
 #[repr(C)]
-#[derive(Drop)]
+#[derive(Clone, Copy)]
 pub struct SgfSimple {
     pub number: u32,
     pub kind: u32,

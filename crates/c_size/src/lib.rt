@@ -11,7 +11,7 @@ use tables::{Counts, Reason};
 
 // A number; the kind of size; columns and rows; the rule of the tree.
 #[repr(C)]
-#[derive(Drop)]
+#[derive(Clone, Copy)]
 pub struct SgfSize {
     pub number: u32,
     pub kind: u32,

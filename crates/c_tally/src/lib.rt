@@ -10,7 +10,7 @@ use tables::{Counts, Reason};
 
 // A number; trees, nodes, moves of each colour without passes, passes.
 #[repr(C)]
-#[derive(Drop)]
+#[derive(Clone, Copy)]
 pub struct SgfTally {
     pub number: u32,
     pub reserved: u32,
@@ -65,7 +65,7 @@ pub fn tally(
 
 // Number 0, how many bytes were written, the tally of the record and the tag of its writing; or the number of a refusal, all else 0.
 #[repr(C)]
-#[derive(Drop)]
+#[derive(Clone, Copy)]
 pub struct SgfLine {
     pub number: u32,
     pub reserved: u32,

@@ -11,7 +11,7 @@ use text_utf8::Trimmed;
 
 // Number 0 and what trimming keeps; or number 2 and the start of the first bad sequence.
 #[repr(C)]
-#[derive(Drop)]
+#[derive(Clone, Copy)]
 pub struct SgfTrim {
     pub number: u32,
     pub place: usize,
@@ -47,7 +47,7 @@ pub fn trim(text: &[u8]) -> SgfTrim
 
 // Kind 0 the end of the text, 1 `(`, 2 `)`, 3 `;`, 4 a property with its first `[`, 5 a fault with its number; and the span, whose end is the next place.
 #[repr(C)]
-#[derive(Drop)]
+#[derive(Clone, Copy)]
 pub struct SgfToken {
     pub kind: u32,
     pub number: u32,
@@ -104,7 +104,7 @@ pub fn token(text: &[u8], at: usize) -> SgfToken
 
 // Kind 0 no value opens there, 1 a value with its span and the next place, 2 a value that does not close.
 #[repr(C)]
-#[derive(Drop)]
+#[derive(Clone, Copy)]
 pub struct SgfValue {
     pub kind: u32,
     pub from: usize,

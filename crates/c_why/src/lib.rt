@@ -7,7 +7,7 @@ use why::Why;
 use why_blame::Fact;
 
 // The number of a refusal, the fact's own number, and the number in it.
-#[derive(Drop)]
+#[derive(Clone, Copy)]
 pub struct Shown {
     pub number: u32,
     pub fact: u32,
@@ -16,7 +16,7 @@ pub struct Shown {
 
 // Number 0, the place of the first token in no slice and the counts; or the number of a refusal, its fact, the place of the token to blame and the number in the fact, the counts 0.
 #[repr(C)]
-#[derive(Drop)]
+#[derive(Clone, Copy)]
 pub struct SgfWhy {
     pub number: u32,
     pub fact: u32,

@@ -2,7 +2,7 @@
 ghost use Rattle.std.specs.Prelude.{◌≤◌, length};
 
 // A number in decimal, and where it ends.
-#[derive(Drop)]
+#[derive(Clone, Copy)]
 pub struct BlockNumber {
     pub value: usize,
     pub end: usize,

@@ -10,7 +10,7 @@ use say::{say_record, say_refused};
 use tables::{Counts, Reading};
 
 // What is used of the lent memory; how many edits are done, and how many are known, those that were undone among them.
-#[derive(Drop)]
+#[derive(Clone, Copy)]
 pub struct Used {
     pub text: usize,
     pub counts: Counts,

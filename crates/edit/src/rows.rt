@@ -6,7 +6,7 @@ ghost use Rattle.tables.specs.Flat.{over};
 ghost use Rattle.edit.specs.Locals.{NamesApart, ValuesApart, properties_moved, values_moved};
 
 // Where a value stands.
-#[derive(Drop)]
+#[derive(Clone, Copy)]
 pub struct Span {
     pub start: usize,
     pub end: usize,

@@ -15,7 +15,7 @@ ghost use Rattle.edit_answer.specs.Locals.{NamesLie, AnswersBytes};
 use tables::{Counts, Reason};
 
 // The new used length; or why an edit is refused, and the place.
-#[derive(Drop)]
+#[derive(Clone, Copy)]
 pub enum Edited {
     Changed(usize),
     Refused(Reason, usize),

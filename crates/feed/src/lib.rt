@@ -10,14 +10,14 @@ ghost use Rattle.feed.specs.LocalsNext.{Lies};
 use feed_numerals::Numeral;
 
 // A correction: the number of its value and where its bytes stand in the feed; or none that is well-formed.
-#[derive(Drop)]
+#[derive(Clone, Copy)]
 pub enum Next {
     One(usize, usize, usize),
     Malformed,
 }
 
 // Where the bytes of a value stand in a feed, or nowhere.
-#[derive(Drop)]
+#[derive(Clone, Copy)]
 pub enum Found {
     At(usize, usize),
     Nowhere,

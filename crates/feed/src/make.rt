@@ -4,7 +4,7 @@ ghost use Rattle.feed_numerals.specs.Numeral.{spelled, numeral_limit};
 ghost use Rattle.feed.specs.Made.{MadeIs, correction_bytes};
 
 // How many bytes were put; or a number needs five groups; or there is no room.
-#[derive(Drop)]
+#[derive(Clone, Copy)]
 pub enum Made {
     Bytes(usize),
     TooLarge,

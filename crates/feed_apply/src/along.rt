@@ -6,7 +6,7 @@ use feed::Next;
 use feed_numerals::Numeral;
 
 // The next correction: how many follow it, its value, n where there is none, and its bytes in the feed; what the values before it have grown and shrunk by.
-#[derive(Drop)]
+#[derive(Clone, Copy)]
 pub struct Along {
     pub left: usize,
     pub due: usize,

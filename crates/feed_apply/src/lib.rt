@@ -10,7 +10,7 @@ use feed_check::{Checked, FeedRefusal};
 use tables::Counts;
 
 // The new used length; or why a feed is refused, and the place.
-#[derive(Drop)]
+#[derive(Clone, Copy)]
 pub enum Applied {
     Changed(usize),
     Refused(FeedRefusal, usize),

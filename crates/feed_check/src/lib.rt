@@ -20,7 +20,7 @@ use tables::Counts;
 use text_utf8::Trimmed;
 
 // Why a feed is refused.
-#[derive(Drop)]
+#[derive(Clone, Copy)]
 pub enum FeedRefusal {
     NotFitting,
     Malformed,
@@ -33,7 +33,7 @@ pub enum FeedRefusal {
 }
 
 // A feed passes; or why it is refused, and the place.
-#[derive(Drop)]
+#[derive(Clone, Copy)]
 pub enum Checked {
     Passed,
     Refused(FeedRefusal, usize),

@@ -6,7 +6,7 @@ ghost use Rattle.store_bytes.specs.LocalsWrote.{Wrote};
 ghost use Rattle.feed_numerals.specs.Numeral.{numeral_at, spelled, numeral_limit, Below};
 
 // A number and how many bytes it has; or none that is whole, short enough and in its shortest form.
-#[derive(Drop)]
+#[derive(Clone, Copy)]
 pub enum Numeral {
     Is(usize, usize),
     Broken,

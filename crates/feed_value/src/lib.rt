@@ -11,7 +11,7 @@ use feed_check::{Checked, FeedRefusal};
 use tables::Counts;
 
 // Where a value's bytes stand, in the record or in the feed; or why it is refused, and the place.
-#[derive(Drop)]
+#[derive(Clone, Copy)]
 pub enum Looked {
     Record(usize, usize),
     Feed(usize, usize),

@@ -6,7 +6,7 @@ ghost use Rattle.ff4_index.specs.Places.{index_place, letters_at};
 ghost use Rattle.ff4_index.specs.Locals.{cell_entry};
 
 // What FF[4] lists of a property, by number; 0, 0, 0 where it does not list it.
-#[derive(Drop)]
+#[derive(Clone, Copy)]
 pub struct Entry {
     pub kind: u32,
     pub property_type: u32,

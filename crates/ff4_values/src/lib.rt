@@ -10,7 +10,7 @@ use values::decimal::Number;
 use values::read::ReadStep;
 
 // What the values of a property are: not of these kinds; not as their kind wants; none; a Double; a Color; a number by its sign and its size.
-#[derive(Drop)]
+#[derive(Clone, Copy)]
 pub enum Simple {
     Other,
     Invalid,

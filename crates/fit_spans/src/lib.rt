@@ -71,7 +71,7 @@ fn ranges_fit(nodes: &[u32], properties: &[u32], counts: tables::Counts) -> bool
 }
 
 // Whether spans lie one after another, and where the next may start.
-#[derive(Drop)]
+#[derive(Clone, Copy)]
 struct Ascent {
     ok: bool,
     next: usize,

@@ -11,7 +11,7 @@ use values::decimal::Number;
 use values::read::ReadStep;
 
 // What a property stands for.
-#[derive(Drop)]
+#[derive(Clone, Copy)]
 pub enum Value {
     Other,
     Invalid,
@@ -22,7 +22,7 @@ pub enum Value {
 }
 
 // The points from (x, y) to (x2, y2). One point is both of its corners.
-#[derive(Drop)]
+#[derive(Clone, Copy)]
 pub enum Area {
     Bad,
     Rect { x: u8, y: u8, x2: u8, y2: u8 },

@@ -7,7 +7,7 @@ ghost use Rattle.go_shape.specs.Shape.{shape_of};
 use values::read::ReadStep;
 
 // What a property takes, by its identifier.
-#[derive(Drop)]
+#[derive(Clone, Copy)]
 pub enum Shape {
     OneMove,
     OneNumber,

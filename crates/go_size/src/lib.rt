@@ -10,14 +10,14 @@ ghost use Rattle.go_size.specs.Locals.{NextSize};
 use values::decimal::Number;
 
 // What one value says: columns and rows, or nothing.
-#[derive(Drop)]
+#[derive(Clone, Copy)]
 pub enum Size {
     Bad,
     Board(usize, usize),
 }
 
 // What the properties of a root say: no SZ, one valid SZ, or an SZ that is repeated or invalid.
-#[derive(Drop)]
+#[derive(Clone, Copy)]
 pub enum RootSize {
     Absent,
     Sized(usize, usize),

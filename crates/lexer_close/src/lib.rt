@@ -7,7 +7,7 @@ ghost use Rattle.std.specs.Prelude.{◌≡◌};
 ghost use Rattle.lexer_close.specs.Close.{close_at};
 
 // Where a scan for a closing bracket ends.
-#[derive(Drop)]
+#[derive(Clone, Copy)]
 pub enum Close {
     At(usize),
     Open,

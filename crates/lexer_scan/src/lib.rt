@@ -7,7 +7,7 @@ ghost use Rattle.lexer_scan.specs.Scan.{space, skip_at, ident_at, value_step_at,
 use lexer_close::Close;
 
 // Where an identifier ends: at a `[`; or the text ends first; or a byte that is not ASCII comes first.
-#[derive(Drop)]
+#[derive(Clone, Copy)]
 pub enum Ident {
     Opens(usize),
     Missing,
@@ -54,7 +54,7 @@ pub fn ident_end(s: &[u8], from: usize) -> Ident
 }
 
 // A value of a property: its first place, the place of its `]`, and where the white space after it ends.
-#[derive(Drop)]
+#[derive(Clone, Copy)]
 pub enum ValueStep {
     Value(usize, usize, usize),
     NoMore,

@@ -5,7 +5,7 @@ ghost use Rattle.lexer.specs.Step.{SteppedIs};
 use lexer::{Cursor, Stepped};
 
 // A text, and the place from which its tokens are taken.
-#[derive(Drop)]
+#[derive(Clone, Copy)]
 pub struct Walker<'a> {
     pub text: &'a [u8],
     pub at: usize,

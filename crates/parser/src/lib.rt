@@ -12,7 +12,7 @@ use lexer::Step;
 use tables::Reason;
 
 // What the pass finds: why the text is refused and the place; so many slices; or no slice, where lenient splitting gives an empty one.
-#[derive(Drop)]
+#[derive(Clone, Copy)]
 pub enum Survey {
     Refused(Reason, usize),
     Slices(usize),
@@ -20,7 +20,7 @@ pub enum Survey {
 }
 
 // Where splitting stops: at an end at depth 0; at a fault of the token that starts at a place; with the text.
-#[derive(Drop)]
+#[derive(Clone, Copy)]
 enum Stop {
     End(usize),
     Fault(lexer::Fault, usize),
@@ -28,7 +28,7 @@ enum Stop {
 }
 
 // The depth, the greatest depth and the number of slices where splitting stops.
-#[derive(Drop)]
+#[derive(Clone, Copy)]
 struct Split {
     depth: usize,
     deepest: usize,

@@ -14,14 +14,14 @@ use lexer_scan::{Ident, ValueStep};
 use parser_game::GameType;
 
 // The numbers of trees, nodes, properties and values of a text that is accepted, and all trees are Go; or something is odd, and nothing is said.
-#[derive(Drop)]
+#[derive(Clone, Copy)]
 pub enum Census {
     Simple(usize, usize, usize, usize),
     Odd,
 }
 
 // Where the tokens so far lead: outside of a tree; behind the start of one; behind its root or the root's properties, without and with a game type; behind another node or its properties; behind a start where the current list is empty; where it is empty; where it is not; or something is odd.
-#[derive(Drop)]
+#[derive(Clone, Copy)]
 pub enum Mode {
     Outside,
     First,
@@ -159,7 +159,7 @@ fn add_up(mode: Mode, t: usize, n: usize, p: usize, v: usize) -> Census
 }
 
 // How many values stand from a place on, and where they end; or one does not close.
-#[derive(Drop)]
+#[derive(Clone, Copy)]
 enum Counted {
     All(usize, usize),
     Unclosed,

@@ -15,7 +15,7 @@ use tables::Reason;
 use values::decimal::Number;
 
 // The game type (0 Go, 1 Unknown), or why there is none.
-#[derive(Drop)]
+#[derive(Clone, Copy)]
 pub enum GameType {
     Is(u32),
     Refused(Reason),

@@ -9,7 +9,7 @@ use tables::Reason;
 use text_utf8::Trimmed;
 
 // What is read: the place of the first slice, the end of the part that they stand in, and how many they are; or why the text is refused, and the place.
-#[derive(Drop)]
+#[derive(Clone, Copy)]
 pub enum Plan {
     Slices(usize, usize, usize),
     Refused(Reason, usize),

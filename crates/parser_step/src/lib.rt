@@ -8,7 +8,7 @@ use lexer_close::Close;
 use tables::{NONE, Reason};
 
 // Between two tokens: the next place, how many trees are open, the node whose child list is current, the next row of each table, the first property of the last node; may a property follow.
-#[derive(Drop)]
+#[derive(Clone, Copy)]
 pub struct State {
     pub at: usize,
     pub depth: usize,
@@ -21,7 +21,7 @@ pub struct State {
 }
 
 // What the next token asks for: a start, an end that leaves a tree open, a node, a property; or the tree stops, or its slice ends before a place.
-#[derive(Drop)]
+#[derive(Clone, Copy)]
 pub enum Act {
     Start(usize),
     End(usize),

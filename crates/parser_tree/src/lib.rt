@@ -13,14 +13,14 @@ use parser_step::{Act, State};
 use tables::{NODE_STRIDE, NONE, PROPERTY_STRIDE, Reason, TEXT_LIMIT, VALUE_STRIDE};
 
 // What a walk gives: the place behind the slice and the next row of each table (nodes, properties, values); or why there is no tree.
-#[derive(Drop)]
+#[derive(Clone, Copy)]
 pub enum Walked {
     Tree(usize, usize, usize, usize),
     Refused(Reason),
 }
 
 // The next row of the values, and where the values end.
-#[derive(Drop)]
+#[derive(Clone, Copy)]
 struct Taken {
     next: usize,
     end: usize,

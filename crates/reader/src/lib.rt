@@ -17,7 +17,7 @@ use tables::{Counts, Lenient, Reading, Reason};
 use text_utf8::Trimmed;
 
 // What the census says of a text: the place of the first token, the end of what trimming keeps, and how many rows there are, all trees Go; or nothing.
-#[derive(Drop)]
+#[derive(Clone, Copy)]
 pub enum Known {
     Rows(usize, usize, Counts),
     Nothing,

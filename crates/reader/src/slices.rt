@@ -13,7 +13,7 @@ use parser_tree::Walked;
 use tables::{Counts, Reading, Reason};
 
 // The numbers of rows (nodes, properties, values); or why there are no trees.
-#[derive(Drop)]
+#[derive(Clone, Copy)]
 pub enum Total {
     Rows(usize, usize, usize),
     Refused(Reason),

@@ -12,7 +12,7 @@ use salvage_measure::Weighed;
 use tables::{Counts, Lenient, Reason};
 
 // The counts of the lenient reading, the bytes and the changes that were written; or why it is refused and the place.
-#[derive(Drop)]
+#[derive(Clone, Copy)]
 pub enum SalvageAnswer {
     Done(Counts, usize, usize),
     Refused(Reason, usize),

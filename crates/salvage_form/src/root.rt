@@ -23,7 +23,7 @@ use parser_game::GameType;
 use tables::Reason;
 
 // The rule of a mended tree, and whether its root's GMs are removed.
-#[derive(Drop)]
+#[derive(Clone, Copy)]
 pub struct RootRule {
     pub rule: u32,
     pub bad: bool,

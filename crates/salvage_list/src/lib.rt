@@ -16,7 +16,7 @@ use parser::Survey;
 use text_utf8::Trimmed;
 
 // Behind a slice: the next place, node, property and entry.
-#[derive(Drop)]
+#[derive(Clone, Copy)]
 struct Behind {
     at: usize,
     nodes: usize,
@@ -25,7 +25,7 @@ struct Behind {
 }
 
 // The place of the first token that is in no slice; or there is none.
-#[derive(Drop)]
+#[derive(Clone, Copy)]
 enum Tail {
     At(usize),
     None,

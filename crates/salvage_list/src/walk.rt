@@ -17,7 +17,7 @@ use parser_game::GameType;
 use tables::NONE;
 
 // Where a walk ends: the place behind the slice, the next node, property and entry; whether the tree is cut short, and at which place.
-#[derive(Drop)]
+#[derive(Clone, Copy)]
 pub struct Stood {
     pub next: usize,
     pub nodes: usize,

@@ -15,7 +15,7 @@ use reader::Known;
 use text_utf8::Trimmed;
 
 // How many bytes a text has, and how deep its trees stand in each other.
-#[derive(Drop)]
+#[derive(Clone, Copy)]
 pub struct Measured {
     pub bytes: usize,
     pub depth: usize,
@@ -23,7 +23,7 @@ pub struct Measured {
 
 // What salvage makes of a text: its bytes and depth, and how many entries the list of changes has. Where the text has slices, the place of its first token, the end of
 // what trimming keeps, and how many slices there are; else 0.
-#[derive(Drop)]
+#[derive(Clone, Copy)]
 pub struct Weighed {
     pub result: Measured,
     pub changes: usize,

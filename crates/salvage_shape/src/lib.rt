@@ -21,7 +21,7 @@ const HEIGHT_LIMIT: usize = 4294967295;
 
 // What is known of the current node and of the nodes above it in its list. How many children of it are closed, 2 standing for more; the greatest height of
 // these; and the height of the first node of the list, which is the greater of `top` and of `plus` with the height of the current node.
-#[derive(Drop)]
+#[derive(Clone, Copy)]
 struct Chain {
     kids: usize,
     high: usize,
@@ -30,7 +30,7 @@ struct Chain {
 }
 
 // What becomes of a property: its length once it is mended, 0 where it is removed; how many entries the list of changes has of it.
-#[derive(Drop)]
+#[derive(Clone, Copy)]
 struct Fate {
     bytes: usize,
     listed: usize,
@@ -38,7 +38,7 @@ struct Fate {
 
 // The place behind a slice; how many nodes its tree has, how many stand in brackets; the depth, 1 where there is no node; the lengths of the properties that stay;
 // how many entries the list of changes has of its properties and of its end.
-#[derive(Drop)]
+#[derive(Clone, Copy)]
 pub struct TreeShape {
     pub next: usize,
     pub nodes: usize,

@@ -17,7 +17,7 @@ use serialize::Written;
 use tables::{Counts, Reason};
 
 // What a property counts as: a move of a colour to a point, a pass of either, or nothing.
-#[derive(Drop)]
+#[derive(Clone, Copy)]
 pub enum Played {
     Black,
     White,
@@ -26,21 +26,21 @@ pub enum Played {
 }
 
 // A tally, or that the tables don't fit the text.
-#[derive(Drop)]
+#[derive(Clone, Copy)]
 pub enum TallyAnswer {
     Tallied(Tally),
     NotFitting,
 }
 
 // A record that was written: how many bytes that took, its tally and their tag; or why it was not.
-#[derive(Drop)]
+#[derive(Clone, Copy)]
 pub enum WrittenTally {
     Done(usize, Tally, u64),
     Undone(Reason),
 }
 
 // Moves of each colour, and passes.
-#[derive(Drop)]
+#[derive(Clone, Copy)]
 pub struct Moves {
     pub black: usize,
     pub white: usize,
@@ -48,21 +48,21 @@ pub struct Moves {
 }
 
 // A tag on its way: that of the first `at` bytes.
-#[derive(Drop)]
+#[derive(Clone, Copy)]
 pub struct Tagged {
     pub at: usize,
     pub tag: u64,
 }
 
 // What is counted, and the tag that goes on with it.
-#[derive(Drop)]
+#[derive(Clone, Copy)]
 pub struct Counting {
     pub moves: Moves,
     pub tagged: Tagged,
 }
 
 // A tally, and a tag.
-#[derive(Drop)]
+#[derive(Clone, Copy)]
 pub struct TallyTag {
     pub tally: Tally,
     pub tag: u64,

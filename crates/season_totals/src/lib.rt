@@ -6,7 +6,7 @@ ghost use Rattle.season_totals.specs.Locals.{checked};
 ghost use Rattle.season_totals.specs.Report.{column, tally_text, named, line_text, count_text, refused_text, sums_text, totals_text};
 
 // What is counted in a record: trees, nodes, moves of each colour that are points, passes.
-#[derive(Drop)]
+#[derive(Clone, Copy)]
 pub struct Tally {
     pub trees: usize,
     pub nodes: usize,
@@ -16,7 +16,7 @@ pub struct Tally {
 }
 
 // What a report says of one file: it could not be read; the record is refused, by its number; or its tally and its tag.
-#[derive(Drop)]
+#[derive(Clone, Copy)]
 pub enum Line {
     Unread,
     Refused(u32),
@@ -24,13 +24,13 @@ pub enum Line {
 }
 
 // The sums of lines: accepted records, trees, nodes, moves of black, of white, passes; then, for each number below 32, records that it refused.
-#[derive(Drop)]
+#[derive(Clone, Copy)]
 pub struct Totals {
     pub sums: [u64; 38],
 }
 
 // Sums added, if they fit; else the first as they were.
-#[derive(Drop)]
+#[derive(Clone, Copy)]
 pub struct Sum {
     pub fits: bool,
     pub totals: Totals,
@@ -63,7 +63,7 @@ pub fn line_sums(line: Line) -> Totals
 }
 
 // One column added, if the sum is below 2^64.
-#[derive(Drop)]
+#[derive(Clone, Copy)]
 enum CheckedSum {
     Is(u64),
     Over,

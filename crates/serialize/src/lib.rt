@@ -15,7 +15,7 @@ ghost use Rattle.tables.specs.Memory.{memory};
 use tables::Reason;
 
 // A writing: its number of bytes, or why it is refused.
-#[derive(Drop)]
+#[derive(Clone, Copy)]
 pub enum Written {
     Wrote(usize),
     Refused(tables::Reason),

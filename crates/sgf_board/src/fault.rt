@@ -7,7 +7,7 @@ use go_size::RootSize;
 use tables::Counts;
 
 // What is wrong with a node: nothing; a place off the board; a place that is set twice.
-#[derive(Drop)]
+#[derive(Clone, Copy)]
 enum BoardFault {
     Nothing,
     Off(usize),

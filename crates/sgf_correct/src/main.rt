@@ -3,7 +3,7 @@ use feed_apply::Applied;
 use tables::{Counts, Reading};
 
 // How long a file is. Where it cannot be read, that is said.
-#[derive(Drop)]
+#[derive(Clone, Copy)]
 enum Kept {
     Bytes(usize),
     Said,

@@ -107,7 +107,7 @@ fn say_line(n: u64, words: &[u8]) {
 }
 
 // How many lines there are, each a correction of a greater number than the one before; or that is said.
-#[derive(Drop)]
+#[derive(Clone, Copy)]
 enum Lines {
     Good(usize),
     Said,

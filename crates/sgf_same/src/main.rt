@@ -3,7 +3,7 @@ use serialize::Written;
 use tables::{Counts, Reading};
 
 // How long a writing is. Where there is none, that is said.
-#[derive(Drop)]
+#[derive(Clone, Copy)]
 enum Outcome {
     Bytes(usize),
     Said,

@@ -1,7 +1,7 @@
 // A stream, line by line, through a block that is lent, so that it may have any length.
 
 // A stream: the bytes of the block from `at` on, below `end`, are still to be taken.
-#[derive(Drop)]
+#[derive(Clone, Copy)]
 pub struct Stream {
     pub file: i32,
     pub at: usize,
@@ -9,7 +9,7 @@ pub struct Stream {
 }
 
 // A line without its line feed: whether there is one, how many of its bytes were kept, and the stream behind it.
-#[derive(Drop)]
+#[derive(Clone, Copy)]
 pub struct LineTaken {
     pub some: bool,
     pub kept: usize,

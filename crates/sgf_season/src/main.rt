@@ -9,7 +9,7 @@ use reports::Report;
 use season_totals::{Line, Totals};
 
 // What was counted; whether every file was accepted; whether there is more to do.
-#[derive(Drop)]
+#[derive(Clone, Copy)]
 struct Season {
     totals: Totals,
     files: u64,

@@ -4,7 +4,7 @@ ghost use Rattle.std.specs.Prelude.{◌≤◌};
 use crate::lines;
 
 // What was read: 0 no totals yet, 1 the line `total`, 2 the line `accepted` too, 3 something that is no report; and the sums.
-#[derive(Drop)]
+#[derive(Clone, Copy)]
 pub struct Report {
     pub phase: u32,
     pub least: u64,
@@ -12,7 +12,7 @@ pub struct Report {
 }
 
 // A number below 2^64, and the place behind it.
-#[derive(Drop)]
+#[derive(Clone, Copy)]
 struct ReportNumber {
     good: bool,
     value: u64,

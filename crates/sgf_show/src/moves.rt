@@ -5,7 +5,7 @@ use crate::rows::{node_cell, property_cell};
 use go_points::Value;
 
 // What a property plays: its colour's letter, and a point.
-#[derive(Drop)]
+#[derive(Clone, Copy)]
 enum Play {
     Nothing,
     Pass(u8),

@@ -45,7 +45,7 @@ pub const VALUE_END: usize = 1;
 
 // Used rows of each table; also as a C caller lends them.
 #[repr(C)]
-#[derive(Drop)]
+#[derive(Clone, Copy)]
 pub struct Counts {
     pub trees: usize,
     pub nodes: usize,
@@ -54,7 +54,7 @@ pub struct Counts {
 }
 
 // Why something is refused.
-#[derive(Drop)]
+#[derive(Clone, Copy)]
 pub enum Reason {
     TextTooLong,
     NotUtf8,
@@ -77,14 +77,14 @@ pub enum Reason {
 }
 
 // A reading: the counts, or why it is refused and the place.
-#[derive(Drop)]
+#[derive(Clone, Copy)]
 pub enum Reading {
     Accepted(Counts),
     Refused(Reason, usize),
 }
 
 // A lenient reading: the counts, or one of the four refusals that it has, with the place of the one that has a place.
-#[derive(Drop)]
+#[derive(Clone, Copy)]
 pub enum Lenient {
     Accepted(Counts),
     TextTooLong,

@@ -7,7 +7,7 @@ ghost use Rattle.text_chars.specs.Table.{listed, scalar};
 ghost use Rattle.text_chars.specs.LocalsDecode.{decoded};
 
 // The character at a place: how many bytes it has and whether it is white space; or none.
-#[derive(Drop)]
+#[derive(Clone, Copy)]
 pub enum Decoded {
     Character(usize, bool),
     Bad,

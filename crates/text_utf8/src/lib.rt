@@ -8,7 +8,7 @@ ghost use Rattle.text_utf8.specs.Trim.{trimmed};
 use text_chars::Decoded;
 
 // What a text keeps when it is trimmed: it is not UTF-8 (the start of the first bad sequence); nothing but white space; or first and last place.
-#[derive(Drop)]
+#[derive(Clone, Copy)]
 pub enum Trimmed {
     NotUtf8(usize),
     Blank,
@@ -16,7 +16,7 @@ pub enum Trimmed {
 }
 
 // What has been seen of a text: from `first` to `last` what is kept so far; `last` is 0 as long as all is white space.
-#[derive(Drop)]
+#[derive(Clone, Copy)]
 struct Seen {
     first: usize,
     last: usize,

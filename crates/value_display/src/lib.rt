@@ -7,21 +7,21 @@ ghost use Rattle.store_bytes.specs.LocalsWrote.{Wrote};
 
 use values::read::ReadStep;
 
-#[derive(Drop)]
+#[derive(Clone, Copy)]
 pub enum Kind {
     Text,
     SimpleText,
 }
 
 // How many bytes a text has that was displayed, or that they exceed those lent.
-#[derive(Drop)]
+#[derive(Clone, Copy)]
 pub enum Displayed {
     Length(usize),
     NoRoom,
 }
 
 // A byte ahead, 0 at the end, and the place after it.
-#[derive(Drop)]
+#[derive(Clone, Copy)]
 struct Ahead {
     byte: u8,
     next: usize,

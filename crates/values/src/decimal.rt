@@ -6,7 +6,7 @@ ghost use Rattle.values.specs.Decimal.{digit_of, digits_from, decimal_of};
 use crate::read::ReadStep;
 
 // A number by its sign and its size, or none.
-#[derive(Drop)]
+#[derive(Clone, Copy)]
 pub enum Number {
     Bad,
     Plus(u64),

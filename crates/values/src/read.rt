@@ -3,7 +3,7 @@ ghost use Rattle.std.specs.Prelude.{◌≡◌};
 ghost use Rattle.values.specs.Read.{next_read};
 
 // What stands at a place of raw bytes: the next read byte and the place after it, or the end.
-#[derive(Drop)]
+#[derive(Clone, Copy)]
 pub enum ReadStep {
     Byte(u8, usize),
     End,

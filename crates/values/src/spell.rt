@@ -4,7 +4,7 @@ ghost use Rattle.values.specs.Decimal.{decimal};
 ghost use Rattle.store_bytes.specs.LocalsWrote.{Wrote};
 
 // Digits at the end of an array, from `from` on.
-#[derive(Drop)]
+#[derive(Clone, Copy)]
 struct Digits {
     bytes: [u8; 20],
     from: usize,

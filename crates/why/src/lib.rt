@@ -19,14 +19,14 @@ use tree::TreeWalked;
 use why_blame::{Blamed, Cutting, Fact};
 
 // The explanation: the counts and the place of the first token in no slice; or the fact and the place of the token to blame.
-#[derive(Drop)]
+#[derive(Clone, Copy)]
 pub enum Why {
     Accepted(Counts, usize),
     Refused(Fact, usize),
 }
 
 // What is found before rows are counted: nothing is odd, and the counts; nothing is to blame; each with the place of the first token in no slice. Or the fact and the place of the token to blame.
-#[derive(Drop)]
+#[derive(Clone, Copy)]
 enum Sought {
     Simple(Counts, usize),
     Sound(usize),

@@ -9,7 +9,7 @@ use tables::NONE;
 use why_blame::Fact;
 
 // Where the tree stops, and why; or the place behind the slice and the number of the next node.
-#[derive(Drop)]
+#[derive(Clone, Copy)]
 pub enum TreeWalked {
     Stopped(Fact, usize),
     Tree(usize, usize),

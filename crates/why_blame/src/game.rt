@@ -16,7 +16,7 @@ use lexer_scan::ValueStep;
 use parser_game::GameType;
 
 // A property named GM: where it starts, its first `[`, where it ends; or none.
-#[derive(Drop)]
+#[derive(Clone, Copy)]
 enum FoundGm {
     None,
     Gm(usize, usize, usize),

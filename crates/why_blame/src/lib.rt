@@ -6,7 +6,7 @@ ghost use Rattle.std.specs.Prelude.{◌≡◌, drop};
 ghost use Rattle.why_blame.specs.Cuts.{foreign_from, fault_fact};
 
 // What refuses a text, beside the place of the token to blame: the length (1); a bad sequence (2); where an identifier's scan stops, at the end of what trimming keeps (3) or at a byte that is not ASCII (4); where a value's scan stops (5); an end beyond the starts before it (6); how many trees stay open, and a slice without a node (7); no end (8); a start that is too deep (9); a start in the empty list of this node, NONE for the tree's own (10); a second GM in this slice, and a property that is not directly behind a node (11); how many values GM has, and that its one value is no number (12).
-#[derive(Drop)]
+#[derive(Clone, Copy)]
 pub enum Fact {
     Length(usize),
     BadSequence,
@@ -26,14 +26,14 @@ pub enum Fact {
 }
 
 // Nothing to blame; or a fact and the place.
-#[derive(Drop)]
+#[derive(Clone, Copy)]
 pub enum Blamed {
     No,
     By(Fact, usize),
 }
 
 // How splitting ends: with a fact and the place; or so many slices, and the place of the first token in none of them.
-#[derive(Drop)]
+#[derive(Clone, Copy)]
 pub enum Cutting {
     Wrong(Fact, usize),
     Slices(usize, usize),

@@ -13,7 +13,7 @@ use lexer::Step;
 use tables::DEPTH_LIMIT;
 
 // Where splitting stops: the depth, the greatest depth, how many slices, the place behind the last of them, where the depth came above the limit, where the next token is looked for, and whether that is an end at depth 0.
-#[derive(Drop)]
+#[derive(Clone, Copy)]
 struct BlameSplit {
     depth: usize,
     deepest: usize,
@@ -25,7 +25,7 @@ struct BlameSplit {
 }
 
 // How the tokens end: with the text, or with a fault of the token that starts at a place.
-#[derive(Drop)]
+#[derive(Clone, Copy)]
 enum Ending {
     Whole,
     Broken(lexer::Fault, usize),
