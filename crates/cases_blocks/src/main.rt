@@ -1,4 +1,6 @@
 // Texts in blocks. A line of standard input has the number of lent numbers, at most 64, and then, parted by spaces, calls: hex digits are a block, `-` is one of no bytes, `x` and two digits one of 4,096 such bytes, and `.` is the close. All lent numbers are 7 before. A line of standard output says what each call answers, and behind a bar the lent numbers then. A line that begins with `#` is said as it is.
+#![tactic(auto)]
+
 mod line; // line.rt: the input
 mod say; // say.rt: the output
 

@@ -1,4 +1,6 @@
 // Runs of edits: of the lines of standard input, `t TEXT` reads a text strictly, `e K BYTES` edits value K of it, `u` undoes the last accepted edit and `r` does it again. For each a line of standard output: the used text, a bar, the spans of its identifiers, a bar, those of its values; or the refusal.
+#![tactic(auto)]
+
 mod history; // history.rt: what is kept
 mod line; // line.rt: the input
 mod say; // say.rt: the output

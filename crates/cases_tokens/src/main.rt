@@ -1,4 +1,6 @@
 // One text in hex on each line of standard input; for each a line of standard output: what trimming keeps, the tokens with their spans, identifiers and read values in hex, and how the tokens end.
+#![tactic(auto)]
+
 ghost use Rattle.std.specs.Prelude.{◌≤◌, length};
 
 use lexer::{Cursor, Step};

@@ -1,4 +1,6 @@
 // The tokens of the text on standard input, one a line with its span; then `done`, or the refusal alone. The text is taken in blocks of 4,096 bytes, and no more of it is held. At most 1,048,576 bytes and 65,536 tokens.
+#![tactic(auto)]
+
 ghost use Rattle.std.specs.Prelude.{◌≡◌, replicate};
 
 use blocks::BlocksState;

@@ -1,10 +1,15 @@
 // The board at a node: reads a record on standard input and prints the position at the node that the one word names, counted from 0, or without a word at the last node of the first tree's main line; then how many stones of each colour were put on and taken off. A refusal is one line; of 23 it names the node and the point.
+#![tactic(auto)]
+
 mod fault; // fault.rt: why a node is refused
 mod marked; // marked.rt: the last move of a node
 mod picture; // picture.rt: a board in letters
 mod rows; // rows.rt: cells of the tables
 
+ghost use Rattle.std.specs.Prelude.{◌≤◌, length};
+
 use board::SgfBoard;
+use std::env::{Env, FillError};
 use tables::{Counts, Reading};
 
 // Words and a number.
@@ -155,25 +160,49 @@ fn number_of(word: &[u8]) -> usize {
     n
 }
 
+// The argument's bytes at the start of a room, and how many; none where it is missing or has more than there is room for.
+fn argument(rt: &HostRuntime, i: usize, room: &mut [u8]) -> usize
+    ensures { result ≤ length room.new }
+{
+    match rt.arg(i, room) {
+        Ok(n) => n,
+        Err(_) => 0,
+    }
+}
+
+fn has_argument(rt: &HostRuntime, i: usize) -> bool {
+    let mut none = [0u8; 1];
+    match rt.arg(i, &mut none) {
+        Ok(_) => true,
+        Err(FillError::TooLong) => true,
+        Err(FillError::NotPresent) => false,
+    }
+}
+
+// Is there one word behind the program's name, and no more.
+fn has_one_word(rt: &HostRuntime) -> bool {
+    has_argument(rt, 1) & !has_argument(rt, 2)
+}
+
 // The node that the program's one word names; without a word the last one.
-fn asked_node(counts: Counts, trees: &[u32], nodes: &[u32]) -> usize {
-    if os::arg_count() != 2 {
+fn asked_node(rt: &HostRuntime, counts: Counts, trees: &[u32], nodes: &[u32]) -> usize {
+    if !has_one_word(rt) {
         return last_node(counts, trees, nodes);
     }
     let mut word = io::buffer();
-    let n = os::arg(1, &mut word);
+    let n = argument(rt, 1, &mut word);
     number_of(&word[..n])
 }
 
 // The board of a text, or why there is none.
-fn show(text: &[u8]) {
+fn show(rt: &HostRuntime, text: &[u8]) {
     let mut trees = tool::pair_rows();
     let mut nodes = tool::node_rows();
     let mut properties = tool::property_rows();
     let mut values = tool::pair_rows();
     match reader::read_strict(text, &mut trees, &mut nodes, &mut properties, &mut values) {
         Reading::Accepted(counts) => {
-            let node = asked_node(counts, &trees, &nodes);
+            let node = asked_node(rt, counts, &trees, &nodes);
             show_node(text, counts, &trees, &nodes, &properties, &values, node);
         }
         Reading::Refused(reason, place) => {
@@ -183,12 +212,12 @@ fn show(text: &[u8]) {
     }
 }
 
-fn main() {
+fn main(rt: HostRuntime) {
     let mut text = tool::text_room();
     let n = io::read_full(0, &mut text);
     if 65536 < n {
         io::write_all(1, b"refused 1 at 0\n");
         return;
     }
-    show(&text[..n]);
+    show(&rt, &text[..n]);
 }

@@ -1,5 +1,13 @@
 // A record's text with all corrections of a feed in it, from two files; a refusal is one line.
+#![tactic(auto)]
+
+ghost use Rattle.std.specs.Prelude.{◌≤◌, length};
+
 use feed_apply::Applied;
+use std::env::{Env, FillError};
+use std::fs::File;
+use std::io::Read;
+use std::os::fd::AsRawFd;
 use tables::{Counts, Reading};
 
 // How long a file is. Where it cannot be read, that is said.
@@ -74,8 +82,8 @@ fn correct(text: &mut [u8], used: usize, feed: &[u8]) {
 }
 
 // An open file's bytes.
-fn keep_open(file: i32, room: &mut [u8]) -> Kept {
-    let n = io::read_full(file, room);
+fn keep_open(file: &File, room: &mut [u8]) -> Kept {
+    let n = io::read_full(file.as_raw_fd(), room);
     if 65536 < n {
         say_refused(1, 0);
         return Kept::Said;
@@ -84,44 +92,73 @@ fn keep_open(file: i32, room: &mut [u8]) -> Kept {
 }
 
 // A folder opens, and the first read of it fails.
-fn keep_file(name: &[u8], room: &mut [u8]) -> Kept {
-    let file = os::open_read(name);
-    if file < 0 {
+fn keep_file(rt: &HostRuntime, name: &[u8], room: &mut [u8]) -> Kept {
+    let Ok(path) = str::from_utf8(name) else {
+        return say_unread(name);
+    };
+    let Ok(mut file) = File::open(rt, path) else {
+        return say_unread(name);
+    };
+    if file.read(&mut room[..0]).is_err() {
         return say_unread(name);
     }
-    if libc::read(file, &mut room[..0]) < 0 {
-        libc::close(file);
-        return say_unread(name);
-    }
-    let kept = keep_open(file, room);
-    libc::close(file);
-    kept
+    keep_open(&file, room)
 }
 
-fn correct_files(text_name: &[u8], feed_name: &[u8], text: &mut [u8], feed: &mut [u8]) {
-    let Kept::Bytes(used) = keep_file(text_name, text) else {
+fn correct_files(
+    rt: &HostRuntime,
+    text_name: &[u8],
+    feed_name: &[u8],
+    text: &mut [u8],
+    feed: &mut [u8],
+) {
+    let Kept::Bytes(used) = keep_file(rt, text_name, text) else {
         return;
     };
-    let Kept::Bytes(n) = keep_file(feed_name, feed) else {
+    let Kept::Bytes(n) = keep_file(rt, feed_name, feed) else {
         return;
     };
     correct(text, used, tool::first(feed, n));
 }
 
-fn correct_arguments() {
-    let mut text_name = io::buffer();
-    let mut feed_name = io::buffer();
-    let n = os::arg(1, &mut text_name);
-    let m = os::arg(2, &mut feed_name);
-    let mut text = tool::out_room();
-    let mut feed = tool::out_room();
-    correct_files(&text_name[..n], &feed_name[..m], &mut text, &mut feed);
+// The argument's bytes at the start of a room, and how many; none where it is missing or has more than there is room for.
+fn argument(rt: &HostRuntime, i: usize, room: &mut [u8]) -> usize
+    ensures { result ≤ length room.new }
+{
+    match rt.arg(i, room) {
+        Ok(n) => n,
+        Err(_) => 0,
+    }
 }
 
-fn main() {
-    if os::arg_count() != 3 {
+fn has_argument(rt: &HostRuntime, i: usize) -> bool {
+    let mut none = [0u8; 1];
+    match rt.arg(i, &mut none) {
+        Ok(_) => true,
+        Err(FillError::TooLong) => true,
+        Err(FillError::NotPresent) => false,
+    }
+}
+
+// Are there two words behind the program's name, and no more.
+fn has_two_words(rt: &HostRuntime) -> bool {
+    has_argument(rt, 2) & !has_argument(rt, 3)
+}
+
+fn correct_arguments(rt: &HostRuntime) {
+    let mut text_name = io::buffer();
+    let mut feed_name = io::buffer();
+    let n = argument(rt, 1, &mut text_name);
+    let m = argument(rt, 2, &mut feed_name);
+    let mut text = tool::out_room();
+    let mut feed = tool::out_room();
+    correct_files(rt, &text_name[..n], &feed_name[..m], &mut text, &mut feed);
+}
+
+fn main(rt: HostRuntime) {
+    if !has_two_words(&rt) {
         io::write_all(2, b"usage: sgf_correct FILE FEED\n");
         return;
     }
-    correct_arguments();
+    correct_arguments(&rt);
 }

@@ -1,4 +1,6 @@
 // Standard input, a line `K BYTES` for each correction, as a feed; a line that is none, and a number too large for a feed, are said in one line.
+#![tactic(auto)]
+
 ghost use Rattle.std.specs.Prelude.{◌≤◌};
 
 use feed::make::Made;

@@ -1,4 +1,6 @@
 // Standard input, a feed, as lines `K BYTES`; a malformed one is one line.
+#![tactic(auto)]
+
 use feed::Next;
 use feed_numerals::Numeral;
 

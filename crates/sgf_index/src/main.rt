@@ -1,4 +1,5 @@
 // FF[4]'s property index: a line a property, identifiers of one letter first, each with its value kind, its type and its section.
+#![tactic(auto)]
 
 // Words, and spaces up to a width.
 fn say(words: &[u8], width: usize) {

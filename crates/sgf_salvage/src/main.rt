@@ -1,4 +1,6 @@
 // Standard input salvaged: what was changed, a line a change, then `record` and the text that strict reading accepts with a line feed. A refusal is one line. At most 65,536 bytes, of the result 400,000.
+#![tactic(auto)]
+
 ghost use Rattle.std.specs.Prelude.{◌<◌};
 
 use salvage::SalvageAnswer;

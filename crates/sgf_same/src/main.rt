@@ -1,5 +1,13 @@
 // Whether two files hold the same record: says `same` where their writings are equal, else where these first differ; of a file that has no writing, why not.
+#![tactic(auto)]
+
+ghost use Rattle.std.specs.Prelude.{◌≤◌, length};
+
 use serialize::Written;
+use std::env::{Env, FillError};
+use std::fs::File;
+use std::io::Read;
+use std::os::fd::AsRawFd;
 use tables::{Counts, Reading};
 
 // How long a writing is. Where there is none, that is said.
@@ -72,9 +80,9 @@ fn write_text(name: &[u8], text: &[u8], out: &mut [u8]) -> Outcome {
 }
 
 // The writing of an open file.
-fn write_open(name: &[u8], file: i32, out: &mut [u8]) -> Outcome {
+fn write_open(name: &[u8], file: &File, out: &mut [u8]) -> Outcome {
     let mut text = tool::text_room();
-    let n = io::read_full(file, &mut text);
+    let n = io::read_full(file.as_raw_fd(), &mut text);
     if 65536 < n {
         return say_refused(name, 1, 0);
     }
@@ -82,18 +90,17 @@ fn write_open(name: &[u8], file: i32, out: &mut [u8]) -> Outcome {
 }
 
 // A folder opens, and the first read of it fails.
-fn write_file(name: &[u8], out: &mut [u8]) -> Outcome {
-    let file = os::open_read(name);
-    if file < 0 {
+fn write_file(rt: &HostRuntime, name: &[u8], out: &mut [u8]) -> Outcome {
+    let Ok(path) = str::from_utf8(name) else {
+        return say_unread(name);
+    };
+    let Ok(mut file) = File::open(rt, path) else {
+        return say_unread(name);
+    };
+    if file.read(&mut out[..0]).is_err() {
         return say_unread(name);
     }
-    if libc::read(file, &mut out[..0]) < 0 {
-        libc::close(file);
-        return say_unread(name);
-    }
-    let outcome = write_open(name, file, out);
-    libc::close(file);
-    outcome
+    write_open(name, &file, out)
 }
 
 fn wide(b: u8) -> u32 {
@@ -135,9 +142,15 @@ fn say_compared(left: &[u8], n: usize, right: &[u8], m: usize) {
 }
 
 // Both files are looked at before any answer, so that each that has no writing is named.
-fn compare(left_name: &[u8], right_name: &[u8], left: &mut [u8], right: &mut [u8]) {
-    let first = write_file(left_name, left);
-    let second = write_file(right_name, right);
+fn compare(
+    rt: &HostRuntime,
+    left_name: &[u8],
+    right_name: &[u8],
+    left: &mut [u8],
+    right: &mut [u8],
+) {
+    let first = write_file(rt, left_name, left);
+    let second = write_file(rt, right_name, right);
     let Outcome::Bytes(n) = first else {
         return;
     };
@@ -147,20 +160,44 @@ fn compare(left_name: &[u8], right_name: &[u8], left: &mut [u8], right: &mut [u8
     say_compared(left, n, right, m);
 }
 
-fn compare_arguments() {
-    let mut left_name = io::buffer();
-    let mut right_name = io::buffer();
-    let n = os::arg(1, &mut left_name);
-    let m = os::arg(2, &mut right_name);
-    let mut left = tool::out_room();
-    let mut right = tool::out_room();
-    compare(&left_name[..n], &right_name[..m], &mut left, &mut right);
+// The argument's bytes at the start of a room, and how many; none where it is missing or has more than there is room for.
+fn argument(rt: &HostRuntime, i: usize, room: &mut [u8]) -> usize
+    ensures { result ≤ length room.new }
+{
+    match rt.arg(i, room) {
+        Ok(n) => n,
+        Err(_) => 0,
+    }
 }
 
-fn main() {
-    if os::arg_count() != 3 {
+fn has_argument(rt: &HostRuntime, i: usize) -> bool {
+    let mut none = [0u8; 1];
+    match rt.arg(i, &mut none) {
+        Ok(_) => true,
+        Err(FillError::TooLong) => true,
+        Err(FillError::NotPresent) => false,
+    }
+}
+
+// Are there two words behind the program's name, and no more.
+fn has_two_words(rt: &HostRuntime) -> bool {
+    has_argument(rt, 2) & !has_argument(rt, 3)
+}
+
+fn compare_arguments(rt: &HostRuntime) {
+    let mut left_name = io::buffer();
+    let mut right_name = io::buffer();
+    let n = argument(rt, 1, &mut left_name);
+    let m = argument(rt, 2, &mut right_name);
+    let mut left = tool::out_room();
+    let mut right = tool::out_room();
+    compare(rt, &left_name[..n], &right_name[..m], &mut left, &mut right);
+}
+
+fn main(rt: HostRuntime) {
+    if !has_two_words(&rt) {
         io::write_all(2, b"usage: sgf_same FILE FILE\n");
         return;
     }
-    compare_arguments();
+    compare_arguments(&rt);
 }

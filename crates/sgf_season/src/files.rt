@@ -1,5 +1,8 @@
 // The line of a file.
 use season_totals::Line;
+use std::fs::File;
+use std::io::Read;
+use std::os::fd::AsRawFd;
 
 // Rows, and bytes of a writing, that are enough for most texts of 8,192 bytes, in a sixth of the memory: of 2,048 nodes and properties, 4,096 values.
 fn most_node_rows() -> [u32; 12288] {
@@ -91,8 +94,8 @@ fn large_line(text: &[u8]) -> Line {
 }
 
 // Of an open file; one above 65,536 bytes is refused before it is read.
-fn open_line(file: i32, text: &mut [u8]) -> Line {
-    let n = io::read_full(file, text);
+fn open_line(file: &File, text: &mut [u8]) -> Line {
+    let n = io::read_full(file.as_raw_fd(), text);
     if 65536 < n {
         return Line::Refused(1);
     }
@@ -107,32 +110,31 @@ fn open_line(file: i32, text: &mut [u8]) -> Line {
 }
 
 // A folder opens, and the first read of it fails.
-pub fn is_folder(file: i32) -> bool {
+pub fn is_folder(file: &mut File) -> bool {
     let mut none = io::buffer();
-    libc::read(file, &mut none[..0]) < 0
+    file.read(&mut none[..0]).is_err()
 }
 
 // The next read of a file fails, as the last one did that ended before the file.
-fn is_failing(file: i32) -> bool {
+fn is_failing(file: &mut File) -> bool {
     let mut more = [0u8; 1];
-    libc::read(file, &mut more) < 0
+    file.read(&mut more).is_err()
 }
 
 // Of a file by its name; one whose reading fails is unread.
-pub fn file_line(name: &[u8]) -> Line {
-    let file = os::open_read(name);
-    if file < 0 {
+pub fn file_line(rt: &HostRuntime, name: &[u8]) -> Line {
+    let Ok(path) = str::from_utf8(name) else {
         return Line::Unread;
-    }
-    if is_folder(file) {
-        libc::close(file);
+    };
+    let Ok(mut file) = File::open(rt, path) else {
+        return Line::Unread;
+    };
+    if is_folder(&mut file) {
         return Line::Unread;
     }
     let mut text = tool::text_room();
-    let line = open_line(file, &mut text);
-    let failed = is_failing(file);
-    libc::close(file);
-    if failed {
+    let line = open_line(&file, &mut text);
+    if is_failing(&mut file) {
         return Line::Unread;
     }
     line

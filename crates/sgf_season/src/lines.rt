@@ -1,9 +1,9 @@
 // A stream, line by line, through a block that is lent, so that it may have any length.
+use std::io::Read;
 
 // A stream: the bytes of the block from `at` on, below `end`, are still to be taken.
 #[derive(Clone, Copy)]
 pub struct Stream {
-    pub file: i32,
     pub at: usize,
     pub end: usize,
 }
@@ -17,25 +17,18 @@ pub struct LineTaken {
 }
 
 // A stream of which nothing was read.
-pub fn open(file: i32) -> Stream {
-    Stream {
-        file: file,
-        at: 0,
-        end: 0,
-    }
+pub fn open() -> Stream {
+    Stream { at: 0, end: 0 }
 }
 
 // The stream with a byte to take, if it has more.
-fn ready(stream: Stream, block: &mut [u8]) -> Stream {
+fn ready(file: &mut impl Read, stream: Stream, block: &mut [u8]) -> Stream {
     if stream.at < stream.end {
         return stream;
     }
-    let got = libc::read(stream.file, block);
-    let n = io::count(got, block);
-    Stream {
-        file: stream.file,
-        at: 0,
-        end: n,
+    match file.read(block) {
+        Ok(n) => Stream { at: 0, end: n },
+        Err(_) => Stream { at: 0, end: 0 },
     }
 }
 
@@ -54,7 +47,6 @@ fn behind(stream: Stream) -> Stream {
         return stream;
     }
     Stream {
-        file: stream.file,
         at: stream.at + 1,
         end: stream.end,
     }
@@ -70,13 +62,18 @@ fn keep(line: &mut [u8], n: usize, b: u8) -> usize {
 }
 
 // The next line: its first bytes, as many as there is room for. The last line may lack its line feed.
-pub fn take_line(stream: Stream, block: &mut [u8], line: &mut [u8]) -> LineTaken {
+pub fn take_line(
+    file: &mut impl Read,
+    stream: Stream,
+    block: &mut [u8],
+    line: &mut [u8],
+) -> LineTaken {
     let mut now = stream;
     let mut kept: usize = 0;
     let mut some = false;
     let mut turns: u64 = u64::MAX;
     while 0 < turns {
-        now = ready(now, block);
+        now = ready(file, now, block);
         if now.end <= now.at {
             return LineTaken {
                 some: some,

@@ -1,12 +1,20 @@
 // A season in numbers: names of files on standard input, one a line, each with its line of the report as it is read; then the totals.
 // `sgf_season STATUS` leaves in the file STATUS how it ended; `sgf_season STATUS REPORT..` adds the totals of reports.
+#![tactic(auto)]
+
 mod files; // files.rt: the line of a file
 mod lines; // lines.rt: a stream, line by line
 mod reports; // reports.rt: the totals of a report
 
+ghost use Rattle.std.specs.Prelude.{◌≤◌, length};
+
 use lines::Stream;
 use reports::Report;
 use season_totals::{Line, Totals};
+use std::env::{Env, FillError};
+use std::fs::File;
+use std::io::IsTerminal;
+use std::os::fd::AsRawFd;
 
 // What was counted; whether every file was accepted; whether there is more to do.
 #[derive(Clone, Copy)]
@@ -54,11 +62,11 @@ fn is_counted(line: Line) -> bool {
 }
 
 // How many files there were, on a standard error that is a terminal while standard output is none.
-fn tell(files: u64, end: &[u8]) {
-    if libc::isatty(2) != 1 {
+fn tell(rt: &HostRuntime, files: u64, end: &[u8]) {
+    if !rt.stderr().is_terminal() {
         return;
     }
-    if libc::isatty(1) == 1 {
+    if rt.stdout().is_terminal() {
         return;
     }
     io::write_all(2, b"\r");
@@ -76,14 +84,14 @@ fn one_more(n: u64) -> u64 {
 }
 
 // A line said and added.
-fn grow(season: Season, line: Line, name: &[u8]) -> Season {
+fn grow(rt: &HostRuntime, season: Season, line: Line, name: &[u8]) -> Season {
     let said = say_line(line, name);
     let totals = season.totals;
     let sum = season_totals::added(totals, season_totals::line_sums(line));
     let sums = sum.totals;
     let files = one_more(season.files);
     if files % 64 == 0 {
-        tell(files, b"");
+        tell(rt, files, b"");
     }
     Season {
         totals: sums,
@@ -94,23 +102,24 @@ fn grow(season: Season, line: Line, name: &[u8]) -> Season {
 }
 
 // One file more.
-fn take_file(season: Season, name: &[u8]) -> Season {
-    grow(season, files::file_line(name), name)
+fn take_file(rt: &HostRuntime, season: Season, name: &[u8]) -> Season {
+    grow(rt, season, files::file_line(rt, name), name)
 }
 
 // All names of standard input. A proved loop has to end, so its turns are counted down; fewer than 2^47 files have no sum of 2^64.
-fn take_names(block: &mut [u8], name: &mut [u8]) -> Season {
+fn take_names(rt: &HostRuntime, block: &mut [u8], name: &mut [u8]) -> Season {
     let mut season = begin();
-    let mut stream = lines::open(0);
+    let mut input = rt.stdin();
+    let mut stream = lines::open();
     let mut turns: u64 = 140737488355327;
     while 0 < turns {
-        let taken = lines::take_line(stream, block, name);
+        let taken = lines::take_line(&mut input, stream, block, name);
         if !taken.some {
             return season;
         }
         let next = taken.stream;
         stream = next;
-        season = take_file(season, tool::first(name, taken.kept));
+        season = take_file(rt, season, tool::first(name, taken.kept));
         if !season.going {
             return season;
         }
@@ -119,49 +128,85 @@ fn take_names(block: &mut [u8], name: &mut [u8]) -> Season {
     season
 }
 
-// How it ended, into the file that the first argument names.
-fn leave(word: &[u8]) {
-    let mut name = io::buffer();
-    let n = os::arg(1, &mut name);
-    let file = os::open_overwrite(&name[..n]);
-    if file < 0 {
-        return;
+// The argument's bytes at the start of a room, and how many; none where it is missing or has more than there is room for.
+fn argument(rt: &HostRuntime, i: usize, room: &mut [u8]) -> usize
+    ensures { result ≤ length room.new }
+{
+    match rt.arg(i, room) {
+        Ok(n) => n,
+        Err(_) => 0,
     }
-    io::write_all(file, word);
-    libc::close(file);
 }
 
-fn leave_status(season: Season, said: bool) {
+fn has_argument(rt: &HostRuntime, i: usize) -> bool {
+    let mut none = [0u8; 1];
+    match rt.arg(i, &mut none) {
+        Ok(_) => true,
+        Err(FillError::TooLong) => true,
+        Err(FillError::NotPresent) => false,
+    }
+}
+
+// How many there are, the program's name among them.
+fn argument_count(rt: &HostRuntime) -> usize {
+    for i in 0..usize::MAX {
+        if !has_argument(rt, i) {
+            return i;
+        }
+    }
+    usize::MAX
+}
+
+// How it ended, into the file that the first argument names.
+fn leave(rt: &HostRuntime, word: &[u8]) {
+    let mut name = io::buffer();
+    let n = argument(rt, 1, &mut name);
+    let Ok(path) = str::from_utf8(&name[..n]) else {
+        return;
+    };
+    let Ok(file) = File::create(rt, path) else {
+        return;
+    };
+    io::write_all(file.as_raw_fd(), word);
+}
+
+fn leave_status(rt: &HostRuntime, season: Season, said: bool) {
     if !(season.going & said) {
-        leave(b"2");
+        leave(rt, b"2");
         return;
     }
     if !season.clean {
-        leave(b"1");
+        leave(rt, b"1");
         return;
     }
-    leave(b"0");
+    leave(rt, b"0");
 }
 
-fn count_season() {
+fn count_season(rt: &HostRuntime) {
     let mut block = io::large_buffer();
     let mut name = io::buffer();
-    let season = take_names(&mut block, &mut name);
-    tell(season.files, b"\n");
+    let season = take_names(rt, &mut block, &mut name);
+    tell(rt, season.files, b"\n");
     let totals = season.totals;
     let said = say_totals(totals);
-    leave_status(season, said);
+    leave_status(rt, season, said);
 }
 
 // What went wrong with which report.
-fn leave_report(word: &[u8], i: u64) {
+fn leave_report(rt: &HostRuntime, word: &[u8], i: u64) {
     let mut line = io::buffer();
     let n = tool::put_count(&mut line, 0, word, i);
-    leave(tool::first(&line, n));
+    leave(rt, tool::first(&line, n));
 }
 
 // The totals with those of report i added, and whether that was possible.
-fn add_report(i: usize, season: Season, block: &mut [u8], name: &mut [u8]) -> Season {
+fn add_report(
+    rt: &HostRuntime,
+    i: usize,
+    season: Season,
+    block: &mut [u8],
+    name: &mut [u8],
+) -> Season {
     let totals = season.totals;
     let stopped = Season {
         totals: totals,
@@ -169,27 +214,28 @@ fn add_report(i: usize, season: Season, block: &mut [u8], name: &mut [u8]) -> Se
         clean: false,
         going: false,
     };
-    let n = os::arg(i, name);
-    let file = os::open_read(tool::first(name, n));
-    if file < 0 {
-        leave_report(b"unread ", i as u64);
+    let n = argument(rt, i, name);
+    let Ok(path) = str::from_utf8(tool::first(name, n)) else {
+        leave_report(rt, b"unread ", i as u64);
+        return stopped;
+    };
+    let Ok(mut file) = File::open(rt, path) else {
+        leave_report(rt, b"unread ", i as u64);
+        return stopped;
+    };
+    if files::is_folder(&mut file) {
+        leave_report(rt, b"unread ", i as u64);
         return stopped;
     }
-    if files::is_folder(file) {
-        libc::close(file);
-        leave_report(b"unread ", i as u64);
-        return stopped;
-    }
-    let report = reports::read_report(file, block, name);
-    libc::close(file);
+    let report = reports::read_report(&mut file, block, name);
     if report.phase != 2 {
-        leave_report(b"no ", i as u64);
+        leave_report(rt, b"no ", i as u64);
         return stopped;
     }
     let sums = report.sums;
     let sum = season_totals::added(totals, Totals { sums: sums });
     if !sum.fits {
-        leave_report(b"beyond ", i as u64);
+        leave_report(rt, b"beyond ", i as u64);
         return stopped;
     }
     let both = sum.totals;
@@ -202,13 +248,13 @@ fn add_report(i: usize, season: Season, block: &mut [u8], name: &mut [u8]) -> Se
 }
 
 // The totals of all reports that the arguments name, from the second on.
-fn add_reports(count: usize) {
+fn add_reports(rt: &HostRuntime, count: usize) {
     let mut block = io::large_buffer();
     let mut name = io::buffer();
     let mut season = begin();
     let mut i: usize = 2;
     while i < count {
-        season = add_report(i, season, &mut block, &mut name);
+        season = add_report(rt, i, season, &mut block, &mut name);
         if !season.going {
             return;
         }
@@ -216,14 +262,14 @@ fn add_reports(count: usize) {
     }
     let totals = season.totals;
     let said = say_totals(totals);
-    leave_status(season, said);
+    leave_status(rt, season, said);
 }
 
-fn main() {
-    let count = os::arg_count();
+fn main(rt: HostRuntime) {
+    let count = argument_count(&rt);
     if count <= 2 {
-        count_season();
+        count_season(&rt);
         return;
     }
-    add_reports(count);
+    add_reports(&rt, count);
 }

@@ -2,6 +2,7 @@
 ghost use Rattle.std.specs.Prelude.{◌≤◌};
 
 use crate::lines;
+use std::io::Read;
 
 // What was read: 0 no totals yet, 1 the line `total`, 2 the line `accepted` too, 3 something that is no report; and the sums.
 #[derive(Clone, Copy)]
@@ -217,16 +218,16 @@ fn take(line: &[u8], report: Report) -> Report {
 }
 
 // The totals of an open report. A line is kept up to its 4,096th byte; no line of the totals is as long.
-pub fn read_report(file: i32, block: &mut [u8], line: &mut [u8]) -> Report {
+pub fn read_report(file: &mut impl Read, block: &mut [u8], line: &mut [u8]) -> Report {
     let mut report = Report {
         phase: 0,
         least: 0,
         sums: [0u64; 38],
     };
-    let mut stream = lines::open(file);
+    let mut stream = lines::open();
     let mut turns: u64 = u64::MAX;
     while 0 < turns {
-        let taken = lines::take_line(stream, block, line);
+        let taken = lines::take_line(file, stream, block, line);
         if !taken.some {
             return report;
         }

@@ -1,12 +1,15 @@
 // What is in a record: reads standard input and says its counts, its trees with their boards, their greatest depths, the moves of each main line and the sections of their properties, or why it is refused and where. Strictly; by the one word --lenient as far as it can be read.
+#![tactic(auto)]
+
 mod moves; // moves.rt: the moves of a tree
 mod rows; // rows.rt: cells of the tables
 mod sections; // sections.rt: properties counted by their sections
 mod words; // words.rt: refusals in words
 
-ghost use Rattle.std.specs.Prelude.{◌<◌};
+ghost use Rattle.std.specs.Prelude.{◌<◌, ◌≤◌, length};
 
 use go_size::RootSize;
+use std::env::{Env, FillError};
 use tables::{Counts, Lenient, Reading, Reason};
 
 pub fn say_count(words: &[u8], n: usize) {
@@ -203,24 +206,48 @@ fn is_word(given: &[u8], word: &[u8]) -> bool {
     given.len() == word.len()
 }
 
+// The argument's bytes at the start of a room, and how many; none where it is missing or has more than there is room for.
+fn argument(rt: &HostRuntime, i: usize, room: &mut [u8]) -> usize
+    ensures { result ≤ length room.new }
+{
+    match rt.arg(i, room) {
+        Ok(n) => n,
+        Err(_) => 0,
+    }
+}
+
+fn has_argument(rt: &HostRuntime, i: usize) -> bool {
+    let mut none = [0u8; 1];
+    match rt.arg(i, &mut none) {
+        Ok(_) => true,
+        Err(FillError::TooLong) => true,
+        Err(FillError::NotPresent) => false,
+    }
+}
+
+// Is there one word behind the program's name, and no more.
+fn has_one_word(rt: &HostRuntime) -> bool {
+    has_argument(rt, 1) & !has_argument(rt, 2)
+}
+
 // Is the program's one word --lenient.
-fn is_lenient() -> bool {
-    if os::arg_count() != 2 {
+fn is_lenient(rt: &HostRuntime) -> bool {
+    if !has_one_word(rt) {
         return false;
     }
     let mut word = io::buffer();
-    let n = os::arg(1, &mut word);
+    let n = argument(rt, 1, &mut word);
     is_word(&word[..n], b"--lenient")
 }
 
-fn main() {
+fn main(rt: HostRuntime) {
     let mut text = tool::text_room();
     let n = io::read_full(0, &mut text);
     if 65536 < n {
         words::say_refused(&text[..n], Reason::TextTooLong, 0);
         return;
     }
-    if is_lenient() {
+    if is_lenient(&rt) {
         show_lenient(&text[..n]);
         return;
     }

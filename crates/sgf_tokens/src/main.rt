@@ -1,4 +1,6 @@
 // The tokens of the text on standard input, one a line with its span, a property with its identifier; then how they end. The tokens are the token walker's. At most 65,536 bytes.
+#![tactic(auto)]
+
 ghost use Rattle.std.specs.Prelude.{◌≤◌, length};
 
 use lexer::Step;

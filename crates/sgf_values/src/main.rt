@@ -1,4 +1,6 @@
 // The values of the record on standard input, one a line: `K IDENTIFIER[BYTES]`, where K counts from 0 in the order of the text, as a feed of corrections does. A refusal is one line. At most 65,536 bytes.
+#![tactic(auto)]
+
 ghost use Rattle.std.specs.Prelude.{◌<◌, ◌≤◌};
 
 use tables::{Counts, Reading};

@@ -1,5 +1,10 @@
 // Why the record on standard input is refused: `refused N at P`, the number and the place of the token to blame, and `fact F D`, the fact's number in the C header and the number in it; or `accepted`, and `counts`: trees, nodes, properties, values, and the place of the first token in no tree. With the word --lenient it is read leniently. At most 65,536 bytes.
+#![tactic(auto)]
+
+ghost use Rattle.std.specs.Prelude.{◌≤◌, length};
+
 use c_why::SgfWhy;
+use std::env::{Env, FillError};
 use tables::Counts;
 
 // Words and a number.
@@ -60,24 +65,48 @@ fn is_word(given: &[u8], word: &[u8]) -> bool {
     given.len() == word.len()
 }
 
+// The argument's bytes at the start of a room, and how many; none where it is missing or has more than there is room for.
+fn argument(rt: &HostRuntime, i: usize, room: &mut [u8]) -> usize
+    ensures { result ≤ length room.new }
+{
+    match rt.arg(i, room) {
+        Ok(n) => n,
+        Err(_) => 0,
+    }
+}
+
+fn has_argument(rt: &HostRuntime, i: usize) -> bool {
+    let mut none = [0u8; 1];
+    match rt.arg(i, &mut none) {
+        Ok(_) => true,
+        Err(FillError::TooLong) => true,
+        Err(FillError::NotPresent) => false,
+    }
+}
+
+// Is there one word behind the program's name, and no more.
+fn has_one_word(rt: &HostRuntime) -> bool {
+    has_argument(rt, 1) & !has_argument(rt, 2)
+}
+
 // Is the program's one word --lenient.
-fn is_lenient() -> bool {
-    if os::arg_count() != 2 {
+fn is_lenient(rt: &HostRuntime) -> bool {
+    if !has_one_word(rt) {
         return false;
     }
     let mut word = io::buffer();
-    let n = os::arg(1, &mut word);
+    let n = argument(rt, 1, &mut word);
     is_word(&word[..n], b"--lenient")
 }
 
-fn main() {
+fn main(rt: HostRuntime) {
     let mut input = tool::text_room();
     let n = io::read_full(0, &mut input);
     if 65536 < n {
         say_refused(1, 0, 1, n);
         return;
     }
-    if is_lenient() {
+    if is_lenient(&rt) {
         say_why(c_why::why_in_c(why::lenient(&input[..n])));
         return;
     }

@@ -1,4 +1,6 @@
 // Standard input read strictly and written to standard output with a line feed; a refusal is one line.
+#![tactic(auto)]
+
 use serialize::Written;
 use tables::{Counts, Reading};
 
