@@ -1,4 +1,6 @@
 // The shape of a property.
+#![tactic(auto)]
+
 ghost use Rattle.std.specs.Prelude.{◌≡◌, [], ◌∷◌};
 ghost use Rattle.values.specs.Read.{read_identifier};
 ghost use Rattle.go_shape.specs.LocalsIdentifier.{Letters};
