@@ -1,5 +1,5 @@
 -- Where a value of the tokens stands in the text: the state before it, and what it is. Assumes nothing.
-use Rattle.lists.proofs.Prelude.{◌≡◌, refl, sym, ap, ◌∙◌, ◌⊎◌, inl, inr, ℕ, suc, ◌+◌, ◌-◌, arith, true, false, List, [], ◌∷◌, ◌++◌, append_assoc, length, get_or}
+use Rattle.lists.proofs.Prelude.{◌≡◌, refl, sym, ap, ◌∙◌, ◌⊎◌, inl, inr, ℕ, suc, ◌-◌, arith, true, false, List, [], ◌∷◌, ◌++◌, append_assoc, length, get_or}
 use native.Mathlib.Decide.{ℕ_discrete}
 use Rattle.lists.specs.All.{All}
 use Rattle.lists.proofs.All.{all_append, all_map}

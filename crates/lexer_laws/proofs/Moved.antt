@@ -1,7 +1,7 @@
 -- Places moved: bytes at places that are moved evenly give the same tokens, with their places moved. Assumes nothing.
 use Rattle.lists.proofs.Prelude.{◌≡◌, refl, sym, ap, ◌∙◌, ℕ, suc, ◌≤◌, ◌<◌, arith, Bool, true, false, List, [], ◌∷◌, ◌++◌, map, map-append, leb, eqb}
 use Rattle.text_utf8.proofs.Steps.{place, place_is}
-use Rattle.lexer.specs.Token.{Val, Prop, Tok, end, St, between, ident, value, after, fault, Out, silent, property_state, begins, values, afters, step, emits, state_after, finish, Lexed, End, done, broken}
+use Rattle.lexer.specs.Token.{Val, Prop, Tok, St, between, ident, value, after, fault, Out, silent, property_state, begins, values, afters, step, emits, state_after, finish, Lexed, End, done, broken}
 use Rattle.lexer_scan.specs.Scan.{space}
 use Rattle.lexer.specs.Move.{move_val, move_prop, move_tok}
 
