@@ -1,5 +1,5 @@
 -- What is shown, byte by byte into the output, and the answer. Assumes nothing.
-use Rattle.lists.proofs.Prelude.{ℕ, ◌-◌, ◌^◌, ◌<◌, ◌≡◌, refl, sym, ap, ◌∙◌, subst, Bool, true, false, List, [], ◌∷◌, ◌++◌, append_assoc, append-nil, le_refl, arith, leb, length, drop, le-leb, lt-leb, leb-true, leb-false}
+use Rattle.lists.proofs.Prelude.{ℕ, ◌^◌, ◌<◌, ◌≡◌, refl, sym, ap, ◌∙◌, subst, Bool, true, false, List, [], ◌∷◌, ◌++◌, append_assoc, append-nil, le_refl, arith, leb, length, drop, le-leb, lt-leb, leb-true, leb-false}
 use Rattle.values.specs.Read.{read_value}
 use Rattle.value_display.specs.Display.{format_text, one_line, display_text, displayed, displayed_in}
 use Rattle.value_display.specs.LocalsShowing.{DisplaysAt}

@@ -1,5 +1,5 @@
 -- `format_text`, item by item. Assumes nothing.
-use Rattle.lists.proofs.Prelude.{ℕ, zero, suc, ◌+◌, ◌≡◌, refl, sym, ap, ◌∙◌, Bool, true, false, List, [], ◌∷◌, ◌++◌, arith, eqb, get_or, drop, ne_eqb, pick}
+use Rattle.lists.proofs.Prelude.{ℕ, zero, suc, ◌≡◌, refl, sym, ap, ◌∙◌, Bool, true, false, List, [], ◌∷◌, ◌++◌, arith, eqb, get_or, drop, ne_eqb, pick}
 use Rattle.value_display.specs.Display.{blank1, blank2, blank3, item, plain, removed, escaped, item_of, format_from, format_text}
 use Rattle.value_display.specs.LocalsShowing.{other_break}
 

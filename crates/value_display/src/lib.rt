@@ -1,4 +1,6 @@
 // Text display: `format_text` and `SimpleText`, over read values and with no copy.
+#![tactic(auto)]
+
 ghost use Rattle.std.specs.Prelude.{◌≡◌, ◌<◌, leb, length};
 ghost use Rattle.values.specs.Read.{read_value};
 ghost use Rattle.value_display.specs.Display.{blank1, blank2, blank3, format_text, one_line, display_text, displayed, displayed_in};
