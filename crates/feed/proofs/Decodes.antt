@@ -1,12 +1,10 @@
 -- What is made decodes to the same corrections. Assumes nothing.
-use Rattle.lists.proofs.Prelude.{ℕ, zero, suc, ◌+◌, ◌-◌, ◌≤◌, ◌<◌, ◌≡◌, refl, sym, ap, ap₂, ◌∙◌, true, List, [], ◌∷◌, ◌++◌, map, append_assoc, arith, add-one, length, take, drop, slice, length-append, length-drop, drop-drop, drop_at, take_at, eqb, eq-eqb}
+use Rattle.lists.proofs.Prelude.{ℕ, suc, ◌+◌, ◌-◌, ◌≤◌, ◌<◌, ◌≡◌, refl, sym, ap, ap₂, ◌∙◌, true, List, [], ◌∷◌, ◌++◌, map, append_assoc, arith, add-one, length, take, drop, slice, length-append, length-drop, drop-drop, drop_at, take_at, eq-eqb}
 use Rattle.lists.proofs.Places.{drop-take}
-use Rattle.feed_numerals.specs.Numeral.{numeral_at, spelled, numeral_limit}
-use Rattle.feed_numerals.specs.declared.Numeral.TheVariants.{Is}
+use Rattle.feed_numerals.specs.Numeral.{spelled, numeral_limit}
 use Rattle.feed_numerals.proofs.RoundTrip.{spelled-read}
-use Rattle.feed.specs.Feed.{Correction, Entry, Listing, correction_at, entry_at, entries_from, listing, corrections}
-use Rattle.feed.specs.Made.{correction_bytes, corrections_bytes, feed_bytes, Sendable}
-use Rattle.feed.specs.declared.Next.TheVariants.{One}
+use Rattle.feed.specs.Feed.{Correction, Listing, correction_at, entries_from, listing, corrections}
+use Rattle.feed.specs.Made.{corrections_bytes, feed_bytes, Sendable}
 use Rattle.feed.proofs.Entries.{one-listed, next_one, listed-end, listed-one, listing-count}
 
 -- what a listing says of the corrections cs

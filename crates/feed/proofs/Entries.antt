@@ -1,12 +1,11 @@
 -- One correction more of a feed, as the code reads it. Assumes nothing.
-use Rattle.lists.proofs.Prelude.{ℕ, zero, suc, ◌+◌, ◌-◌, ◌≤◌, ◌<◌, ◌≡◌, refl, sym, ap, ap₂, ◌∙◌, Bool, true, false, List, [], ◌∷◌, arith, add-one, length, leb, ltb, eqb, lt-ltb, le-ltb, le-leb, lt-leb, eq-eqb, ne_eqb, pick}
+use Rattle.lists.proofs.Prelude.{ℕ, zero, suc, ◌+◌, ◌-◌, ◌≤◌, ◌<◌, ◌≡◌, refl, sym, ap, ap₂, ◌∙◌, Bool, false, List, [], ◌∷◌, arith, add-one, length, eqb, lt-ltb, le-ltb, le-leb, lt-leb, eq-eqb, ne_eqb, pick}
 use Rattle.feed_numerals.specs.Numeral.{numeral_at}
 use Rattle.feed_numerals.specs.declared.Numeral.TheVariants.{Is, Broken}
 use Rattle.feed.specs.Feed.{Entry, Listing, sized, with_number, entry_at, followed, entries_from, entries_by, listing}
 use Rattle.feed.specs.Find.{found_in}
 use Rattle.feed.specs.declared.Next.{Next}
 use Rattle.feed.specs.declared.Next.TheVariants.{One, Malformed}
-use Rattle.feed.specs.declared.Found.{Found}
 use Rattle.feed.specs.declared.Found.TheVariants.{At, Nowhere}
 
 -- ---- the correction at a place

@@ -5,7 +5,7 @@ use Rattle.lists.proofs.Tests.{never}
 use Rattle.feed_numerals.specs.Numeral.{numeral_at}
 use Rattle.feed_numerals.specs.declared.Numeral.{Numeral}
 use Rattle.feed_numerals.specs.declared.Numeral.TheVariants.{Is, Broken}
-use Rattle.feed.specs.Feed.{Entry, Listing, sized, with_number, entry_at, followed, entries_from, entries_by, listing}
+use Rattle.feed.specs.Feed.{Entry, sized, with_number, entry_at, followed, entries_from, entries_by, listing}
 use Rattle.feed.specs.Find.{found_in}
 use Rattle.feed.specs.declared.Next.{Next}
 use Rattle.feed.specs.declared.Next.TheVariants.{One, Malformed}

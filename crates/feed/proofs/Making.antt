@@ -1,5 +1,5 @@
 -- Bytes put in front of lent ones, or why not. Assumes nothing.
-use Rattle.lists.proofs.Prelude.{ℕ, ◌+◌, ◌-◌, ◌^◌, ◌≤◌, ◌<◌, ◌≡◌, refl, sym, ap, ap₂, ◌∙◌, Bool, true, false, List, ◌++◌, arith, ◌&&◌, length, drop, length-append, leb, ltb, le-leb, lt-leb, lt-ltb, pick}
+use Rattle.lists.proofs.Prelude.{ℕ, ◌+◌, ◌^◌, ◌≤◌, ◌<◌, ◌≡◌, refl, sym, ap, ap₂, ◌∙◌, Bool, true, false, List, ◌++◌, arith, ◌&&◌, length, length-append, ltb, le-leb, lt-leb, lt-ltb, pick}
 use Rattle.feed_numerals.specs.Numeral.{spelled, numeral_limit}
 use Rattle.store_bytes.specs.LocalsWrote.{Wrote}
 use Rattle.store_bytes.proofs.Written.{wrote-all}

@@ -1,12 +1,12 @@
 -- A well-formed feed is exactly what is made of what it decodes to. Assumes nothing.
-use Rattle.lists.proofs.Prelude.{ℕ, zero, suc, ◌+◌, ◌-◌, ◌≤◌, ◌<◌, ◌≡◌, refl, sym, ap, ap₂, ◌∙◌, subst, Bool, true, false, false≢true, List, [], ◌∷◌, ◌++◌, map, append_assoc, arith, length, take, drop, slice, length-append, length-map, length-slice, take-append-drop, drop-drop, drop_of_length-le, leb, ltb, eqb, eqb-true, leb-true, ltb-false, pick}
+use Rattle.lists.proofs.Prelude.{ℕ, zero, suc, ◌+◌, ◌≤◌, ◌<◌, ◌≡◌, refl, sym, ap, ap₂, ◌∙◌, Bool, true, false, false≢true, List, ◌++◌, map, append_assoc, arith, length, drop, slice, length-map, length-slice, take-append-drop, drop-drop, drop_of_length-le, leb, ltb, eqb-true, leb-true, ltb-false, pick}
 use Rattle.lists.specs.All.{All}
 use Rattle.lists.proofs.Places.{drop-take}
 use Rattle.feed_numerals.specs.Numeral.{numeral_at, spelled, numeral_limit}
 use Rattle.feed_numerals.specs.declared.Numeral.{Numeral}
 use Rattle.feed_numerals.specs.declared.Numeral.TheVariants.{Is, Broken}
 use Rattle.feed_numerals.proofs.RoundTrip.{read-spelled}
-use Rattle.feed.specs.Feed.{Correction, Entry, Listing, correction_at, sized, with_number, entry_at, followed, entries_from, entries_by, listing, corrections}
+use Rattle.feed.specs.Feed.{Listing, correction_at, sized, with_number, entry_at, followed, entries_from, entries_by, listing, corrections}
 use Rattle.feed.specs.Made.{correction_bytes, corrections_bytes, feed_bytes, Sendable}
 use Rattle.feed.specs.declared.Next.{Next}
 use Rattle.feed.specs.declared.Next.TheVariants.{One, Malformed}

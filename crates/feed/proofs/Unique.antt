@@ -6,7 +6,7 @@ use Rattle.feed_numerals.specs.Numeral.{numeral_limit}
 use Rattle.feed.specs.Feed.{entry_at, listing}
 use Rattle.feed.specs.Find.{found_in}
 use Rattle.feed.specs.LocalsNext.{Lies}
-use Rattle.feed.specs.Made.{MadeIs, made_for, out_after}
+use Rattle.feed.specs.Made.{MadeIs, out_after}
 use Rattle.feed.specs.declared.make.Made.{Made}
 
 pub next-at-once : (w : List ℕ) (low at : ℕ) → Once (λ r. (r ≡ entry_at w low at) × Lies w low numeral_limit r)

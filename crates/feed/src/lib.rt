@@ -1,4 +1,6 @@
 // A feed of corrections: read, looked into, made.
+#![tactic(auto)]
+
 pub mod make; // make.rt: a feed's count and one correction, put
 
 ghost use Rattle.std.specs.Prelude.{◌≡◌};
