@@ -1,4 +1,6 @@
 // What the programs share: room for a text, its tables and its writing; refusals and spans as bytes; the part of the room that was used.
+#![tactic(auto)]
+
 ghost use Rattle.std.specs.Prelude.{◌≡◌, take, replicate};
 ghost use Rattle.store_bytes.specs.LocalsWrote.{Wrote};
 ghost use Rattle.tool.specs.LocalsSaid.{counted, refused, spanned};
