@@ -1,5 +1,5 @@
 -- The cells of the table, the one test over them, and what it says of each place. Assumes nothing.
-use Rattle.lists.proofs.Prelude.{ℕ, ◌<◌, ◌≡◌, refl, sym, Bool, true, false, ◌&&◌, not, List, [], ◌∷◌, eqb, ltb, length, get_or, eqb-true, T}
+use Rattle.lists.proofs.Prelude.{ℕ, ◌<◌, ◌≡◌, refl, sym, Bool, true, false, ◌&&◌, not, List, [], ◌∷◌, eqb, ltb, get_or, eqb-true, T}
 use Rattle.lists.proofs.Tests.{and_both}
 use Rattle.ff4_index.specs.declared.Entry.{Entry}
 use Rattle.ff4_index.specs.Listed.{entry_of, is_listed}

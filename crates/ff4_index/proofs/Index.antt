@@ -1,5 +1,5 @@
 -- What the index has: how many rows, none twice, which identifiers, and that it agrees with the shapes of Go's properties. Assumes nothing.
-use Rattle.lists.proofs.Prelude.{ℕ, ◌<◌, ◌≡◌, refl, Bool, true, false, ◌&&◌, not, List, [], ◌∷◌, leb, ltb, eqb, pick, length, get_or, map, sym, ap, ◌∙◌, T}
+use Rattle.lists.proofs.Prelude.{ℕ, ◌<◌, ◌≡◌, refl, Bool, true, false, ◌&&◌, not, List, [], ◌∷◌, leb, ltb, eqb, pick, length, get_or, map, sym, T}
 use Rattle.lists.specs.Same.{same}
 use Rattle.go_shape.specs.Shape.{shape_of}
 use Rattle.go_shape.specs.declared.Shape.{Shape}

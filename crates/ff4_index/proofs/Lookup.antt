@@ -1,9 +1,9 @@
 -- What the list says of identifiers that have no place. Assumes nothing.
-use Rattle.lists.proofs.Prelude.{ℕ, ◌≤◌, ◌<◌, ◌≡◌, refl, sym, ap, ◌∙◌, Bool, true, false, ◌&&◌, List, [], ◌∷◌, eqb, pick, arith, and-false, false≢true}
+use Rattle.lists.proofs.Prelude.{ℕ, ◌≤◌, ◌≡◌, refl, sym, Bool, true, false, ◌&&◌, List, [], ◌∷◌, eqb, arith, and-false, false≢true}
 use Rattle.lists.specs.All.{All}
 use Rattle.lists.proofs.Tests.{and_both}
 use Rattle.lists.specs.Same.{same}
-use Rattle.ff4_index.specs.Listed.{IndexRow, ff4, unlisted, entry_in, entry_of, row_listed, is_listed}
+use Rattle.ff4_index.specs.Listed.{IndexRow, ff4, unlisted, entry_in, entry_of, row_listed}
 use Rattle.ff4_index.specs.Places.{index_place}
 use Rattle.ff4_index.proofs.Placed.{Upper}
 

@@ -1,5 +1,5 @@
 -- Places and identifiers: one to one; the place counted letter by letter. Assumes nothing.
-use Rattle.lists.proofs.Prelude.{ℕ, ◌+◌, ◌-◌, ◌*◌, ◌/◌, ◌%◌, ◌≤◌, ◌<◌, ◌≡◌, refl, sym, ap, ◌∙◌, Bool, true, false, ◌&&◌, not, List, [], ◌∷◌, leb, ltb, eqb, pick, length, get_or, drop, arith, leb-true, lt-ltb, le-ltb, ne_eqb, ltb-false, not-false}
+use Rattle.lists.proofs.Prelude.{ℕ, ◌+◌, ◌-◌, ◌*◌, ◌/◌, ◌%◌, ◌≤◌, ◌<◌, ◌≡◌, refl, ap, Bool, true, false, ◌&&◌, not, List, [], ◌∷◌, leb, ltb, eqb, pick, length, get_or, drop, arith, leb-true, lt-ltb, le-ltb, ne_eqb, ltb-false, not-false}
 use Rattle.lists.specs.All.{All}
 use Rattle.lists.proofs.Tests.{and_both}
 use Rattle.values.specs.Read.{read_identifier}

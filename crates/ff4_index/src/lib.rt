@@ -1,4 +1,6 @@
 // FF[4]'s property index: what a property's values are, its type and its section, by its identifier.
+#![tactic(auto)]
+
 ghost use Rattle.std.specs.Prelude.{◌≡◌, ◌<◌};
 ghost use Rattle.values.specs.Read.{read_identifier};
 ghost use Rattle.ff4_index.specs.Listed.{entry_of};
