@@ -1,5 +1,5 @@
 -- What can be played, and a play put together. Assumes nothing.
-use Rattle.lists.proofs.Prelude.{ℕ, ◌<◌, Bool, true, false, ◌||◌, ◌⊎◌, inl, inr, ⊎_elim, ◌≡◌, refl, subst, List, set, eqb, arith, eqb-true, ltb, ltb-true}
+use Rattle.lists.proofs.Prelude.{ℕ, ◌<◌, Bool, true, false, ◌||◌, ◌⊎◌, inl, inr, ⊎_elim, ◌≡◌, refl, subst, List, set, eqb, arith, eqb-true, ltb}
 use Rattle.lists.proofs.Tests.{and_both}
 use Rattle.board_groups.specs.Board.{on_board}
 use Rattle.board_groups.specs.Groups.{Takes, TakesBeside, TakesGroup}

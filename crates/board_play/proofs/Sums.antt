@@ -1,5 +1,5 @@
 -- Stones conserved over acts one after another: put on is standing and taken off. Assumes nothing.
-use Rattle.lists.proofs.Prelude.{◌⊎◌, inl, inr, ⊎_elim, true≢false, ℕ, zero, suc, ◌+◌, ◌<◌, min, Bool, true, false, ◌≡◌, refl, sym, ap, ◌∙◌, subst, List, [], ◌∷◌, replicate, length-replicate, length, length-set, set, eqb, pick, arith, eq-eqb, ne_eqb, eqb-true}
+use Rattle.lists.proofs.Prelude.{◌⊎◌, inl, inr, ⊎_elim, true≢false, ℕ, zero, suc, ◌+◌, ◌<◌, Bool, true, false, ◌≡◌, refl, sym, ap, ◌∙◌, subst, List, [], ◌∷◌, replicate, length-replicate, length, length-set, set, eqb, pick, arith, eq-eqb, ne_eqb, eqb-true}
 use Rattle.lists.proofs.Tests.{same_or}
 use Rattle.board_groups.specs.Board.{at, standing}
 use Rattle.board_groups.specs.Groups.{Takes}

@@ -1,4 +1,6 @@
 // A stone set, and a stone played: whatever stood there, then the stones of the other colour that have no liberty go, then those of its own.
+#![tactic(auto)]
+
 ghost use Rattle.std.specs.Prelude.{◌≡◌, true};
 ghost use Rattle.board_groups.specs.Board.{at};
 ghost use Rattle.board_play.specs.Play.{SetIs, playable, Plays, PlaysNear, PlayIs};

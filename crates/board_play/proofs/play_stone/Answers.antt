@@ -1,0 +1,28 @@
+use Rattle.lists.proofs.Prelude.{true≢false, refl, sym, ◌∙◌, arith, not-true, not-false}
+use Rattle.board_play.proofs.Acts.{near-is}
+use Rattle.board_play.proofs.Playing.{playable-player, playable-place, play-made}
+use Rattle.board_play.proofs.play_stone.Goals as goal
+
+pub returns-then-settled : goal.returns-then-settled
+returns-then-settled c = let a = c.args in
+    near-is a.columns a.rows a.colour a.p a.stones.now _ _ _ _ (c.settled.ensures c.if-settled.true) c.play_near.ensures
+
+pub returns-then-not-can_play : goal.returns-then-not-can_play
+returns-then-not-can_play c = record {
+  not-played = λ e. (refl, refl, refl, refl);
+  played = λ e. absurd (true≢false (sym e ∙ (sym c.can_play.ensures ∙ not-true c.can_play.result c.if-not-can_play.true-raw)));
+}
+
+pub overflow_sub-other : goal.overflow_sub-other
+overflow_sub-other c = let a = c.args in let x = playable-player a.columns a.rows a.colour a.p (sym c.can_play.ensures ∙ not-false c.can_play.result c.if-not-can_play.false-raw) in omega arith
+
+pub returns : goal.returns
+returns c = let a = c.args in
+    let e = sym c.can_play.ensures ∙ not-false c.can_play.result c.if-not-can_play.false-raw in
+    let x = playable-player a.columns a.rows a.colour a.p e in
+    let s = c.set_stone-stood.ensures.within (playable-place a.columns a.rows a.colour a.p e) in
+    record {
+      not-played = λ z. absurd (true≢false (sym e ∙ z));
+      played = λ z.
+          (s.0, play-made a.columns a.rows a.colour a.p a.stones.now s.1 (c.take_all-taken.ensures.some (λ k. omega arith)) (c.take_all-lost.ensures.some (λ k. omega arith)));
+    }
