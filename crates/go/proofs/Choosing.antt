@@ -1,7 +1,5 @@
 -- The Go value of a property by the rule of its tree, its shape and the number of its values. Assumes nothing.
-use Rattle.lists.proofs.Prelude.{ℕ, zero, suc, ◌+◌, ◌-◌, ◌^◌, ◌≡◌, refl, sym, ap, ◌∙◌, subst, true, false, List, [], ◌∷◌, arith}
-use types.Run.{OneOf, miss}
-use denote.Enum.Declared.{tag_of}
+use Rattle.lists.proofs.Prelude.{ℕ, zero, suc, ◌+◌, ◌-◌, ◌^◌, ◌≡◌, refl, sym, ap, ◌∙◌, true, false, List, arith}
 use Rattle.values.specs.Read.{read_value}
 use Rattle.values.specs.Decimal.{decimal_of}
 use Rattle.go_points.specs.Area.{move_of}
@@ -12,7 +10,6 @@ use Rattle.go_points.specs.Handicap.{handicap_of}
 use Rattle.go.specs.declared.value.GoValue.{GoValue}
 use Rattle.go_shape.specs.declared.Shape.{Shape}
 use Rattle.go_shape.specs.declared.Shape.TheVariants.{OneMove, OneNumber, ManyPoints, Unread}
-use Rattle.go_shape.specs.contracts.Shape as shape
 use Rattle.go_points.specs.declared.Value.{Value}
 use Rattle.go_points.specs.declared.Value.TheVariants.{Other, Invalid}
 
@@ -38,10 +35,6 @@ module _ (f : List ℕ → Value) (text vals : List ℕ) (first : ℕ) where
       let z : first + 0 ≡ first = omega arith in
       ap f (e ∙ ap (value_at text vals) z) ∙ sym (ap (λ n. one_by f (values_at text vals first n)) h)
 
--- a shape that is no set
-pub not_set : (s : Shape) → OneOf (0 ∷ 1 ∷ 3 ∷ []) (tag_of shape.the_type s) → s ≡ ManyPoints → ⊥
-not_set s h e = miss (0 ∷ 1 ∷ 3 ∷ []) 2 tt (subst (λ (z : Shape). OneOf (0 ∷ 1 ∷ 3 ∷ []) (tag_of shape.the_type z)) e h)
-
 module _ (rule : ℕ) (text vals : List ℕ) (first count : ℕ) where
   abbrev vs : List (List ℕ)
   vs = values_at text vals first count
@@ -54,25 +47,25 @@ module _ (rule : ℕ) (text vals : List ℕ) (first count : ℕ) where
   unfolding value_by
   by-set e g = ap (λ (z : GoValue). z.value) g ∙ ap (λ (z : Shape). (value_by rule z vs).value) (sym e)
 
-  pub by-many : (s : Shape) → OneOf (0 ∷ 1 ∷ 2 ∷ []) (tag_of shape.the_type s) → (s ≡ ManyPoints → ⊥) → (count ≡ 1 → ⊥) → Invalid ≡ (value_by rule s vs).value
+  pub by-many : (s : Shape) → (s ≡ Unread → ⊥) → (s ≡ ManyPoints → ⊥) → (count ≡ 1 → ⊥) → Invalid ≡ (value_by rule s vs).value
   unfolding value_by
   by-many OneMove h m n = none-or-many (λ v. move_under rule (move_of (read_value v))) text vals first count n
   by-many OneNumber h m n = none-or-many (λ v. handicap_of (decimal_of (2 ^ 63 - 1) (read_value v))) text vals first count n
   by-many ManyPoints h m n = absurd (m refl)
-  by-many Unread h m n = absurd (miss (0 ∷ 1 ∷ 2 ∷ []) 3 tt h)
+  by-many Unread h m n = absurd (h refl)
 
   module _ {v : List ℕ} {x : Value} (h : count ≡ 1) (q : v ≡ value_at text vals (first + 0)) where
     pub by_move : {s : Shape} → s ≡ OneMove → x ≡ move_under rule (move_of (read_value v)) → x ≡ (value_by rule s vs).value
     unfolding value_by
     by_move e m = m ∙ one_only (λ v. move_under rule (move_of (read_value v))) text vals first count h q ∙ ap (λ (z : Shape). (value_by rule z vs).value) (sym e)
 
-    pub by_number : (s : Shape) → OneOf (0 ∷ 1 ∷ 2 ∷ []) (tag_of shape.the_type s) → OneOf (1 ∷ 2 ∷ 3 ∷ []) (tag_of shape.the_type s) → (s ≡ ManyPoints → ⊥)
+    pub by_number : (s : Shape) → (s ≡ Unread → ⊥) → (s ≡ OneMove → ⊥) → (s ≡ ManyPoints → ⊥)
         → x ≡ handicap_of (decimal_of (2 ^ 63 - 1) (read_value v)) → x ≡ (value_by rule s vs).value
     unfolding value_by
-    by_number OneMove u n p m = absurd (miss (1 ∷ 2 ∷ 3 ∷ []) 0 tt n)
+    by_number OneMove u n p m = absurd (n refl)
     by_number OneNumber u n p m = m ∙ one_only (λ v. handicap_of (decimal_of (2 ^ 63 - 1) (read_value v))) text vals first count h q
     by_number ManyPoints u n p m = absurd (p refl)
-    by_number Unread u n p m = absurd (miss (0 ∷ 1 ∷ 2 ∷ []) 3 tt u)
+    by_number Unread u n p m = absurd (u refl)
 
 -- what is no set has no marks
 pub by-alone : (rule : ℕ) (s : Shape) (vs : List (List ℕ)) {x : Value} → (s ≡ ManyPoints → ⊥) → x ≡ (value_by rule s vs).value → unmarked x ≡ value_by rule s vs

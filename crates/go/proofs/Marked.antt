@@ -1,5 +1,5 @@
 -- Marks by their places, and the union gathered value by value. Assumes nothing.
-use Rattle.lists.proofs.Prelude.{ℕ, zero, suc, ◌+◌, ◌-◌, ◌≤◌, ◌<◌, ◌≡◌, refl, sym, ap, ◌∙◌, subst, Bool, true, false, ◌&&◌, ◌||◌, or-false, or_assoc, or_comm, List, [], ◌∷◌, arith, leb, length, get_or, get_or-replicate, length-replicate, get_or-eq_default, ext_get_or, leb-true, leb-false}
+use Rattle.lists.proofs.Prelude.{ℕ, zero, suc, ◌+◌, ◌≤◌, ◌<◌, ◌≡◌, refl, sym, ap, ◌∙◌, subst, Bool, true, false, ◌&&◌, ◌||◌, or-false, or_assoc, or_comm, List, [], ◌∷◌, arith, leb, length, get_or, get_or-replicate, length-replicate, get_or-eq_default, ext_get_or, leb-true, leb-false}
 use Rattle.values.specs.Read.{read_value}
 use Rattle.go_points.specs.Area.{area_of}
 use Rattle.go.specs.Marks.{Adds, good, in_area, all_good, in_some, marks_from, marks_of}

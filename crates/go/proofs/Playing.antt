@@ -1,23 +1,20 @@
 -- A move under a rule. Assumes nothing.
-use Rattle.lists.proofs.Prelude.{ℕ, ◌≡◌, refl, sym, ap, ◌∙◌, true, false, ◌&&◌, List, [], ◌∷◌, eqb}
-use types.Run.{OneOf, miss}
-use denote.Enum.Declared.{tag_of}
+use Rattle.lists.proofs.Prelude.{ℕ, ◌≡◌, refl, true, false, ◌&&◌, List, [], ◌∷◌, eqb}
 use Rattle.go.specs.Value.{move_under}
 use Rattle.go_points.specs.declared.Value.{Value}
 use Rattle.go_points.specs.declared.Value.TheVariants.{Other, Invalid, Pass, Move, Handicap, Points}
-use Rattle.go_points.specs.contracts.Value as value
 
 abbrev unplayed : List ℕ
 unplayed = 0 ∷ 1 ∷ 2 ∷ 4 ∷ 5 ∷ []
 
 module _ (rule : ℕ) where
   -- what is no point stays
-  pub play-other : (v : Value) → OneOf (0 ∷ 1 ∷ 2 ∷ 4 ∷ 5 ∷ []) (tag_of value.the_type v) → v ≡ move_under rule v
+  pub play-other : (v : Value) → ((x y : ℕ) → v ≡ Move x y → ⊥) → v ≡ move_under rule v
   unfolding move_under
   play-other Other h = refl
   play-other Invalid h = refl
   play-other Pass h = refl
-  play-other (Move x y) h = absurd (miss unplayed 3 tt h)
+  play-other (Move x y) h = absurd (h x y refl)
   play-other (Handicap n) h = refl
   play-other Points h = refl
 
