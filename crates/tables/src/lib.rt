@@ -1,4 +1,6 @@
 // The four lent tables: their rows, the counts and numbers given back, and the links and depths of the nodes.
+#![tactic(auto)]
+
 ghost use Rattle.std.specs.Prelude.{◌≡◌};
 ghost use Rattle.tables.specs.LocalsDepths.{LevelsIs};
 ghost use Rattle.tables.specs.LocalsLinks.{LinksIs};
