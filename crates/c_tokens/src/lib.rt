@@ -1,4 +1,6 @@
 // Trimming, tokens and values, one call each, as the structs of the C header.
+#![tactic(auto)]
+
 ghost use Rattle.std.specs.Prelude.{◌≡◌};
 ghost use Rattle.text_utf8.specs.Trim.{trimmed};
 ghost use Rattle.lexer_scan.specs.Scan.{value_step_at};
