@@ -13,7 +13,7 @@ import re
 import sys
 
 WORD = re.compile(r"(?<![\w'·])[a-z][\w'₀-₉]*?(?:-[\w'₀-₉]+)*(?![\w'])")
-TOKEN = re.compile(r'"(?:[^"\\]|\\.)*"|[^\W\d][\w\'₀-₉]*(?:-[\w\'₀-₉]+)*')
+TOKEN = re.compile(r'"(?:[^"\\]|\\.)*"|(?<!\w)[^\W\d][\w\'₀-₉]*(?:-[\w\'₀-₉]+)*')
 CAMEL = re.compile(r"[a-z0-9][A-Z]")
 # Names of the library that one prelude gave other names: they keep the library's.
 LIBRARY = (("List·getD-append", "get_or-append"), ("List·getD-eq-default", "get_or-eq_default"), ("List·Memᴰ·", "memᴰ-"))

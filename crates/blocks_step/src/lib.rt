@@ -37,13 +37,13 @@ fn fits(left: Left, b: u8) -> bool
     ensures { result ≡ holds (range_of left) b }
 {
     match left {
-        Left::One => (0x80 <= b) & (b <= 0x_bf),
-        Left::TwoFromA0 => (0x_a0 <= b) & (b <= 0x_bf),
-        Left::TwoTo9f => (0x80 <= b) & (b <= 0x9_f),
-        Left::Two => (0x80 <= b) & (b <= 0x_bf),
-        Left::ThreeFrom90 => (0x90 <= b) & (b <= 0x_bf),
-        Left::Three => (0x80 <= b) & (b <= 0x_bf),
-        Left::ThreeTo8f => (0x80 <= b) & (b <= 0x8_f),
+        Left::One => (0x80 <= b) & (b <= 0xBF),
+        Left::TwoFromA0 => (0xA0 <= b) & (b <= 0xBF),
+        Left::TwoTo9f => (0x80 <= b) & (b <= 0x9F),
+        Left::Two => (0x80 <= b) & (b <= 0xBF),
+        Left::ThreeFrom90 => (0x90 <= b) & (b <= 0xBF),
+        Left::Three => (0x80 <= b) & (b <= 0xBF),
+        Left::ThreeTo8f => (0x80 <= b) & (b <= 0x8F),
     }
 }
 
@@ -72,29 +72,29 @@ fn shifted(code: u32, b: u8) -> u32
 fn first_byte(at: u32, b: u8) -> Char
     ensures { result ≡ decodes Utf8.Whole at b }
 {
-    if b <= 0x7_f {
+    if b <= 0x7F {
         return Char::Ended(text_chars::is_white(b as u32));
     }
-    if ranges(0x_c2, 0x_df, b) {
-        return Char::Goes(Utf8::Within(Left::One, at, over(b, 0x_c0)));
+    if ranges(0xC2, 0xDF, b) {
+        return Char::Goes(Utf8::Within(Left::One, at, over(b, 0xC0)));
     }
-    if b == 0x_e0 {
-        return Char::Goes(Utf8::Within(Left::TwoFromA0, at, over(b, 0x_e0)));
+    if b == 0xE0 {
+        return Char::Goes(Utf8::Within(Left::TwoFromA0, at, over(b, 0xE0)));
     }
-    if b == 0x_ed {
-        return Char::Goes(Utf8::Within(Left::TwoTo9f, at, over(b, 0x_e0)));
+    if b == 0xED {
+        return Char::Goes(Utf8::Within(Left::TwoTo9f, at, over(b, 0xE0)));
     }
-    if ranges(0x_e1, 0x_ef, b) {
-        return Char::Goes(Utf8::Within(Left::Two, at, over(b, 0x_e0)));
+    if ranges(0xE1, 0xEF, b) {
+        return Char::Goes(Utf8::Within(Left::Two, at, over(b, 0xE0)));
     }
-    if b == 0x_f0 {
-        return Char::Goes(Utf8::Within(Left::ThreeFrom90, at, over(b, 0x_f0)));
+    if b == 0xF0 {
+        return Char::Goes(Utf8::Within(Left::ThreeFrom90, at, over(b, 0xF0)));
     }
-    if ranges(0x_f1, 0x_f3, b) {
-        return Char::Goes(Utf8::Within(Left::Three, at, over(b, 0x_f0)));
+    if ranges(0xF1, 0xF3, b) {
+        return Char::Goes(Utf8::Within(Left::Three, at, over(b, 0xF0)));
     }
-    if b == 0x_f4 {
-        return Char::Goes(Utf8::Within(Left::ThreeTo8f, at, over(b, 0x_f0)));
+    if b == 0xF4 {
+        return Char::Goes(Utf8::Within(Left::ThreeTo8f, at, over(b, 0xF0)));
     }
     Char::Goes(Utf8::Bad(at))
 }

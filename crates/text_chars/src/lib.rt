@@ -20,15 +20,15 @@ pub fn is_white(c: u32) -> bool
     if 0x3000 < c {
         return false;
     }
-    ((0x9 <= c) & (c <= 0x_d))
+    ((0x9 <= c) & (c <= 0xD))
         | (c == 0x20)
         | (c == 0x85)
-        | (c == 0x_a0)
+        | (c == 0xA0)
         | (c == 0x1680)
-        | ((0x2000 <= c) & (c <= 0x200_a))
+        | ((0x2000 <= c) & (c <= 0x200A))
         | ((0x2028 <= c) & (c <= 0x2029))
-        | (c == 0x202_f)
-        | (c == 0x205_f)
+        | (c == 0x202F)
+        | (c == 0x205F)
         | (c == 0x3000)
 }
 
@@ -50,24 +50,24 @@ fn leads(b: u8, a: u8, z: u8, c: u8, low: u8, high: u8) -> bool
 fn continues(b: u8) -> bool
     ensures { result ≡ within 0x80 0xbf b }
 {
-    (0x80 <= b) & (b <= 0x_bf)
+    (0x80 <= b) & (b <= 0xBF)
 }
 
 // Table 3-7: its row of two bytes.
 fn two(b: u8, c: u8) -> bool
     ensures { result ≡ listed 2 (b ∷ c ∷ []) }
 {
-    leads(b, 0x_c2, 0x_df, c, 0x80, 0x_bf)
+    leads(b, 0xC2, 0xDF, c, 0x80, 0xBF)
 }
 
 // Table 3-7: its rows of three bytes.
 fn three(b: u8, c: u8, d: u8) -> bool
     ensures { result ≡ listed 3 (b ∷ c ∷ d ∷ []) }
 {
-    (leads(b, 0x_e0, 0x_e0, c, 0x_a0, 0x_bf)
-        | leads(b, 0x_e1, 0x_ec, c, 0x80, 0x_bf)
-        | leads(b, 0x_ed, 0x_ed, c, 0x80, 0x9_f)
-        | leads(b, 0x_ee, 0x_ef, c, 0x80, 0x_bf))
+    (leads(b, 0xE0, 0xE0, c, 0xA0, 0xBF)
+        | leads(b, 0xE1, 0xEC, c, 0x80, 0xBF)
+        | leads(b, 0xED, 0xED, c, 0x80, 0x9F)
+        | leads(b, 0xEE, 0xEF, c, 0x80, 0xBF))
         & continues(d)
 }
 
@@ -75,9 +75,9 @@ fn three(b: u8, c: u8, d: u8) -> bool
 fn four(b: u8, c: u8, d: u8, e: u8) -> bool
     ensures { result ≡ listed 4 (b ∷ c ∷ d ∷ e ∷ []) }
 {
-    (leads(b, 0x_f0, 0x_f0, c, 0x90, 0x_bf)
-        | leads(b, 0x_f1, 0x_f3, c, 0x80, 0x_bf)
-        | leads(b, 0x_f4, 0x_f4, c, 0x80, 0x8_f))
+    (leads(b, 0xF0, 0xF0, c, 0x90, 0xBF)
+        | leads(b, 0xF1, 0xF3, c, 0x80, 0xBF)
+        | leads(b, 0xF4, 0xF4, c, 0x80, 0x8F))
         & (continues(d) & continues(e))
 }
 
@@ -100,21 +100,21 @@ fn joined(code: u32, b: u8) -> u32
 fn scalar2(b: u8, c: u8) -> u32
     ensures { result ≡ scalar (b ∷ c ∷ []) }
 {
-    joined(above(b, 0x_c0), c)
+    joined(above(b, 0xC0), c)
 }
 
 // The character that three bytes code.
 fn scalar3(b: u8, c: u8, d: u8) -> u32
     ensures { result ≡ scalar (b ∷ c ∷ d ∷ []) }
 {
-    joined(joined(above(b, 0x_e0), c), d)
+    joined(joined(above(b, 0xE0), c), d)
 }
 
 // The character that four bytes code.
 fn scalar4(b: u8, c: u8, d: u8, e: u8) -> u32
     ensures { result ≡ scalar (b ∷ c ∷ d ∷ e ∷ []) }
 {
-    joined(joined(joined(above(b, 0x_f0), c), d), e)
+    joined(joined(joined(above(b, 0xF0), c), d), e)
 }
 
 // The character at `i`, beyond ASCII.

@@ -33,26 +33,26 @@ struct Ahead {
 fn is_blank1(a: u8) -> bool
     ensures { result ≡ blank1 a }
 {
-    (a == 0x09) | ((a == 0x0_b) | ((a == 0x0_c) | (a == 0x20)))
+    (a == 0x09) | ((a == 0x0B) | ((a == 0x0C) | (a == 0x20)))
 }
 
 // White space of two bytes.
 fn is_blank2(a: u8, b: u8) -> bool
     ensures { result ≡ blank2 a b }
 {
-    (a == 0x_c2) & ((b == 0x85) | (b == 0x_a0))
+    (a == 0xC2) & ((b == 0x85) | (b == 0xA0))
 }
 
 // White space of three bytes.
 fn is_blank3(a: u8, b: u8, c: u8) -> bool
     ensures { result ≡ blank3 a b c }
 {
-    let spaces = (0x80 <= c) & (c <= 0x8_a);
-    let lines = (c == 0x_a8) | ((c == 0x_a9) | (c == 0x_af));
-    ((a == 0x_e1) & ((b == 0x9_a) & (c == 0x80)))
-        | (((a == 0x_e2) & ((b == 0x80) & (spaces | lines)))
-            | (((a == 0x_e2) & ((b == 0x81) & (c == 0x9_f)))
-                | ((a == 0x_e3) & ((b == 0x80) & (c == 0x80)))))
+    let spaces = (0x80 <= c) & (c <= 0x8A);
+    let lines = (c == 0xA8) | ((c == 0xA9) | (c == 0xAF));
+    ((a == 0xE1) & ((b == 0x9A) & (c == 0x80)))
+        | (((a == 0xE2) & ((b == 0x80) & (spaces | lines)))
+            | (((a == 0xE2) & ((b == 0x81) & (c == 0x9F)))
+                | ((a == 0xE3) & ((b == 0x80) & (c == 0x80)))))
 }
 
 // The read byte ahead.
@@ -76,7 +76,7 @@ fn plain_byte(s: &[u8], b: u8, at: usize) -> Ahead
             next: at,
         };
     }
-    if (b < 0x_c2) | (0x_e3 < b) {
+    if (b < 0xC2) | (0xE3 < b) {
         return Ahead { byte: b, next: at };
     }
     let second = peek(s, at);
