@@ -1,4 +1,6 @@
-// A thin token walker that holds the text itself: a text and an offset. Its functions take or give the struct and are proved by hand; the work is the lexer's cursor step.
+// A thin token walker that holds the text itself: a text and an offset. The work is the lexer's cursor step.
+#![tactic(auto)]
+
 ghost use Rattle.std.specs.Prelude.{◌≡◌};
 ghost use Rattle.lexer.specs.Step.{SteppedIs};
 
@@ -39,7 +41,7 @@ pub fn moved<'a>(w: Walker<'a>, at: usize) -> Walker<'a>
     Walker { text: w.text, at }
 }
 
-// The token at a place of a text, by a walker: its parameters are plain, so that its callers need no proof by hand.
+// The token at a place of a text, by a walker, over plain parameters.
 pub fn token_at(s: &[u8], at: usize) -> Stepped
     ensures { SteppedIs s.now at result.token result.next.at }
 {
