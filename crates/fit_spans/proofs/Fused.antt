@@ -1,8 +1,8 @@
 -- The loop that tests spans and identifiers together. Assumes nothing.
-use Rattle.lists.proofs.Prelude.{ℕ, ◌+◌, ◌≤◌, ◌<◌, Bool, true, false, ◌&&◌, and-false, List, [], ◌++◌, ◌≡◌, sym, ap, ◌∙◌}
+use Rattle.lists.proofs.Prelude.{ℕ, ◌≤◌, ◌<◌, Bool, true, false, ◌&&◌, and-false, List, [], ◌++◌, ◌≡◌, sym, ap, ◌∙◌}
 use Rattle.tables.specs.Columns.{name_from_at, name_to_at, first_val_at, val_count_at}
 use Rattle.tables.specs.Each.{each, tabulate}
-use Rattle.tables.proofs.Cases.{and_left, and_right}
+use Rattle.tables.proofs.Cases.{and_left}
 use Rattle.tables.proofs.Each.{each-end, each-fails}
 use Rattle.fit_spans.specs.Locals.{Spanned}
 use Rattle.fit_spans.specs.Spans.{span, val_span, prop_spans, spans, ascending, name_right}

@@ -1,4 +1,6 @@
 // Whether the ranges of properties and values fit, and the parts of the text that their rows name. Linear in text and tables.
+#![tactic(auto)]
+
 ghost use Rattle.std.specs.Prelude.{◌≡◌, true, ◌&&◌, [], ◌∷◌, ℕ, ◌+◌, ◌*◌, ◌/◌, ◌<◌, ◌≤◌, leb, length, get_or};
 ghost use Rattle.lexer_close.specs.declared.Close.TheVariants.{At};
 ghost use Rattle.lexer_close.specs.Close.{close_at};
