@@ -1,5 +1,5 @@
 -- The path from a node up to its root. Assumes nothing.
-use Rattle.lists.proofs.Prelude.{ℕ, zero, suc, ◌-◌, ◌≤◌, ◌<◌, Bool, true, false, not, ◌&&◌, ◌||◌, or-false, List, ◌≡◌, refl, sym, ap, ◌∙◌, subst, arith, ltb, eqb, eq-eqb, ne_eqb, lt-ltb, le-ltb, eqb-false, ltb-true}
+use Rattle.lists.proofs.Prelude.{ℕ, zero, suc, ◌≤◌, ◌<◌, Bool, true, false, not, ◌&&◌, ◌||◌, or-false, List, ◌≡◌, refl, sym, ap, ◌∙◌, subst, arith, ltb, eqb, eq-eqb, ne_eqb, lt-ltb, le-ltb, eqb-false, ltb-true}
 use Rattle.tables.specs.Numbers.{none}
 use Rattle.tables.specs.Columns.{parent_at}
 use Rattle.fit_nodes.specs.Nodes.{has_parent, upward, on_path}

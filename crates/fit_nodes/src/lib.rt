@@ -1,4 +1,6 @@
 // Whether the links of nodes fit: roots, parents, first children, next siblings; the game types; and the depths. Linear in the tables: what climbs leaves a node only once.
+#![tactic(auto)]
+
 ghost use Rattle.std.specs.Prelude.{◌≡◌, true, ◌&&◌, ◌/◌, ◌<◌, ◌≤◌, length};
 ghost use Rattle.tables.specs.Numbers.{none};
 ghost use Rattle.tables.specs.Each.{each};
