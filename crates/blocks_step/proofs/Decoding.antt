@@ -1,5 +1,5 @@
 -- What one byte does to UTF-8, by its ranges. Assumes nothing.
-use Rattle.lists.proofs.Prelude.{◌≡◌, refl, sym, ap, ◌∙◌, ℕ, suc, ◌+◌, ◌-◌, ◌*◌, ◌%◌, ◌≤◌, ◌<◌, Bool, true, false, eq-eqb, ne_eqb, le-leb, lt-leb}
+use Rattle.lists.proofs.Prelude.{◌≡◌, refl, ap, ◌∙◌, ℕ, suc, ◌+◌, ◌-◌, ◌*◌, ◌%◌, ◌≤◌, ◌<◌, Bool, true, false, eq-eqb, ne_eqb, le-leb, lt-leb}
 use Rattle.text_chars.specs.White.{within, white}
 use Rattle.text_utf8.specs.Text.{blank, mark, any, holds, whole}
 use Rattle.blocks_step.specs.declared.Left.{Left}

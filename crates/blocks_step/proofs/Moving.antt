@@ -1,10 +1,10 @@
 -- What one byte does, by the tests of the token rules. Assumes nothing.
-use Rattle.lists.proofs.Prelude.{◌≡◌, refl, sym, ap, ◌∙◌, ℕ, Bool, true, false, false≢true, true≢false, List, [], ◌∷◌, arith, leb, eqb, eq-eqb, ne_eqb, pick}
+use Rattle.lists.proofs.Prelude.{◌≡◌, refl, sym, ap, ◌∙◌, ℕ, Bool, true, false, false≢true, true≢false, List, [], arith, leb, eqb, eq-eqb, ne_eqb, pick}
 use Rattle.lists.proofs.Tests.{never}
 use Rattle.lexer_scan.specs.Scan.{space}
-use Rattle.lexer.specs.Token.{Prop, Out, begins, property_state, afters}
+use Rattle.lexer.specs.Token.{Prop, begins, property_state, afters}
 use Rattle.blocks_step.specs.declared.Phase.{Phase}
-use Rattle.blocks_step.specs.declared.Phase.TheVariants.{Between, Ident, Value, Escaped, After, Foreign}
+use Rattle.blocks_step.specs.declared.Phase.TheVariants.{Between, Ident, Value, After, Foreign}
 use Rattle.blocks_step.specs.declared.Tokens.{Tokens}
 use Rattle.blocks_step.specs.declared.Tokens.TheVariants.{Silent, Single, Property, Both}
 use Rattle.blocks_step.specs.declared.Moved.{Moved}

@@ -1,4 +1,6 @@
 // One byte a call: UTF-8, and the token rules without contents.
+#![tactic(auto)]
+
 ghost use Rattle.std.specs.Prelude.{◌≡◌, ◌-◌, ◌*◌, ◌+◌, ◌%◌};
 ghost use Rattle.text_chars.specs.White.{within};
 ghost use Rattle.text_utf8.specs.Text.{holds};
