@@ -1,5 +1,5 @@
 -- What plain text is as a raw value: it reads as the text, it is closed, and at most twice as long. Assumes nothing.
-use Rattle.lists.proofs.Prelude.{ℕ, ◌+◌, ◌≤◌, ◌*◌, ◌≡◌, refl, sym, ap, ◌∙◌, Bool, true, false, ◌||◌, not, List, [], ◌∷◌, ◌++◌, eqb, length, length-append, arith, pick}
+use Rattle.lists.proofs.Prelude.{ℕ, ◌≤◌, ◌*◌, ◌≡◌, refl, ap, ◌∙◌, Bool, true, false, ◌||◌, List, [], ◌∷◌, ◌++◌, eqb, length, arith}
 use Rattle.values.specs.Read.{read_from, read_value}
 use Rattle.lexer.specs.Closed.{closed_from, closed}
 use Rattle.value_escape.specs.Escape.{escaped_byte, escaped_text}

@@ -1,8 +1,7 @@
 -- UTF-8 stays UTF-8 where it is escaped: a backslash and `]` are characters of one byte. Assumes nothing.
-use Rattle.lists.proofs.Prelude.{◌≡◌, refl, sym, ap, ◌∙◌, subst, ℕ, zero, suc, ◌+◌, ◌-◌, ◌*◌, Bool, true, false, ◌||◌, List, [], ◌∷◌, ◌++◌, eqb, eqb-true}
+use Rattle.lists.proofs.Prelude.{◌≡◌, refl, sym, ap, ◌∙◌, ℕ, zero, suc, Bool, true, false, ◌||◌, List, [], ◌∷◌, ◌++◌, eqb, eqb-true}
 use Rattle.lists.proofs.Tests.{never}
-use Rattle.text_chars.specs.White.{white}
-use Rattle.text_utf8.specs.Text.{Ink, blank, inked, mark, Range, any, from-a0, to-9f, from-90, to-8f, holds, Utf, whole, part, bad, later, utf, utfs}
+use Rattle.text_utf8.specs.Text.{Ink, blank, Range, any, from-a0, to-9f, from-90, to-8f, holds, Utf, whole, part, bad, later, utf, utfs}
 use Rattle.text_utf8.proofs.Steps.{utf-both, utfs-bad, bad-whole}
 use Rattle.value_escape.specs.Escape.{escaped_byte, escaped_text}
 

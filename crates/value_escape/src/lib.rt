@@ -1,4 +1,6 @@
 // Plain text as a raw value: a backslash before each backslash and each `]`.
+#![tactic(auto)]
+
 ghost use Rattle.std.specs.Prelude.{◌≡◌, leb, length};
 ghost use Rattle.store_bytes.specs.LocalsWrote.{Wrote};
 ghost use Rattle.value_display.specs.Display.{displayed, displayed_in};
