@@ -1,10 +1,10 @@
 -- Whether what is left of an identifier reads as what is left of a name; an identifier by its row. Assumes nothing.
-use Rattle.lists.proofs.Prelude.{ℕ, ◌+◌, ◌*◌, ◌/◌, ◌≤◌, ◌<◌, ◌≡◌, refl, sym, ap, ◌∙◌, Bool, true, false, ◌&&◌, List, [], ◌∷◌, leb, ltb, eqb, length, get_or, drop, pick, arith, drop_of_length-le, eq-eqb, ne_eqb, lt-ltb, le-ltb, le-leb, lt-leb, leb-true, leb-false}
+use Rattle.lists.proofs.Prelude.{ℕ, ◌+◌, ◌*◌, ◌/◌, ◌≤◌, ◌<◌, ◌≡◌, refl, Bool, true, false, ◌&&◌, List, [], leb, length, get_or, drop, arith, drop_of_length-le, eq-eqb, ne_eqb, lt-ltb, le-ltb, leb-true, leb-false}
 use Rattle.lists.proofs.Places.{drop-next}
 use Rattle.lists.specs.Same.{same}
 use Rattle.values.specs.Read.{read_identifier}
-use Rattle.parts.specs.Rows.{cut, value_at}
-use Rattle.tables.specs.Columns.{property_stride, name_from_at, name_to_at}
+use Rattle.parts.specs.Rows.{value_at}
+use Rattle.tables.specs.Columns.{property_stride}
 use Rattle.parts_props.specs.Props.{identifier_at}
 
 module _ (s w : List ℕ) (i n : ℕ) {x : Bool} (e : same (read_identifier (drop i s)) (drop n w) ≡ x) where

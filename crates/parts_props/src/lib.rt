@@ -1,4 +1,6 @@
 // A property by its row: its identifier as a part of the text, and whether that reads as a name.
+#![tactic(auto)]
+
 ghost use Rattle.std.specs.Prelude.{◌≡◌};
 ghost use Rattle.lists.specs.Same.{same};
 ghost use Rattle.values.specs.Read.{read_identifier};
