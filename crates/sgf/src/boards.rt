@@ -8,8 +8,7 @@ use board::SgfBoard;
 use tables::Counts;
 
 // The board at a node, played from its root. Numbers: 19, 21, 22, 23.
-#[unsafe(no_mangle)]
-pub extern "C" fn sgf_board(
+pub fn sgf_board(
     text: &[u8],
     used: usize,
     counts: Counts,
@@ -26,8 +25,7 @@ pub extern "C" fn sgf_board(
 }
 
 // The properties of `count` rows from row `first` on, played upon a board. Numbers: 23, or that of the board.
-#[unsafe(no_mangle)]
-pub extern "C" fn sgf_board_next(
+pub fn sgf_board_next(
     board: SgfBoard,
     text: &[u8],
     properties: &[u32],

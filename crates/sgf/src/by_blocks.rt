@@ -5,16 +5,14 @@ ghost use Rattle.blocks.specs.Close.{CloseIs};
 use blocks::{Blocked, BlocksState, Closed};
 
 // A block of the text, of any length; 20 after close.
-#[unsafe(no_mangle)]
-pub extern "C" fn sgf_block(state: BlocksState, block: &[u8], rows: &mut [u32]) -> Blocked
+pub fn sgf_block(state: BlocksState, block: &[u8], rows: &mut [u32]) -> Blocked
     ensures { BlockIs state block.now rows.old result rows.new }
 {
     blocks::block(state, block, rows)
 }
 
 // The end of the text: the number of tokens, or the number and place of the refusal; 20 after close.
-#[unsafe(no_mangle)]
-pub extern "C" fn sgf_close(state: BlocksState, rows: &mut [u32]) -> Closed
+pub fn sgf_close(state: BlocksState, rows: &mut [u32]) -> Closed
     ensures { CloseIs state rows.old result rows.new }
 {
     blocks::close(state, rows)

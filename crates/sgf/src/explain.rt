@@ -10,32 +10,28 @@ use c_answers::SgfReading;
 use c_why::SgfWhy;
 
 // How many rows a strict reading of a text needs, or why it is refused and the place.
-#[unsafe(no_mangle)]
-pub extern "C" fn sgf_count_strict(text: &[u8]) -> SgfReading
+pub fn sgf_count_strict(text: &[u8]) -> SgfReading
     ensures { result ≡ reading_in_c 0 (rows_counted (read_strict text.now)) }
 {
     c_answers::reading_in_c(0, reader::count_strict(text))
 }
 
 // How many rows a lenient reading of a text needs, or why it is refused and the place.
-#[unsafe(no_mangle)]
-pub extern "C" fn sgf_count_lenient(text: &[u8]) -> SgfReading
+pub fn sgf_count_lenient(text: &[u8]) -> SgfReading
     ensures { result ≡ reading_in_c 0 (rows_counted (read_lenient text.now)) }
 {
     c_answers::lenient_in_c(0, reader::count_lenient(text))
 }
 
 // Why a text is refused where it is read strictly: the number, the fact, the place of the token to blame; or the counts and the place of the first token in no slice.
-#[unsafe(no_mangle)]
-pub extern "C" fn sgf_why_strict(text: &[u8]) -> SgfWhy
+pub fn sgf_why_strict(text: &[u8]) -> SgfWhy
     ensures { result ≡ why_in_c (explained false text.now) }
 {
     c_why::why_in_c(why::strict(text))
 }
 
 // The same where it is read leniently.
-#[unsafe(no_mangle)]
-pub extern "C" fn sgf_why_lenient(text: &[u8]) -> SgfWhy
+pub fn sgf_why_lenient(text: &[u8]) -> SgfWhy
     ensures { result ≡ why_in_c (explained true text.now) }
 {
     c_why::why_in_c(why::lenient(text))

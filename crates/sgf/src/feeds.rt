@@ -14,8 +14,7 @@ use c_feed::{SgfCheck, SgfPart};
 use tables::Counts;
 
 // The bytes of value k as corrected: a part of the feed or of the record, or the number of a refusal: 19, 24, 16, 17, 2, 18, then 16 for k itself.
-#[unsafe(no_mangle)]
-pub extern "C" fn sgf_corrected(
+pub fn sgf_corrected(
     text: &[u8],
     used: usize,
     counts: Counts,
@@ -36,8 +35,7 @@ pub extern "C" fn sgf_corrected(
 }
 
 // Whether a feed may be applied to a record, but for the length of the text: 19, 24, then for each correction 16, 17, 2, 18.
-#[unsafe(no_mangle)]
-pub extern "C" fn sgf_feed_check(
+pub fn sgf_feed_check(
     text: &[u8],
     used: usize,
     counts: Counts,
@@ -57,24 +55,21 @@ pub extern "C" fn sgf_feed_check(
 }
 
 // Where the new bytes of value k stand in a feed, without any check: among the corrections before the first fault.
-#[unsafe(no_mangle)]
-pub extern "C" fn sgf_feed_find(feed: &[u8], k: usize) -> SgfPart
+pub fn sgf_feed_find(feed: &[u8], k: usize) -> SgfPart
     ensures { result ≡ found_in_c (found_in (listing feed.now).entries k) }
 {
     c_feed::found_in_c(feed::find(feed, k))
 }
 
 // The count with which a feed begins, put into the output, or nothing changed: 24, 14.
-#[unsafe(no_mangle)]
-pub extern "C" fn sgf_feed_begin(count: usize, out: &mut [u8]) -> SgfWriting
+pub fn sgf_feed_begin(count: usize, out: &mut [u8]) -> SgfWriting
     ensures { PutInC (ltb count numeral_limit) (spelled count) out.old out.new result }
 {
     c_feed::made_in_c(feed::make::put_count(out, count))
 }
 
 // One correction, put into the output, or nothing changed: 24, 14.
-#[unsafe(no_mangle)]
-pub extern "C" fn sgf_feed_add(value: usize, bytes: &[u8], out: &mut [u8]) -> SgfWriting
+pub fn sgf_feed_add(value: usize, bytes: &[u8], out: &mut [u8]) -> SgfWriting
     ensures { PutInC (ltb value numeral_limit && ltb (length bytes.now) numeral_limit)
         (correction_bytes value bytes.now) out.old out.new result }
 {
@@ -82,8 +77,7 @@ pub extern "C" fn sgf_feed_add(value: usize, bytes: &[u8], out: &mut [u8]) -> Sg
 }
 
 // Puts the corrections of a feed into the record in place, all of them, or changes nothing: 19, 24, for each correction 16, 17, 2, 18, then 1, 14.
-#[unsafe(no_mangle)]
-pub extern "C" fn sgf_correct(
+pub fn sgf_correct(
     text: &mut [u8],
     used: usize,
     counts: Counts,

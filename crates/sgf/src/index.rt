@@ -12,16 +12,14 @@ use c_simple::{SgfEntry, SgfSimple};
 use tables::Counts;
 
 // What FF[4] lists of the property with this identifier; all 0 where it does not list it.
-#[unsafe(no_mangle)]
-pub extern "C" fn sgf_entry(identifier: &[u8]) -> SgfEntry
+pub fn sgf_entry(identifier: &[u8]) -> SgfEntry
     ensures { result ≡ entry_in_c (entry_of (read_identifier identifier.now)) }
 {
     c_simple::entry_in_c(ff4_index::entry_of(identifier))
 }
 
 // The simple value of property p; "other" where it is refused: 19, 16.
-#[unsafe(no_mangle)]
-pub extern "C" fn sgf_simple_value(
+pub fn sgf_simple_value(
     text: &[u8],
     used: usize,
     counts: Counts,
@@ -40,8 +38,7 @@ pub extern "C" fn sgf_simple_value(
 }
 
 // The simple value of a property by its parts, for tables that are known to fit: how its tree is read, its identifier, and the rows of its values.
-#[unsafe(no_mangle)]
-pub extern "C" fn sgf_simple_property(
+pub fn sgf_simple_property(
     rule: u32,
     identifier: &[u8],
     text: &[u8],

@@ -8,8 +8,7 @@ use c_answers::SgfWriting;
 use tables::Counts;
 
 // How many bytes sgf_write needs and would write, or why it would write none: 19, 15.
-#[unsafe(no_mangle)]
-pub extern "C" fn sgf_write_length(
+pub fn sgf_write_length(
     text: &[u8],
     used: usize,
     counts: Counts,

@@ -1,4 +1,4 @@
-// The exported library: one C function an operation. Each only calls a proved operation and shows its answer as numbers; include/sgf.h says what a caller sees.
+// The library that crates/sgf_c exports: one function an operation. Each only calls a proved operation and shows its answer as numbers; include/sgf.h says what a caller sees.
 pub mod index; // index.rt: the property index, simple values
 pub mod escape;
 pub mod feeds; // feeds.rt: corrections over the air
@@ -42,40 +42,35 @@ use tables::Counts;
 use value_display::Kind;
 
 // The version of the library: major * 65536 + minor * 256 + patch.
-#[unsafe(no_mangle)]
-pub extern "C" fn sgf_version() -> u32
+pub fn sgf_version() -> u32
     ensures { result ≡ version }
 {
     c_version::number()
 }
 
 // Is the text UTF-8, and what does trimming keep of it.
-#[unsafe(no_mangle)]
-pub extern "C" fn sgf_trim(text: &[u8]) -> SgfTrim
+pub fn sgf_trim(text: &[u8]) -> SgfTrim
     ensures { TrimIs (trimmed text.now) result.number result.place result.first result.last }
 {
     c_tokens::trim(text)
 }
 
 // The next token from a place on.
-#[unsafe(no_mangle)]
-pub extern "C" fn sgf_token(text: &[u8], at: usize) -> SgfToken
+pub fn sgf_token(text: &[u8], at: usize) -> SgfToken
     ensures { TokenIs at (next_at text.now at) result.kind result.number result.from result.opens result.to }
 {
     c_tokens::token(text, at)
 }
 
 // The value of a property whose `[` stands at a place.
-#[unsafe(no_mangle)]
-pub extern "C" fn sgf_next_value(text: &[u8], at: usize) -> SgfValue
+pub fn sgf_next_value(text: &[u8], at: usize) -> SgfValue
     ensures { ValueIs at (value_step_at text.now at) result.kind result.from result.to result.next }
 {
     c_tokens::next_value(text, at)
 }
 
 // Reads a text into the lent tables, strictly. Settings that a profile stores change no reading: those of the two retired switches come back in the answer.
-#[unsafe(no_mangle)]
-pub extern "C" fn sgf_read_strict(
+pub fn sgf_read_strict(
     text: &[u8],
     settings: u32,
     trees: &mut [u32],
@@ -95,8 +90,7 @@ pub extern "C" fn sgf_read_strict(
 }
 
 // Reads a text into the lent tables, leniently: as far as the text can be read. Settings that a profile stores change no reading: those of the two retired switches come back in the answer.
-#[unsafe(no_mangle)]
-pub extern "C" fn sgf_read_lenient(
+pub fn sgf_read_lenient(
     text: &[u8],
     settings: u32,
     trees: &mut [u32],
@@ -116,8 +110,7 @@ pub extern "C" fn sgf_read_lenient(
 }
 
 // Number 0 where the tables fit the first `used` bytes of the text, else 19.
-#[unsafe(no_mangle)]
-pub extern "C" fn sgf_fits(
+pub fn sgf_fits(
     text: &[u8],
     used: usize,
     counts: Counts,
@@ -136,8 +129,7 @@ pub extern "C" fn sgf_fits(
 }
 
 // The span of value k.
-#[unsafe(no_mangle)]
-pub extern "C" fn sgf_value(
+pub fn sgf_value(
     text: &[u8],
     used: usize,
     counts: Counts,
@@ -164,8 +156,7 @@ fn kind_of(kind: u32) -> Kind
 }
 
 // Displays value k in the output: kind 0 Text, any other SimpleText.
-#[unsafe(no_mangle)]
-pub extern "C" fn sgf_display(
+pub fn sgf_display(
     text: &[u8],
     used: usize,
     counts: Counts,
@@ -196,8 +187,7 @@ pub extern "C" fn sgf_display(
 }
 
 // Displays a raw value in the output without a record, for callers whose tables are known to fit, or who have none.
-#[unsafe(no_mangle)]
-pub extern "C" fn sgf_display_value(kind: u32, raw: &[u8], out: &mut [u8]) -> SgfDisplay
+pub fn sgf_display_value(kind: u32, raw: &[u8], out: &mut [u8]) -> SgfDisplay
     ensures { RawInC (display_kind kind) raw.now out.old out.new result }
 {
     c_answers::value_in_c(value_display::display(kind_of(kind), raw, out))
@@ -214,8 +204,7 @@ fn refusal_number(refusal: Refusal) -> u32
 }
 
 // The Go value of property p; "other" and no points where it is refused.
-#[unsafe(no_mangle)]
-pub extern "C" fn sgf_go_value(
+pub fn sgf_go_value(
     text: &[u8],
     used: usize,
     counts: Counts,
@@ -245,8 +234,7 @@ fn shape_in(rule: u32, identifier: &[u8]) -> Shape
 }
 
 // The Go value of a property by its parts, for tables that are known to fit: the rule of its tree, its identifier, and the rows of its values.
-#[unsafe(no_mangle)]
-pub extern "C" fn sgf_go_by_rule(
+pub fn sgf_go_by_rule(
     rule: u32,
     identifier: &[u8],
     text: &[u8],
@@ -265,8 +253,7 @@ pub extern "C" fn sgf_go_by_rule(
 }
 
 // Writes the record into the output, or changes nothing: 19, 15, 14.
-#[unsafe(no_mangle)]
-pub extern "C" fn sgf_write(
+pub fn sgf_write(
     text: &[u8],
     used: usize,
     counts: Counts,
@@ -286,8 +273,7 @@ pub extern "C" fn sgf_write(
 }
 
 // Replaces value k by new bytes in place, or changes nothing: 19, 16, 17, 2, 18, 1, 14.
-#[unsafe(no_mangle)]
-pub extern "C" fn sgf_edit(
+pub fn sgf_edit(
     text: &mut [u8],
     used: usize,
     counts: Counts,

@@ -5,8 +5,7 @@ ghost use Rattle.values.specs.Read.{read_identifier};
 ghost use Rattle.sgf.specs.NamedInC.{named_in_c};
 
 // 1 where a raw identifier reads as a name, else 0.
-#[unsafe(no_mangle)]
-pub extern "C" fn sgf_is_named(identifier: &[u8], name: &[u8]) -> u32
+pub fn sgf_is_named(identifier: &[u8], name: &[u8]) -> u32
     ensures { result ≡ named_in_c (same (read_identifier identifier.now) name.now) }
 {
     if parts_props::reads_as(identifier, name) {

@@ -5,8 +5,7 @@ ghost use Rattle.c_salvage.specs.SalvageInC.{SalvageInC};
 use c_salvage::SgfSalvage;
 
 // Reads leniently into the tables, writes the mended record and the list of changes.
-#[unsafe(no_mangle)]
-pub extern "C" fn sgf_salvage(
+pub fn sgf_salvage(
     text: &[u8],
     trees: &mut [u32],
     nodes: &mut [u32],

@@ -9,16 +9,14 @@ use c_tally::{SgfLine, SgfTally};
 use tables::Counts;
 
 // The tag of the bytes: FNV-1a, 64 bits.
-#[unsafe(no_mangle)]
-pub extern "C" fn sgf_tag(bytes: &[u8]) -> u64
+pub fn sgf_tag(bytes: &[u8]) -> u64
     ensures { result ≡ tag_of bytes.now }
 {
     season_tag::tag(bytes)
 }
 
 // How many trees, nodes, moves of each colour and passes a record has, or 19.
-#[unsafe(no_mangle)]
-pub extern "C" fn sgf_tally(
+pub fn sgf_tally(
     text: &[u8],
     used: usize,
     counts: Counts,
@@ -34,8 +32,7 @@ pub extern "C" fn sgf_tally(
 }
 
 // The line of a record in a season's report: its tally and the tag of its writing, which is put into `out`. Numbers: 19, 15, 14.
-#[unsafe(no_mangle)]
-pub extern "C" fn sgf_line(
+pub fn sgf_line(
     text: &[u8],
     used: usize,
     counts: Counts,

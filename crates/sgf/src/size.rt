@@ -8,8 +8,7 @@ use c_size::SgfSize;
 use tables::Counts;
 
 // The size and the rule of a tree, or why they are not given: 19, 16.
-#[unsafe(no_mangle)]
-pub extern "C" fn sgf_size(
+pub fn sgf_size(
     text: &[u8],
     used: usize,
     counts: Counts,
@@ -26,8 +25,7 @@ pub extern "C" fn sgf_size(
 }
 
 // The same by the rows of the tree, for tables that are known to fit.
-#[unsafe(no_mangle)]
-pub extern "C" fn sgf_tree_size(
+pub fn sgf_tree_size(
     text: &[u8],
     trees: &[u32],
     nodes: &[u32],
