@@ -12,7 +12,8 @@ place_added by x = (x + by) % 2 ^ 32
 
 -- property p's row, its identifier moved
 abbrev pub prop_added : (by : ℕ) → List ℕ → ℕ → PropRow
-prop_added by pr p = record { from = place_added by (name_from_at pr p); to = place_added by (name_to_at pr p); first = first_val_at pr p; count = val_count_at pr p }
+prop_added by pr p =
+    record { from = place_added by (name_from_at pr p); to = place_added by (name_to_at pr p); first = first_val_at pr p; count = val_count_at pr p }
 
 -- value v's row moved
 abbrev pub val_added : (by : ℕ) → List ℕ → ℕ → ValRow

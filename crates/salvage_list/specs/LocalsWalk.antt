@@ -53,7 +53,8 @@ pub record StoodIs (u : List ℕ) (from base p e : ℕ) (t : List ℕ) (r : Stoo
 pub record TreeListed (u : List ℕ) (from tree base p e : ℕ) (t : List ℕ) (r : Behind) (t' : List ℕ) : Type 0 where
   pub nodes : r.nodes ≡ base + max 1 (length (nodes_from u from base))
   pub props : r.properties ≡ p + length (all_props (nodes_from u from base))
-  pub put : EntriesPut t e (root_of tree (nodes_from u from base) ++ (nodes_changes p (nodes_from u from base) ++ cut_of tree (cut_from u from base))) r.entries t'
+  pub put : EntriesPut t e
+      (root_of tree (nodes_from u from base) ++ (nodes_changes p (nodes_from u from base) ++ cut_of tree (cut_from u from base))) r.entries t'
   pub behind : BehindIs true u from 0 r.at
   pub node-bound : r.nodes + from ≤ base + r.at + 1
   pub prop-bound : r.properties ≤ r.at
