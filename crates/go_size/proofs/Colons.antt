@@ -1,5 +1,5 @@
 -- The read value has its colons where the raw bytes have them. Assumes nothing.
-use Rattle.lists.proofs.Prelude.{ℕ, zero, suc, ◌+◌, ◌-◌, ◌≤◌, ◌<◌, ◌≡◌, refl, sym, ap, ◌∙◌, Bool, true, false, ◌||◌, List, [], ◌∷◌, add-one, arith, eqb, ltb, length, take, drop, get_or, pick, drop_of_length-le, length-drop, drop-cons, take_all, ne_eqb, eq-eqb, eqb-true, lt-ltb, le-ltb}
+use Rattle.lists.proofs.Prelude.{ℕ, suc, ◌+◌, ◌-◌, ◌≤◌, ◌<◌, ◌≡◌, refl, sym, ap, ◌∙◌, Bool, true, false, ◌||◌, List, [], ◌∷◌, add-one, arith, eqb, ltb, length, take, drop, get_or, pick, drop_of_length-le, length-drop, drop-cons, take_all, ne_eqb, eq-eqb, eqb-true, lt-ltb, le-ltb}
 use lib.Dec.{leb-suc-suc}
 use Rattle.values.specs.Read.{read_from, read_value}
 use Rattle.go_size.specs.Size.{has_colon, colon_place, before_colon, behind_colon, side_of, pair_of, size_of}

@@ -1,16 +1,14 @@
 -- The search for SZ among rows, and what it says of a root. Assumes nothing.
 use Rattle.lists.proofs.Prelude.{ℕ, zero, suc, ◌+◌, ◌-◌, ◌≤◌, ◌<◌, ◌≡◌, refl, sym, ap, ◌∙◌, Bool, true, false, List, [], ◌∷◌, arith, pick}
-use Rattle.lists.specs.Same.{same}
 use Rattle.values.specs.Read.{read_value}
 use Rattle.tables.specs.Columns.{first_val_at, val_count_at}
 use Rattle.tables.specs.Each.{tabulate}
 use Rattle.parts.specs.Rows.{value_at, values_at}
-use Rattle.parts_props.specs.Props.{Property, rows_from, named_at, property_at, properties_at}
+use Rattle.parts_props.specs.Props.{rows_from, named_at, property_at, properties_at}
 use Rattle.go_size.specs.Size.{size_of}
 use Rattle.go_size.specs.Root.{SZ, sizes_in, root_size, size_of_values, size_by, size_in}
 use Rattle.go_size.specs.Locals.{NextSize}
-use Rattle.go_size.specs.declared.RootSize.{RootSize}
-use Rattle.go_size.specs.declared.RootSize.TheVariants.{Absent, Sized, Wrong}
+use Rattle.go_size.specs.declared.RootSize.TheVariants.{Absent, Wrong}
 
 module _ (text pr vl : List ℕ) where
   -- the SZ of the rows from p up to n

@@ -1,4 +1,6 @@
 // The size of a board: SZ is one number, or two with one colon, each from 1 to 52, over the read value.
+#![tactic(auto)]
+
 ghost use Rattle.std.specs.Prelude.{◌≡◌};
 ghost use Rattle.values.specs.Read.{read_value};
 ghost use Rattle.parts.specs.Rows.{values_at};
