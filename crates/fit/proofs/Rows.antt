@@ -21,8 +21,9 @@ module _ {A : Type 0} (cells : A → List ℕ) (flat : List A → List ℕ) (row
   rows-flat [] w = refl
   rows-flat (r ∷ rs) w =
       let e : flat (r ∷ rs) ++ w ≡ cells r ++ (flat rs ++ w) = ap (λ (z : List ℕ). z ++ w) (flat-cons r rs) ∙ append_assoc (cells r) (flat rs) w in
-      rw e (ap₂ (λ x (xs : List A). x ∷ xs) (row_first r (flat rs ++ w))
-      (tabulate-later (row (cells r ++ (flat rs ++ w))) (row (flat rs ++ w)) (row-later r (flat rs ++ w)) 0 (length rs) ∙ rows-flat rs w))
+      ap (λ (z : List ℕ). tabulate (row z) 0 (suc (length rs))) e
+      ∙ ap₂ (λ x (xs : List A). x ∷ xs) (row_first r (flat rs ++ w))
+      (tabulate-later (row (cells r ++ (flat rs ++ w))) (row (flat rs ++ w)) (row-later r (flat rs ++ w)) 0 (length rs) ∙ rows-flat rs w)
 
 tree-rows : (rs : List TreeRow) (w : List ℕ) → tabulate (tree_row (flat_trees rs ++ w)) 0 (length rs) ≡ rs
 tree-rows = rows-flat (λ r. r.root ∷ r.game ∷ []) flat_trees tree_row (λ r rs. refl) (λ r t. refl)

@@ -1,5 +1,5 @@
 -- What is lent for tables that fit; where it is lent, links and parts fit by their clauses alone. Assumes nothing.
-use Rattle.lists.proofs.Prelude.{ℕ, ◌-◌, ◌/◌, ◌≤◌, Bool, true, ◌&&◌, List, ◌≡◌, refl, leb, length, leb-true, le-leb}
+use Rattle.lists.proofs.Prelude.{ℕ, ◌/◌, ◌≤◌, Bool, true, ◌&&◌, List, ◌≡◌, refl, leb, length, leb-true, le-leb}
 use Rattle.tables.specs.Numbers.{none, text_limit}
 use Rattle.tables.specs.declared.Counts.{Counts}
 use Rattle.tables.specs.Memory.{Memory}

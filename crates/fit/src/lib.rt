@@ -1,4 +1,6 @@
 // Whether tables fit a text. Linear in text and tables.
+#![tactic(auto)]
+
 ghost use Rattle.std.specs.Prelude.{◌≡◌};
 ghost use Rattle.fit.specs.Fit.{lent_for, valid_utf8, fit_text, Fit};
 ghost use Rattle.fit.specs.Locals.{RowsLent};
