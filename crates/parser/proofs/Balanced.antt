@@ -56,6 +56,8 @@ accepts : (e s : ℕ) (x : Splitting) → Comes e s 0 0 x → s ≡ e → 0 < e 
 accepts e s (splitting zero m cur []) (a, b, c, h) q p = absurd (omega (arith, h refl (omega (arith, q, p))))
 accepts e s (splitting zero m cur (c ∷ cs)) h q p = deep-accepts (ltb depth_limit m) _
 accepts e s (splitting (suc d) m cur ss) (a, b, c, h) q p = absurd (omega (arith, a, q))
+accepts e s (over m _) h q p = elim h [ ]
+accepts e s (wrong _) h q p = elim h [ ]
 
 pub balanced-accepted : (ts : List Tok) → Balanced ts → Accepts (split_by_gametree false ts)
 balanced-accepted ts b = accepts (ends ts) (starts ts) (split false (splitting 0 0 [] []) ts) (comes ts 0 0 [] [] b.covered) b.equal b.some
@@ -83,6 +85,8 @@ equals : (e s : ℕ) (x : Splitting) → Comes e s 0 0 x → Accepts (sliced fal
 equals e s (splitting zero m cur []) h a = absurd (omega (arith, a))
 equals e s (splitting zero m cur (c ∷ cs)) (a, b, f, h) q = (omega (arith, a), omega (arith, f))
 equals e s (splitting (suc d) m cur ss) h a = absurd (omega (arith, a))
+equals e s (over m _) h a = elim h [ ]
+equals e s (wrong _) h a = elim h [ ]
 
 pub accepted-balanced : (ts : List Tok) → Accepts (split_by_gametree false ts) → Balanced ts
 accepted-balanced ts a =

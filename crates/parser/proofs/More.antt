@@ -1,16 +1,16 @@
 -- What strict reading accepts, lenient reading accepts with the same record: stage by stage the two do the same. Assumes nothing.
-use Rattle.lists.proofs.Prelude.{ℕ, zero, suc, ◌≡◌, refl, sym, ap, ◌∙◌, subst, Bool, true, false, List, [], ◌∷◌, ltb, length, pick}
+use Rattle.lists.proofs.Prelude.{ℕ, zero, suc, ◌≡◌, refl, sym, ap, ◌∙◌, Bool, true, false, List, [], ◌∷◌, ltb, length, pick}
 use Rattle.lists.proofs.Tests.{never}
 use Rattle.text_utf8.specs.Text.{Utf, whole, part, bad, blank, utfs}
 use Rattle.lexer.specs.Token.{Prop, Tok, start, end, node, prop, End, done, broken}
 use Rattle.tables.specs.Numbers.{none, text_limit, reason_of}
 use Rattle.tables.specs.Record.{Node, Tree}
 use Rattle.tables.specs.declared.Reason.{Reason}
-use Rattle.tables.specs.declared.Reason.TheVariants.{TextTooLong, NotUtf8, UnexpectedGameTreeEnd, UnexpectedGameTreeStart, UnexpectedProperty, UnexpectedEndOfData, NoGameTrees}
+use Rattle.tables.specs.declared.Reason.TheVariants.{TextTooLong, NotUtf8, UnexpectedGameTreeEnd, UnexpectedGameTreeStart, UnexpectedProperty}
 use Rattle.parser.specs.Game.{Game, is, no_game, find_gametype}
-use Rattle.parser.specs.Split.{Splitting, splitting, over, wrong, ended, splits, split, Slices, no, slices, filled, sliced, split_by_gametree}
-use Rattle.parser.specs.Walk.{Walk, walk, halted, stopped, children, refuse, opens, closes, adds, gated, walks, walked}
-use Rattle.parser.specs.Read.{Answer, refused, accepted, Trees, trees_so_far, no_trees, tree_of_nodes, tree_of_walk, tree_of_game, parse_gametree, parse_gametrees, answer, parse_slices, parsed, lexing, tokenize, parse_utf8, read, read_strict, read_lenient}
+use Rattle.parser.specs.Split.{Splitting, splitting, over, wrong, splits, split, Slices, no, slices, filled, sliced, split_by_gametree}
+use Rattle.parser.specs.Walk.{Walk, walk, halted, stopped, children, opens, closes, gated, walks, walked}
+use Rattle.parser.specs.Read.{refused, accepted, Trees, trees_so_far, no_trees, tree_of_nodes, tree_of_walk, tree_of_game, parse_gametrees, answer, parse_slices, parsed, lexing, tokenize, parse_utf8, read_strict, read_lenient}
 use Rattle.parser.proofs.Answers.{not-both}
 use Rattle.parser.proofs.Runs.{stopped-stays, failing-stays}
 

@@ -1,4 +1,6 @@
 // The first pass over the tokens: faults, splitting into slices, depth.
+#![tactic(auto)]
+
 ghost use Rattle.std.specs.Prelude.{◌≡◌, true, false, max, ltb};
 ghost use Rattle.lists.specs.Pick.{pick};
 ghost use Rattle.lexer.specs.Token.{lex_at};
