@@ -1,5 +1,5 @@
 -- What setting, playing and counting say together is one act. Assumes nothing.
-use Rattle.lists.proofs.Prelude.{ℕ, Bool, true, false, ◌≡◌, refl, sym, ap, ◌∙◌, subst, List, set}
+use Rattle.lists.proofs.Prelude.{ℕ, Bool, true, false, ◌≡◌, sym, ap, ◌∙◌, subst, List, set}
 use Rattle.board_groups.specs.Board.{at}
 use Rattle.board_play.specs.Play.{settable, playable, SetIs, Plays, PlaysNear}
 use Rattle.board_play.specs.Steps.{sets, plays}

@@ -1,15 +1,13 @@
 -- Acts near the move are the acts, where the flag tells the truth; and no second answer. Assumes nothing.
-use Rattle.lists.proofs.Prelude.{ℕ, ◌<◌, Bool, true, false, true≢false, ◌≡◌, refl, sym, ap, ap₂, ◌∙◌, subst, List, [], ◌∷◌, length, set, length-set, arith}
-use Rattle.lists.proofs.Tests.{same_or, and_both}
-use Rattle.board_groups.specs.Board.{on_board}
-use Rattle.board_groups.specs.Groups.{Takes, TakesBeside, TakesGroup, TakesOf, Joined, Touches, Settled}
+use Rattle.lists.proofs.Prelude.{ℕ, Bool, true, true≢false, ◌≡◌, refl, sym, ap, ◌∙◌, subst, List, length, set, length-set, arith}
+use Rattle.lists.proofs.Tests.{same_or}
+use Rattle.board_groups.specs.Groups.{Takes, TakesOf, Joined, Touches, Settled}
 use Rattle.board_groups.proofs.Once.{takes-once, taken-once, takes-of-once}
-use Rattle.board_play.specs.Play.{Player, other_of, playable, Plays, PlaysNear}
-use Rattle.board_play.specs.Steps.{Pos, Act, sets, plays, puts, played, Step, set-step, play-step, Steps, done, next}
+use Rattle.board_play.specs.Play.{Player, other_of, playable, Plays}
+use Rattle.board_play.specs.Steps.{Pos, Act, played, Step, set-step, play-step, Steps, done, next}
 use Rattle.board_play.proofs.Acts.{settled-plays, near-acts}
 use Rattle.board_play.proofs.Playing.{playable-player, playable-board}
-use Rattle.board_acts.specs.Acts.{pos_of, StepBy, set-by, whole_by, near_by, StepsBy, done-by, next-by, BoardActIs, KnownSettled}
-use Rattle.board_acts.specs.declared.BoardState.{BoardState}
+use Rattle.board_acts.specs.Acts.{StepBy, set-by, whole_by, near_by, StepsBy, done-by, next-by, KnownSettled}
 
 -- for a player c, black and white are c and the other
 module _ (w h : ℕ) (b : List ℕ) (c : ℕ) (player : Player c) where

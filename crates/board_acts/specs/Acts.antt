@@ -3,7 +3,7 @@ use Rattle.std.specs.Prelude.{set}
 use Rattle.lists.specs.Prelude.{ℕ, Bool, true, false, ◌≡◌, List, [], ◌∷◌, eqb, pick}
 use Rattle.board_groups.specs.Groups.{Takes, TakesBeside, TakesGroup, Settled}
 use Rattle.board_play.specs.Play.{other_of, settable, playable}
-use Rattle.board_play.specs.Steps.{Sum, Pos, Act, sets, plays, one_if, sum_up_to, puts, played}
+use Rattle.board_play.specs.Steps.{Pos, Act, sets, plays, one_if, sum_up_to, puts, played}
 use Rattle.board_acts.specs.declared.BoardState.{BoardState}
 use Rattle.board_acts.specs.declared.Sums.{Sums}
 

@@ -1,4 +1,6 @@
 // Acts upon a board with the sums of stones put on and taken off: a point set, a stone played.
+#![tactic(auto)]
+
 ghost use Rattle.std.specs.Prelude.{◌≡◌, true, false, ◌&&◌, eqb};
 ghost use Rattle.lists.specs.Pick.{pick};
 ghost use Rattle.board_play.specs.Play.{Player, settable, playable};
