@@ -1,8 +1,7 @@
 -- Rows put one after another, in place. Assumes nothing.
-use Rattle.lists.proofs.Prelude.{ℕ, zero, suc, ◌+◌, ◌-◌, ◌*◌, ◌/◌, ◌≤◌, ◌<◌, List, [], ◌∷◌, ◌++◌, append_assoc, append-nil, ◌≡◌, refl, sym, ap, ap₂, ◌∙◌, subst, add-one, arith, length, take, drop, get_or, take-append-drop, length-append, length-drop, length-take-le, drop-cons, get_or-append-add, get_or-drop}
-use Rattle.lists.specs.Put.{put_at, PutIs, PutWhole}
-use Rattle.lists.proofs.Put.{put-none, put-more, put_all}
-use Rattle.tables.specs.Flat.{flat_props, flat_vals, over}
+use Rattle.lists.proofs.Prelude.{ℕ, zero, suc, ◌+◌, ◌-◌, ◌*◌, ◌≤◌, ◌<◌, List, [], ◌∷◌, ◌++◌, append_assoc, ◌≡◌, refl, sym, ap, ap₂, ◌∙◌, arith, length, take, drop, get_or, length-append, length-drop, length-take-le, drop-cons, get_or-append-add, get_or-drop}
+use Rattle.lists.specs.Put.{put_at, PutIs}
+use Rattle.tables.specs.Flat.{flat_props, flat_vals}
 use Rattle.tables.specs.Rows.{PropRow, ValRow}
 use Rattle.tables.specs.Each.{tabulate}
 use Rattle.tables.proofs.Tabulate.{tabulate-length}

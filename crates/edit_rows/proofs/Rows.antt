@@ -1,14 +1,14 @@
 -- The first rows of a table put, one by one or a stretch at a time. Assumes nothing.
-use Rattle.lists.proofs.Prelude.{ℕ, zero, suc, add-one, ◌+◌, ◌-◌, ◌*◌, ◌/◌, ◌≤◌, ◌<◌, List, [], ◌∷◌, ◌++◌, ◌≡◌, refl, sym, ap, ap₂, ◌∙◌, subst, arith, length, get_or}
+use Rattle.lists.proofs.Prelude.{ℕ, zero, suc, add-one, ◌+◌, ◌*◌, ◌/◌, ◌≤◌, ◌<◌, List, [], ◌∷◌, ◌++◌, ◌≡◌, refl, sym, ap, ◌∙◌, subst, arith, length, get_or}
 use Rattle.lists.specs.Put.{PutIs, PutWhole}
 use Rattle.lists.proofs.Put.{put-none, put-more, put_all}
-use Rattle.tables.specs.Columns.{name_from_at, name_to_at, first_val_at, val_count_at, val_from_at, val_to_at}
+use Rattle.tables.specs.Columns.{val_from_at, val_to_at}
 use Rattle.tables.specs.Flat.{flat_props, flat_vals, over}
 use Rattle.tables.specs.Rows.{PropRow, ValRow}
 use Rattle.tables.specs.Each.{tabulate}
-use Rattle.edit_rows.specs.LocalsShift.{place_added, prop_added, val_added, names_shifted}
+use Rattle.edit_rows.specs.LocalsShift.{prop_added, val_added, names_shifted}
 use Rattle.lists.specs.Put.{put_at}
-use Rattle.edit_rows.proofs.Putting.{tabulate-ext, length-props-run, length-vals-run, props-join, props-next, vals-join, vals-next, ahead, put_is, put-keep}
+use Rattle.edit_rows.proofs.Putting.{tabulate-ext, length-props-run, length-vals-run, props-join, vals-join, ahead, put_is, put-keep}
 
 -- value k's row
 abbrev pub val_row_at : List ℕ → ℕ → ValRow

@@ -1,13 +1,13 @@
 -- A stretch of rows shifted in place, row by row. Assumes nothing.
-use Rattle.lists.proofs.Prelude.{ℕ, zero, suc, ◌+◌, ◌-◌, ◌*◌, ◌/◌, ◌%◌, ◌^◌, ◌≤◌, ◌<◌, min, List, [], ◌∷◌, ◌++◌, ◌≡◌, refl, sym, ap, ◌∙◌, subst, add-one, arith, length, take, drop, get_or, set, take-append-drop, ltb, lt-ltb, le-ltb, pick, length-set}
-use Rattle.lists.specs.Put.{put_at, PutIs, PutWhole}
-use Rattle.lists.proofs.Put.{put-none, put-more}
+use Rattle.lists.proofs.Prelude.{ℕ, zero, suc, ◌+◌, ◌-◌, ◌*◌, ◌/◌, ◌%◌, ◌^◌, ◌≤◌, ◌<◌, List, [], ◌∷◌, ◌++◌, ◌≡◌, refl, sym, ap, ◌∙◌, subst, arith, length, take, drop, get_or, set, take-append-drop, lt-ltb, le-ltb}
+use Rattle.lists.specs.Put.{put_at, PutIs}
+use Rattle.lists.proofs.Put.{put-more}
 use Rattle.tables.specs.Columns.{name_from_at, name_to_at, first_val_at, val_from_at, val_to_at}
 use Rattle.tables.specs.Flat.{flat_props, flat_vals}
 use Rattle.tables.specs.Each.{tabulate}
 use Rattle.tables.proofs.Cases.{below_or}
 use Rattle.store_numbers.proofs.Stores.{row_put}
-use Rattle.edit_rows.specs.LocalsShift.{place_added, prop_added, val_added, names_before, names_shifted, values_shifted}
+use Rattle.edit_rows.specs.LocalsShift.{place_added, prop_added, val_added, names_before, names_shifted}
 use Rattle.edit_rows.proofs.Putting.{length-props-run, length-vals-run, props-next, vals-next, ahead, put-keep}
 
 -- nothing put, wherever

@@ -1,4 +1,6 @@
 // Places in the rows of properties and values moved by one number, a stretch of rows at a time.
+#![tactic(auto)]
+
 ghost use Rattle.std.specs.Prelude.{◌≡◌, ◌+◌, ◌-◌, ◌/◌, ◌%◌, ◌^◌, min, length};
 ghost use Rattle.tables.specs.Columns.{property_stride};
 ghost use Rattle.edit_rows.specs.LocalsShift.{names_before, names_shifted, values_shifted};
