@@ -1,10 +1,10 @@
 -- Tables that fit: the rule of a tree by its rows is the rule of the tree that they denote. Assumes nothing.
-use Rattle.lists.proofs.Prelude.{ℕ, zero, suc, ◌+◌, ◌-◌, ◌/◌, ◌≤◌, ◌<◌, min, List, ◌∷◌, map, ◌≡◌, refl, sym, ap, ap₂, ◌∙◌, arith, length, take, drop, slice, lt-ltb}
+use Rattle.lists.proofs.Prelude.{ℕ, zero, suc, ◌+◌, ◌-◌, ◌/◌, ◌≤◌, ◌<◌, List, ◌∷◌, map, ◌≡◌, refl, sym, ap, ap₂, ◌∙◌, arith, length, take, drop, slice, lt-ltb}
 use Rattle.lexer.specs.Token.{Val, Prop}
 use Rattle.values.specs.Read.{read_identifier}
 use Rattle.parts.specs.Rows.{values_at}
 use Rattle.parts.proofs.Valued.{values-none, values-more}
-use Rattle.parts_props.specs.Props.{Property, rows_from, identifier_at, property_at, properties_at}
+use Rattle.parts_props.specs.Props.{rows_from, identifier_at, property_at, properties_at}
 use Rattle.go_size.specs.Root.{size_in}
 use Rattle.tables.specs.declared.Counts.{Counts}
 use Rattle.tables.specs.Record.{Node, Tree}

@@ -1,8 +1,8 @@
 -- The rule of a tree and the size that its root says, by rows that may not be there. Assumes nothing.
-use Rattle.lists.proofs.Prelude.{ℕ, ◌/◌, ◌≤◌, ◌<◌, ◌≡◌, sym, ap, ◌∙◌, true, false, ◌&&◌, List, leb, length, arith, get_or-eq_default, eq-eqb, ne_eqb, lt-ltb, le-ltb, and-false}
+use Rattle.lists.proofs.Prelude.{ℕ, ◌/◌, ◌≤◌, ◌<◌, ◌≡◌, sym, ap, true, false, ◌&&◌, List, leb, length, arith, get_or-eq_default, eq-eqb, ne_eqb, lt-ltb, le-ltb, and-false}
 use Rattle.tables.specs.Columns.{root_at, game_at, first_prop_at, prop_count_at}
 use Rattle.parts_props.specs.Props.{properties_at}
-use Rattle.go_size.specs.Root.{size_by, sizes_in, size_in}
+use Rattle.go_size.specs.Root.{size_in}
 use Rattle.go_size.specs.declared.RootSize.{RootSize}
 use Rattle.go_size.specs.declared.RootSize.TheVariants.{Absent, Sized, Wrong}
 use Rattle.fit_rule.specs.Rule.{tt_passes, rule_by, root_properties_at, size_at}

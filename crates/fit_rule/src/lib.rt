@@ -1,4 +1,6 @@
 // The rule of a tree: how its values are read, by its game type and the board size that its root says.
+#![tactic(auto)]
+
 ghost use Rattle.std.specs.Prelude.{◌≡◌};
 ghost use Rattle.tables.specs.Columns.{game_at};
 ghost use Rattle.fit_rule.specs.Rule.{tt_passes, rule_by, size_at, rule_at};
