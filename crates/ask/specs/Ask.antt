@@ -1,5 +1,6 @@
 -- What a record in memory answers by number: how a value is displayed, and the Go value of a property.
-use Rattle.lists.specs.Prelude.{ℕ, ◌-◌, ◌≡◌, List, [], ◌∷◌, ltb, length, get_or, slice, pick}
+use Rattle.std.specs.Prelude.{◌-◌, ◌≡◌, ◌∷◌}
+use Rattle.lists.specs.Prelude.{ℕ, List, [], ltb, length, get_or, slice, pick}
 use Rattle.lexer.specs.Token.{Prop}
 use Rattle.values.specs.Read.{read_value, read_identifier}
 use Rattle.value_display.specs.Display.{display_text, displayed, displayed_in}

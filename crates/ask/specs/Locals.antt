@@ -1,5 +1,6 @@
 -- What the steps of a question promise each other.
-use Rattle.lists.specs.Prelude.{ℕ, zero, suc, ◌/◌, ◌<◌, ◌≤◌, List, ltb, length, slice, pick}
+use Rattle.std.specs.Prelude.{◌/◌, ◌<◌, ◌≤◌}
+use Rattle.lists.specs.Prelude.{ℕ, zero, suc, List, ltb, length, slice, pick}
 use Rattle.tables.specs.Columns.{tree_stride, node_stride, root_at, first_prop_at, name_from_at, name_to_at}
 
 -- there are m trees, at least one, and each root is a row

@@ -1,5 +1,6 @@
 -- What a record in memory answers by number: the simple value of a property.
-use Rattle.lists.specs.Prelude.{ℕ, ◌-◌, List, [], ◌∷◌, ltb, length, get_or, pick}
+use Rattle.std.specs.Prelude.{◌-◌, ◌∷◌}
+use Rattle.lists.specs.Prelude.{ℕ, List, [], ltb, length, get_or, pick}
 use Rattle.lexer.specs.Token.{Prop}
 use Rattle.values.specs.Read.{read_identifier}
 use Rattle.ff4_values.specs.Simple.{simple_value}

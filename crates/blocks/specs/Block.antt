@@ -1,5 +1,6 @@
 -- A block: the answer, and the lent rows after it.
-use Rattle.lists.specs.Prelude.{ℕ, ◌≡◌, List, eqb, pick}
+use Rattle.std.specs.Prelude.{◌≡◌}
+use Rattle.lists.specs.Prelude.{ℕ, List, eqb, pick}
 use Rattle.blocks.specs.declared.BlocksState.{BlocksState}
 use Rattle.blocks.specs.declared.Blocked.{Blocked}
 use Rattle.blocks.specs.State.{state_says, state_of}

@@ -1,5 +1,6 @@
 -- ASCII bytes taken together, where the token rules and the rows stand as after the last character that is no white space.
-use Rattle.lists.specs.Prelude.{ℕ, ◌+◌, ◌-◌, ◌≤◌, ◌<◌, ◌≡◌, true, List, length, drop, get_or}
+use Rattle.std.specs.Prelude.{◌+◌, ◌-◌, ◌≤◌, ◌<◌, ◌≡◌}
+use Rattle.lists.specs.Prelude.{ℕ, true, List, length, drop, get_or}
 use Rattle.lexer_scan.specs.Scan.{space}
 use Rattle.blocks_step.specs.declared.Utf8.TheVariants.{Whole}
 use Rattle.blocks_step.specs.declared.Phase.{Phase}

@@ -1,5 +1,6 @@
 -- One byte more: what is known, and the lent rows.
-use Rattle.lists.specs.Prelude.{ℕ, suc, ◌+◌, ◌*◌, true, false, List, [], ◌∷◌, length, eqb, leb, ltb, pick}
+use Rattle.std.specs.Prelude.{◌+◌, ◌*◌, ◌∷◌}
+use Rattle.lists.specs.Prelude.{ℕ, suc, true, false, List, [], length, eqb, leb, ltb, pick}
 use Rattle.lists.specs.Put.{put_at}
 use Rattle.tables.specs.Numbers.{text_limit}
 use Rattle.blocks_step.specs.declared.Utf8.{Utf8}

@@ -1,5 +1,6 @@
 -- Calls one after another: blocks, with the same rows lent, from the start on; and what a close must answer then.
-use Rattle.lists.specs.Prelude.{ℕ, ◌/◌, ◌≡◌, List, [], ◌∷◌, ◌++◌, length, ltb, pick}
+use Rattle.std.specs.Prelude.{◌/◌, ◌≡◌, ◌∷◌, ◌++◌}
+use Rattle.lists.specs.Prelude.{ℕ, List, [], length, ltb, pick}
 use Rattle.blocks.specs.declared.BlocksState.{BlocksState}
 use Rattle.blocks.specs.declared.Blocked.{Blocked}
 use Rattle.blocks.specs.declared.Closed.{Closed}

@@ -1,5 +1,6 @@
 -- The state between two bytes with its rows as lists, and what is kept of the text; what the proofs go by.
-use Rattle.lists.specs.Prelude.{ℕ, suc, List, [], ◌++◌, eqb, pick}
+use Rattle.std.specs.Prelude.{◌++◌}
+use Rattle.lists.specs.Prelude.{ℕ, suc, List, [], eqb, pick}
 use Rattle.text_utf8.specs.Text.{Ink, blank, inked, Utf, whole, part, bad, utf}
 use Rattle.lexer.specs.Token.{finish}
 use Rattle.blocks_step.specs.declared.Phase.{Phase}

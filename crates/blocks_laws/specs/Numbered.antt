@@ -1,5 +1,6 @@
 -- The numbers of a block and of a close: each exactly where it is due, and no other.
-use Rattle.lists.specs.Prelude.{ℕ, ◌≤◌, ◌<◌, ◌≡◌, ◌⊎◌, ◌↔◌, List, length}
+use Rattle.std.specs.Prelude.{◌≤◌, ◌<◌, ◌≡◌, ◌⊎◌, ◌↔◌}
+use Rattle.lists.specs.Prelude.{ℕ, List, length}
 use Rattle.blocks_laws.specs.Reading.{TokenReading, tokens_read, not_read}
 
 -- a block: 0 exactly where nothing was closed, 20 exactly after a close

@@ -1,5 +1,6 @@
 -- One reading of a whole text into token rows: what trimming keeps, its tokens, and what is left in the lent rows.
-use Rattle.lists.specs.Prelude.{ℕ, suc, ◌-◌, ◌*◌, ◌/◌, ◌≡◌, List, [], ◌∷◌, ◌++◌, map, length, take, drop, replicate, ltb, pick}
+use Rattle.std.specs.Prelude.{◌-◌, ◌*◌, ◌/◌, ◌≡◌, ◌∷◌, ◌++◌}
+use Rattle.lists.specs.Prelude.{ℕ, suc, List, [], map, length, take, drop, replicate, ltb, pick}
 use Rattle.tables.specs.Numbers.{text_limit}
 use Rattle.text_utf8.specs.declared.Trimmed.{Trimmed}
 use Rattle.text_utf8.specs.declared.Trimmed.TheVariants.{NotUtf8, Blank, Kept}

@@ -1,5 +1,6 @@
 -- UTF-8 one byte a call: the machine of `text_utf8`, without what it keeps of the text so far.
-use Rattle.lists.specs.Prelude.{ℕ, zero, suc, ◌%◌, true, false}
+use Rattle.std.specs.Prelude.{◌%◌}
+use Rattle.lists.specs.Prelude.{ℕ, zero, suc, true, false}
 use Rattle.text_utf8.specs.Text.{Ink, blank, inked, Range, any, from-a0, to-9f, from-90, to-8f, Utf, whole, part, bad, utf}
 use Rattle.blocks_step.specs.declared.Left.{Left}
 use Rattle.blocks_step.specs.declared.Left.TheVariants.{One, TwoFromA0, TwoTo9f, Two, ThreeFrom90, Three, ThreeTo8f}

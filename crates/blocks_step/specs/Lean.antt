@@ -1,5 +1,6 @@
 -- The token rules one byte a call: the machine of `lexer`, without contents.
-use Rattle.lists.specs.Prelude.{ℕ, Bool, true, false, List, [], ◌∷◌, leb, eqb, pick}
+use Rattle.std.specs.Prelude.{◌∷◌}
+use Rattle.lists.specs.Prelude.{ℕ, Bool, true, false, List, [], leb, eqb, pick}
 use Rattle.lexer.specs.Token.{Tok, start, end, node, prop, St, Out, step}
 use Rattle.lexer.specs.Token as machine
 use Rattle.lexer.specs.declared.Fault.TheVariants.{UnexpectedEndOfPropertyIdentifier}

@@ -1,5 +1,6 @@
 -- The board at a node: the acts of the nodes from its root down to it, one after another, upon an empty board; and one node more.
-use Rattle.lists.specs.Prelude.{ℕ, zero, suc, Bool, true, false, ◌&&◌, ◌≡◌, List, [], ◌∷◌, ◌++◌, map, replicate, leb, ltb, eqb, pick}
+use Rattle.std.specs.Prelude.{◌&&◌, ◌≡◌, ◌∷◌, ◌++◌}
+use Rattle.lists.specs.Prelude.{ℕ, zero, suc, Bool, true, false, List, [], map, replicate, leb, ltb, eqb, pick}
 use Rattle.tables.specs.Columns.{root_at, game_at, first_prop_at, prop_count_at}
 use Rattle.tables.specs.Memory.{Memory}
 use Rattle.fit.specs.Fit.{Fit}

@@ -1,5 +1,6 @@
 -- What the steps of a board promise each other.
-use Rattle.lists.specs.Prelude.{ℕ, ◌/◌, ◌<◌, ◌≤◌, true, false, ◌≡◌, List, map, length}
+use Rattle.std.specs.Prelude.{◌/◌, ◌<◌, ◌≤◌, ◌≡◌}
+use Rattle.lists.specs.Prelude.{ℕ, true, false, List, map, length}
 use Rattle.tables.specs.Numbers.{none}
 use Rattle.tables.specs.Columns.{node_stride, parent_at}
 use Rattle.tables.specs.Each.{each}

@@ -1,6 +1,6 @@
 -- Acts upon a board whose settledness is known or not: a move on a settled board looks for captures near itself alone.
-use Rattle.std.specs.Prelude.{set}
-use Rattle.lists.specs.Prelude.{ℕ, Bool, true, false, ◌≡◌, List, [], ◌∷◌, eqb, pick}
+use Rattle.std.specs.Prelude.{set, ◌≡◌, ◌∷◌}
+use Rattle.lists.specs.Prelude.{ℕ, Bool, true, false, List, [], eqb, pick}
 use Rattle.board_groups.specs.Groups.{Takes, TakesBeside, TakesGroup, Settled}
 use Rattle.board_play.specs.Play.{other_of, settable, playable}
 use Rattle.board_play.specs.Steps.{Pos, Act, sets, plays, one_if, sum_up_to, puts, played}

@@ -1,5 +1,6 @@
 -- The points of a board: point (x, y) has place 52 * x + y; 0 is empty, 1 black, 2 white.
-use Rattle.lists.specs.Prelude.{ℕ, suc, ◌/◌, ◌%◌, Bool, ◌&&◌, ◌||◌, List, [], ◌∷◌, ltb, eqb, get_or, pick}
+use Rattle.std.specs.Prelude.{◌/◌, ◌%◌, ◌&&◌, ◌||◌, ◌∷◌}
+use Rattle.lists.specs.Prelude.{ℕ, suc, Bool, List, [], ltb, eqb, get_or, pick}
 
 -- what stands at a place
 abbrev pub at : List ℕ → ℕ → ℕ

@@ -1,6 +1,6 @@
 -- Groups, liberties, and stones taken off.
-use Rattle.std.specs.Prelude.{◌⊎◌}
-use Rattle.lists.specs.Prelude.{ℕ, ◌+◌, true, ◌≡◌, List, length}
+use Rattle.std.specs.Prelude.{◌⊎◌, ◌+◌, ◌≡◌}
+use Rattle.lists.specs.Prelude.{ℕ, true, List, length}
 use Rattle.board_groups.specs.Board.{at, on_board, beside, standing}
 
 -- c stands at p, a point of the board

@@ -1,6 +1,7 @@
 -- The decisions on the board, each by its smallest text: the number of a node, or the sides of its board and the acts of the way to it. One table, one statement.
 use Prim.Native.String.{String}
-use Rattle.lists.specs.Prelude.{ℕ, ◌≡◌, refl, List, [], ◌∷◌, eqb, pick}
+use Rattle.std.specs.Prelude.{◌≡◌, ◌∷◌}
+use Rattle.lists.specs.Prelude.{ℕ, refl, List, [], eqb, pick}
 use Rattle.text_chars.specs.White.{white}
 use Rattle.text_utf8.specs.Trim.{trimmed}
 use Rattle.lexer_scan.specs.Scan.{space}

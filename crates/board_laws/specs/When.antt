@@ -1,5 +1,6 @@
 -- Why a board has its number: one reason for each number, in their order.
-use Rattle.lists.specs.Prelude.{ℕ, Bool, true, false, ◌≡◌, List}
+use Rattle.std.specs.Prelude.{◌≡◌}
+use Rattle.lists.specs.Prelude.{ℕ, Bool, true, false, List}
 use Rattle.tables.specs.Memory.{Memory}
 use Rattle.fit.specs.Fit.{Fit}
 use Rattle.parts_props.specs.Props.{Property}

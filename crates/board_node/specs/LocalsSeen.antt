@@ -1,5 +1,6 @@
 -- What the steps to a move seen at once promise, for the contracts of private functions.
-use Rattle.lists.specs.Prelude.{ℕ, ◌+◌, ◌*◌, ◌<◌, true, ◌≡◌, List, [], ◌∷◌, length, get_or}
+use Rattle.std.specs.Prelude.{◌+◌, ◌*◌, ◌<◌, ◌≡◌, ◌∷◌}
+use Rattle.lists.specs.Prelude.{ℕ, true, List, [], length, get_or}
 use Rattle.go_points.specs.Area.{letter_of}
 use Rattle.parts_props.specs.Props.{Property}
 use Rattle.board_play.specs.Play.{playable}

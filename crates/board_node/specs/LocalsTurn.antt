@@ -1,6 +1,6 @@
 -- What a step of a node promises, for the contracts of private functions.
-use Rattle.std.specs.Prelude.{set}
-use Rattle.lists.specs.Prelude.{ℕ, ◌-◌, ◌≤◌, Bool, true, false, ◌&&◌, not, ◌≡◌, List, [], ◌∷◌, ◌++◌, get_or, replicate}
+use Rattle.std.specs.Prelude.{set, ◌-◌, ◌≤◌, ◌&&◌, ◌≡◌, ◌∷◌, ◌++◌}
+use Rattle.lists.specs.Prelude.{ℕ, Bool, true, false, not, List, [], get_or, replicate}
 use Rattle.tables.specs.Each.{tabulate}
 use Rattle.parts_props.specs.Props.{Property}
 use Rattle.board_groups.specs.Board.{on_board}

@@ -1,5 +1,6 @@
 -- The acts of a node, by its properties: setup first, then moves, each in property order; and which of them are refused.
-use Rattle.lists.specs.Prelude.{ℕ, suc, ◌+◌, ◌*◌, Bool, true, false, ◌&&◌, ◌||◌, not, List, [], ◌∷◌, ◌++◌, eqb, leb, ltb, pick}
+use Rattle.std.specs.Prelude.{◌+◌, ◌*◌, ◌&&◌, ◌||◌, ◌∷◌, ◌++◌}
+use Rattle.lists.specs.Prelude.{ℕ, suc, Bool, true, false, not, List, [], eqb, leb, ltb, pick}
 use Rattle.lists.specs.Same.{same}
 use Rattle.go_points.specs.declared.Value.{Value}
 use Rattle.go_points.specs.declared.Value.TheVariants.{Other, Invalid, Pass, Move, Handicap, Points}

@@ -1,5 +1,6 @@
 -- A node whose move is seen at once.
-use Rattle.lists.specs.Prelude.{ℕ, true, ◌≡◌, List, [], ◌∷◌}
+use Rattle.std.specs.Prelude.{◌≡◌, ◌∷◌}
+use Rattle.lists.specs.Prelude.{ℕ, true, List, []}
 use Rattle.parts_props.specs.Props.{Property}
 use Rattle.board_play.specs.Play.{playable}
 use Rattle.board_play.specs.Steps.{plays}

@@ -1,5 +1,6 @@
 -- The next node on a way, by the links.
-use Rattle.lists.specs.Prelude.{ℕ, ◌/◌, Bool, true, false, ◌&&◌, ◌≡◌, List, length, ltb, leb}
+use Rattle.std.specs.Prelude.{◌/◌, ◌&&◌, ◌≡◌}
+use Rattle.lists.specs.Prelude.{ℕ, Bool, true, false, List, length, ltb, leb}
 use Rattle.tables.specs.Columns.{node_stride, child_at, sibling_at}
 
 -- there is such a row

@@ -1,5 +1,6 @@
 -- The way from the root down to a node, by the parents.
-use Rattle.lists.specs.Prelude.{ℕ, zero, suc, List, [], ◌∷◌, ◌++◌, pick}
+use Rattle.std.specs.Prelude.{◌∷◌, ◌++◌}
+use Rattle.lists.specs.Prelude.{ℕ, zero, suc, List, [], pick}
 use Rattle.tables.specs.Columns.{parent_at}
 use Rattle.fit_nodes.specs.Nodes.{has_parent}
 

@@ -1,6 +1,6 @@
 -- A stone set and a stone played.
-use Rattle.std.specs.Prelude.{set}
-use Rattle.lists.specs.Prelude.{ℕ, ◌-◌, ◌<◌, ◌≤◌, Bool, true, false, ◌&&◌, ◌||◌, ◌≡◌, List, eqb, ltb}
+use Rattle.std.specs.Prelude.{set, ◌-◌, ◌<◌, ◌≤◌, ◌&&◌, ◌||◌, ◌≡◌}
+use Rattle.lists.specs.Prelude.{ℕ, Bool, true, false, List, eqb, ltb}
 use Rattle.board_groups.specs.Board.{at, on_board}
 use Rattle.board_groups.specs.Groups.{Takes, TakesBeside, TakesGroup}
 

@@ -1,6 +1,6 @@
 -- A position: stones, and for each colour how many were put on and taken off; acts one after another.
-use Rattle.std.specs.Prelude.{set}
-use Rattle.lists.specs.Prelude.{ℕ, suc, ◌+◌, ◌<◌, min, true, ◌≡◌, List, [], ◌∷◌, length, replicate, eqb, pick}
+use Rattle.std.specs.Prelude.{set, ◌+◌, ◌<◌, ◌≡◌, ◌∷◌}
+use Rattle.lists.specs.Prelude.{ℕ, suc, min, true, List, [], length, replicate, eqb, pick}
 use Rattle.board_groups.specs.Board.{at, standing}
 use Rattle.board_groups.specs.Groups.{Takes}
 use Rattle.board_play.specs.Play.{other_of, settable, playable}

@@ -1,6 +1,6 @@
 -- Marks and a queue of marked places, for the contracts of private functions; no public contract names them.
-use Rattle.std.specs.Prelude.{◌⊎◌}
-use Rattle.lists.specs.Prelude.{ℕ, suc, ◌+◌, ◌<◌, ◌≤◌, Bool, true, false, ◌≡◌, List, [], ◌∷◌, length, get_or, pick}
+use Rattle.std.specs.Prelude.{◌⊎◌, ◌+◌, ◌<◌, ◌≤◌, ◌≡◌, ◌∷◌}
+use Rattle.lists.specs.Prelude.{ℕ, suc, Bool, true, false, List, [], length, get_or, pick}
 use Rattle.board_groups.specs.Board.{at, beside, standing}
 use Rattle.board_groups.specs.Groups.{Stone, Joined}
 use Rattle.board_take.specs.LocalsSides.{Free}

@@ -1,5 +1,6 @@
 -- A short search for a liberty, which may end before it finds one, for the contracts of private functions.
-use Rattle.lists.specs.Prelude.{ℕ, ◌<◌, ◌≤◌, ◌≡◌, List, length, get_or}
+use Rattle.std.specs.Prelude.{◌<◌, ◌≤◌, ◌≡◌}
+use Rattle.lists.specs.Prelude.{ℕ, List, length, get_or}
 use Rattle.board_groups.specs.Groups.{Stone, Joined, Liberty}
 use Rattle.board_take.specs.LocalsSides.{Free}
 use Rattle.board_take.specs.LocalsFlood.{Found}

@@ -1,5 +1,6 @@
 -- The places beside a place, for the contracts of private functions: 2704 where the board ends.
-use Rattle.lists.specs.Prelude.{ℕ, ◌+◌, ◌-◌, ◌/◌, ◌%◌, Bool, true, false, ◌&&◌, ◌||◌, ◌≡◌, List, ltb, leb, eqb, pick}
+use Rattle.std.specs.Prelude.{◌+◌, ◌-◌, ◌/◌, ◌%◌, ◌&&◌, ◌||◌, ◌≡◌}
+use Rattle.lists.specs.Prelude.{ℕ, Bool, true, false, List, ltb, leb, eqb, pick}
 use Rattle.board_groups.specs.Board.{at, on_board, beside}
 use Rattle.board_groups.specs.Groups.{Stone}
 

@@ -1,5 +1,6 @@
 -- What taking off says of a board: nothing for colour 0, else the relations of `board_groups`.
-use Rattle.lists.specs.Prelude.{ℕ, Bool, true, ◌≡◌, List}
+use Rattle.std.specs.Prelude.{◌≡◌}
+use Rattle.lists.specs.Prelude.{ℕ, Bool, true, List}
 use Rattle.board_groups.specs.Groups.{Settled, Takes, TakesGroup, TakesBeside}
 
 -- colour 0 takes nothing; any other colour takes as P says

@@ -1,5 +1,6 @@
 -- Answers about feeds shown as numbers, as the C header says them. What is reserved is 0.
-use Rattle.lists.specs.Prelude.{ℕ, Bool, List, ◌≡◌}
+use Rattle.std.specs.Prelude.{◌≡◌}
+use Rattle.lists.specs.Prelude.{ℕ, Bool, List}
 use Rattle.tables.specs.Memory.{Memory}
 use Rattle.tables.specs.declared.Counts.{Counts}
 use Rattle.feed.specs.Made.{made_for, out_after}

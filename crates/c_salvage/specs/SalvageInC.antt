@@ -1,5 +1,6 @@
 -- A salvage shown as the C header says it.
-use Rattle.lists.specs.Prelude.{ℕ, ◌≡◌, List}
+use Rattle.std.specs.Prelude.{◌≡◌}
+use Rattle.lists.specs.Prelude.{ℕ, List}
 use Rattle.tables.specs.Numbers.{number_of}
 use Rattle.parser.specs.Read.{read_lenient}
 use Rattle.reader.specs.Lent.{Lent}

@@ -1,5 +1,5 @@
 -- What is asked of a size before it is shown.
-use Rattle.lists.specs.Prelude.{◌≤◌}
+use Rattle.std.specs.Prelude.{◌≤◌}
 use Rattle.go_size.specs.declared.RootSize.{RootSize}
 use Rattle.go_size.specs.declared.RootSize.TheVariants.{Absent, Sized, Wrong}
 

@@ -1,5 +1,6 @@
 -- The line of a record in a season's report, shown as numbers, as the C header says them. What is reserved is 0.
-use Rattle.lists.specs.Prelude.{ℕ, List, ◌≡◌, length}
+use Rattle.std.specs.Prelude.{◌≡◌}
+use Rattle.lists.specs.Prelude.{ℕ, List, length}
 use Rattle.tables.specs.Memory.{Memory}
 use Rattle.tables.specs.Numbers.{number_of}
 use Rattle.tables.specs.Record.{Tree}

@@ -1,5 +1,6 @@
 -- Answers about tokens shown as numbers, as the C header says them.
-use Rattle.lists.specs.Prelude.{ℕ, ◌+◌, ◌≡◌}
+use Rattle.std.specs.Prelude.{◌+◌, ◌≡◌}
+use Rattle.lists.specs.Prelude.{ℕ}
 use Rattle.text_utf8.specs.declared.Trimmed.{Trimmed}
 use Rattle.text_utf8.specs.declared.Trimmed.TheVariants.{NotUtf8, Blank, Kept}
 use Rattle.lexer.specs.Token.{fault_number}

@@ -1,5 +1,6 @@
 -- The version of the library, as the C header says it.
-use Rattle.lists.specs.Prelude.{ℕ, ◌+◌, ◌*◌}
+use Rattle.std.specs.Prelude.{◌+◌, ◌*◌}
+use Rattle.lists.specs.Prelude.{ℕ}
 
 -- one number for major, minor and patch
 abbrev pub numbered : (major minor patch : ℕ) → ℕ

@@ -1,5 +1,6 @@
 -- Runs of calls of the exported edit.
-use Rattle.lists.specs.Prelude.{List, [], ◌∷◌, eqb, pick}
+use Rattle.std.specs.Prelude.{◌∷◌}
+use Rattle.lists.specs.Prelude.{List, [], eqb, pick}
 use Rattle.tables.specs.Memory.{Memory, memory}
 use Rattle.tables.specs.declared.Counts.{Counts}
 use Rattle.c_answers.specs.declared.SgfEdit.{SgfEdit}

@@ -1,5 +1,6 @@
 -- Used cells of lent tables.
-use Rattle.lists.specs.Prelude.{◌*◌, Bool, ◌≡◌, length, take}
+use Rattle.std.specs.Prelude.{◌*◌, ◌≡◌}
+use Rattle.lists.specs.Prelude.{Bool, length, take}
 use Rattle.tables.specs.Columns.{tree_stride, node_stride, property_stride, value_stride}
 use Rattle.tables.specs.Memory.{Memory}
 use Rattle.tables.specs.declared.Counts.{Counts}

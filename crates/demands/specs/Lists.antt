@@ -1,5 +1,6 @@
 -- The numbers that each exported function can give, in the scope's order.
-use Rattle.lists.specs.Prelude.{ℕ, List, [], ◌∷◌, ◌⊎◌, ◌≡◌}
+use Rattle.std.specs.Prelude.{◌∷◌, ◌⊎◌, ◌≡◌}
+use Rattle.lists.specs.Prelude.{ℕ, List, []}
 
 -- n is one of these numbers
 abbrev pub OneOf : List ℕ → ℕ → Type 0

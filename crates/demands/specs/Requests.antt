@@ -1,5 +1,6 @@
 -- When the exported functions of the later requests accept, and when they give each number: in the scope's order, each where none before it applies.
-use Rattle.lists.specs.Prelude.{ℕ, ◌+◌, ◌≤◌, ◌<◌, Bool, true, false, List, [], ◌∷◌, ◌≡◌, length}
+use Rattle.std.specs.Prelude.{◌+◌, ◌≤◌, ◌<◌, ◌∷◌, ◌≡◌}
+use Rattle.lists.specs.Prelude.{ℕ, Bool, true, false, List, [], length}
 use Rattle.text_chars.specs.Table.{WellFormed, BadFrom}
 use Rattle.lexer.specs.Closed.{closed}
 use Rattle.tables.specs.Memory.{Memory}

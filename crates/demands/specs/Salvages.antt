@@ -1,5 +1,6 @@
 -- When sgf_salvage accepts, and when it gives each number: all of it decided before anything that is lent changes.
-use Rattle.lists.specs.Prelude.{ℕ, ◌≤◌, ◌<◌, true, false, ◌≡◌, List, length}
+use Rattle.std.specs.Prelude.{◌≤◌, ◌<◌, ◌≡◌}
+use Rattle.lists.specs.Prelude.{ℕ, true, false, List, length}
 use Rattle.tables.specs.Numbers.{number_of, text_limit, depth_limit}
 use Rattle.tables.specs.Record.{Tree}
 use Rattle.tables.specs.Rows.{tables}

@@ -1,5 +1,6 @@
 -- A session of calls of the exported edit, and what is kept for undoing it.
-use Rattle.lists.specs.Prelude.{List, [], ◌∷◌, ◌++◌, ◌≡◌}
+use Rattle.std.specs.Prelude.{◌∷◌, ◌++◌, ◌≡◌}
+use Rattle.lists.specs.Prelude.{List, []}
 use Rattle.tables.specs.Memory.{Memory}
 use Rattle.edit_laws.specs.Run.{Order}
 use Rattle.edit_session.specs.InMemory.{kept_of}

@@ -1,5 +1,6 @@
 -- What an answer says of the settings that a profile stores, and what they leave as it is.
-use Rattle.lists.specs.Prelude.{ℕ, ◌%◌, ◌/◌, ◌<◌, ◌≡◌}
+use Rattle.std.specs.Prelude.{◌%◌, ◌/◌, ◌<◌, ◌≡◌}
+use Rattle.lists.specs.Prelude.{ℕ}
 use Rattle.c_answers.specs.declared.SgfReading.{SgfReading}
 
 -- what is said to be ignored has the bit of leniency, 1, and the bit of conversion, 2, exactly where the settings have them, and nothing else

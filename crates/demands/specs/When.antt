@@ -1,5 +1,6 @@
 -- When each exported function accepts, and when it gives each number: in the scope's order, each where none before it applies.
-use Rattle.lists.specs.Prelude.{ℕ, ◌≤◌, ◌<◌, true, false, List, ◌⊎◌, ◌↔◌, ◌≡◌, length, slice, Bool}
+use Rattle.std.specs.Prelude.{◌≤◌, ◌<◌, ◌⊎◌, ◌↔◌, ◌≡◌}
+use Rattle.lists.specs.Prelude.{ℕ, true, false, List, length, slice, Bool}
 use Rattle.values.specs.Read.{read_value}
 use Rattle.value_display.specs.Display.{display_text}
 use Rattle.value_display.specs.declared.Kind.{Kind}

@@ -1,5 +1,6 @@
 -- The value edit in lent memory: what the text's buffer and the tables hold after it.
-use Rattle.lists.specs.Prelude.{ℕ, ◌≡◌, List}
+use Rattle.std.specs.Prelude.{◌≡◌}
+use Rattle.lists.specs.Prelude.{ℕ, List}
 use Rattle.tables.specs.Memory.{Memory, memory}
 use Rattle.tables.specs.Flat.{flat_props, flat_vals, over}
 use Rattle.edit_splice.specs.Splice.{cleared}

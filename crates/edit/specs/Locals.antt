@@ -1,5 +1,6 @@
 -- What the edit's own steps promise each other.
-use Rattle.lists.specs.Prelude.{ℕ, suc, ◌≤◌, ◌<◌, ◌≡◌, List, map}
+use Rattle.std.specs.Prelude.{◌≤◌, ◌<◌, ◌≡◌}
+use Rattle.lists.specs.Prelude.{ℕ, suc, List, map}
 use Rattle.lexer.specs.Move.{starts_at, ends_at}
 use Rattle.tables.specs.Flat.{flat_props, flat_vals}
 use Rattle.tables.specs.Move.{move_props, move_vals}

@@ -1,5 +1,6 @@
 -- The value edit over the used text and its rows.
-use Rattle.lists.specs.Prelude.{ℕ, ◌+◌, not, List, [], ◌∷◌, ltb, length, get_or, slice, pick}
+use Rattle.std.specs.Prelude.{◌+◌, ◌∷◌}
+use Rattle.lists.specs.Prelude.{ℕ, not, List, [], ltb, length, get_or, slice, pick}
 use Rattle.lists.specs.Same.{same}
 use Rattle.text_utf8.specs.Text.{Utf, whole, part, bad, blank, utfs}
 use Rattle.lexer.specs.Closed.{closed}

@@ -1,5 +1,6 @@
 -- What the steps of the decision promise each other.
-use Rattle.lists.specs.Prelude.{ℕ, ◌+◌, ◌≤◌, ◌<◌, ◌≡◌, Bool, true, false, not, List, ltb, length, pick}
+use Rattle.std.specs.Prelude.{◌+◌, ◌≤◌, ◌<◌, ◌≡◌}
+use Rattle.lists.specs.Prelude.{ℕ, Bool, true, false, not, List, ltb, length, pick}
 use Rattle.text_utf8.specs.Text.{Utf, whole, blank, utfs}
 use Rattle.lexer.specs.Closed.{closed}
 use Rattle.tables.specs.Numbers.{text_limit}

@@ -1,5 +1,6 @@
 -- Runs of calls of the edit, in lent memory.
-use Rattle.lists.specs.Prelude.{ℕ, List, [], ◌∷◌}
+use Rattle.std.specs.Prelude.{◌∷◌}
+use Rattle.lists.specs.Prelude.{ℕ, List, []}
 use Rattle.tables.specs.Memory.{Memory, memory}
 use Rattle.fit.specs.Record.{rows_in, text_in}
 use Rattle.edit_answer.specs.Edit.{Outcome}

@@ -1,5 +1,6 @@
 -- The value edit in the scope's words: which bytes may stand for a value, why others may not, and what an edit changes.
-use Rattle.lists.specs.Prelude.{ℕ, ◌+◌, ◌-◌, ◌*◌, ◌≤◌, ◌<◌, true, false, List, ◌⊎◌, ◌≡◌, length, take, get_or, slice}
+use Rattle.std.specs.Prelude.{◌+◌, ◌-◌, ◌*◌, ◌≤◌, ◌<◌, ◌⊎◌, ◌≡◌}
+use Rattle.lists.specs.Prelude.{ℕ, true, false, List, length, take, get_or, slice}
 use Rattle.text_chars.specs.Table.{WellFormed, BadFrom}
 use Rattle.lexer.specs.Closed.{closed}
 use Rattle.tables.specs.Columns.{property_stride, value_stride, name_from_at, name_to_at, first_val_at, val_count_at, val_from_at, val_to_at}

@@ -1,5 +1,6 @@
 -- Memory that holds what a strict reading gives.
-use Rattle.lists.specs.Prelude.{true, ◌≡◌}
+use Rattle.std.specs.Prelude.{◌≡◌}
+use Rattle.lists.specs.Prelude.{true}
 use Rattle.tables.specs.Memory.{Memory}
 use Rattle.fit.specs.Fit.{Fit}
 use Rattle.edit_laws.specs.Calls.{text_rows}

@@ -1,5 +1,6 @@
 -- Runs of edits, and records that a strict reading gives.
-use Rattle.lists.specs.Prelude.{◌≡◌, ℕ, List, [], ◌∷◌}
+use Rattle.std.specs.Prelude.{◌≡◌, ◌∷◌}
+use Rattle.lists.specs.Prelude.{ℕ, List, []}
 use Rattle.tables.specs.Record.{Tree}
 use Rattle.tables.specs.Rows.{Tables, tables}
 use Rattle.parser.specs.Read.{accepted, read_strict}

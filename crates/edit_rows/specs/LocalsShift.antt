@@ -1,5 +1,6 @@
 -- A stretch of property or value rows with one number added to every place.
-use Rattle.lists.specs.Prelude.{ℕ, zero, suc, ◌+◌, ◌-◌, ◌*◌, ◌/◌, ◌%◌, ◌^◌, min, List, length, ltb, pick}
+use Rattle.std.specs.Prelude.{◌+◌, ◌-◌, ◌*◌, ◌/◌, ◌%◌, ◌^◌}
+use Rattle.lists.specs.Prelude.{ℕ, zero, suc, min, List, length, ltb, pick}
 use Rattle.lists.specs.Put.{put_at}
 use Rattle.tables.specs.Columns.{property_stride, value_stride, name_from_at, name_to_at, first_val_at, val_count_at, val_from_at, val_to_at}
 use Rattle.tables.specs.Each.{tabulate}

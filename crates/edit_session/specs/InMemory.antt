@@ -1,5 +1,6 @@
 -- A session in lent memory: calls of which each only meets the edit's contract and is answered as changed; and what is kept for undoing it.
-use Rattle.lists.specs.Prelude.{List, [], ◌∷◌, ◌++◌, ◌≡◌, length}
+use Rattle.std.specs.Prelude.{◌∷◌, ◌++◌, ◌≡◌}
+use Rattle.lists.specs.Prelude.{List, [], length}
 use Rattle.tables.specs.Memory.{Memory}
 use Rattle.fit.specs.Record.{text_in}
 use Rattle.edit_answer.specs.declared.Edited.{Edited}

@@ -1,5 +1,6 @@
 -- A session: edits that are all accepted. What undoes it: the old raw bytes of each value, kept before its edit, put back in reverse order.
-use Rattle.lists.specs.Prelude.{ℕ, List, [], ◌∷◌, ◌++◌, slice}
+use Rattle.std.specs.Prelude.{◌∷◌, ◌++◌}
+use Rattle.lists.specs.Prelude.{ℕ, List, [], slice}
 use Rattle.edit_answer.specs.Edit.{Outcome, refuses, gives, edit, span_at}
 use Rattle.edit_laws.specs.Run.{TextRows, Order, after}
 

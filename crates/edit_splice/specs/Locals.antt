@@ -1,5 +1,6 @@
 -- What the steps of a replacement promise each other.
-use Rattle.lists.specs.Prelude.{ℕ, ◌+◌, ◌-◌, ◌≤◌, List, length}
+use Rattle.std.specs.Prelude.{◌+◌, ◌-◌, ◌≤◌}
+use Rattle.lists.specs.Prelude.{ℕ, List, length}
 
 -- a part of the first `used` bytes of a buffer
 pub record Within (b : List ℕ) (used start end : ℕ) : Type 0 where

@@ -1,5 +1,6 @@
 -- A part of a text replaced, in a buffer whose first bytes are the text.
-use Rattle.lists.specs.Prelude.{ℕ, ◌+◌, ◌-◌, Bool, ◌&&◌, List, ◌++◌, leb, length, take, drop, replicate, pick}
+use Rattle.std.specs.Prelude.{◌+◌, ◌-◌, ◌&&◌, ◌++◌}
+use Rattle.lists.specs.Prelude.{ℕ, Bool, List, leb, length, take, drop, replicate, pick}
 use Rattle.lists.specs.Put.{put_at}
 
 -- the new bytes replace those from `start` to `end` (SCOPE 126)

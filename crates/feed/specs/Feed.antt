@@ -1,5 +1,6 @@
 -- A feed: a count, then for each correction a value number, a length and that many bytes. Value numbers strictly rise, and nothing stands behind the end.
-use Rattle.lists.specs.Prelude.{ℕ, zero, suc, ◌+◌, Bool, false, List, [], ◌∷◌, map, length, slice, leb, ltb, eqb, pick}
+use Rattle.std.specs.Prelude.{◌+◌, ◌∷◌}
+use Rattle.lists.specs.Prelude.{ℕ, zero, suc, Bool, false, List, [], map, length, slice, leb, ltb, eqb, pick}
 use Rattle.feed_numerals.specs.Numeral.{numeral_at}
 use Rattle.feed_numerals.specs.declared.Numeral.{Numeral}
 use Rattle.feed_numerals.specs.declared.Numeral.TheVariants.{Is, Broken}

@@ -1,5 +1,6 @@
 -- A value looked for among corrections.
-use Rattle.lists.specs.Prelude.{ℕ, List, [], ◌∷◌, eqb, pick}
+use Rattle.std.specs.Prelude.{◌∷◌}
+use Rattle.lists.specs.Prelude.{ℕ, List, [], eqb, pick}
 use Rattle.feed.specs.Feed.{Entry}
 use Rattle.feed.specs.declared.Found.{Found}
 use Rattle.feed.specs.declared.Found.TheVariants.{At, Nowhere}

@@ -1,5 +1,6 @@
 -- What one correction promises to the loops over a feed.
-use Rattle.lists.specs.Prelude.{ℕ, ◌≤◌, ◌<◌, List, length}
+use Rattle.std.specs.Prelude.{◌≤◌, ◌<◌}
+use Rattle.lists.specs.Prelude.{ℕ, List, length}
 use Rattle.feed.specs.declared.Next.{Next}
 use Rattle.feed.specs.declared.Next.TheVariants.{One, Malformed}
 

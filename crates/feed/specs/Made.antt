@@ -1,5 +1,6 @@
 -- A feed made: its count and its corrections, spelled.
-use Rattle.lists.specs.Prelude.{ℕ, suc, ◌<◌, ◌≤◌, ◌≡◌, Bool, List, [], ◌∷◌, ◌++◌, length, drop, leb, pick}
+use Rattle.std.specs.Prelude.{◌<◌, ◌≤◌, ◌≡◌, ◌∷◌, ◌++◌}
+use Rattle.lists.specs.Prelude.{ℕ, suc, Bool, List, [], length, drop, leb, pick}
 use Rattle.feed_numerals.specs.Numeral.{spelled, numeral_limit}
 use Rattle.feed.specs.Feed.{Correction}
 use Rattle.feed.specs.declared.make.Made.{Made}

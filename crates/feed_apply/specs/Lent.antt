@@ -1,5 +1,6 @@
 -- A feed applied in lent memory: the answer, and all that memory holds after it.
-use Rattle.lists.specs.Prelude.{ℕ, ◌≡◌, List, length}
+use Rattle.std.specs.Prelude.{◌≡◌}
+use Rattle.lists.specs.Prelude.{ℕ, List, length}
 use Rattle.tables.specs.Memory.{Memory}
 use Rattle.feed_laws.specs.Applied.{Applying, refusing, applying, feed_applied, memory_applied}
 use Rattle.feed_apply.specs.declared.Applied.{Applied}

@@ -1,5 +1,6 @@
 -- What a walk over the corrections of a feed promises its users.
-use Rattle.lists.specs.Prelude.{ℕ, ◌+◌, ◌-◌, ◌≤◌, ◌<◌, ◌≡◌, List, length}
+use Rattle.std.specs.Prelude.{◌+◌, ◌-◌, ◌≤◌, ◌<◌, ◌≡◌}
+use Rattle.lists.specs.Prelude.{ℕ, List, length}
 use Rattle.feed.specs.Feed.{listing, entries_from}
 use Rattle.feed.specs.Find.{found_in}
 use Rattle.feed.specs.declared.Found.{Found}

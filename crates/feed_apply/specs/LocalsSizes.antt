@@ -1,5 +1,6 @@
 -- What the steps of applying promise each other: sizes of values before and after, and places by them.
-use Rattle.lists.specs.Prelude.{ℕ, suc, ◌+◌, ◌-◌, ◌≤◌, ◌<◌, ◌≡◌, List}
+use Rattle.std.specs.Prelude.{◌+◌, ◌-◌, ◌≤◌, ◌<◌, ◌≡◌}
+use Rattle.lists.specs.Prelude.{ℕ, suc, List}
 use Rattle.tables.specs.Columns.{name_from_at, name_to_at, first_val_at, val_count_at, val_from_at, val_to_at}
 use Rattle.tables.specs.Each.{sum}
 use Rattle.tables.specs.Rows.{PropRow, ValRow}

@@ -1,5 +1,6 @@
 -- What the two sweeps over the text do with one correction.
-use Rattle.lists.specs.Prelude.{ℕ, ◌+◌, List, leb, ltb, length, pick}
+use Rattle.std.specs.Prelude.{◌+◌}
+use Rattle.lists.specs.Prelude.{ℕ, List, leb, ltb, length, pick}
 use Rattle.edit_splice.specs.Splice.{replaced}
 
 -- the new bytes for the `old` ones at a place, where they are not more

@@ -1,5 +1,6 @@
 -- What a feed is answered, but for the length of the text: the first refusal in the order 19, 24, then for each correction 16, 17, 2, 18.
-use Rattle.lists.specs.Prelude.{ℕ, ◌+◌, Bool, true, false, not, List, [], ◌∷◌, ltb, slice, pick}
+use Rattle.std.specs.Prelude.{◌+◌, ◌∷◌}
+use Rattle.lists.specs.Prelude.{ℕ, Bool, true, false, not, List, [], ltb, slice, pick}
 use Rattle.lists.specs.Same.{same}
 use Rattle.text_utf8.specs.Trim.{trimmed}
 use Rattle.text_utf8.specs.declared.Trimmed.{Trimmed}

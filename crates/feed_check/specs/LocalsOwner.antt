@@ -1,5 +1,6 @@
 -- What the steps of the check promise each other.
-use Rattle.lists.specs.Prelude.{ℕ, ◌+◌, ◌≤◌, ◌<◌, Bool, not, List, pick}
+use Rattle.std.specs.Prelude.{◌+◌, ◌≤◌, ◌<◌}
+use Rattle.lists.specs.Prelude.{ℕ, Bool, not, List, pick}
 use Rattle.tables.specs.Columns.{first_val_at, val_count_at}
 use Rattle.feed_check.specs.declared.FeedRefusal.TheVariants.{NoSuchNumber, GameTypeFixed}
 use Rattle.feed_check.specs.declared.Checked.{Checked}

@@ -1,5 +1,6 @@
 -- Feeds in a session: a feed as its edits, and the feed that undoes it.
-use Rattle.lists.specs.Prelude.{ℕ, ◌≤◌, List, map, ◌≡◌, length}
+use Rattle.std.specs.Prelude.{◌≤◌, ◌≡◌}
+use Rattle.lists.specs.Prelude.{ℕ, List, map, length}
 use Rattle.tables.specs.Memory.{Memory}
 use Rattle.tables.specs.Numbers.{text_limit}
 use Rattle.edit_answer.specs.Edit.{gives}

@@ -1,5 +1,6 @@
 -- FF[4]'s property index: 63 general properties, by section, and Go's HA, KM, TB and TW.
-use Rattle.lists.specs.Prelude.{ℕ, Bool, true, false, List, [], ◌++◌, ◌∷◌, pick}
+use Rattle.std.specs.Prelude.{◌++◌, ◌∷◌}
+use Rattle.lists.specs.Prelude.{ℕ, Bool, true, false, List, [], pick}
 use Rattle.lists.specs.Same.{same}
 use Rattle.ff4_index.specs.Kinds.{ValueKind, none, number, real, double, color, simpletext, text, move, stones, points, points_or_none, point_pairs, labels, text_pair, board_size, figure, kind_number}
 use Rattle.ff4_index.specs.Kinds.{PropertyType, no_type, of_move, of_setup, of_root, of_game_info, inherit, type_number}

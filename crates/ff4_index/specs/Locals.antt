@@ -1,5 +1,6 @@
 -- What the steps of the lookup promise each other.
-use Rattle.lists.specs.Prelude.{ℕ, ◌+◌, ◌-◌, ◌*◌, ◌/◌, ◌%◌, List, [], ◌∷◌, ltb, eqb, pick}
+use Rattle.std.specs.Prelude.{◌+◌, ◌-◌, ◌*◌, ◌/◌, ◌%◌, ◌∷◌}
+use Rattle.lists.specs.Prelude.{ℕ, List, [], ltb, eqb, pick}
 use Rattle.ff4_index.specs.declared.Entry.{Entry}
 
 -- the parts of a cell

@@ -1,5 +1,6 @@
 -- Places of the table: `A` to `Z` 0 to 25, `AA` to `ZZ` 26 to 701.
-use Rattle.lists.specs.Prelude.{ℕ, ◌+◌, ◌-◌, ◌*◌, ◌/◌, ◌%◌, List, [], ◌∷◌, ltb, pick}
+use Rattle.std.specs.Prelude.{◌+◌, ◌-◌, ◌*◌, ◌/◌, ◌%◌, ◌∷◌}
+use Rattle.lists.specs.Prelude.{ℕ, List, [], ltb, pick}
 
 -- the place of an identifier; 702 where it has none
 abbrev pub index_place : List ℕ → ℕ

@@ -1,5 +1,6 @@
 -- Simple values of FF[4]'s properties, over read values.
-use Rattle.lists.specs.Prelude.{ℕ, ◌-◌, ◌^◌, Bool, ◌&&◌, ◌||◌, not, List, [], ◌∷◌, eqb, pick}
+use Rattle.std.specs.Prelude.{◌-◌, ◌^◌, ◌&&◌, ◌||◌, ◌∷◌}
+use Rattle.lists.specs.Prelude.{ℕ, Bool, not, List, [], eqb, pick}
 use Rattle.lists.specs.Same.{same}
 use Rattle.values.specs.Read.{read_value}
 use Rattle.values.specs.Decimal.{decimal_of}

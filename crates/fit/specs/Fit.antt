@@ -1,5 +1,6 @@
 -- The scope's rule: when tables fit a text.
-use Rattle.lists.specs.Prelude.{ℕ, ◌/◌, Bool, true, false, ◌&&◌, List, leb, length, take}
+use Rattle.std.specs.Prelude.{◌/◌, ◌&&◌}
+use Rattle.lists.specs.Prelude.{ℕ, Bool, true, false, List, leb, length, take}
 use Rattle.text_utf8.specs.Trim.{trimmed}
 use Rattle.text_utf8.specs.declared.Trimmed.{Trimmed}
 use Rattle.text_utf8.specs.declared.Trimmed.TheVariants.{NotUtf8, Blank, Kept}

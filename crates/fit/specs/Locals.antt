@@ -1,5 +1,6 @@
 -- What the check's own steps promise each other.
-use Rattle.lists.specs.Prelude.{ℕ, ◌/◌, ◌≤◌, List, length}
+use Rattle.std.specs.Prelude.{◌/◌, ◌≤◌}
+use Rattle.lists.specs.Prelude.{ℕ, List, length}
 use Rattle.tables.specs.Numbers.{none}
 use Rattle.tables.specs.declared.Counts.{Counts}
 use Rattle.tables.specs.Columns.{tree_stride, node_stride, property_stride, value_stride}

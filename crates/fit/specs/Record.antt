@@ -1,5 +1,6 @@
 -- The record that tables over a text denote: names and raw values are parts of the text.
-use Rattle.lists.specs.Prelude.{ℕ, ◌-◌, List, [], ◌∷◌, map, take, drop, slice}
+use Rattle.std.specs.Prelude.{◌-◌, ◌∷◌}
+use Rattle.lists.specs.Prelude.{ℕ, List, [], map, take, drop, slice}
 use Rattle.lexer.specs.Token.{Val, Prop}
 use Rattle.tables.specs.Record.{Node, Tree}
 use Rattle.tables.specs.Rows.{TreeRow, NodeRow, PropRow, ValRow, Tables}

@@ -1,5 +1,6 @@
 -- What the check's own loops promise each other.
-use Rattle.lists.specs.Prelude.{ℕ, ◌-◌, ◌<◌, ◌≤◌, Bool, true, false, List, ◌≡◌}
+use Rattle.std.specs.Prelude.{◌-◌, ◌<◌, ◌≤◌, ◌≡◌}
+use Rattle.lists.specs.Prelude.{ℕ, Bool, true, false, List}
 use Rattle.tables.specs.Columns.{parent_at}
 use Rattle.tables.specs.Each.{each}
 use Rattle.tables.specs.Numbers.{none}

@@ -1,5 +1,6 @@
 -- Fitting, the nodes: roots, parents, links, game types, depths.
-use Rattle.lists.specs.Prelude.{ℕ, zero, suc, ◌-◌, ◌/◌, Bool, ◌||◌, ◌&&◌, not, List, [], ◌∷◌, leb, ltb, eqb, length, pick}
+use Rattle.std.specs.Prelude.{◌-◌, ◌/◌, ◌||◌, ◌&&◌, ◌∷◌}
+use Rattle.lists.specs.Prelude.{ℕ, zero, suc, Bool, not, List, [], leb, ltb, eqb, length, pick}
 use Rattle.lists.specs.Same.{same}
 use Rattle.tables.specs.Numbers.{none}
 use Rattle.tables.specs.declared.Counts.{Counts}

@@ -1,5 +1,6 @@
 -- The rule of a tree, how its values are read: 0 Go where `tt` is a pass, 1 another game, 2 Go where `tt` is a point.
-use Rattle.lists.specs.Prelude.{ℕ, ◌/◌, Bool, true, false, ◌&&◌, List, [], ◌∷◌, map, eqb, leb, ltb, length, pick}
+use Rattle.std.specs.Prelude.{◌/◌, ◌&&◌, ◌∷◌}
+use Rattle.lists.specs.Prelude.{ℕ, Bool, true, false, List, [], map, eqb, leb, ltb, length, pick}
 use Rattle.values.specs.Read.{read_identifier}
 use Rattle.lexer.specs.Token.{Prop}
 use Rattle.tables.specs.Columns.{tree_stride, node_stride, root_at, game_at, first_prop_at, prop_count_at}

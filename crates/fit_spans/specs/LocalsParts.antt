@@ -1,5 +1,6 @@
 -- Fitting, ranges and spans together, whatever is lent.
-use Rattle.lists.specs.Prelude.{ℕ, ◌/◌, Bool, ◌&&◌, List, leb, length}
+use Rattle.std.specs.Prelude.{◌/◌, ◌&&◌}
+use Rattle.lists.specs.Prelude.{ℕ, Bool, List, leb, length}
 use Rattle.tables.specs.Numbers.{text_limit}
 use Rattle.tables.specs.declared.Counts.{Counts}
 use Rattle.tables.specs.Columns.{node_stride, property_stride, value_stride}

@@ -1,5 +1,6 @@
 -- Fitting, the ranges: which properties a node has, and which values a property.
-use Rattle.lists.specs.Prelude.{ℕ, Bool, ◌&&◌, List, leb, eqb}
+use Rattle.std.specs.Prelude.{◌&&◌}
+use Rattle.lists.specs.Prelude.{ℕ, Bool, List, leb, eqb}
 use Rattle.tables.specs.declared.Counts.{Counts}
 use Rattle.tables.specs.Columns.{first_prop_at, prop_count_at, first_val_at, val_count_at}
 use Rattle.tables.specs.Each.{each, sum}

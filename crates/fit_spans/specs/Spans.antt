@@ -1,5 +1,6 @@
 -- Fitting, the spans: where identifiers and values stand in the text, and what stands in them.
-use Rattle.lists.specs.Prelude.{ℕ, zero, suc, ◌-◌, Bool, true, ◌&&◌, not, List, [], ◌∷◌, ◌++◌, leb, ltb, eqb, length, get_or, slice}
+use Rattle.std.specs.Prelude.{◌-◌, ◌&&◌, ◌∷◌, ◌++◌}
+use Rattle.lists.specs.Prelude.{ℕ, zero, suc, Bool, true, not, List, [], leb, ltb, eqb, length, get_or, slice}
 use Rattle.lexer.specs.Closed.{closed}
 use Rattle.tables.specs.declared.Counts.{Counts}
 use Rattle.tables.specs.Columns.{name_from_at, name_to_at, first_val_at, val_count_at, val_from_at, val_to_at}

@@ -1,5 +1,6 @@
 -- Sets of points as marks in 2,704 places: point (x, y) has place 52 * x + y.
-use Rattle.lists.specs.Prelude.{ℕ, zero, suc, ◌+◌, ◌/◌, ◌%◌, ◌≡◌, Bool, true, false, ◌&&◌, ◌||◌, List, [], ◌∷◌, leb, ltb, length, get_or}
+use Rattle.std.specs.Prelude.{◌+◌, ◌/◌, ◌%◌, ◌≡◌, ◌&&◌, ◌||◌, ◌∷◌}
+use Rattle.lists.specs.Prelude.{ℕ, zero, suc, Bool, true, false, List, [], leb, ltb, length, get_or}
 use Rattle.go_points.specs.declared.Area.{Area}
 use Rattle.go_points.specs.declared.Area.TheVariants.{Bad, Rect}
 

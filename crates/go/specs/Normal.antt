@@ -1,5 +1,6 @@
 -- The normal form of a property's values: as they are written.
-use Rattle.lists.specs.Prelude.{ℕ, suc, ◌/◌, ◌%◌, Bool, List, [], ◌∷◌, pick}
+use Rattle.std.specs.Prelude.{◌/◌, ◌%◌, ◌∷◌}
+use Rattle.lists.specs.Prelude.{ℕ, suc, Bool, List, [], pick}
 use Rattle.values.specs.Decimal.{decimal}
 use Rattle.go_points.specs.Area.{letter}
 use Rattle.go.specs.Value.{go_value}

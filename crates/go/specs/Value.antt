@@ -1,5 +1,6 @@
 -- The Go value of a property by its read identifier, in Go trees. The rule of a tree is how its values are read: 0 Go where `tt` is a pass, 1 another game, 2 Go where `tt` is a point.
-use Rattle.lists.specs.Prelude.{ℕ, ◌-◌, ◌^◌, Bool, false, ◌&&◌, ◌||◌, List, [], ◌∷◌, map, eqb, replicate, pick}
+use Rattle.std.specs.Prelude.{◌-◌, ◌^◌, ◌&&◌, ◌||◌, ◌∷◌}
+use Rattle.lists.specs.Prelude.{ℕ, Bool, false, List, [], map, eqb, replicate, pick}
 use Rattle.values.specs.Read.{read_value}
 use Rattle.values.specs.Decimal.{decimal_of}
 use Rattle.go_points.specs.Area.{move_of, area_of}

@@ -1,5 +1,6 @@
 -- Letters, points and areas: what a read value stands for as a move or in a list of points.
-use Rattle.lists.specs.Prelude.{ℕ, ◌+◌, ◌-◌, ◌&&◌, List, [], ◌∷◌, leb, ltb, eqb, pick}
+use Rattle.std.specs.Prelude.{◌+◌, ◌-◌, ◌&&◌, ◌∷◌}
+use Rattle.lists.specs.Prelude.{ℕ, List, [], leb, ltb, eqb, pick}
 use Rattle.go_points.specs.declared.Area.{Area}
 use Rattle.go_points.specs.declared.Area.TheVariants.{Bad, Rect}
 use Rattle.go_points.specs.declared.Value.{Value}

@@ -1,5 +1,6 @@
 -- The letters of a read identifier, one at a time.
-use Rattle.lists.specs.Prelude.{ℕ, ◌≡◌, List, [], ◌∷◌, drop}
+use Rattle.std.specs.Prelude.{◌≡◌, ◌∷◌}
+use Rattle.lists.specs.Prelude.{ℕ, List, [], drop}
 use Rattle.values.specs.Read.{read_identifier}
 use Rattle.values.specs.declared.read.ReadStep.{ReadStep}
 use Rattle.values.specs.declared.read.ReadStep.TheVariants.{Byte, End}

@@ -1,5 +1,6 @@
 -- What a property takes, by its read identifier.
-use Rattle.lists.specs.Prelude.{ℕ, ◌&&◌, ◌||◌, List, [], ◌∷◌, eqb, pick}
+use Rattle.std.specs.Prelude.{◌&&◌, ◌||◌, ◌∷◌}
+use Rattle.lists.specs.Prelude.{ℕ, List, [], eqb, pick}
 use Rattle.go_shape.specs.declared.Shape.{Shape}
 use Rattle.go_shape.specs.declared.Shape.TheVariants.{OneMove, OneNumber, ManyPoints, Unread}
 

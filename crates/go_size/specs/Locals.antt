@@ -1,5 +1,6 @@
 -- What the search for SZ promises.
-use Rattle.lists.specs.Prelude.{ℕ, ◌-◌, ◌≤◌, ◌<◌, true, ◌≡◌, List}
+use Rattle.std.specs.Prelude.{◌-◌, ◌≤◌, ◌<◌, ◌≡◌}
+use Rattle.lists.specs.Prelude.{ℕ, true, List}
 use Rattle.tables.specs.Each.{tabulate}
 use Rattle.parts_props.specs.Props.{named_at, property_at}
 use Rattle.go_size.specs.Root.{SZ, sizes_in}

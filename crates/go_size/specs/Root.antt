@@ -1,5 +1,6 @@
 -- The size that the properties of a root say.
-use Rattle.lists.specs.Prelude.{ℕ, List, [], ◌∷◌, pick}
+use Rattle.std.specs.Prelude.{◌∷◌}
+use Rattle.lists.specs.Prelude.{ℕ, List, [], pick}
 use Rattle.lists.specs.Same.{same}
 use Rattle.values.specs.Read.{read_value}
 use Rattle.parts_props.specs.Props.{Property}

@@ -1,5 +1,6 @@
 -- The size that one value says: one number, or two with one colon, each from 1 to 52.
-use Rattle.lists.specs.Prelude.{ℕ, suc, Bool, false, ◌||◌, List, [], ◌∷◌, eqb, pick}
+use Rattle.std.specs.Prelude.{◌||◌, ◌∷◌}
+use Rattle.lists.specs.Prelude.{ℕ, suc, Bool, false, List, [], eqb, pick}
 use Rattle.values.specs.Decimal.{decimal_of}
 use Rattle.values.specs.declared.decimal.Number.{Number}
 use Rattle.values.specs.declared.decimal.Number.TheVariants as N

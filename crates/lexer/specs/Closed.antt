@@ -1,5 +1,6 @@
 -- Closed values.
-use Rattle.lists.specs.Prelude.{ℕ, Bool, false, ◌||◌, ◌&&◌, not, List, [], ◌∷◌, eqb}
+use Rattle.std.specs.Prelude.{◌||◌, ◌&&◌, ◌∷◌}
+use Rattle.lists.specs.Prelude.{ℕ, Bool, false, not, List, [], eqb}
 
 -- scanned with an escape pending or not: no unescaped `]`, and at the end no pending escape
 abbrev pub closed_from : Bool → List ℕ → Bool

@@ -1,5 +1,6 @@
 -- Tokens with their places moved, as an edit of a value moves them.
-use Rattle.lists.specs.Prelude.{ℕ, ◌+◌, ◌-◌, List, map, leb, ltb, eqb, pick}
+use Rattle.std.specs.Prelude.{◌+◌, ◌-◌}
+use Rattle.lists.specs.Prelude.{ℕ, List, map, leb, ltb, eqb, pick}
 use Rattle.lexer.specs.Token.{Val, Prop, Tok, start, end, node, prop}
 
 -- where a thing that starts at p starts, once the value at q..e has become n bytes long (SCOPE 129)

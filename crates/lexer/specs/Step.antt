@@ -1,5 +1,6 @@
 -- The next token of a text, by scans; and what the machine gives where it is met.
-use Rattle.lists.specs.Prelude.{ℕ, zero, suc, ◌+◌, ◌≡◌, List, [], ◌∷◌, eqb, ltb, length, get_or, slice, pick}
+use Rattle.std.specs.Prelude.{◌+◌, ◌≡◌, ◌∷◌}
+use Rattle.lists.specs.Prelude.{ℕ, zero, suc, List, [], eqb, ltb, length, get_or, slice, pick}
 use Rattle.lexer.specs.declared.Fault.TheVariants.{MissingPropertyIdentifier, UnexpectedEndOfPropertyIdentifier, UnexpectedEndOfPropertyValue}
 use Rattle.lexer_close.specs.declared.Close.{Close}
 use Rattle.lexer_close.specs.declared.Close.TheVariants.{At, Open}

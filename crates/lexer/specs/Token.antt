@@ -1,5 +1,6 @@
 -- The tokens of a text: one machine, one step for each byte. Places count from the start of the untrimmed text; a token has its contents beside its places.
-use Rattle.lists.specs.Prelude.{ℕ, suc, Bool, true, false, List, [], ◌∷◌, ◌++◌, leb, eqb, length, drop}
+use Rattle.std.specs.Prelude.{◌∷◌, ◌++◌}
+use Rattle.lists.specs.Prelude.{ℕ, suc, Bool, true, false, List, [], leb, eqb, length, drop}
 use Rattle.lexer_scan.specs.Scan.{space}
 use Rattle.lexer.specs.declared.Fault.{Fault}
 use Rattle.lexer.specs.declared.Fault.TheVariants.{MissingPropertyIdentifier, UnexpectedEndOfPropertyIdentifier, UnexpectedEndOfPropertyValue}

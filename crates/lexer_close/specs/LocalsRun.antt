@@ -1,5 +1,6 @@
 -- Bytes that a scan for a closing bracket may step over.
-use Rattle.lists.specs.Prelude.{ℕ, ◌≤◌, ◌≡◌, Bool, ◌&&◌, not, List, eqb, length}
+use Rattle.std.specs.Prelude.{◌≤◌, ◌≡◌, ◌&&◌}
+use Rattle.lists.specs.Prelude.{ℕ, Bool, not, List, eqb, length}
 use Rattle.lexer_close.specs.Close.{close_at}
 
 -- neither `]` nor a backslash

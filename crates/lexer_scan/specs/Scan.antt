@@ -1,5 +1,6 @@
 -- What the scans of the token rules find, over the list of a text's bytes.
-use Rattle.lists.specs.Prelude.{ℕ, suc, ◌+◌, Bool, ◌||◌, List, [], ◌∷◌, eqb, leb, length, drop, get_or, pick}
+use Rattle.std.specs.Prelude.{◌+◌, ◌||◌, ◌∷◌}
+use Rattle.lists.specs.Prelude.{ℕ, suc, Bool, List, [], eqb, leb, length, drop, get_or, pick}
 use Rattle.lists.specs.Run.{Next, more, done, run}
 use Rattle.lexer_close.specs.Close.{close_at}
 use Rattle.lexer_close.specs.declared.Close.{Close}

@@ -1,5 +1,6 @@
 -- What a step of the walker says of the tokens of its text.
-use Rattle.lists.specs.Prelude.{ℕ, List, [], ◌∷◌}
+use Rattle.std.specs.Prelude.{◌∷◌}
+use Rattle.lists.specs.Prelude.{ℕ, List, []}
 use Rattle.lexer.specs.Token.{start, end, node, prop, done, broken, Lexed, lexed, lex_at}
 use Rattle.lexer.specs.Step.{prop_at}
 use Rattle.lexer.specs.declared.Step.{Step}

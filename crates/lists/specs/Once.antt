@@ -1,5 +1,5 @@
 -- No second answer.
-use Rattle.lists.specs.Prelude.{◌≡◌}
+use Rattle.std.specs.Prelude.{◌≡◌}
 
 -- at most one value meets P
 abbrev pub Once {ℓ} : {A : Type ℓ} → (A → Type 0) → Type ℓ

@@ -1,5 +1,6 @@
 -- Numbers put into a lent list where there is room.
-use Rattle.lists.specs.Prelude.{List, ◌++◌, ◌≡◌, ℕ, ◌+◌, ◌≤◌, ◌<◌, length, take, drop}
+use Rattle.std.specs.Prelude.{◌++◌, ◌≡◌, ◌+◌, ◌≤◌, ◌<◌}
+use Rattle.lists.specs.Prelude.{List, ℕ, length, take, drop}
 
 -- the list with `vs` at the place `at`
 abbrev pub put_at : List ℕ → ℕ → List ℕ → List ℕ

@@ -1,5 +1,6 @@
 -- Lists compared.
-use Rattle.lists.specs.Prelude.{ℕ, Bool, true, false, ◌&&◌, List, [], ◌∷◌, eqb}
+use Rattle.std.specs.Prelude.{◌&&◌, ◌∷◌}
+use Rattle.lists.specs.Prelude.{ℕ, Bool, true, false, List, [], eqb}
 
 -- the same numbers in the same order
 abbrev pub same : List ℕ → List ℕ → Bool

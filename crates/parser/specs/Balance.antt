@@ -1,5 +1,6 @@
 -- Starts and ends that match, in the scope's words.
-use Rattle.lists.specs.Prelude.{ℕ, suc, ◌+◌, ◌≤◌, ◌<◌, ◌≡◌, List, [], ◌∷◌, take}
+use Rattle.std.specs.Prelude.{◌+◌, ◌≤◌, ◌<◌, ◌≡◌, ◌∷◌}
+use Rattle.lists.specs.Prelude.{ℕ, suc, List, [], take}
 use Rattle.lexer.specs.Token.{Tok, start, end, node, prop}
 
 -- how many of the tokens are starts

@@ -1,5 +1,6 @@
 -- Texts and ways of reading for tables of examples.
-use Rattle.lists.specs.Prelude.{ℕ, zero, suc, Bool, true, false, List, [], ◌∷◌}
+use Rattle.std.specs.Prelude.{◌∷◌}
+use Rattle.lists.specs.Prelude.{ℕ, zero, suc, Bool, true, false, List, []}
 use Prim.Native.Char.{code}
 use Prim.Native.String.{String, len, char_at}
 

@@ -1,5 +1,6 @@
 -- The game type of a slice.
-use Rattle.lists.specs.Prelude.{ℕ, ◌-◌, ◌^◌, Bool, true, false, List, [], ◌∷◌, drop, pick}
+use Rattle.std.specs.Prelude.{◌-◌, ◌^◌, ◌∷◌}
+use Rattle.lists.specs.Prelude.{ℕ, Bool, true, false, List, [], drop, pick}
 use Rattle.lists.specs.Same.{same}
 use Rattle.lexer.specs.Token.{Val, Prop, Tok, start, end, node, prop}
 use Rattle.values.specs.Read.{read_value}

@@ -1,5 +1,6 @@
 -- Slices cut off one by one from the front of the tokens: what the code does, beside the fold of `Split`.
-use Rattle.lists.specs.Prelude.{ℕ, zero, suc, ◌<◌, List, [], ◌∷◌}
+use Rattle.std.specs.Prelude.{◌<◌, ◌∷◌}
+use Rattle.lists.specs.Prelude.{ℕ, zero, suc, List, []}
 use Rattle.lexer.specs.Token.{Tok, start, end, node, prop}
 use Rattle.tables.specs.Numbers.{depth_limit}
 

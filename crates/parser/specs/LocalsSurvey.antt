@@ -1,5 +1,6 @@
 -- What the first pass over the tokens finds.
-use Rattle.lists.specs.Prelude.{ℕ, suc, ◌+◌, ◌≤◌, ◌<◌, ◌≡◌, Bool, true, false, List, [], ◌∷◌, length}
+use Rattle.std.specs.Prelude.{◌+◌, ◌≤◌, ◌<◌, ◌≡◌, ◌∷◌}
+use Rattle.lists.specs.Prelude.{ℕ, suc, Bool, true, false, List, [], length}
 use Rattle.lists.specs.All.{All}
 use Rattle.lexer.specs.Token.{Tok, end, End, done, broken, Lexed, lexed, lex_at}
 use Rattle.tables.specs.Numbers.{reason_of}

@@ -1,5 +1,6 @@
 -- Reading: a text to a record, or a number and a place.
-use Rattle.lists.specs.Prelude.{ℕ, suc, ◌+◌, Bool, true, false, List, [], ◌∷◌, reverse, length, take, drop, ltb, pick}
+use Rattle.std.specs.Prelude.{◌+◌, ◌∷◌}
+use Rattle.lists.specs.Prelude.{ℕ, suc, Bool, true, false, List, [], reverse, length, take, drop, ltb, pick}
 use Rattle.text_utf8.specs.Text.{Ink, blank, inked, Utf, whole, part, bad, utfs}
 use Rattle.lexer.specs.Token.{Tok, End, done, broken, Lexed, lex_from}
 use Rattle.tables.specs.Numbers.{text_limit, none, reason_of}

@@ -1,5 +1,6 @@
 -- Splitting: tokens to slices, a fold over the tokens.
-use Rattle.lists.specs.Prelude.{ℕ, zero, suc, max, Bool, true, false, List, [], ◌∷◌, reverse, ltb, pick}
+use Rattle.std.specs.Prelude.{◌∷◌}
+use Rattle.lists.specs.Prelude.{ℕ, zero, suc, max, Bool, true, false, List, [], reverse, ltb, pick}
 use Rattle.lexer.specs.Token.{Tok, start, end, node, prop}
 use Rattle.tables.specs.Numbers.{depth_limit}
 use Rattle.tables.specs.declared.Reason.{Reason}

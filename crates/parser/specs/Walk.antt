@@ -1,5 +1,6 @@
 -- The tree of a slice: a fold over its tokens.
-use Rattle.lists.specs.Prelude.{ℕ, ◌+◌, Bool, true, false, ◌||◌, List, [], ◌∷◌, ◌++◌, length, eqb, pick}
+use Rattle.std.specs.Prelude.{◌+◌, ◌||◌, ◌∷◌, ◌++◌}
+use Rattle.lists.specs.Prelude.{ℕ, Bool, true, false, List, [], length, eqb, pick}
 use Rattle.lexer.specs.Token.{Prop, Tok, start, end, node, prop}
 use Rattle.tables.specs.Record.{Node}
 use Rattle.tables.specs.declared.Reason.{Reason}

@@ -1,5 +1,6 @@
 -- The game type as the code finds it.
-use Rattle.lists.specs.Prelude.{Bool, true, false, List, [], ◌∷◌}
+use Rattle.std.specs.Prelude.{◌∷◌}
+use Rattle.lists.specs.Prelude.{Bool, true, false, List, []}
 use Rattle.lexer.specs.Token.{Val, Tok, start, end, node, prop}
 use Rattle.parser.specs.Game.{Game, is, no_game, game_vals}
 use Rattle.parser_game.specs.declared.GameType.{GameType}

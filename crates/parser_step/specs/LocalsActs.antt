@@ -1,5 +1,6 @@
 -- What the next token asks for, by the state between two tokens.
-use Rattle.lists.specs.Prelude.{ℕ, zero, suc, ◌+◌, Bool, true, false, ◌&&◌, List, [], ◌∷◌, get_or, eqb, ltb, leb, pick}
+use Rattle.std.specs.Prelude.{◌+◌, ◌&&◌, ◌∷◌}
+use Rattle.lists.specs.Prelude.{ℕ, zero, suc, Bool, true, false, List, [], get_or, eqb, ltb, leb, pick}
 use Rattle.lexer_scan.specs.Scan.{values_end_at}
 use Rattle.lexer_close.specs.declared.Close.{Close}
 use Rattle.lexer_close.specs.declared.Close.TheVariants.{At, Open}

@@ -1,5 +1,6 @@
 -- The rows of nodes before their links and depths are made.
-use Rattle.lists.specs.Prelude.{ℕ, ◌+◌, List, [], ◌∷◌, length}
+use Rattle.std.specs.Prelude.{◌+◌, ◌∷◌}
+use Rattle.lists.specs.Prelude.{ℕ, List, [], length}
 use Rattle.tables.specs.Numbers.{none}
 use Rattle.tables.specs.Record.{Node}
 use Rattle.tables.specs.Rows.{NodeRow}

@@ -1,5 +1,6 @@
 -- The walk of one slice for every text, place and rows: what is answered, and what the three tables hold after it.
-use Rattle.lists.specs.Prelude.{ℕ, ◌+◌, ◌*◌, Bool, true, false, ◌&&◌, List, [], ◌∷◌, ◌++◌, reverse, length, leb, pick}
+use Rattle.std.specs.Prelude.{◌+◌, ◌*◌, ◌&&◌, ◌∷◌, ◌++◌}
+use Rattle.lists.specs.Prelude.{ℕ, Bool, true, false, List, [], reverse, length, leb, pick}
 use Rattle.lists.specs.Put.{put_at}
 use Rattle.lexer_scan.specs.Scan.{ident_at}
 use Rattle.lexer_scan.specs.declared.Ident.{Ident}

@@ -1,5 +1,6 @@
 -- What the steps of the walk do, in the code's own terms. Nothing public is stated by these.
-use Rattle.lists.specs.Prelude.{ℕ, ◌+◌, ◌-◌, ◌*◌, ◌≤◌, ◌<◌, ◌≡◌, Bool, true, false, List, [], ◌∷◌, length, get_or, eqb}
+use Rattle.std.specs.Prelude.{◌+◌, ◌-◌, ◌*◌, ◌≤◌, ◌<◌, ◌≡◌, ◌∷◌}
+use Rattle.lists.specs.Prelude.{ℕ, Bool, true, false, List, [], length, get_or, eqb}
 use Rattle.lists.specs.Put.{PutWhole}
 use Rattle.lexer.specs.Token.{done as finished, lex_at}
 use Rattle.lexer_scan.specs.Scan.{values_end_at}

@@ -1,5 +1,6 @@
 -- The tree of one slice, read from the tokens from a place on.
-use Rattle.lists.specs.Prelude.{ℕ, ◌+◌, ◌*◌, ◌≤◌, ◌<◌, ◌≡◌, Bool, false, List, [], ◌∷◌, length}
+use Rattle.std.specs.Prelude.{◌+◌, ◌*◌, ◌≤◌, ◌<◌, ◌≡◌, ◌∷◌}
+use Rattle.lists.specs.Prelude.{ℕ, Bool, false, List, [], length}
 use Rattle.lists.specs.Put.{PutIs}
 use Rattle.lexer.specs.Token.{Tok, done, lex_at}
 use Rattle.tables.specs.Numbers.{text_limit, none}

@@ -1,5 +1,6 @@
 -- Raw values by their rows: a flat table with two numbers a value, its start and its end in the text.
-use Rattle.lists.specs.Prelude.{ℕ, zero, suc, ◌+◌, ◌-◌, ◌*◌, ◌/◌, List, [], ◌∷◌, ltb, length, get_or, take, drop, pick}
+use Rattle.std.specs.Prelude.{◌+◌, ◌-◌, ◌*◌, ◌/◌, ◌∷◌}
+use Rattle.lists.specs.Prelude.{ℕ, zero, suc, List, [], ltb, length, get_or, take, drop, pick}
 
 -- the bytes from `from` up to `to`
 abbrev pub cut : List ℕ → (from to : ℕ) → List ℕ

@@ -1,5 +1,6 @@
 -- Properties by their rows: what the identifier reads as, and the raw values.
-use Rattle.lists.specs.Prelude.{ℕ, ◌-◌, ◌/◌, min, Bool, List, [], ltb, length, pick}
+use Rattle.std.specs.Prelude.{◌-◌, ◌/◌}
+use Rattle.lists.specs.Prelude.{ℕ, min, Bool, List, [], ltb, length, pick}
 use Rattle.lists.specs.Same.{same}
 use Rattle.values.specs.Read.{read_identifier}
 use Rattle.parts.specs.Rows.{cut, values_at}

@@ -1,5 +1,6 @@
 -- A reading: what is answered, and what the lent tables hold after it.
-use Rattle.lists.specs.Prelude.{ℕ, ◌/◌, ◌≡◌, Bool, ◌&&◌, List, leb, length, pick}
+use Rattle.std.specs.Prelude.{◌/◌, ◌≡◌, ◌&&◌}
+use Rattle.lists.specs.Prelude.{ℕ, Bool, List, leb, length, pick}
 use Rattle.tables.specs.Columns.{tree_stride, node_stride, property_stride, value_stride}
 use Rattle.tables.specs.Rows.{Tables, counts_of, tables}
 use Rattle.tables.specs.Flat.{flat_trees, flat_nodes, flat_props, flat_vals, over}

@@ -1,5 +1,5 @@
 -- Readings that are one of the five cases of a lenient reading.
-use Rattle.lists.specs.Prelude.{◌≡◌}
+use Rattle.std.specs.Prelude.{◌≡◌}
 use Rattle.tables.specs.Lenient.{as_reading}
 use Rattle.tables.specs.declared.Lenient.{Lenient}
 use Rattle.tables.specs.declared.Reading.{Reading}

@@ -1,5 +1,6 @@
 -- The trees of the slices from a place on.
-use Rattle.lists.specs.Prelude.{ℕ, ◌+◌, ◌≤◌, ◌≡◌, Bool, true, false, List, [], reverse, length}
+use Rattle.std.specs.Prelude.{◌+◌, ◌≤◌, ◌≡◌}
+use Rattle.lists.specs.Prelude.{ℕ, Bool, true, false, List, [], reverse, length}
 use Rattle.lists.specs.All.{All}
 use Rattle.lists.specs.Put.{PutIs}
 use Rattle.lexer.specs.Token.{Tok, done, lex_at}

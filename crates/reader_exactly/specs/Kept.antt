@@ -1,5 +1,6 @@
 -- What trimming keeps, in words: characters and white space, no machine.
-use Rattle.lists.specs.Prelude.{ℕ, ◌+◌, ◌≡◌, Bool, true, false, List, [], ◌++◌, length, take, drop}
+use Rattle.std.specs.Prelude.{◌+◌, ◌≡◌, ◌++◌}
+use Rattle.lists.specs.Prelude.{ℕ, Bool, true, false, List, [], length, take, drop}
 use Rattle.text_chars.specs.White.{white}
 use Rattle.text_chars.specs.Table.{listed, scalar, WellFormed}
 

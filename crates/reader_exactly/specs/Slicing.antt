@@ -1,5 +1,6 @@
 -- Slices in the scope's words: no accumulator, no greatest depth.
-use Rattle.lists.specs.Prelude.{ℕ, zero, suc, ◌+◌, ◌<◌, ◌⊎◌, List, [], ◌∷◌, take}
+use Rattle.std.specs.Prelude.{◌+◌, ◌<◌, ◌⊎◌, ◌∷◌}
+use Rattle.lists.specs.Prelude.{ℕ, zero, suc, List, [], take}
 use Rattle.lexer.specs.Token.{Tok, start, end, node, prop}
 use Rattle.tables.specs.Numbers.{depth_limit}
 use Rattle.parser.specs.Balance.{starts, ends}

@@ -1,5 +1,6 @@
 -- Numbers of rows that suffice for a text of so many bytes.
-use Rattle.lists.specs.Prelude.{ℕ, ◌+◌, ◌-◌, ◌/◌, ◌≤◌, max, length}
+use Rattle.std.specs.Prelude.{◌+◌, ◌-◌, ◌/◌, ◌≤◌}
+use Rattle.lists.specs.Prelude.{ℕ, max, length}
 use Rattle.tables.specs.declared.Counts.{Counts}
 use Rattle.tables.specs.Columns.{tree_stride, node_stride, property_stride, value_stride}
 use Rattle.reader.specs.Lent.{Lent}

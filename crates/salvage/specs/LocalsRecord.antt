@@ -1,5 +1,6 @@
 -- What is left to do once all is decided: the record lies in the tables, and there is room. Nothing public is stated by these.
-use Rattle.lists.specs.Prelude.{ℕ, ◌/◌, ◌≤◌, ◌≡◌, true, List, length}
+use Rattle.std.specs.Prelude.{◌/◌, ◌≤◌, ◌≡◌}
+use Rattle.lists.specs.Prelude.{ℕ, true, List, length}
 use Rattle.tables.specs.Memory.{Memory, memory}
 use Rattle.tables.specs.Numbers.{text_limit}
 use Rattle.tables.specs.Flat.{over}

@@ -1,5 +1,6 @@
 -- Salvage: a text that strict reading accepts out of any text, and the list of what was changed.
-use Rattle.lists.specs.Prelude.{ℕ, ◌/◌, ◌≡◌, Bool, ◌&&◌, List, leb, ltb, length, pick}
+use Rattle.std.specs.Prelude.{◌/◌, ◌≡◌, ◌&&◌}
+use Rattle.lists.specs.Prelude.{ℕ, Bool, List, leb, ltb, length, pick}
 use Rattle.tables.specs.Numbers.{text_limit, depth_limit}
 use Rattle.tables.specs.Rows.{Tables, tables, counts_of}
 use Rattle.tables.specs.Flat.{over}

@@ -1,5 +1,6 @@
 -- The depth that a record's writing has, counted along the node rows: how many brackets are open at each node.
-use Rattle.lists.specs.Prelude.{ℕ, zero, suc, ◌+◌, ◌-◌, ◌/◌, max, min, List, length, eqb, ltb, pick}
+use Rattle.std.specs.Prelude.{◌+◌, ◌-◌, ◌/◌}
+use Rattle.lists.specs.Prelude.{ℕ, zero, suc, max, min, List, length, eqb, ltb, pick}
 use Rattle.tables.specs.Columns.{node_stride, parent_at}
 use Rattle.serialize.specs.LocalsWalk.{in_brackets}
 

@@ -1,5 +1,6 @@
 -- The length of a property in the code's own terms. Nothing public is stated by these.
-use Rattle.lists.specs.Prelude.{ℕ, ◌+◌, List, length, slice}
+use Rattle.std.specs.Prelude.{◌+◌}
+use Rattle.lists.specs.Prelude.{ℕ, List, length, slice}
 use Rattle.values.specs.Read.{read_identifier}
 use Rattle.go.specs.Normal.{normal}
 use Rattle.serialize_values.specs.LocalsForm.{raws_text}

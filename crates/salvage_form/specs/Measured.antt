@@ -1,5 +1,6 @@
 -- The length of a property as it is written, by its places in a text.
-use Rattle.lists.specs.Prelude.{ℕ, ◌&&◌, List, [], ◌∷◌, map, leb, length, pick}
+use Rattle.std.specs.Prelude.{◌&&◌, ◌∷◌}
+use Rattle.lists.specs.Prelude.{ℕ, List, [], map, leb, length, pick}
 use Rattle.lexer.specs.Token.{Prop}
 use Rattle.lexer.specs.Step.{vals_at, prop_at}
 use Rattle.tables.specs.Numbers.{text_limit}

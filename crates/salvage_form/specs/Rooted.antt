@@ -1,5 +1,6 @@
 -- What a root's properties say of its tree once it is mended.
-use Rattle.lists.specs.Prelude.{ℕ, List, [], ◌∷◌}
+use Rattle.std.specs.Prelude.{◌∷◌}
+use Rattle.lists.specs.Prelude.{ℕ, List, []}
 use Rattle.lexer.specs.Token.{Prop}
 use Rattle.tables.specs.Numbers.{none}
 use Rattle.tables.specs.Record.{Node, Tree}

@@ -1,5 +1,6 @@
 -- Mended once more.
-use Rattle.lists.specs.Prelude.{ℕ, ◌≡◌, List}
+use Rattle.std.specs.Prelude.{◌≡◌}
+use Rattle.lists.specs.Prelude.{ℕ, List}
 use Rattle.tables.specs.Record.{Tree}
 use Rattle.parser.specs.Read.{accepted, read_lenient}
 use Rattle.serialize.specs.Form.{writing}

@@ -1,5 +1,6 @@
 -- When an entry of the list of changes is true of a text and the record that is leniently read from it.
-use Rattle.lists.specs.Prelude.{ℕ, zero, suc, ◌≡◌, Bool, true, false, List, [], ◌∷◌, ◌++◌}
+use Rattle.std.specs.Prelude.{◌≡◌, ◌∷◌, ◌++◌}
+use Rattle.lists.specs.Prelude.{ℕ, zero, suc, Bool, true, false, List, []}
 use Rattle.text_utf8.specs.Text.{Utf, whole, part, bad, blank, utfs}
 use Rattle.lexer.specs.Token.{Prop, Tok, End, done, broken, Lexed, token_place}
 use Rattle.values.specs.Read.{read_identifier}

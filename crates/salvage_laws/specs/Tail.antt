@@ -1,5 +1,6 @@
 -- A text whose tokens are all in its trees.
-use Rattle.lists.specs.Prelude.{ℕ, ◌≡◌, List, [], length, drop}
+use Rattle.std.specs.Prelude.{◌≡◌}
+use Rattle.lists.specs.Prelude.{ℕ, List, [], length, drop}
 use Rattle.text_utf8.specs.Text.{whole, blank, utfs}
 use Rattle.lexer.specs.Token.{Tok}
 use Rattle.parser.specs.Split.{Slices, no, slices}

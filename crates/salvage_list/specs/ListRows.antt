@@ -1,5 +1,6 @@
 -- The list of a text as rows of numbers.
-use Rattle.lists.specs.Prelude.{ℕ, List, [], ◌∷◌, ◌++◌, length, drop, leb, ltb, pick}
+use Rattle.std.specs.Prelude.{◌∷◌, ◌++◌}
+use Rattle.lists.specs.Prelude.{ℕ, List, [], length, drop, leb, ltb, pick}
 use Rattle.tables.specs.Numbers.{text_limit}
 use Rattle.salvage_mend.specs.Changes.{Change, empty_root, unnamed, removed_gm, spelled_anew, cut_short, tail_dropped}
 use Rattle.salvage_list.specs.Listed.{changes_of}

@@ -1,5 +1,6 @@
 -- The list of what salvage changed: tree by tree an empty root, the properties by number, a cut; at the end the tail.
-use Rattle.lists.specs.Prelude.{ℕ, suc, ◌+◌, true, false, List, [], ◌∷◌, ◌++◌, reverse, length, drop, max}
+use Rattle.std.specs.Prelude.{◌+◌, ◌∷◌, ◌++◌}
+use Rattle.lists.specs.Prelude.{ℕ, suc, true, false, List, [], reverse, length, drop, max}
 use Rattle.text_utf8.specs.Text.{Utf, whole, part, bad, blank, utfs}
 use Rattle.lexer.specs.Token.{Tok, End, done, broken, Lexed, token_place}
 use Rattle.tables.specs.Numbers.{none}

@@ -1,5 +1,6 @@
 -- What trimming and the first pass over the tokens find of a text. Nothing public is stated by these.
-use Rattle.lists.specs.Prelude.{ℕ, ◌≤◌, ◌≡◌, List, length, take}
+use Rattle.std.specs.Prelude.{◌≤◌, ◌≡◌}
+use Rattle.lists.specs.Prelude.{ℕ, List, length, take}
 use Rattle.text_utf8.specs.Trim.{trimmed}
 use Rattle.text_utf8.specs.declared.Trimmed.TheVariants.{Kept}
 use Rattle.tables.specs.Numbers.{text_limit}

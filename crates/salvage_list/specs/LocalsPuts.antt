@@ -1,5 +1,6 @@
 -- Entries put into the lent rows, in the code's own terms. Nothing public is stated by these.
-use Rattle.lists.specs.Prelude.{ℕ, ◌+◌, ◌*◌, ◌<◌, ◌≡◌, Bool, ◌&&◌, List, [], ◌∷◌, length, pick}
+use Rattle.std.specs.Prelude.{◌+◌, ◌*◌, ◌<◌, ◌≡◌, ◌&&◌, ◌∷◌}
+use Rattle.lists.specs.Prelude.{ℕ, Bool, List, [], length, pick}
 use Rattle.lists.specs.Same.{same}
 use Rattle.lists.specs.Put.{PutIs}
 use Rattle.values.specs.Read.{read_identifier}

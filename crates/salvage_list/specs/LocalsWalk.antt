@@ -1,5 +1,6 @@
 -- The walk of a slice for its entries, and the slices one after the other, in the code's own terms. Nothing public is stated by these.
-use Rattle.lists.specs.Prelude.{ℕ, ◌+◌, ◌-◌, ◌≤◌, ◌<◌, ◌≡◌, max, Bool, true, false, List, [], ◌∷◌, ◌++◌, length, drop}
+use Rattle.std.specs.Prelude.{◌+◌, ◌-◌, ◌≤◌, ◌<◌, ◌≡◌, ◌∷◌, ◌++◌}
+use Rattle.lists.specs.Prelude.{ℕ, max, Bool, true, false, List, [], length, drop}
 use Rattle.lists.specs.All.{All}
 use Rattle.lexer.specs.Token.{Tok, lex_at}
 use Rattle.tables.specs.Numbers.{text_limit, none}

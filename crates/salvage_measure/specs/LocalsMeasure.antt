@@ -1,5 +1,6 @@
 -- The result measured slice by slice, in the code's own terms. Nothing public is stated by these.
-use Rattle.lists.specs.Prelude.{ℕ, ◌+◌, ◌-◌, ◌*◌, ◌≤◌, ◌<◌, ◌≡◌, max, true, List, [], length}
+use Rattle.std.specs.Prelude.{◌+◌, ◌-◌, ◌*◌, ◌≤◌, ◌<◌, ◌≡◌}
+use Rattle.lists.specs.Prelude.{ℕ, max, true, List, [], length}
 use Rattle.lists.specs.All.{All}
 use Rattle.text_utf8.specs.Text.{Utf, whole, part, bad}
 use Rattle.lexer.specs.Token.{Lexed, lex_at}

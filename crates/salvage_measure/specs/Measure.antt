@@ -1,5 +1,6 @@
 -- What salvage makes of a text, measured before anything is written.
-use Rattle.lists.specs.Prelude.{ℕ, ◌≡◌, List, length}
+use Rattle.std.specs.Prelude.{◌≡◌}
+use Rattle.lists.specs.Prelude.{ℕ, List, length}
 use Rattle.parser.specs.Read.{read_lenient}
 use Rattle.serialize_laws.specs.Depth.{depth_of}
 use Rattle.salvage_mend.specs.Changes.{Change}

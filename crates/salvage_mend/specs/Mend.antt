@@ -1,5 +1,6 @@
 -- The mended record: what salvage makes of a lenient reading. No node is added or removed.
-use Rattle.lists.specs.Prelude.{ℕ, Bool, true, false, ◌&&◌, not, List, [], ◌∷◌, map, length, leb, pick}
+use Rattle.std.specs.Prelude.{◌&&◌, ◌∷◌}
+use Rattle.lists.specs.Prelude.{ℕ, Bool, true, false, not, List, [], map, length, leb, pick}
 use Rattle.lists.specs.Same.{same}
 use Rattle.lexer.specs.Token.{Prop}
 use Rattle.values.specs.Read.{read_identifier}

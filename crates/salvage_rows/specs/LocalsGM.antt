@@ -1,5 +1,6 @@
 -- The game type that a root's GMs give, by the rows: what the mended record keeps of them (salvage_mend/specs/Mend).
-use Rattle.lists.specs.Prelude.{ℕ, Bool, List, [], ◌∷◌, pick}
+use Rattle.std.specs.Prelude.{◌∷◌}
+use Rattle.lists.specs.Prelude.{ℕ, Bool, List, [], pick}
 use Rattle.lists.specs.Same.{same}
 use Rattle.values.specs.Read.{read_value}
 use Rattle.parts_props.specs.Props.{Property, properties_at}

@@ -1,6 +1,6 @@
 -- The lists that are open, each a chain of nodes under the node that it stands under, in the code's own terms. Nothing public is stated by these.
-use Rattle.lists.specs.Prelude.{ℕ, zero, suc, ◌+◌, ◌-◌, ◌*◌, max, min, Bool, true, false, List, [], ◌∷◌, get_or, pick}
-use Rattle.std.specs.Prelude.{set}
+use Rattle.lists.specs.Prelude.{ℕ, zero, suc, max, min, Bool, true, false, List, [], get_or, pick}
+use Rattle.std.specs.Prelude.{set, ◌+◌, ◌-◌, ◌*◌, ◌∷◌}
 use Rattle.salvage_shape.specs.LocalsShape.{high_with}
 use Rattle.salvage_shape.specs.declared.Chain.{Chain}
 

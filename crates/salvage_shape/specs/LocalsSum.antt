@@ -1,5 +1,6 @@
 -- The lengths of the properties of a tree once it is mended. Nothing public is stated by these.
-use Rattle.lists.specs.Prelude.{ℕ, ◌+◌, Bool, true, false, ◌&&◌, not, List, [], ◌∷◌, length, leb, pick}
+use Rattle.std.specs.Prelude.{◌+◌, ◌&&◌, ◌∷◌}
+use Rattle.lists.specs.Prelude.{ℕ, Bool, true, false, not, List, [], length, leb, pick}
 use Rattle.lists.specs.Same.{same}
 use Rattle.values.specs.Read.{read_identifier}
 use Rattle.lexer.specs.Token.{Prop}

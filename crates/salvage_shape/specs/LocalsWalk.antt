@@ -1,5 +1,6 @@
 -- What the walk of a slice for its shape asks for and gives. Nothing public is stated by these.
-use Rattle.lists.specs.Prelude.{ℕ, ◌+◌, ◌*◌, ◌≤◌, ◌≡◌, Bool, true, List, [], ◌∷◌, length}
+use Rattle.std.specs.Prelude.{◌+◌, ◌*◌, ◌≤◌, ◌≡◌, ◌∷◌}
+use Rattle.lists.specs.Prelude.{ℕ, Bool, true, List, [], length}
 use Rattle.tables.specs.Numbers.{text_limit, depth_limit, none}
 use Rattle.tables.specs.Record.{all_props}
 use Rattle.tables.specs.Rows.{parents}

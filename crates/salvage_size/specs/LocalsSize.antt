@@ -1,5 +1,6 @@
 -- How many bytes a record is written in, counted property by property and node by node; and how deep its trees stand then. Nothing public is stated by these.
-use Rattle.lists.specs.Prelude.{ℕ, suc, ◌+◌, ◌*◌, max, List, [], ◌∷◌}
+use Rattle.std.specs.Prelude.{◌+◌, ◌*◌, ◌∷◌}
+use Rattle.lists.specs.Prelude.{ℕ, suc, max, List, []}
 use Rattle.lexer.specs.Token.{Prop}
 use Rattle.tables.specs.Record.{Node, Tree}
 use Rattle.tables.specs.Rows.{parents}

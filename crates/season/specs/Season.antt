@@ -1,5 +1,6 @@
 -- The line of a text in a season's report, and of a record: a function of the text and of what is lent.
-use Rattle.lists.specs.Prelude.{ℕ, ◌≤◌, ◌≡◌, List, ◌⊎◌, ltb, length, pick}
+use Rattle.std.specs.Prelude.{◌≤◌, ◌≡◌, ◌⊎◌}
+use Rattle.lists.specs.Prelude.{ℕ, List, ltb, length, pick}
 use Rattle.tables.specs.Record.{Tree, all_nodes, all_props}
 use Rattle.tables.specs.Rows.{tables}
 use Rattle.tables.specs.Memory.{Memory}

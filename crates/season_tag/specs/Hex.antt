@@ -1,5 +1,6 @@
 -- A number below 2 ^ 64 as 16 hex digits, highest first.
-use Rattle.lists.specs.Prelude.{ℕ, zero, suc, ◌+◌, ◌-◌, ◌*◌, ◌/◌, ◌%◌, ◌^◌, List, [], ◌∷◌, ltb, pick}
+use Rattle.std.specs.Prelude.{◌+◌, ◌-◌, ◌*◌, ◌/◌, ◌%◌, ◌^◌, ◌∷◌}
+use Rattle.lists.specs.Prelude.{ℕ, zero, suc, List, [], ltb, pick}
 
 -- the letter of a digit: 0 to 9, then a to f
 unfoldable pub hex_digit : ℕ → ℕ

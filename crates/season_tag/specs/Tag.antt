@@ -1,6 +1,6 @@
 -- FNV-1a, 64 bits.
-use Rattle.lists.specs.Prelude.{ℕ, ◌*◌, ◌%◌, ◌^◌, List, [], ◌∷◌}
-use Rattle.std.specs.Prelude.{bit_xor}
+use Rattle.lists.specs.Prelude.{ℕ, List, []}
+use Rattle.std.specs.Prelude.{bit_xor, ◌*◌, ◌%◌, ◌^◌, ◌∷◌}
 
 -- one byte: exclusive-or, then the product with the prime, modulo 2 ^ 64
 abbrev pub tag_step : ℕ → ℕ → ℕ

@@ -1,5 +1,6 @@
 -- What the steps of counting promise each other.
-use Rattle.lists.specs.Prelude.{ℕ, ◌+◌, ◌/◌, ◌<◌, ◌≤◌, ◌≡◌, List, [], ◌∷◌, ltb, length, take, pick}
+use Rattle.std.specs.Prelude.{◌+◌, ◌/◌, ◌<◌, ◌≤◌, ◌≡◌, ◌∷◌}
+use Rattle.lists.specs.Prelude.{ℕ, List, [], ltb, length, take, pick}
 use Rattle.lists.specs.Same.{same}
 use Rattle.values.specs.Read.{read_identifier}
 use Rattle.parts_props.specs.Props.{identifier_at}

@@ -1,5 +1,6 @@
 -- A column of a report.
-use Rattle.lists.specs.Prelude.{ℕ, ◌+◌, ◌^◌, ◌<◌, ◌≤◌, List, [], ◌∷◌, get_or}
+use Rattle.std.specs.Prelude.{◌+◌, ◌^◌, ◌<◌, ◌≤◌, ◌∷◌}
+use Rattle.lists.specs.Prelude.{ℕ, List, [], get_or}
 use Rattle.season_totals.specs.declared.Line.{Line}
 use Rattle.season_totals.specs.Totals.{line_sums}
 

@@ -1,5 +1,6 @@
 -- What the steps of adding promise each other.
-use Rattle.lists.specs.Prelude.{ℕ, ◌+◌, ◌-◌, ◌^◌, leb, pick}
+use Rattle.std.specs.Prelude.{◌+◌, ◌-◌, ◌^◌}
+use Rattle.lists.specs.Prelude.{ℕ, leb, pick}
 use Rattle.season_totals.specs.declared.CheckedSum.{CheckedSum}
 use Rattle.season_totals.specs.declared.CheckedSum.TheVariants.{Is, Over}
 

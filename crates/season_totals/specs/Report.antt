@@ -1,5 +1,6 @@
 -- A report in bytes: its columns are parted by tabs, and a name comes last.
-use Rattle.lists.specs.Prelude.{ℕ, zero, suc, ◌+◌, List, [], ◌∷◌, ◌++◌, eqb, get_or, pick}
+use Rattle.std.specs.Prelude.{◌+◌, ◌∷◌, ◌++◌}
+use Rattle.lists.specs.Prelude.{ℕ, zero, suc, List, [], eqb, get_or, pick}
 use Rattle.values.specs.Decimal.{decimal}
 use Rattle.season_tag.specs.Hex.{hex_of}
 use Rattle.season_totals.specs.declared.Tally.{Tally}

@@ -1,7 +1,7 @@
 -- Totals: the sums of lines, column by column.
-use Rattle.lists.specs.Prelude.{ℕ, ◌+◌, ◌-◌, ◌^◌, Bool, true, false, ◌&&◌, List, [], ◌∷◌, leb, get_or, replicate, pick}
+use Rattle.lists.specs.Prelude.{ℕ, Bool, true, false, List, [], leb, get_or, replicate, pick}
 use Rattle.tables.specs.Each.{tabulate}
-use Rattle.std.specs.Prelude.{set}
+use Rattle.std.specs.Prelude.{set, ◌+◌, ◌-◌, ◌^◌, ◌&&◌, ◌∷◌}
 use Rattle.season_totals.specs.declared.Line.{Line}
 use Rattle.season_totals.specs.declared.Line.TheVariants.{Unread, Refused, Counted}
 use Rattle.season_totals.specs.declared.Sum.{Sum}

@@ -1,5 +1,6 @@
 -- What is written: the form of the values, the writing of a record, and the writer's answer.
-use Rattle.lists.specs.Prelude.{ℕ, ◌-◌, ◌^◌, ◌≡◌, not, List, ◌++◌, map, ltb, length, drop, pick}
+use Rattle.std.specs.Prelude.{◌-◌, ◌^◌, ◌≡◌, ◌++◌}
+use Rattle.lists.specs.Prelude.{ℕ, not, List, map, ltb, length, drop, pick}
 use Rattle.lexer.specs.Token.{Val, Prop}
 use Rattle.values.specs.Read.{read_identifier}
 use Rattle.go.specs.Normal.{normal}

@@ -1,5 +1,6 @@
 -- What the writer's own functions promise and ask of each other.
-use Rattle.lists.specs.Prelude.{ℕ, suc, ◌+◌, ◌/◌, ◌<◌, ◌≤◌, ◌-◌, Bool, true, not, List, ◌≡◌, length, pick}
+use Rattle.std.specs.Prelude.{◌+◌, ◌/◌, ◌<◌, ◌≤◌, ◌-◌, ◌≡◌}
+use Rattle.lists.specs.Prelude.{ℕ, suc, Bool, true, not, List, length, pick}
 use Rattle.tables.specs.Numbers.{none}
 use Rattle.tables.specs.Columns.{node_stride, value_stride, parent_at, first_prop_at, prop_count_at, val_from_at, val_to_at}
 use Rattle.fit_nodes.specs.Locals.{Ruled}

@@ -1,5 +1,6 @@
 -- The writing as the code walks: node by node along the links, where a tree is a node in brackets without parent; of a record, or of the mended one.
-use Rattle.lists.specs.Prelude.{ℕ, zero, suc, ◌+◌, ◌-◌, Bool, ◌&&◌, ◌||◌, not, List, [], ◌∷◌, ◌++◌, leb, ltb, eqb, length, get_or, slice, pick}
+use Rattle.std.specs.Prelude.{◌+◌, ◌-◌, ◌&&◌, ◌||◌, ◌∷◌, ◌++◌}
+use Rattle.lists.specs.Prelude.{ℕ, zero, suc, Bool, not, List, [], leb, ltb, eqb, length, get_or, slice, pick}
 use Rattle.lists.specs.Same.{same}
 use Rattle.values.specs.Read.{read_identifier}
 use Rattle.go.specs.Normal.{normal}

@@ -1,5 +1,6 @@
 -- The writing as a walk over the nodes, in order, with the open nodes on a path: steps towards the code, which Branch is proved equal to.
-use Rattle.lists.specs.Prelude.{ℕ, suc, Bool, true, false, List, [], ◌∷◌, ◌++◌, leb, eqb, pick}
+use Rattle.std.specs.Prelude.{◌∷◌, ◌++◌}
+use Rattle.lists.specs.Prelude.{ℕ, suc, Bool, true, false, List, [], leb, eqb, pick}
 use Rattle.tables.specs.Numbers.{none}
 use Rattle.tables.specs.Record.{Node, Tree}
 use Rattle.tables.specs.Rows.{parents}

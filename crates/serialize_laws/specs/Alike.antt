@@ -1,5 +1,6 @@
 -- When two records are the same Go record, however their texts spell it: order of a set's points, rectangles, white space, escapes and places aside.
-use Rattle.lists.specs.Prelude.{ℕ, ◌≡◌, true, false, List, List-as-Memᴰ}
+use Rattle.std.specs.Prelude.{◌≡◌}
+use Rattle.lists.specs.Prelude.{ℕ, true, false, List, List-as-Memᴰ}
 use Rattle.lists.specs.All.{All}
 use Rattle.ask.specs.Ask.{go_of}
 use Rattle.lexer.specs.Token.{Prop}

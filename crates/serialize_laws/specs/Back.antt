@@ -1,5 +1,6 @@
 -- Reading back: what is asked of a text and its trees; and trees places aside.
-use Rattle.lists.specs.Prelude.{ℕ, ◌≡◌, Bool, true, false, ◌&&◌, List, [], ◌∷◌, get_or, leb}
+use Rattle.std.specs.Prelude.{◌≡◌, ◌&&◌, ◌∷◌}
+use Rattle.lists.specs.Prelude.{ℕ, Bool, true, false, List, [], get_or, leb}
 use Rattle.lists.specs.All.{All}
 use Rattle.text_utf8.specs.Text.{Utf, whole, part, bad, blank, utfs}
 use Rattle.lexer.specs.Token.{Prop, Tok, token_place}

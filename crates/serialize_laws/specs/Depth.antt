@@ -1,5 +1,6 @@
 -- How deep the trees of a text stand in each other.
-use Rattle.lists.specs.Prelude.{ℕ, suc, ◌-◌, max, List, [], ◌∷◌}
+use Rattle.std.specs.Prelude.{◌-◌, ◌∷◌}
+use Rattle.lists.specs.Prelude.{ℕ, suc, max, List, []}
 use Rattle.text_utf8.specs.Text.{whole, blank, utfs}
 use Rattle.lexer.specs.Token.{Tok, start, end, node, prop}
 use Rattle.serialize_laws.specs.Back.{toks_of}

@@ -1,5 +1,6 @@
 -- The scope's examples P1 to P10: one table, one statement.
-use Rattle.lists.specs.Prelude.{◌≡◌, refl, ℕ, zero, suc, List, [], ◌∷◌, ◌++◌, length, take, Bool}
+use Rattle.std.specs.Prelude.{◌≡◌, ◌∷◌, ◌++◌}
+use Rattle.lists.specs.Prelude.{refl, ℕ, zero, suc, List, [], length, take, Bool}
 use Prim.Native.String.{String}
 use Rattle.text_chars.specs.White.{white}
 use Rattle.text_utf8.specs.Trim.{trimmed}

@@ -1,5 +1,6 @@
 -- Rows of texts that show why reading back asks what it asks, and of what is written: one table each, one statement each.
-use Rattle.lists.specs.Prelude.{◌≡◌, refl, ℕ, List, [], ◌∷◌, map}
+use Rattle.std.specs.Prelude.{◌≡◌, ◌∷◌}
+use Rattle.lists.specs.Prelude.{refl, ℕ, List, [], map}
 use Prim.Native.String.{String}
 use Rattle.text_chars.specs.White.{white}
 use Rattle.text_utf8.specs.Trim.{trimmed}

@@ -1,5 +1,6 @@
 -- What reading back keeps: parents, roots, game types, rules, identifiers, Go values and other raw values.
-use Rattle.lists.specs.Prelude.{ℕ, ◌≡◌, Bool, true, false, List, [], ◌∷◌}
+use Rattle.std.specs.Prelude.{◌≡◌, ◌∷◌}
+use Rattle.lists.specs.Prelude.{ℕ, Bool, true, false, List, []}
 use Rattle.ask.specs.Ask.{go_of}
 use Rattle.lexer.specs.Token.{Prop}
 use Rattle.values.specs.Read.{read_identifier}

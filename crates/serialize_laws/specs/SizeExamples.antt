@@ -1,5 +1,6 @@
 -- The inputs that request [4] decides: of each text the Go value of one property, and the writing. One table, one statement.
-use Rattle.lists.specs.Prelude.{◌≡◌, refl, ℕ, List, [], ◌∷◌}
+use Rattle.std.specs.Prelude.{◌≡◌, ◌∷◌}
+use Rattle.lists.specs.Prelude.{refl, ℕ, List, []}
 use Prim.Native.String.{String}
 use Rattle.text_chars.specs.White.{white}
 use Rattle.lexer_scan.specs.Scan.{space}

@@ -1,5 +1,6 @@
 -- Values as they are written.
-use Rattle.lists.specs.Prelude.{ℕ, List, [], ◌∷◌, ◌++◌}
+use Rattle.std.specs.Prelude.{◌∷◌, ◌++◌}
+use Rattle.lists.specs.Prelude.{ℕ, List, []}
 use Rattle.go.specs.Normal.{normal_by}
 use Rattle.go.specs.Value.{value_by}
 use Rattle.go_shape.specs.declared.Shape.{Shape}

@@ -1,5 +1,6 @@
 -- Answers about a record in memory, shown as numbers, as the C header says them.
-use Rattle.lists.specs.Prelude.{ℕ, Bool, true, false, List, ◌≡◌, eqb, pick}
+use Rattle.std.specs.Prelude.{◌≡◌}
+use Rattle.lists.specs.Prelude.{ℕ, Bool, true, false, List, eqb, pick}
 use Rattle.tables.specs.Memory.{Memory}
 use Rattle.ask_value.specs.Access.{accessed}
 use Rattle.value_display.specs.declared.Kind.{Kind}

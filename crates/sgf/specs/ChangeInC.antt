@@ -1,5 +1,6 @@
 -- A writing and an edit, shown as numbers, as the C header says them.
-use Rattle.lists.specs.Prelude.{ℕ, List, ◌≡◌, length}
+use Rattle.std.specs.Prelude.{◌≡◌}
+use Rattle.lists.specs.Prelude.{ℕ, List, length}
 use Rattle.tables.specs.Memory.{Memory}
 use Rattle.fit.specs.Record.{record_in}
 use Rattle.serialize.specs.Form.{writing, written, output}

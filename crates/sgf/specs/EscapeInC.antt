@@ -1,5 +1,6 @@
 -- Plain text escaped for an edit, as the C header says it.
-use Rattle.lists.specs.Prelude.{List, ℕ, ◌≡◌}
+use Rattle.std.specs.Prelude.{◌≡◌}
+use Rattle.lists.specs.Prelude.{List, ℕ}
 use Rattle.value_display.specs.Display.{displayed, displayed_in}
 use Rattle.value_escape.specs.Escape.{escaped_text}
 use Rattle.ask.specs.Ask.{display_for}

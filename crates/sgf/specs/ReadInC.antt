@@ -1,5 +1,6 @@
 -- A reading as the C header says it.
-use Rattle.lists.specs.Prelude.{ℕ, ◌%◌, ◌≡◌}
+use Rattle.std.specs.Prelude.{◌%◌, ◌≡◌}
+use Rattle.lists.specs.Prelude.{ℕ}
 use Rattle.parser.specs.Read.{Answer}
 use Rattle.reader.specs.Lent.{Lent, answers, leaves}
 use Rattle.c_answers.specs.Structs.{reading_in_c}

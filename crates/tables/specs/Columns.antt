@@ -1,5 +1,6 @@
 -- The cells of the four lent tables: the numbers of the rows stand one behind the other.
-use Rattle.lists.specs.Prelude.{ℕ, ◌+◌, ◌*◌, List, get_or}
+use Rattle.std.specs.Prelude.{◌+◌, ◌*◌}
+use Rattle.lists.specs.Prelude.{ℕ, List, get_or}
 
 -- numbers in a row of the tree table
 abbrev pub tree_stride : ℕ

@@ -1,5 +1,6 @@
 -- Tests and values over a run of numbers.
-use Rattle.lists.specs.Prelude.{ℕ, zero, suc, ◌+◌, Bool, true, ◌&&◌, List, [], ◌∷◌}
+use Rattle.std.specs.Prelude.{◌+◌, ◌&&◌, ◌∷◌}
+use Rattle.lists.specs.Prelude.{ℕ, zero, suc, Bool, true, List, []}
 
 -- each number below n passes
 unfoldable pub each : ℕ → (ℕ → Bool) → Bool

@@ -1,5 +1,6 @@
 -- The tables as they are lent: the numbers of the rows, one behind the other.
-use Rattle.lists.specs.Prelude.{ℕ, List, [], ◌∷◌, ◌++◌, length, drop}
+use Rattle.std.specs.Prelude.{◌∷◌, ◌++◌}
+use Rattle.lists.specs.Prelude.{ℕ, List, [], length, drop}
 use Rattle.tables.specs.Rows.{TreeRow, NodeRow, PropRow, ValRow}
 
 -- root, game type (SCOPE 9)

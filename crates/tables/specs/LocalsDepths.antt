@@ -1,5 +1,6 @@
 -- Depths in the node table, as the parents say.
-use Rattle.lists.specs.Prelude.{◌≡◌, List, ℕ, ◌+◌, ◌*◌, ◌<◌, length, get_or}
+use Rattle.std.specs.Prelude.{◌≡◌, ◌+◌, ◌*◌, ◌<◌}
+use Rattle.lists.specs.Prelude.{List, ℕ, length, get_or}
 use Rattle.tables.specs.Columns.{node_stride, parent_at, depth_at}
 use Rattle.tables.specs.Each.{tabulate}
 use Rattle.tables.specs.LocalsLinks.{HasRows}

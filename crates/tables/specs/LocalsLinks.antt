@@ -1,5 +1,6 @@
 -- First children and next siblings in the node table, as the parents say.
-use Rattle.lists.specs.Prelude.{◌≡◌, List, ℕ, zero, suc, ◌+◌, ◌-◌, ◌*◌, ◌/◌, ◌≤◌, ◌<◌, ltb, eqb, length, get_or, pick}
+use Rattle.std.specs.Prelude.{◌≡◌, ◌+◌, ◌-◌, ◌*◌, ◌/◌, ◌≤◌, ◌<◌}
+use Rattle.lists.specs.Prelude.{List, ℕ, zero, suc, ltb, eqb, length, get_or, pick}
 use Rattle.tables.specs.Columns.{node_stride, parent_at, child_at, sibling_at}
 use Rattle.tables.specs.Numbers.{none}
 

@@ -1,5 +1,6 @@
 -- The identifier of a property, by its row.
-use Rattle.lists.specs.Prelude.{ℕ, ◌/◌, ◌<◌, ◌≤◌, List, length}
+use Rattle.std.specs.Prelude.{◌/◌, ◌<◌, ◌≤◌}
+use Rattle.lists.specs.Prelude.{ℕ, List, length}
 use Rattle.tables.specs.Columns.{property_stride, name_from_at, name_to_at}
 
 -- property p is a row, and its identifier lies in the text

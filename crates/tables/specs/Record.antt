@@ -1,5 +1,6 @@
 -- A record: trees of nodes of properties of values, with names and raw values beside their places.
-use Rattle.lists.specs.Prelude.{ℕ, List, [], ◌∷◌, ◌++◌}
+use Rattle.std.specs.Prelude.{◌∷◌, ◌++◌}
+use Rattle.lists.specs.Prelude.{ℕ, List, []}
 use Rattle.lexer.specs.Token.{Val, Prop}
 
 -- a node: the number of its parent or none, and its properties

@@ -1,5 +1,6 @@
 -- The rows of the four tables of a record.
-use Rattle.lists.specs.Prelude.{ℕ, suc, ◌+◌, ◌&&◌, List, [], ◌∷◌, ◌++◌, length, get_or, leb, ltb, eqb, pick}
+use Rattle.std.specs.Prelude.{◌+◌, ◌&&◌, ◌∷◌, ◌++◌}
+use Rattle.lists.specs.Prelude.{ℕ, suc, List, [], length, get_or, leb, ltb, eqb, pick}
 use Rattle.lexer.specs.Token.{Val, Prop}
 use Rattle.tables.specs.Numbers.{none}
 use Rattle.tables.specs.Record.{Node, Tree, all_nodes, all_props, all_vals}

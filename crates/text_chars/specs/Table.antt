@@ -1,5 +1,6 @@
 -- Well-formed UTF-8 as Unicode's table 3-7 has it.
-use Rattle.lists.specs.Prelude.{ℕ, zero, suc, ◌+◌, ◌*◌, ◌-◌, ◌<◌, ◌≡◌, Bool, true, false, ◌||◌, ◌&&◌, List, [], ◌∷◌, eqb, length, take, drop}
+use Rattle.std.specs.Prelude.{◌+◌, ◌*◌, ◌-◌, ◌<◌, ◌≡◌, ◌||◌, ◌&&◌, ◌∷◌}
+use Rattle.lists.specs.Prelude.{ℕ, zero, suc, Bool, true, false, List, [], eqb, length, take, drop}
 use Rattle.text_chars.specs.White.{within}
 
 -- a range of bytes, both ends in it

@@ -1,5 +1,6 @@
 -- Numbers in a range; white space.
-use Rattle.lists.specs.Prelude.{ℕ, Bool, ◌||◌, ◌&&◌, leb, eqb}
+use Rattle.std.specs.Prelude.{◌||◌, ◌&&◌}
+use Rattle.lists.specs.Prelude.{ℕ, Bool, leb, eqb}
 
 -- a number in lo..hi
 abbrev pub within : ℕ → ℕ → ℕ → Bool

@@ -1,5 +1,6 @@
 -- What the locals of `trim` stand for.
-use Rattle.lists.specs.Prelude.{ℕ, ◌+◌, ◌≤◌, ◌<◌, List, eqb, length, get_or, pick}
+use Rattle.std.specs.Prelude.{◌+◌, ◌≤◌, ◌<◌}
+use Rattle.lists.specs.Prelude.{ℕ, List, eqb, length, get_or, pick}
 use Rattle.text_utf8.specs.declared.Seen.{Seen}
 use Rattle.text_utf8.specs.Text.{Ink, blank, inked}
 

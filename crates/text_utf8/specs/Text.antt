@@ -1,5 +1,6 @@
 -- Bytes, UTF-8 and trimming: one machine, one step for each byte. `text_chars/specs/Table` says the same of UTF-8 without a machine.
-use Rattle.lists.specs.Prelude.{ℕ, zero, suc, ◌+◌, ◌*◌, ◌-◌, Bool, true, false, List, [], ◌∷◌, leb, eqb}
+use Rattle.std.specs.Prelude.{◌+◌, ◌*◌, ◌-◌, ◌∷◌}
+use Rattle.lists.specs.Prelude.{ℕ, zero, suc, Bool, true, false, List, [], leb, eqb}
 use Rattle.text_chars.specs.White.{within, white}
 
 -- what is kept of the text so far: nothing but white space, or from the first other character to the end of the last one

@@ -1,5 +1,6 @@
 -- What the programs say of a number, of a refusal and of a span, in bytes.
-use Rattle.lists.specs.Prelude.{ℕ, List, [], ◌∷◌, ◌++◌}
+use Rattle.std.specs.Prelude.{◌∷◌, ◌++◌}
+use Rattle.lists.specs.Prelude.{ℕ, List, []}
 use Rattle.values.specs.Decimal.{decimal}
 
 -- words and a number

@@ -1,5 +1,6 @@
 -- Text display: `format_text` and the replacements of `SimpleText`, over bytes of UTF-8.
-use Rattle.lists.specs.Prelude.{ℕ, zero, suc, Bool, ◌&&◌, ◌||◌, List, [], ◌∷◌, ◌++◌, map, leb, eqb, length, get_or, drop, pick}
+use Rattle.std.specs.Prelude.{◌&&◌, ◌||◌, ◌∷◌, ◌++◌}
+use Rattle.lists.specs.Prelude.{ℕ, zero, suc, Bool, List, [], map, leb, eqb, length, get_or, drop, pick}
 use Rattle.value_display.specs.declared.Displayed.{Displayed}
 use Rattle.value_display.specs.declared.Displayed.TheVariants.{Length, NoRoom}
 use Rattle.value_display.specs.declared.Kind.{Kind}

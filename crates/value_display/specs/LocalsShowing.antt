@@ -1,5 +1,6 @@
 -- What the cursors of text display promise.
-use Rattle.lists.specs.Prelude.{ℕ, ◌≤◌, ◌<◌, ◌≡◌, List, [], ◌∷◌, eqb, length, get_or, drop, pick}
+use Rattle.std.specs.Prelude.{◌≤◌, ◌<◌, ◌≡◌, ◌∷◌}
+use Rattle.lists.specs.Prelude.{ℕ, List, [], eqb, length, get_or, drop, pick}
 use Rattle.value_display.specs.Display.{format_text}
 use Rattle.values.specs.Read.{read_value}
 use Rattle.values.specs.declared.read.ReadStep.{ReadStep}

@@ -1,5 +1,6 @@
 -- Plain text as a raw value.
-use Rattle.lists.specs.Prelude.{ℕ, ◌||◌, List, [], ◌∷◌, ◌++◌, eqb, pick}
+use Rattle.std.specs.Prelude.{◌||◌, ◌∷◌, ◌++◌}
+use Rattle.lists.specs.Prelude.{ℕ, List, [], eqb, pick}
 
 -- a backslash stands before a backslash and before `]`, every other byte as it is
 abbrev pub escaped_byte : ℕ → List ℕ

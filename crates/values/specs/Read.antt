@@ -1,5 +1,6 @@
 -- Read values and read identifiers: what raw bytes read as.
-use Rattle.lists.specs.Prelude.{ℕ, ◌+◌, Bool, true, false, ◌&&◌, List, [], ◌∷◌, leb, ltb, eqb, length, get_or, pick}
+use Rattle.std.specs.Prelude.{◌+◌, ◌&&◌, ◌∷◌}
+use Rattle.lists.specs.Prelude.{ℕ, Bool, true, false, List, [], leb, ltb, eqb, length, get_or, pick}
 use Rattle.values.specs.declared.read.ReadStep.{ReadStep}
 use Rattle.values.specs.declared.read.ReadStep.TheVariants.{Byte, End}
 

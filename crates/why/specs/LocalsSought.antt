@@ -1,5 +1,6 @@
 -- What is found of a text before its rows are counted. Nothing public is stated by these.
-use Rattle.lists.specs.Prelude.{ℕ, ◌≡◌, Bool, List}
+use Rattle.std.specs.Prelude.{◌≡◌}
+use Rattle.lists.specs.Prelude.{ℕ, Bool, List}
 use Rattle.text_utf8.specs.Trim.{trimmed}
 use Rattle.parser_census.specs.declared.Census.{Census}
 use Rattle.parser_census.specs.declared.Census.TheVariants.{Simple as counted, Odd}

@@ -1,5 +1,6 @@
 -- The walk of a slice that looks for the token to blame, and the slices one after the other, in the code's own terms. Nothing public is stated by these.
-use Rattle.lists.specs.Prelude.{ℕ, ◌+◌, ◌-◌, ◌≤◌, ◌≡◌, true, List, length}
+use Rattle.std.specs.Prelude.{◌+◌, ◌-◌, ◌≤◌, ◌≡◌}
+use Rattle.lists.specs.Prelude.{ℕ, true, List, length}
 use Rattle.lists.specs.All.{All}
 use Rattle.lexer.specs.Token.{Tok, done, lex_at}
 use Rattle.tables.specs.Numbers.{text_limit}

@@ -1,5 +1,6 @@
 -- The trees of slices, explained: the fact that refuses the first of them that is refused, and the place of the token to blame.
-use Rattle.lists.specs.Prelude.{ℕ, zero, suc, ◌+◌, false, List, [], ◌∷◌, length, drop}
+use Rattle.std.specs.Prelude.{◌+◌, ◌∷◌}
+use Rattle.lists.specs.Prelude.{ℕ, zero, suc, false, List, [], length, drop}
 use Rattle.lexer.specs.Token.{Tok, start, end, node, prop, done}
 use Rattle.tables.specs.Numbers.{none}
 use Rattle.tables.specs.Record.{Node}

@@ -1,5 +1,6 @@
 -- The first token at which a fold over tokens goes wrong.
-use Rattle.lists.specs.Prelude.{ℕ, Bool, true, false, List, [], ◌∷◌, ◌++◌, ltb, pick}
+use Rattle.std.specs.Prelude.{◌∷◌, ◌++◌}
+use Rattle.lists.specs.Prelude.{ℕ, Bool, true, false, List, [], ltb, pick}
 use Rattle.lexer.specs.Token.{Tok, token_place}
 use Rattle.tables.specs.Numbers.{depth_limit}
 use Rattle.parser.specs.Split.{Splitting, splitting, over, wrong, splits}

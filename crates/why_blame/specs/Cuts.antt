@@ -1,5 +1,6 @@
 -- Tokens and splitting, explained: the fact that refuses them, and the place of the token to blame.
-use Rattle.lists.specs.Prelude.{ℕ, zero, suc, ◌+◌, Bool, true, false, List, [], ◌∷◌, ◌++◌, reverse, length, drop, leb, ltb, pick}
+use Rattle.std.specs.Prelude.{◌+◌, ◌∷◌, ◌++◌}
+use Rattle.lists.specs.Prelude.{ℕ, zero, suc, Bool, true, false, List, [], reverse, length, drop, leb, ltb, pick}
 use Rattle.lexer.specs.Token.{Tok, End, done, broken, Lexed, token_place}
 use Rattle.lexer.specs.declared.Fault.{Fault}
 use Rattle.lexer.specs.declared.Fault.TheVariants.{MissingPropertyIdentifier, UnexpectedEndOfPropertyIdentifier, UnexpectedEndOfPropertyValue}

@@ -1,5 +1,6 @@
 -- The game type of a slice, explained.
-use Rattle.lists.specs.Prelude.{ℕ, List, [], ◌∷◌, length}
+use Rattle.std.specs.Prelude.{◌∷◌}
+use Rattle.lists.specs.Prelude.{ℕ, List, [], length}
 use Rattle.lexer.specs.Token.{Val, Prop}
 use Rattle.parser.specs.Game.{Game, is, no_game, game_vals}
 use Rattle.why_blame.specs.declared.Fact.{Fact}

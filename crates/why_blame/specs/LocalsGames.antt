@@ -1,5 +1,6 @@
 -- Properties named GM, found one after the other. Nothing public is stated by these.
-use Rattle.lists.specs.Prelude.{ℕ, ◌≤◌, ◌≡◌, List, [], ◌∷◌, length}
+use Rattle.std.specs.Prelude.{◌≤◌, ◌≡◌, ◌∷◌}
+use Rattle.lists.specs.Prelude.{ℕ, List, [], length}
 use Rattle.lexer.specs.Token.{Prop, Tok, lex_at}
 use Rattle.lexer.specs.Step.{prop_at}
 use Rattle.parser.specs.Game.{props, props_named, GM}

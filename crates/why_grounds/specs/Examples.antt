@@ -1,5 +1,6 @@
 -- Short texts and what their explanations are: one table, one statement.
-use Rattle.lists.specs.Prelude.{◌≡◌, ℕ, Bool, List, [], ◌∷◌, ◌++◌, map}
+use Rattle.std.specs.Prelude.{◌≡◌, ◌∷◌, ◌++◌}
+use Rattle.lists.specs.Prelude.{ℕ, Bool, List, [], map}
 use Rattle.tables.specs.Numbers.{none}
 use Rattle.parser.specs.Examples.{bytes, strict, lenient}
 use Rattle.why_blame.specs.declared.Fact.{Fact}

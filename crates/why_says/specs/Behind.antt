@@ -1,5 +1,6 @@
 -- Where reading of an accepted text ended, in the scope's words.
-use Rattle.lists.specs.Prelude.{ℕ, ◌≡◌, List, [], ◌∷◌, ◌++◌, length}
+use Rattle.std.specs.Prelude.{◌≡◌, ◌∷◌, ◌++◌}
+use Rattle.lists.specs.Prelude.{ℕ, List, [], length}
 use Rattle.lexer.specs.Token.{Tok, End, done, broken}
 use Rattle.reader_exactly.specs.Slicing.{slices_from}
 use Rattle.reader_exactly.specs.When.{tokens_of}

@@ -1,5 +1,6 @@
 -- Nothing that stands earlier in the scope's order applies: what a fact needs of the text before it can be to blame.
-use Rattle.lists.specs.Prelude.{ℕ, ◌≤◌, ◌≡◌, List, length}
+use Rattle.std.specs.Prelude.{◌≤◌, ◌≡◌}
+use Rattle.lists.specs.Prelude.{ℕ, List, length}
 use Rattle.tables.specs.Numbers.{text_limit}
 use Rattle.parser.specs.Balance.{starts, ends, Covered, Balanced}
 use Rattle.reader_exactly.specs.When.{Valid, tokens_of, Lexes, Splits}

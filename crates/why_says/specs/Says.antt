@@ -1,5 +1,6 @@
 -- What a fact says of a text, with its number and its place, in the scope's words: without `read` and without `explained`.
-use Rattle.lists.specs.Prelude.{ℕ, ◌+◌, ◌-◌, ◌^◌, ◌<◌, ◌≡◌, Bool, false, ◌⊎◌, List, [], ◌∷◌, ◌++◌, length, take, drop}
+use Rattle.std.specs.Prelude.{◌+◌, ◌-◌, ◌^◌, ◌<◌, ◌≡◌, ◌⊎◌, ◌∷◌, ◌++◌}
+use Rattle.lists.specs.Prelude.{ℕ, Bool, false, List, [], length, take, drop}
 use Rattle.lists.specs.All.{All}
 use Rattle.text_chars.specs.Table.{BadFrom}
 use Rattle.values.specs.Read.{read_value}

@@ -1,5 +1,6 @@
 -- Where the scan of a failing token stops, in the scope's words.
-use Rattle.lists.specs.Prelude.{ℕ, ◌+◌, ◌≤◌, ◌<◌, ◌≡◌, true, List, ◌∷◌, ◌++◌, length, take, drop, get_or}
+use Rattle.std.specs.Prelude.{◌+◌, ◌≤◌, ◌<◌, ◌≡◌, ◌∷◌, ◌++◌}
+use Rattle.lists.specs.Prelude.{ℕ, true, List, length, take, drop, get_or}
 use Rattle.lists.specs.All.{All}
 use Rattle.text_utf8.specs.Trim.{trimmed}
 use Rattle.text_utf8.specs.declared.Trimmed.TheVariants.{Kept}
