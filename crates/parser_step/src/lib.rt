@@ -1,4 +1,6 @@
 // What the next token of a slice asks for, before anything is done.
+#![tactic(auto)]
+
 ghost use Rattle.std.specs.Prelude.{◌≡◌, ◌≤◌, ◌<◌, length, get_or};
 ghost use Rattle.lexer_scan.specs.Scan.{values_end_at};
 ghost use Rattle.parser_step.specs.LocalsActs.{may_start, unclosed, next_act};
