@@ -6,13 +6,13 @@ use Rattle.values.specs.Read.{read_value}
 use Rattle.go_points.specs.Area.{letter_of, letter, move_of}
 use Rattle.go_points.proofs.Letters.{move-back}
 use Rattle.go.specs.Normal.{point_text, points_from, normal_by}
-use Rattle.go.specs.Value.{move_under, no_marks, unmarked, marked, points_of, value_by}
+use Rattle.go.specs.Value.{move_under, no_marks, marked, points_of, value_by}
 use Rattle.go.specs.declared.value.GoValue.{GoValue}
 use Rattle.go.proofs.Listed.{points-back}
 use Rattle.go_shape.specs.declared.Shape.{Shape}
 use Rattle.go_shape.specs.declared.Shape.TheVariants.{OneMove, ManyPoints}
 use Rattle.go_points.specs.declared.Value.{Value}
-use Rattle.go_points.specs.declared.Value.TheVariants.{Move, Points}
+use Rattle.go_points.specs.declared.Value.TheVariants.{Move}
 use Rattle.parts.specs.Rows.{value_at, values_at}
 use Rattle.serialize_values.specs.LocalsForm.{form_by}
 use Rattle.serialize_values.proofs.Boxed.{letter-low, letter-high}

@@ -1,6 +1,6 @@
 -- What is left of a Go value where some variants are shut out. Assumes nothing.
 use Rattle.lists.proofs.Prelude.{ℕ, ◌≤◌, Bool, List, [], ◌∷◌, inl, inr, ◌≡◌, refl, sym, ap, subst, arith}
-use types.Run.{OneOf, miss}
+use types.Run.{OneOf}
 use denote.Enum.Declared.{tag_of}
 use Rattle.go_points.specs.declared.Value.{Value}
 use Rattle.go_points.specs.declared.Value.TheVariants.{Other, Invalid, Pass, Move, Handicap, Points}
@@ -11,10 +11,6 @@ use Rattle.go_shape.specs.declared.Shape.{Shape}
 use Rattle.go_shape.specs.declared.Shape.TheVariants.{OneMove, OneNumber, ManyPoints, Unread}
 use Rattle.go.proofs.Shapes.{Moved, Numbered, moves, numbers, moves-moved, numbers-numbered}
 use Rattle.go_points.specs.contracts.Value as value
-
--- no set
-pub not-points : (x : Value) → OneOf (0 ∷ 1 ∷ 2 ∷ 3 ∷ 4 ∷ []) (tag_of value.the_type x) → x ≡ Points → ⊥
-not-points x h e = miss (0 ∷ 1 ∷ 2 ∷ 3 ∷ 4 ∷ []) 5 tt (subst (λ (y : Value). OneOf (0 ∷ 1 ∷ 2 ∷ 3 ∷ 4 ∷ []) (tag_of value.the_type y)) e h)
 
 -- a value that is no set, its point inside
 abbrev Single : Value → Type 0

@@ -1,5 +1,5 @@
 -- A text written piece by piece. Assumes nothing.
-use Rattle.lists.proofs.Prelude.{ℕ, ◌+◌, ◌^◌, ◌<◌, ◌≡◌, refl, sym, ◌∙◌, subst, List, [], ◌++◌, append_assoc, append-nil, length}
+use Rattle.lists.proofs.Prelude.{ℕ, ◌^◌, ◌<◌, ◌≡◌, refl, sym, ◌∙◌, subst, List, [], ◌++◌, append_assoc, append-nil, length}
 use Rattle.store_bytes.specs.LocalsWrote.{Wrote}
 use Rattle.store_bytes.proofs.Written.{wrote_none, wrote-more, wrote-is}
 

@@ -1,4 +1,6 @@
 // Values as they are written.
+#![tactic(auto)]
+
 ghost use Rattle.std.specs.Prelude.{◌≡◌, true, false, [], ◌∷◌, ℕ, ◌+◌, ◌<◌, ◌≤◌, ◌/◌, ◌%◌, length, get_or, drop};
 ghost use Rattle.lists.specs.Pick.{pick};
 ghost use Rattle.values.specs.Read.{read_identifier};
