@@ -1,5 +1,5 @@
 -- What the walk makes of what the next token asks for. Assumes nothing.
-use Rattle.lists.proofs.Prelude.{ℕ, ◌≤◌, ◌≡◌, refl, sym, ap, ◌∙◌, subst⁻¹, Bool, false, List, arith, eqb, eqb-true, eqb-false}
+use Rattle.lists.proofs.Prelude.{ℕ, ◌≤◌, ◌≡◌, refl, sym, ◌∙◌, subst⁻¹, Bool, false, List, arith, eqb, eqb-true, eqb-false}
 use Rattle.lists.proofs.Pick.{pick-elim}
 use Rattle.lexer_scan.specs.Scan.{values_end_at}
 use Rattle.lexer.specs.Step.{head_at}

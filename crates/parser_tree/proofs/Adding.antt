@@ -1,6 +1,6 @@
 -- A turn of the walk at a property: added, or the tree stops. Assumes nothing.
 use Rattle.lists.proofs.Prelude.{ℕ, ◌+◌, ◌≤◌, ◌<◌, ◌≡◌, refl, sym, ap, ◌∙◌, subst, subst⁻¹, Bool, true, false, List, [], ◌∷◌, ◌++◌, reverse, reverse-cons, arith, length}
-use Rattle.lexer.specs.Token.{prop, lex_at}
+use Rattle.lexer.specs.Token.{lex_at}
 use Rattle.lexer_scan.specs.Scan.{values_end_at}
 use Rattle.lexer.specs.Step.{vals_at, prop_at, head_at}
 use Rattle.lexer.specs.declared.Head.TheVariants.{Name}

@@ -1,7 +1,7 @@
 -- A turn of the walk at a start, an end, a node. Assumes nothing.
 use Rattle.lists.proofs.Prelude.{ℕ, suc, ◌+◌, ◌-◌, ◌*◌, ◌≤◌, ◌<◌, ◌≡◌, refl, sym, ap, ◌∙◌, subst, subst⁻¹, Bool, true, false, false≢true, List, [], ◌∷◌, reverse, reverse-cons, arith, add-one, length, get_or, set, length-set, leb, le-leb, lt-leb, pick}
 use Rattle.lists.specs.Put.{PutWhole}
-use Rattle.lexer.specs.Token.{start, end, lex_at}
+use Rattle.lexer.specs.Token.{start, lex_at}
 use Rattle.lexer.specs.Step.{head_at}
 use Rattle.lexer.specs.declared.Head.TheVariants.{Start, End, Node}
 use Rattle.tables.specs.Numbers.{none, depth_limit}

@@ -1,5 +1,5 @@
 -- The slice that is left, one token a turn: its tokens, those behind it, and how deep it goes. Assumes nothing.
-use Rattle.lists.proofs.Prelude.{ℕ, zero, suc, ◌+◌, ◌-◌, ◌≤◌, ◌<◌, ◌≡◌, refl, sym, ap, ◌∙◌, subst, subst⁻¹, Bool, false, List, [], ◌∷◌, ◌++◌, arith, add-one, length, drop-length}
+use Rattle.lists.proofs.Prelude.{ℕ, zero, suc, ◌+◌, ◌-◌, ◌≤◌, ◌<◌, ◌≡◌, refl, sym, ap, ◌∙◌, subst⁻¹, Bool, false, List, [], ◌∷◌, ◌++◌, arith, add-one, length, drop-length}
 use Rattle.lexer.specs.Token.{Prop, Tok, start, end, node, prop, done, broken, Lexed, lexed, lex_from, lex_at}
 use Rattle.lexer.specs.declared.Fault.{Fault}
 use Rattle.parser_tree.specs.LocalsTree.{open_token, token_tail, met_in, place_behind}

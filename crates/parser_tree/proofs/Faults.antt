@@ -1,8 +1,8 @@
 -- What is met where a token has a fault: a property that a value leaves open is a token to strict reading only. Assumes nothing.
-use Rattle.lists.proofs.Prelude.{ℕ, ◌+◌, ◌≤◌, ◌<◌, ◌≡◌, refl, sym, ap, ◌∙◌, subst, subst⁻¹, Bool, true, false, false≢true, List, [], ◌∷◌, arith, length, get_or, eqb, ltb}
+use Rattle.lists.proofs.Prelude.{ℕ, ◌≤◌, ◌<◌, ◌≡◌, refl, sym, ap, ◌∙◌, subst, Bool, true, false, false≢true, List, [], ◌∷◌, arith, length, get_or, eqb, ltb}
 use Rattle.lists.proofs.Pick.{pick-elim}
 use Rattle.lists.proofs.Tests.{never}
-use Rattle.lexer.specs.Token.{Tok, prop, done, broken, Lexed, lexed, lex_at}
+use Rattle.lexer.specs.Token.{Tok, prop, done, broken, lex_at}
 use Rattle.lexer_scan.specs.Scan.{skip_at, ident_at, values_end_at}
 use Rattle.lexer_scan.specs.declared.Ident.{Ident}
 use Rattle.lexer_scan.specs.declared.Ident.TheVariants.{Opens, Missing, Foreign}

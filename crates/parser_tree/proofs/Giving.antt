@@ -1,5 +1,5 @@
 -- What the walk gives back: a tree, its empty root, or a refusal. Assumes nothing.
-use Rattle.lists.proofs.Prelude.{ℕ, ◌+◌, ◌*◌, ◌≤◌, ◌≡◌, refl, sym, ap, ◌∙◌, subst, subst⁻¹, Bool, true, false, List, [], ◌∷◌, reverse, arith, length, length-reverse, eqb, eqb-true, eqb-false}
+use Rattle.lists.proofs.Prelude.{ℕ, ◌+◌, ◌*◌, ◌≤◌, ◌≡◌, refl, sym, ap, ◌∙◌, subst, subst⁻¹, Bool, true, false, List, [], ◌∷◌, reverse, arith, length, eqb, eqb-true, eqb-false}
 use Rattle.lists.specs.Put.{PutWhole}
 use Rattle.lexer.specs.Token.{lex_at}
 use Rattle.lexer.specs.Step.{head_at}
@@ -10,7 +10,7 @@ use Rattle.tables.specs.Record.{Node as Noded, all_props, all_vals}
 use Rattle.tables.specs.declared.Reason.{Reason}
 use Rattle.tables.specs.declared.Reason.TheVariants.{UnexpectedEndOfData, TooDeep}
 use Rattle.tables.specs.Columns.{node_stride}
-use Rattle.parser.specs.Walk.{Walk, walk, stopped, refuse}
+use Rattle.parser.specs.Walk.{Walk, stopped, refuse}
 use Rattle.parser.specs.LocalsSlice.{slice_from}
 use Rattle.parser_tree.specs.LocalsTree.{met_in, Run, place_behind, Held, Bases, Left, left_with, tree_with, end_left, run_left, slice_left}
 use Rattle.parser_tree.specs.LocalsWalks.{SliceAt, LeftIs}

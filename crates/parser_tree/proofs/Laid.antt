@@ -5,7 +5,6 @@ use Rattle.lexer.specs.Token.{Val, Prop}
 use Rattle.tables.specs.Numbers.{none}
 use Rattle.tables.specs.Record.{Node, all_props, all_vals}
 use Rattle.tables.specs.Rows.{prop_rows, val_rows}
-use Rattle.tables.specs.Flat.{flat_nodes, flat_props, flat_vals}
 use Rattle.tables.specs.Columns.{node_stride, property_stride, value_stride}
 use Rattle.parser_tree.specs.LocalsFlat.{bare_rows}
 use Rattle.parser_tree.specs.LocalsTree.{put_row, put_rows, node_lists, prop_lists, val_lists}

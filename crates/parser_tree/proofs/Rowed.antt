@@ -1,5 +1,5 @@
 -- Rows put one behind the other, each where there is room for it. Assumes nothing.
-use Rattle.lists.proofs.Prelude.{ℕ, ◌+◌, ◌*◌, ◌≤◌, ◌<◌, ◌≡◌, refl, sym, ap, ◌∙◌, subst, Bool, true, false, List, [], ◌∷◌, ◌++◌, append_assoc, arith, length, length-append, take, drop, length-take-le, length-drop, leb, leb-true, leb-false, pick}
+use Rattle.lists.proofs.Prelude.{ℕ, ◌+◌, ◌≤◌, ◌≡◌, refl, ap, ◌∙◌, List, [], ◌∷◌, ◌++◌, arith, length, length-append, take, drop, length-take-le, length-drop, leb, leb-true, leb-false}
 use Rattle.lists.proofs.Pick.{pick-elim}
 use Rattle.lists.specs.Put.{put_at, PutIs, PutWhole}
 use Rattle.lists.proofs.Put.{put-none, put-more, put_last}

@@ -1,5 +1,5 @@
 -- The values of a property, one a turn. Assumes nothing.
-use Rattle.lists.proofs.Prelude.{ℕ, ◌+◌, ◌-◌, ◌*◌, ◌≤◌, ◌≡◌, refl, sym, ap, ◌∙◌, subst, List, [], ◌∷◌, ◌++◌, append_assoc, append-nil, arith, length, length-append, slice}
+use Rattle.lists.proofs.Prelude.{ℕ, ◌+◌, ◌-◌, ◌*◌, ◌≤◌, ◌≡◌, refl, sym, ap, ◌∙◌, List, [], ◌∷◌, ◌++◌, append_assoc, append-nil, arith, length, length-append, slice}
 use Rattle.lists.specs.Put.{PutWhole}
 use Rattle.lexer.specs.Token.{Val}
 use Rattle.lexer_scan.specs.Scan.{value_step_at, values_end_at}
