@@ -1,12 +1,11 @@
 -- The list tells of each property what becomes of it: the nodes with the listed changes are the mended nodes. Assumes nothing.
-use Rattle.lists.proofs.Prelude.{◌≡◌, refl, sym, ap, ap₂, ◌∙◌, subst, ℕ, suc, ◌+◌, ◌≤◌, ◌<◌, arith, Bool, true, false, ◌&&◌, ◌||◌, not, List, [], ◌∷◌, ◌++◌, map, length, length-append, leb, eqb, eq-eqb, ne_eqb, pick}
+use Rattle.lists.proofs.Prelude.{◌≡◌, refl, sym, ap, ap₂, ◌∙◌, subst, ℕ, suc, ◌+◌, ◌≤◌, ◌<◌, arith, Bool, true, false, ◌&&◌, ◌||◌, not, List, [], ◌∷◌, ◌++◌, map, length, leb, eqb, eq-eqb, ne_eqb, pick}
 use Rattle.lists.specs.Same.{same}
 use Rattle.lexer.specs.Token.{Prop}
 use Rattle.values.specs.Read.{read_identifier}
-use Rattle.parser.specs.Game.{Game, is, GM, game_props, props_named}
 use Rattle.tables.specs.Record.{Node, all_props}
 use Rattle.fit.proofs.RootRows.{same-equal}
-use Rattle.salvage_mend.specs.Mend.{reads_gm, gms_among, root_game, kept_game, gms_bad, prop_stays, respelled, mend_props, mend_node, mend_nodes}
+use Rattle.salvage_mend.specs.Mend.{reads_gm, root_game, kept_game, gms_bad, prop_stays, respelled, mend_props, mend_node, mend_nodes}
 use Rattle.salvage_mend.specs.Changes.{Change, empty_root, unnamed, removed_gm, spelled_anew, cut_short, tail_dropped, prop_change, props_changes, nodes_changes, left_out, anew, change_props, change_nodes, game_kept}
 use Rattle.salvage_mend.proofs.Games.{game-kept}
 

@@ -1,6 +1,6 @@
 -- What salvage changed, property by property, and a record with the listed changes.
 use Rattle.std.specs.Prelude.{◌+◌, ◌&&◌, ◌||◌, ◌∷◌, ◌++◌}
-use Rattle.lists.specs.Prelude.{ℕ, suc, Bool, true, false, List, [], length, leb, eqb, pick}
+use Rattle.lists.specs.Prelude.{ℕ, suc, Bool, false, List, [], length, leb, eqb, pick}
 use Rattle.lists.specs.Same.{same}
 use Rattle.lexer.specs.Token.{Prop}
 use Rattle.values.specs.Read.{read_identifier}
