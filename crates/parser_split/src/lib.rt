@@ -1,4 +1,6 @@
 // What is read of a text before any tree is: which slices, or why it is refused.
+#![tactic(auto)]
+
 ghost use Rattle.std.specs.Prelude.{◌≡◌, true, false};
 ghost use Rattle.lexer.specs.Token.{lex_at};
 ghost use Rattle.parser.specs.LocalsSurvey.{survey_of};
