@@ -1,4 +1,6 @@
 // What a value edit answers, before any byte is changed: 19, 16, 17, 2, 18, 1, 14.
+#![tactic(auto)]
+
 ghost use Rattle.std.specs.Prelude.{◌≡◌, ◌-◌, ◌/◌, ◌<◌, ◌≤◌, length};
 ghost use Rattle.lists.specs.Same.{same};
 ghost use Rattle.lexer.specs.Closed.{closed};
