@@ -1,4 +1,6 @@
 // The value accessor: value k of a text whose tables fit.
+#![tactic(auto)]
+
 ghost use Rattle.std.specs.Prelude.{◌≡◌, ◌/◌, ◌<◌, length};
 ghost use Rattle.tables.specs.Columns.{value_stride, val_from_at, val_to_at};
 ghost use Rattle.tables.specs.Memory.{memory};
