@@ -11,7 +11,7 @@ pub mod length; // length.rt: the length of a writing
 pub mod season;
 pub mod size; // size.rt: the board size of a tree
 pub mod explain;
-pub mod salvage;
+pub mod salvaging;
 
 ghost use Rattle.std.specs.Prelude.{◌≡◌};
 ghost use Rattle.lexer_scan.specs.Scan.{value_step_at};

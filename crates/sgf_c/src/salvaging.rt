@@ -20,5 +20,5 @@ pub extern "C" fn sgf_salvage(
         (lent trees.new nodes.new properties.new values.new)
         changes.old changes.new out.old out.new result }
 {
-    sgf::salvage::sgf_salvage(text, trees, nodes, properties, values, changes, out)
+    sgf::salvaging::sgf_salvage(text, trees, nodes, properties, values, changes, out)
 }
