@@ -4,13 +4,13 @@ use Rattle.lists.specs.Same.{same}
 use Rattle.lists.proofs.Tests.{never}
 use Rattle.lexer.specs.Token.{Prop, Tok, start, end, node, prop, End}
 use Rattle.tables.specs.Record.{Node}
-use Rattle.parser.specs.Game.{Game, is, no_game, GM, props, find_gametype, game_vals}
+use Rattle.parser.specs.Game.{GM}
 use Rattle.parser.specs.LocalsSlice.{slice_from, rest_from}
 use Rattle.parser.specs.Walk.{Walk, walk, walks, opens}
 use Rattle.parser.specs.Read.{trees_so_far}
-use Rattle.parser_census.specs.LocalsCensus.{on_start, on_end, on_last, on_node, on_kind, on_prop}
+use Rattle.parser_census.specs.LocalsCensus.{on_start, on_end, on_node, on_prop}
 use Rattle.parser_census.specs.declared.Mode.{Mode}
-use Rattle.parser_census.specs.declared.Mode.TheVariants.{Outside, First, Root, Typed, Node as node-mode, Opened, Bare, Full, Odd}
+use Rattle.parser_census.specs.declared.Mode.TheVariants.{Outside, First, Odd}
 use Rattle.parser_census.proofs.Sizes.{props_in, vals_in, props-in-reverse, vals-in-reverse, props-in-more, vals-in-more}
 use Rattle.parser_census.proofs.Holds.{Holds, holds-node, holds-start, holds-end, last-outside, holds_prop}
 use Rattle.parser_census.proofs.Odds.{Says, odd-never, odd-mode, says-start, says_last, says-end, says_none}

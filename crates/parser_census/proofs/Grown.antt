@@ -4,7 +4,7 @@ use Rattle.lists.specs.All.{All}
 use Rattle.lexer.specs.Token.{Prop, Tok, start, node, End}
 use Rattle.tables.specs.Numbers.{none}
 use Rattle.tables.specs.Record.{Node, Tree, all_nodes}
-use Rattle.parser.specs.Game.{Game, is, GM, props, props_named, find_gametype, game_props}
+use Rattle.parser.specs.Game.{Game, is, GM, props_named, find_gametype, game_props}
 use Rattle.parser.specs.LocalsSlice.{slice_from, rest_from, first_slices}
 use Rattle.parser.specs.Walk.{Walk, walk, children, walks, walked}
 use Rattle.parser.specs.Read.{Trees, trees_so_far, tree_of_walk, tree_of_game, parse_gametrees}

@@ -1,10 +1,10 @@
 -- Where a mode of the census stands for a state of the walk of a tree. Assumes nothing.
-use Rattle.lists.proofs.Prelude.{ℕ, zero, suc, ◌++◌, ◌+◌, ◌≡◌, refl, sym, ap, ◌∙◌, subst, Bool, true, false, ◌||◌, or-true, ◌⊎◌, inl, inr, List, [], ◌∷◌, eqb, eq-eqb}
+use Rattle.lists.proofs.Prelude.{ℕ, zero, suc, ◌++◌, ◌≡◌, refl, sym, ap, ◌∙◌, Bool, true, false, ◌||◌, or-true, ◌⊎◌, inl, inr, List, [], ◌∷◌, eqb, eq-eqb}
 use Rattle.lists.specs.All.{All}
-use Rattle.lexer.specs.Token.{Val, Prop, start, end, node, prop}
+use Rattle.lexer.specs.Token.{Prop}
 use Rattle.tables.specs.Record.{Node}
 use Rattle.parser.specs.Game.{Game, is, no_game, game_vals}
-use Rattle.parser.specs.Walk.{Walk, walk, children, walks, opens}
+use Rattle.parser.specs.Walk.{walk, children, opens}
 use Rattle.parser_census.specs.LocalsCensus.{on_start, on_end, on_last, on_node, on_kind, on_prop}
 use Rattle.parser_census.specs.declared.Mode.{Mode}
 use Rattle.parser_census.specs.declared.Mode.TheVariants.{Outside, First, Root, Typed, Node as node-mode, Opened, Bare, Full, Odd}

@@ -1,7 +1,5 @@
 -- Modes behind a property, and behind the last token. Assumes nothing.
-use Rattle.lists.proofs.Prelude.{ℕ, zero, suc, ◌≡◌, refl, sym, ap, ◌∙◌, subst, Bool, true, false, List, [], ◌∷◌, arith, pick}
-use types.Run.{OneOf, miss}
-use denote.Enum.Declared.{tag_of}
+use Rattle.lists.proofs.Prelude.{ℕ, zero, suc, ◌≡◌, refl, sym, ap, ◌∙◌, Bool, true, false, List, arith, pick}
 use Rattle.lists.proofs.Tests.{never}
 use Rattle.lexer.specs.Token.{Val}
 use Rattle.tables.specs.declared.Reason.{Reason}

@@ -1,5 +1,5 @@
 -- A property of a census: from here as from the start. Assumes nothing.
-use Rattle.lists.proofs.Prelude.{ℕ, suc, ◌+◌, ◌-◌, ◌≤◌, ◌<◌, ◌≡◌, refl, sym, ap, ◌∙◌, subst, Bool, true, false, List, [], ◌∷◌, arith, length, get_or, slice}
+use Rattle.lists.proofs.Prelude.{ℕ, suc, ◌+◌, ◌≤◌, ◌<◌, ◌≡◌, refl, sym, ap, ◌∙◌, subst, Bool, true, false, List, [], ◌∷◌, arith, length, get_or, slice}
 use types.Run.{OneOf, miss}
 use denote.Enum.Declared.{tag_of}
 use Rattle.lists.specs.Same.{same as same_name}
@@ -11,7 +11,7 @@ use Rattle.lexer_scan.specs.declared.Ident.TheVariants.{Opens, Missing, Foreign}
 use Rattle.lexer_scan.specs.contracts.Ident as ident
 use Rattle.lexer_scan.proofs.Bounds.{ident-bounds, opens-not-none}
 use Rattle.lexer_scan.proofs.Values.{values-bounds, values-forward}
-use Rattle.lexer.specs.Token.{end, lex_at}
+use Rattle.lexer.specs.Token.{lex_at}
 use Rattle.lexer.specs.Step.{on_ident, on_values, on_head, vals_at, prop_at, step_on}
 use Rattle.lexer.proofs.Listed.{vals-count}
 use Rattle.parser.specs.Game.{GM}

@@ -2,13 +2,12 @@
 use Rattle.lists.proofs.Prelude.{ℕ, zero, suc, ◌+◌, ◌-◌, ◌≤◌, ◌<◌, ◌≡◌, refl, sym, ap, ◌∙◌, subst, Bool, true, false, List, [], ◌∷◌, arith, length, leb, leb-false, le-leb, lt-leb, pick}
 use Rattle.lists.specs.Same.{same}
 use Rattle.lists.proofs.Tests.{never}
-use Rattle.lexer.specs.Token.{Val, Prop, Tok, start, end, node, prop, End, done, broken}
+use Rattle.lexer.specs.Token.{Prop, Tok, start, end, node, prop, End, done, broken}
 use Rattle.tables.specs.Numbers.{depth_limit}
 use Rattle.parser.specs.Game.{Game, is, no_game, props, props_named, GM, game_vals, game_props}
 use Rattle.parser_census.specs.LocalsCensus.{on_start, on_end, on_last, on_kind, on_prop, total, census_at, census_on}
 use Rattle.parser_census.specs.declared.Mode.{Mode}
 use Rattle.parser_census.specs.declared.Mode.TheVariants.{Outside, First, Root, Typed, Node, Opened, Bare, Full, Odd}
-use Rattle.parser_census.specs.declared.Census.{Census}
 use Rattle.parser_census.specs.declared.Census.TheVariants.{Simple, Odd as odd}
 use Rattle.parser_census.proofs.OddMode.{odd-stays}
 

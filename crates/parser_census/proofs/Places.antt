@@ -1,5 +1,5 @@
 -- The token at a place that is no white space, by its first byte. Assumes nothing.
-use Rattle.lists.proofs.Prelude.{ℕ, ◌+◌, ◌≤◌, ◌<◌, ◌≡◌, refl, sym, ap, ◌∙◌, subst, Bool, true, false, ◌&&◌, not, List, [], ◌∷◌, arith, length, get_or, slice, eqb, ltb, leb, ne_eqb, eq-eqb, eqb-true, eqb-false, ltb-true, ltb-false, lt-ltb, le-ltb, not-true}
+use Rattle.lists.proofs.Prelude.{ℕ, ◌+◌, ◌≤◌, ◌<◌, ◌≡◌, refl, sym, ap, ◌∙◌, Bool, true, false, ◌&&◌, not, List, ◌∷◌, arith, length, get_or, slice, eqb, ltb, ne_eqb, eq-eqb, eqb-true, eqb-false, ltb-true, ltb-false, lt-ltb, le-ltb, not-true}
 use Rattle.lists.proofs.Tests.{and_both}
 use Rattle.lexer_close.specs.Close.{close_at}
 use Rattle.lexer_close.specs.LocalsRun.{closes_nothing}
@@ -12,11 +12,9 @@ use Rattle.lexer_scan.specs.declared.ValueStep.TheVariants.{Value}
 use Rattle.lexer_scan.proofs.Scans.{skip-past, skip_stop, ident-on, ident-here}
 use Rattle.lexer_scan.proofs.Bounds.{value_on, value_none}
 use Rattle.lexer_scan.proofs.Values.{values-more, values-none}
-use Rattle.lexer.specs.Token.{Val, Lexed, lex_at}
-use Rattle.lexer.specs.Step.{on_ident, head_from, head_at, on_values, on_head, next_at, vals_at, step_on}
-use Rattle.lexer.specs.declared.Step.{Step}
-use Rattle.lexer.specs.declared.Step.TheVariants.{Start, End, Node, Property, Done}
-use Rattle.lexer.specs.declared.Head.{Head}
+use Rattle.lexer.specs.Token.{Val, lex_at}
+use Rattle.lexer.specs.Step.{on_ident, head_from, head_at, on_values, on_head, next_at, step_on}
+use Rattle.lexer.specs.declared.Step.TheVariants.{Start, End, Node, Done}
 use Rattle.lexer.proofs.Listed.{vals-more, vals-none}
 use Rattle.lexer_laws.proofs.Rest.{skip-stops}
 use Rattle.lexer_laws.proofs.Join.{lex-next}

@@ -1,6 +1,6 @@
 -- How many properties and values nodes have, in either order. Assumes nothing.
-use Rattle.lists.proofs.Prelude.{ℕ, ◌+◌, ◌≡◌, refl, ap, ◌∙◌, List, [], ◌∷◌, ◌++◌, append_assoc, reverse, reverse-cons, arith, length, length-append}
-use Rattle.lexer.specs.Token.{Val, Prop}
+use Rattle.lists.proofs.Prelude.{ℕ, ◌+◌, ◌≡◌, refl, ap, ◌∙◌, List, [], ◌∷◌, ◌++◌, reverse, reverse-cons, arith, length, length-append}
+use Rattle.lexer.specs.Token.{Prop}
 use Rattle.tables.specs.Record.{Node, all_props, all_vals}
 use Rattle.parser_tree.proofs.Flats.{vals-append, props-append}
 

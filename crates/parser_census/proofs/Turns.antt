@@ -1,8 +1,8 @@
 -- A start, an end or a node of a census: from here as from the start. Assumes nothing.
-use Rattle.lists.proofs.Prelude.{ℕ, ◌+◌, ◌-◌, ◌≤◌, ◌<◌, ◌≡◌, sym, ap, ◌∙◌, subst, subst⁻¹, Bool, true, false, List, arith, length, get_or, leb, le-leb, lt-leb, pick}
+use Rattle.lists.proofs.Prelude.{ℕ, ◌+◌, ◌-◌, ◌≤◌, ◌<◌, ◌≡◌, sym, ap, ◌∙◌, subst⁻¹, Bool, true, false, List, arith, length, get_or, leb, le-leb, lt-leb, pick}
 use Rattle.lexer_scan.specs.Scan.{space, skip_at}
 use Rattle.lexer_scan.proofs.Bounds.{skip-bounds}
-use Rattle.lexer.specs.Token.{start, end, node, Lexed, lex_at}
+use Rattle.lexer.specs.Token.{Lexed, lex_at}
 use Rattle.lexer.specs.Step.{next_at, step_on}
 use Rattle.lexer.specs.declared.Step.{Step}
 use Rattle.lexer_laws.proofs.Join.{lex-next}

@@ -1,8 +1,8 @@
 -- The census, steps of the reader: one fold over the tokens, without a stack, that counts the rows of a text in which nothing is odd.
 use Rattle.std.specs.Prelude.{◌+◌, ◌-◌, ◌∷◌}
-use Rattle.lists.specs.Prelude.{ℕ, zero, suc, Bool, true, false, List, [], leb, length, pick}
+use Rattle.lists.specs.Prelude.{ℕ, zero, suc, Bool, List, [], leb, length, pick}
 use Rattle.lists.specs.Same.{same}
-use Rattle.lexer.specs.Token.{Val, Prop, Tok, start, end, node, prop, End, done, broken, Lexed}
+use Rattle.lexer.specs.Token.{Val, Tok, start, end, node, prop, End, done, broken, Lexed}
 use Rattle.tables.specs.Numbers.{depth_limit}
 use Rattle.parser.specs.Game.{Game, is, no_game, GM, game_vals}
 use Rattle.parser_census.specs.declared.Mode.{Mode}

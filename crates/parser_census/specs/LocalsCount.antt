@@ -1,5 +1,5 @@
 -- What the steps of a census find.
-use Rattle.std.specs.Prelude.{◌+◌, ◌≤◌, ◌<◌, ◌≡◌}
+use Rattle.std.specs.Prelude.{◌+◌, ◌≤◌, ◌≡◌}
 use Rattle.lists.specs.Prelude.{ℕ, Bool, true, false, List, length, get_or}
 use Rattle.lexer_scan.specs.Scan.{space, values_end_at}
 use Rattle.lexer_close.specs.declared.Close.TheVariants.{At, Open}

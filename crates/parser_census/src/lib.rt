@@ -1,4 +1,6 @@
 // The census: one walk over the tokens of a text, without a stack, that counts the rows where nothing is odd. An odd text is left to the reader's own way.
+#![tactic(auto)]
+
 ghost use Rattle.std.specs.Prelude.{◌≡◌, true, false, ◌≤◌, ◌<◌, length, get_or};
 ghost use Rattle.std.proofs.Math.Seq.{slice};
 ghost use Rattle.lists.specs.Same.{same};
