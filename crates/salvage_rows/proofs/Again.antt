@@ -1,5 +1,5 @@
 -- A property that stays is asked as before: its identifier reads the same, and so does the size that a root says. Assumes nothing.
-use Rattle.lists.proofs.Prelude.{◌≡◌, refl, sym, ap, ap₂, ◌∙◌, ℕ, Bool, true, false, ◌&&◌, not, true≢false, List, [], ◌∷◌, map, leb, pick}
+use Rattle.lists.proofs.Prelude.{◌≡◌, refl, sym, ap, ap₂, ◌∙◌, ℕ, Bool, true, false, ◌&&◌, true≢false, List, [], ◌∷◌, map, leb, pick}
 use Rattle.lists.specs.Same.{same}
 use Rattle.lexer.specs.Token.{Prop}
 use Rattle.values.specs.Read.{read_identifier}

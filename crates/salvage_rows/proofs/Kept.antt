@@ -1,5 +1,5 @@
 -- What is kept of a game type that the code found, by rows that may not be there. Assumes nothing.
-use Rattle.lists.proofs.Prelude.{ℕ, ◌/◌, ◌≤◌, ◌<◌, ◌≡◌, refl, sym, ap, ◌∙◌, Bool, true, false, ◌&&◌, and-false, List, length, le-ltb, lt-ltb}
+use Rattle.lists.proofs.Prelude.{ℕ, ◌/◌, ◌≤◌, ◌<◌, ◌≡◌, refl, sym, ap, ◌∙◌, Bool, true, false, and-false, List, length, le-ltb, lt-ltb}
 use Rattle.tables.specs.declared.Reason.{Reason}
 use Rattle.tables.specs.Columns.{root_at, first_prop_at, prop_count_at}
 use Rattle.parts_props.specs.Props.{properties_at}

@@ -1,15 +1,13 @@
 -- The search for GM among rows, and what it says of a root. Assumes nothing.
 use Rattle.lists.proofs.Prelude.{ℕ, zero, suc, ◌+◌, ◌-◌, ◌≤◌, ◌<◌, ◌≡◌, refl, sym, ap, ◌∙◌, Bool, true, false, List, [], ◌∷◌, arith, pick}
-use Rattle.lists.specs.Same.{same}
 use Rattle.values.specs.Read.{read_value}
 use Rattle.tables.specs.Columns.{first_val_at, val_count_at}
 use Rattle.tables.specs.Each.{tabulate}
 use Rattle.parts.specs.Rows.{value_at, values_at}
-use Rattle.parts_props.specs.Props.{Property, rows_from, named_at, property_at, properties_at}
+use Rattle.parts_props.specs.Props.{rows_from, named_at, property_at, properties_at}
 use Rattle.tables.specs.declared.Reason.TheVariants.{UnexpectedProperty, InvalidGameType}
-use Rattle.parser.specs.Game.{Game, is, no_game, GM, game_of}
+use Rattle.parser.specs.Game.{GM, game_of}
 use Rattle.parser_game.specs.LocalsGame.{type_of}
-use Rattle.parser_game.specs.declared.GameType.{GameType}
 use Rattle.parser_game.specs.declared.GameType.TheVariants.{Is, Refused}
 use Rattle.salvage_rows.specs.LocalsGM.{gms_in, game_of_values, game_by, game_in}
 use Rattle.salvage_rows.specs.Locals.{NextGM}

@@ -1,6 +1,6 @@
 -- What the search for GM promises.
-use Rattle.std.specs.Prelude.{◌-◌, ◌≤◌, ◌<◌, ◌≡◌, ◌∷◌}
-use Rattle.lists.specs.Prelude.{ℕ, true, List, []}
+use Rattle.std.specs.Prelude.{◌-◌, ◌≤◌, ◌<◌, ◌≡◌}
+use Rattle.lists.specs.Prelude.{ℕ, true, List}
 use Rattle.tables.specs.Each.{tabulate}
 use Rattle.parts_props.specs.Props.{named_at, property_at}
 use Rattle.parser.specs.Game.{GM}

@@ -1,4 +1,6 @@
 // What the mended record makes of a root's GMs, by rows: the game type that is kept, and whether the GMs are removed.
+#![tactic(auto)]
+
 ghost use Rattle.std.specs.Prelude.{◌≡◌};
 ghost use Rattle.parts.specs.Rows.{values_at};
 ghost use Rattle.parts_props.specs.Props.{named_at, properties_at};
