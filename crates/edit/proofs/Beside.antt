@@ -1,7 +1,7 @@
 -- In tables that fit, identifiers and values stand before or behind a value by their numbers. Assumes nothing.
-use Rattle.lists.proofs.Prelude.{ℕ, zero, suc, ◌+◌, ◌-◌, ◌≤◌, ◌<◌, true, ◌≡◌, refl, sym, ap, ◌∙◌, subst, arith, List, length, leb-true, length-take-le}
+use Rattle.lists.proofs.Prelude.{ℕ, zero, suc, ◌+◌, ◌-◌, ◌≤◌, ◌<◌, true, ◌≡◌, refl, sym, ap, ◌∙◌, arith, List, length, leb-true}
 use Rattle.lists.proofs.Tests.{same_or}
-use Rattle.tables.specs.Columns.{name_from_at, name_to_at, first_val_at, val_count_at, val_from_at, val_to_at}
+use Rattle.tables.specs.Columns.{name_from_at, first_val_at, val_count_at, val_from_at, val_to_at}
 use Rattle.tables.specs.Each.{sum}
 use Rattle.tables.specs.Memory.{Memory}
 use Rattle.tables.specs.Numbers.{text_limit}

@@ -11,8 +11,8 @@ use Rattle.tables.specs.Rows.{PropRow, ValRow}
 use Rattle.fit.specs.Record.{prop_row, val_row}
 use Rattle.fit.proofs.Parts.{map-tabulate}
 use Rattle.edit_rows.specs.LocalsShift.{place_added, prop_added, val_added, names_before, names_shifted, values_shifted}
-use Rattle.edit_rows.proofs.Rows.{PropsPut, props-none, prop-ahead, props-shift, props-done, ValsPut, vals-same, vals-more, vals-shift, vals-done}
-use Rattle.edit_rows.proofs.Shifting.{before-within, before-least, before-most, before-all, added-change}
+use Rattle.edit_rows.proofs.Rows.{PropsPut, props-none, props-shift, props-done, vals-same, vals-more, vals-shift, vals-done}
+use Rattle.edit_rows.proofs.Shifting.{before-within, before-least, before-most, added-change}
 use Rattle.edit.specs.Locals.{NamesApart, ValuesApart, properties_moved, values_moved}
 
 abbrev spanned : (first count from to : ℕ) → PropRow

@@ -1,5 +1,5 @@
 -- Spans that ascend rise by number: each value ends before the next starts, and an identifier stands between the value before it and its own first. Assumes nothing.
-use Rattle.lists.proofs.Prelude.{ℕ, zero, suc, ◌+◌, ◌≤◌, ◌<◌, true, ◌≡◌, refl, sym, ap, subst, arith, List}
+use Rattle.lists.proofs.Prelude.{ℕ, zero, suc, ◌+◌, ◌≤◌, ◌<◌, true, ◌≡◌, sym, ap, subst, arith, List}
 use Rattle.lists.proofs.Tests.{same_or}
 use Rattle.tables.specs.Columns.{name_from_at, name_to_at, first_val_at, val_count_at, val_from_at, val_to_at}
 use Rattle.tables.proofs.Cases.{below_or}

@@ -1,4 +1,6 @@
 // The value edit, in place: one value's bytes in the lent text, and the places of the rows behind it.
+#![tactic(auto)]
+
 mod rows; // rows.rt: the places in the rows moved
 
 ghost use Rattle.edit.specs.Lent.{EditIs};
