@@ -7,7 +7,7 @@ use Rattle.parser.specs.Split.{Splitting, splitting, splits, split}
 use Rattle.parser.proofs.Cuts.{shift}
 use Rattle.why_blame.specs.Blame.{blame, split_wrong, is_deep, blame_place}
 use Rattle.why_blame.specs.Cuts.{deep_at, sliced_tokens}
-use Rattle.why_blame.specs.LocalsCuts.{unsplit, Seen}
+use Rattle.why_blame.specs.LocalsCuts.{Seen}
 use Rattle.why_blame.proofs.Found.{blame-on, blame-here}
 
 -- ---- lists

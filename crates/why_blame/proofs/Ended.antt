@@ -1,15 +1,14 @@
 -- Splitting where the pass stops, against the definition. Assumes nothing.
-use Rattle.lists.proofs.Prelude.{ℕ, zero, suc, ◌+◌, ◌≤◌, ◌<◌, ◌≡◌, refl, sym, ap, ◌∙◌, Bool, true, false, false≢true, List, [], ◌∷◌, ◌++◌, append_assoc, append-nil, reverse, reverse-cons, arith, length, length-reverse, drop, drop-append-add, ltb, pick}
-use Rattle.lexer.specs.Token.{Tok, start, end, End, done, Lexed, lexed, lex_at}
+use Rattle.lists.proofs.Prelude.{ℕ, zero, suc, ◌+◌, ◌≤◌, ◌<◌, ◌≡◌, refl, sym, ap, ◌∙◌, Bool, true, false, false≢true, List, [], ◌∷◌, ◌++◌, append_assoc, reverse, reverse-cons, arith, length, length-reverse, drop, drop-append-add, ltb, pick}
+use Rattle.lexer.specs.Token.{Tok, end, End, done, Lexed, lexed, lex_at}
 use Rattle.tables.specs.Numbers.{depth_limit}
 use Rattle.tables.specs.declared.Reason.TheVariants.{UnexpectedGameTreeEnd}
-use Rattle.parser.specs.Split.{Splitting, splitting, over, wrong, splits, split}
+use Rattle.parser.specs.Split.{splitting, over, wrong, splits, split}
 use Rattle.parser.proofs.Surveys.{wrong_stays, over-stays}
 use Rattle.why_blame.specs.Blame.{blame, split_wrong, blame_place}
 use Rattle.why_blame.specs.Cuts.{wrong_at, deep_at, sliced_tokens, first_place, loose, cut_deep, cut_slices, cutting, cut_tokens}
 use Rattle.why_blame.specs.LocalsCuts.{unsplit, Seen, StopsBy}
 use Rattle.why_blame.specs.declared.Fact.TheVariants.{EndBeyond, StaysOpen, NoEnd, TooDeep}
-use Rattle.why_blame.specs.declared.Cutting.{Cutting}
 use Rattle.why_blame.specs.declared.Cutting.TheVariants.{Wrong, Slices}
 use Rattle.why_blame.proofs.Cuts.{sliced-snoc}
 

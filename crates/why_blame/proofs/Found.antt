@@ -1,6 +1,6 @@
 -- A fold ends wrong exactly where a token is to blame, and that is the first. Assumes nothing.
-use Rattle.lists.proofs.Prelude.{◌≡◌, refl, sym, ap, ◌∙◌, subst, Bool, true, false, false≢true, List, [], ◌∷◌, ◌++◌, append_assoc, append-nil, pick}
-use Rattle.lexer.specs.Token.{Tok, start, end, node, prop}
+use Rattle.lists.proofs.Prelude.{◌≡◌, refl, ap, ◌∙◌, subst, Bool, true, false, false≢true, List, [], ◌∷◌, ◌++◌, append_assoc, append-nil, pick}
+use Rattle.lexer.specs.Token.{Tok}
 use Rattle.parser.specs.Split.{Splitting, splitting, over, wrong, splits, split}
 use Rattle.parser.specs.Walk.{Walk, walk, halted, stopped, walks, walked}
 use Rattle.why_blame.specs.Blame.{Blame, nowhere, found, blame, split_wrong, is_stopped}

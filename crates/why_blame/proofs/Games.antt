@@ -2,7 +2,7 @@
 use Rattle.lists.proofs.Prelude.{ℕ, ◌+◌, ◌≤◌, ◌<◌, ◌≡◌, refl, sym, ap, ◌∙◌, subst, Bool, true, false, List, [], ◌∷◌, ◌++◌, append_assoc, append-nil, arith, length, length-append, drop, slice, pick}
 use Rattle.lists.proofs.Tests.{never}
 use Rattle.lists.specs.Same.{same}
-use Rattle.lexer.specs.Token.{Val, Prop, Tok, prop, Lexed, lex_at}
+use Rattle.lexer.specs.Token.{Val, Prop, Tok, prop, lex_at}
 use Rattle.lexer.specs.Step.{vals_at, prop_at}
 use Rattle.lexer_scan.specs.Scan.{value_step_at}
 use Rattle.lexer_scan.specs.declared.ValueStep.TheVariants.{Value}

@@ -1,5 +1,5 @@
 -- Splitting loses no token: each is in a slice, or in the one that is begun. Assumes nothing.
-use Rattle.lists.proofs.Prelude.{◌≡◌, refl, sym, ap, ◌∙◌, subst, subst⁻¹, ℕ, zero, suc, ◌+◌, arith, Bool, true, false, List, [], ◌∷◌, ◌++◌, reverse, reverse-cons, length, length-append, length-reverse, drop, drop-length}
+use Rattle.lists.proofs.Prelude.{◌≡◌, refl, ap, ◌∙◌, subst, subst⁻¹, ℕ, zero, suc, ◌+◌, arith, Bool, true, false, List, [], ◌∷◌, ◌++◌, reverse, reverse-cons, length, length-append, length-reverse, drop, drop-length}
 use Rattle.lexer.specs.Token.{Tok, start, end, node, prop}
 use Rattle.tables.specs.declared.Reason.TheVariants.{UnexpectedGameTreeEnd}
 use Rattle.parser.specs.Split.{Splitting, splitting, over, wrong, split}

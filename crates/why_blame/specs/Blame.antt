@@ -3,8 +3,8 @@ use Rattle.std.specs.Prelude.{◌∷◌, ◌++◌}
 use Rattle.lists.specs.Prelude.{ℕ, Bool, true, false, List, [], ltb, pick}
 use Rattle.lexer.specs.Token.{Tok, token_place}
 use Rattle.tables.specs.Numbers.{depth_limit}
-use Rattle.parser.specs.Split.{Splitting, splitting, over, wrong, splits}
-use Rattle.parser.specs.Walk.{Walk, walk, halted, stopped, walks}
+use Rattle.parser.specs.Split.{Splitting, splitting, over, wrong}
+use Rattle.parser.specs.Walk.{Walk, walk, halted, stopped}
 
 -- none; or the state before it, the tokens before it, and the token
 pub data Blame (S : Type 0) : Type 0 where

@@ -1,7 +1,7 @@
 -- What the pass that splits the tokens has seen, in the code's own terms. Nothing public is stated by these.
-use Rattle.std.specs.Prelude.{◌+◌, ◌≤◌, ◌<◌, ◌≡◌, ◌∷◌, ◌++◌}
+use Rattle.std.specs.Prelude.{◌+◌, ◌≤◌, ◌≡◌, ◌∷◌, ◌++◌}
 use Rattle.lists.specs.Prelude.{ℕ, Bool, true, false, List, [], reverse, length, ltb}
-use Rattle.lexer.specs.Token.{Tok, end, End, done, broken, Lexed, lexed, lex_at}
+use Rattle.lexer.specs.Token.{Tok, end, End, done, broken, lexed, lex_at}
 use Rattle.tables.specs.Numbers.{depth_limit}
 use Rattle.parser.specs.Split.{Splitting, splitting, splits, split}
 use Rattle.why_blame.specs.Blame.{blame, split_wrong, is_deep}

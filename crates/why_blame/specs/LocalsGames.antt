@@ -1,7 +1,7 @@
 -- Properties named GM, found one after the other. Nothing public is stated by these.
-use Rattle.std.specs.Prelude.{◌≤◌, ◌≡◌, ◌∷◌}
-use Rattle.lists.specs.Prelude.{ℕ, List, [], length}
-use Rattle.lexer.specs.Token.{Prop, Tok, lex_at}
+use Rattle.std.specs.Prelude.{◌≡◌, ◌∷◌}
+use Rattle.lists.specs.Prelude.{ℕ, List, []}
+use Rattle.lexer.specs.Token.{Tok, lex_at}
 use Rattle.lexer.specs.Step.{prop_at}
 use Rattle.parser.specs.Game.{props, props_named, GM}
 use Rattle.why_blame.specs.declared.game.FoundGm.{FoundGm}

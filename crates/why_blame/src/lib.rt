@@ -1,4 +1,6 @@
 // Why tokens are refused: the fact, and the place of the token to blame. Faults of the tokens, splitting, the game type of a slice.
+#![tactic(auto)]
+
 pub mod game; // game.rt: the game type of a slice
 pub mod split; // split.rt: splitting
 
