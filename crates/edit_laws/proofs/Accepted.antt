@@ -1,5 +1,5 @@
 -- What an acceptance says: the text is valid, the tokens end with it, and what holds of each value of the tokens holds of each value of the trees. Assumes nothing.
-use Rattle.lists.proofs.Prelude.{◌≡◌, refl, subst, ℕ, ◌-◌, ◌≤◌, ◌<◌, arith, Bool, true, false, List, List-as-Memᴰ, ltb, length, take, drop, pick}
+use Rattle.lists.proofs.Prelude.{◌≡◌, refl, subst, ℕ, ◌≤◌, ◌<◌, arith, Bool, true, false, List, List-as-Memᴰ, ltb, length, take, drop, pick}
 use Rattle.lexer_laws.proofs.Inside.{OfVals}
 use Rattle.lexer_laws.proofs.Invariant.{keep-rest}
 use Rattle.lexer_laws.proofs.Starting.{Each, each_from, each-value}
@@ -9,7 +9,6 @@ use Rattle.lists.specs.All.{All}
 use Rattle.parser.proofs.Answers.{not-both}
 use Rattle.parser.proofs.Lift.{OfAnswer, of-tokens, of-trees}
 use Rattle.parser.specs.Read.{Answer, accepted, parse_utf8, lexing, parsed, refused, read_strict}
-use Rattle.parser.specs.Split.{ended}
 use Rattle.tables.specs.Numbers.{reason_of, text_limit}
 use Rattle.tables.specs.Record.{Tree, all_nodes, all_props}
 use Rattle.tables.specs.declared.Reason.TheVariants.{NoGameTrees, NotUtf8, TextTooLong}

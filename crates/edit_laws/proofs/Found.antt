@@ -1,5 +1,5 @@
 -- The value that starts at the end of what stands before it: where it lies in the trimmed-parts text, and the state of the tokens there. Assumes nothing.
-use Rattle.lists.proofs.Prelude.{◌≡◌, refl, sym, ap, ap₂, ◌∙◌, subst, ◌⊎◌, inl, inr, ℕ, suc, ◌+◌, ◌-◌, ◌≤◌, ◌<◌, arith, true, false, List, [], ◌∷◌, ◌++◌, List-as-Memᴰ, tail-eq_of_cons-eq, head-eq_of_cons-eq, length, take, drop, length-take, length-drop, take-append-add, drop-append-le}
+use Rattle.lists.proofs.Prelude.{◌≡◌, refl, sym, ap, ap₂, ◌∙◌, subst, ◌⊎◌, inl, inr, ℕ, suc, ◌+◌, ◌≤◌, ◌<◌, arith, true, false, List, [], ◌∷◌, ◌++◌, List-as-Memᴰ, tail-eq_of_cons-eq, head-eq_of_cons-eq, length, take, drop, length-take, length-drop, take-append-add, drop-append-le}
 use Rattle.edit_laws.proofs.Accepted.{Between, all-between, on-trees}
 use Rattle.lexer_laws.proofs.Inside.{Inside, NotAt, OfVals, Only, inside, vals-map}
 use Rattle.lexer_laws.proofs.Starting.{last}
@@ -9,7 +9,6 @@ use Rattle.lists.proofs.All.{all_map}
 use Rattle.lists.specs.All.{All}
 use Rattle.parser.specs.Read.{accepted, parsed}
 use Rattle.tables.specs.Record.{Tree, all_nodes, all_props}
-use Rattle.tables.specs.Rows.{first_child_from}
 use Rattle.text_utf8.proofs.Steps.{place, place_is}
 
 -- ---- lists

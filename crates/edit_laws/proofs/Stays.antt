@@ -27,7 +27,7 @@ use Rattle.edit.specs.Lent.{memory_after, EditIs}
 use Rattle.edit.proofs.Apart.{AllApart, all_apart}
 use Rattle.edit_laws.proofs.Ascended.{Ok, moved-ascend, first-same, count_same, spans-moved, all-spans, ranges-same, have-same}
 use Rattle.edit_laws.proofs.Boxes.{Boxed, boxed-is, value-box, slice-apart, box-apart, box-new}
-use Rattle.edit_answer.proofs.Judged.{new_text, new_rows, length-new}
+use Rattle.edit_answer.proofs.Judged.{new_text, length-new}
 use Rattle.edit.proofs.Given.{Given, given, given-long, given-replaceable}
 use Rattle.edit_laws.specs.Calls.{memory_next}
 use Rattle.edit_laws.proofs.Left.{text-left, prop-row-left, val-row-left, length-buffer-left, length-props-left, length-vals-left}
