@@ -1,4 +1,6 @@
 // What is asked of a record in memory by number: how a value is displayed, and the Go value of a property.
+#![tactic(auto)]
+
 ghost use Rattle.std.specs.Prelude.{◌≡◌, ◌-◌, ◌<◌};
 ghost use Rattle.parts.specs.Rows.{values_at};
 ghost use Rattle.go.specs.Value.{go_value};
