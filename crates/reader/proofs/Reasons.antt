@@ -42,14 +42,14 @@ module _ (len : Bool) (P : Reason → ℕ → Type 0) (long : P TextTooLong 0) (
   split-ended (suc zero) m t cur ss = tt
   split-ended (suc (suc d)) m t cur ss = tt
 
-  split-ok : (s : Splitting) (ts : List Tok) → SplitOk s → SplitOk (split len s ts)
-  split-ok s [] h = h
-  split-ok (splitting d m cur ss) (start o ∷ ts) h = split-ok _ ts tt
-  split-ok (splitting d m cur ss) (end o ∷ ts) h = split-ok _ ts (split-ended d m (end o) cur ss)
-  split-ok (splitting d m cur ss) (node o ∷ ts) h = split-ok _ ts tt
-  split-ok (splitting d m cur ss) (prop p e ∷ ts) h = split-ok _ ts tt
-  split-ok (over m ss) (t ∷ ts) h = split-ok (over m ss) ts tt
-  split-ok (wrong r) (t ∷ ts) h = split-ok (wrong r) ts h
+  split-ok : (ts : List Tok) (s : Splitting) → SplitOk s → SplitOk (split len s ts)
+  split-ok [] s h = h
+  split-ok (start o ∷ ts) (splitting d m cur ss) h = split-ok ts _ tt
+  split-ok (end o ∷ ts) (splitting d m cur ss) h = split-ok ts _ (split-ended d m (end o) cur ss)
+  split-ok (node o ∷ ts) (splitting d m cur ss) h = split-ok ts _ tt
+  split-ok (prop p e ∷ ts) (splitting d m cur ss) h = split-ok ts _ tt
+  split-ok (t ∷ ts) (over m ss) h = split-ok ts (over m ss) tt
+  split-ok (t ∷ ts) (wrong r) h = split-ok ts (wrong r) h
 
   abbrev SlicesOk : Slices → Type 0
   SlicesOk (no r) = P r 0
@@ -94,14 +94,14 @@ module _ (len : Bool) (P : Reason → ℕ → Type 0) (long : P TextTooLong 0) (
   walk-gated false p cur st ns = walk-refuse len refl UnexpectedProperty (λ q. (strict q).no11) ns
   walk-gated true p cur st ns = walk-adds p cur st ns
 
-  walk-ok : (base : ℕ) (w : Walk) (ts : List Tok) → WalkOk w → WalkOk (walked len base w ts)
-  walk-ok base w [] h = h
-  walk-ok base (walk cur st g ns) (start o ∷ ts) h = walk-ok base _ ts (walk-opens cur st ns)
-  walk-ok base (walk cur st g ns) (end o ∷ ts) h = walk-ok base _ ts (walk-closes cur st ns)
-  walk-ok base (walk cur st g ns) (node o ∷ ts) h = walk-ok base _ ts tt
-  walk-ok base (walk cur st g ns) (prop p e ∷ ts) h = walk-ok base _ ts (walk-gated g p cur st ns)
-  walk-ok base (halted ns) (t ∷ ts) h = walk-ok base (halted ns) ts tt
-  walk-ok base (stopped r) (t ∷ ts) h = walk-ok base (stopped r) ts h
+  walk-ok : (base : ℕ) (ts : List Tok) (w : Walk) → WalkOk w → WalkOk (walked len base w ts)
+  walk-ok base [] w h = h
+  walk-ok base (start o ∷ ts) (walk cur st g ns) h = walk-ok base ts _ (walk-opens cur st ns)
+  walk-ok base (end o ∷ ts) (walk cur st g ns) h = walk-ok base ts _ (walk-closes cur st ns)
+  walk-ok base (node o ∷ ts) (walk cur st g ns) h = walk-ok base ts _ tt
+  walk-ok base (prop p e ∷ ts) (walk cur st g ns) h = walk-ok base ts _ (walk-gated g p cur st ns)
+  walk-ok base (t ∷ ts) (halted ns) h = walk-ok base ts (halted ns) tt
+  walk-ok base (t ∷ ts) (stopped r) h = walk-ok base ts (stopped r) h
 
   -- ---- all trees
 
@@ -136,9 +136,9 @@ module _ (len : Bool) (P : Reason → ℕ → Type 0) (long : P TextTooLong 0) (
   game-ok (p ∷ q ∷ ps) = λ e. (strict e).no11
 
   grow-kinded : (base : ℕ) (x : Game) → KindOk x → (s : List Tok) (ts : List Tree) → GrowOk (tree_of_game len base x s ts)
-  grow-kinded base (is k) h s ts = grow-grown len refl base k (walked len base (walk none [] false []) s) ts (walk-ok base (walk none [] false []) s tt)
+  grow-kinded base (is k) h s ts = grow-grown len refl base k (walked len base (walk none [] false []) s) ts (walk-ok base s (walk none [] false []) tt)
   grow-kinded base (no_game r) h s ts =
-      pick-elim GrowOk len (λ e. grow-grown true e base 0 (walked len base (walk none [] false []) s) ts (walk-ok base (walk none [] false []) s tt)) h
+      pick-elim GrowOk len (λ e. grow-grown true e base 0 (walked len base (walk none [] false []) s) ts (walk-ok base s (walk none [] false []) tt)) h
 
   grow-ok : (x : Trees) (ss : List (List Tok)) → GrowOk x → GrowOk (parse_gametrees len x ss)
   grow-ok x [] h = h
@@ -160,7 +160,7 @@ module _ (len : Bool) (P : Reason → ℕ → Type 0) (long : P TextTooLong 0) (
   planted-ok (slices ss) h = answer_ok (parse_gametrees len (trees_so_far 0 []) ss) (grow-ok (trees_so_far 0 []) ss tt)
 
   parsed-ok : (ts : List Tok) → AnswerOk (parsed len ts)
-  parsed-ok ts = planted-ok (split_by_gametree len ts) (slices-ok len refl (split len (splitting 0 0 [] []) ts) (split-ok (splitting 0 0 [] []) ts tt))
+  parsed-ok ts = planted-ok (split_by_gametree len ts) (slices-ok len refl (split len (splitting 0 0 [] []) ts) (split-ok ts (splitting 0 0 [] []) tt))
 
   fault-ok : (f : Fault) (p : ℕ) → len ≡ false → P (reason_of f) p
   fault-ok no-identifier p e = (strict e).no3 p

@@ -17,7 +17,6 @@ use Rattle.parser.specs.Game.{is, find_gametype}
 use Rattle.parser.specs.LocalsSlice.{first_slices}
 use Rattle.parser.specs.Read.{trees_so_far, parse_gametrees, read}
 use Rattle.parser_split.specs.LocalsPlans.{plan_found, plan_kept, plan_text}
-use Rattle.parser_split.specs.declared.Plan.{Plan}
 use Rattle.parser_split.specs.declared.Plan.TheVariants.{Slices, Refused}
 use Rattle.parser_census.specs.LocalsCensus.{census_of}
 use Rattle.parser_census.specs.declared.Census.{Census}

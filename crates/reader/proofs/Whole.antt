@@ -1,5 +1,5 @@
 -- The reading put together: the run that counts, the room, the run that writes, the links and depths. Assumes nothing.
-use Rattle.lists.proofs.Prelude.{ℕ, ◌+◌, ◌*◌, ◌≤◌, ◌≡◌, refl, sym, ap, ◌∙◌, subst, subst⁻¹, Bool, true, false, List, ◌++◌, reverse, reverse-reverse, arith, length, drop}
+use Rattle.lists.proofs.Prelude.{ℕ, ◌*◌, ◌≤◌, ◌≡◌, refl, sym, ap, ◌∙◌, subst, subst⁻¹, Bool, true, false, List, ◌++◌, reverse, reverse-reverse, arith, length, drop}
 use Rattle.lists.specs.All.{All}
 use Rattle.lists.proofs.Put.{put_all}
 use Rattle.lists.proofs.Tests.{never}

@@ -1,4 +1,6 @@
 // The reader: a text into the four lent tables. Two operations, strict and lenient, each with its own definition; below them one walk with the mode as an argument.
+#![tactic(auto)]
+
 mod slices; // slices.rt: the trees of all slices
 
 ghost use Rattle.std.specs.Prelude.{◌≡◌};
