@@ -1,5 +1,5 @@
 -- The names that the walk asks are those of the record that fitting tables denote. Assumes nothing.
-use Rattle.lists.proofs.Prelude.{ℕ, zero, suc, ◌+◌, ◌-◌, Bool, true, false, not, ◌&&◌, ◌||◌, or-false, List, [], ◌∷◌, ◌++◌, ◌≡◌, refl, sym, ap, ◌∙◌, arith, leb, ltb, length, lt-ltb, le-ltb, lt-leb, le-leb}
+use Rattle.lists.proofs.Prelude.{ℕ, zero, suc, ◌+◌, Bool, true, false, not, ◌&&◌, ◌||◌, or-false, List, [], ◌∷◌, ◌++◌, ◌≡◌, refl, sym, ap, ◌∙◌, arith, leb, ltb, length, lt-ltb, le-ltb, lt-leb, le-leb}
 use Rattle.lexer.specs.Token.{Prop}
 use Rattle.values.specs.Read.{read_identifier}
 use Rattle.tables.specs.Record.{all_nodes, all_props}

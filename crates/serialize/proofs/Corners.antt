@@ -1,11 +1,10 @@
 -- Where no value ends as one that reads as `tt`, both rules of Go write the same. Assumes nothing.
-use Rattle.lists.proofs.Prelude.{ℕ, zero, suc, ◌+◌, ◌-◌, ◌/◌, ◌≤◌, ◌<◌, Bool, true, false, ◌&&◌, ◌||◌, List, [], ◌∷◌, ◌++◌, ◌≡◌, refl, sym, ap, ap₂, ◌∙◌, arith, leb, eqb, length, get_or, take, drop, get_or-take, get_or-drop, length-drop, length-take-le, lt-ltb, le-leb, leb-true, eq-eqb, ne_eqb, false≢true, and-false, and-true, pick}
+use Rattle.lists.proofs.Prelude.{ℕ, zero, suc, ◌+◌, ◌-◌, ◌/◌, ◌≤◌, ◌<◌, Bool, true, false, ◌&&◌, ◌||◌, List, [], ◌∷◌, ◌++◌, ◌≡◌, refl, sym, ap, ap₂, ◌∙◌, arith, leb, eqb, length, get_or, drop, get_or-take, get_or-drop, length-drop, length-take-le, lt-ltb, le-leb, leb-true, false≢true, and-false, and-true, pick}
 use Rattle.lists.proofs.Pick.{pick-elim}
 use Rattle.lists.proofs.Tests.{and_both, same_or}
-use Rattle.values.specs.Read.{read_from, read_value, read_identifier}
+use Rattle.values.specs.Read.{read_from, read_value}
 use Rattle.go_points.specs.Area.{letter_of, move_to, move_of}
 use Rattle.go_points.specs.declared.Value.{Value}
-use Rattle.go_points.specs.declared.Value.TheVariants.{Invalid, Pass, Move}
 use Rattle.go_shape.specs.Shape.{shape_of}
 use Rattle.go_shape.specs.declared.Shape.{Shape}
 use Rattle.go_shape.specs.declared.Shape.TheVariants.{OneMove, OneNumber, ManyPoints, Unread}

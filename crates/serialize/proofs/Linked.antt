@@ -12,11 +12,10 @@ use Rattle.fit.proofs.RootRows.{root_in}
 use Rattle.tables.specs.Columns.{root_at, game_at, parent_at, first_prop_at, prop_count_at, first_val_at, val_count_at}
 use Rattle.tables.specs.Each.{tabulate}
 use Rattle.tables.specs.Memory.{Memory}
-use Rattle.parts_props.specs.Props.{properties_at}
 use Rattle.fit.specs.Fit.{Fit}
 use Rattle.fit.specs.Record.{text_in, record_in}
 use Rattle.go_size.specs.Root.{size_in}
-use Rattle.fit_rule.specs.Rule.{rule_by, size_of_tree, rule_of, rule_at, root_properties_at}
+use Rattle.fit_rule.specs.Rule.{rule_by, size_of_tree, rule_of, rule_at}
 use Rattle.fit_rule.proofs.Denotes.{tabulate-alike, properties-at, root-properties, rule-tree}
 use Rattle.salvage_mend.specs.Mend.{root_game, kept_game, gms_bad, mend_props, mend_node, mend_tree, mended}
 use Rattle.salvage_rows.specs.LocalsGM.{game_in}

@@ -1,5 +1,5 @@
 -- The walk: names, rules, properties and nodes. Assumes nothing.
-use Rattle.lists.proofs.Prelude.{ℕ, zero, suc, ◌+◌, ◌/◌, ◌^◌, ◌≤◌, ◌<◌, ◌-◌, Bool, true, false, ◌&&◌, List, [], ◌∷◌, ◌++◌, ◌≡◌, refl, sym, ap, ap₂, ◌∙◌, subst, add-one, arith, leb, ltb, eqb, length, get_or, take, drop, eq-eqb, ne_eqb, lt-ltb, and-false, pick}
+use Rattle.lists.proofs.Prelude.{ℕ, suc, ◌+◌, ◌^◌, ◌≤◌, ◌<◌, ◌-◌, Bool, true, false, ◌&&◌, List, [], ◌∷◌, ◌++◌, ◌≡◌, refl, sym, ap, ap₂, ◌∙◌, subst, arith, leb, ltb, length, get_or, take, drop, eq-eqb, ne_eqb, lt-ltb, and-false, pick}
 use Rattle.values.specs.Read.{read_identifier}
 use Rattle.store_bytes.specs.LocalsWrote.{Wrote}
 use Rattle.store_bytes.proofs.Written.{wrote-more}
@@ -7,7 +7,7 @@ use Rattle.tables.specs.Numbers.{none}
 use Rattle.go.specs.Normal.{normal}
 use Rattle.parts.specs.Rows.{values_at}
 use Rattle.go_shape.proofs.Identifiers.{letter-past, letter-here}
-use Rattle.tables.specs.Columns.{game_at, parent_at, first_prop_at, prop_count_at, name_from_at, name_to_at, first_val_at, val_count_at}
+use Rattle.tables.specs.Columns.{parent_at, first_prop_at, prop_count_at, name_from_at, name_to_at, first_val_at, val_count_at}
 use Rattle.tables.proofs.Each.{each_at, each_all}
 use Rattle.fit_spans.proofs.Lists.{part_slice}
 use Rattle.fit_nodes.proofs.Rule.{rule-at, rule-before}

@@ -1,4 +1,6 @@
 // The writer: a record in memory as text, points in one fixed order; as it is, or mended.
+#![tactic(auto)]
+
 mod brackets; // brackets.rt: the starts and ends of nodes
 mod names; // names.rt: identifiers
 mod property; // property.rt: the properties of a node
