@@ -20,7 +20,7 @@ use Rattle.tables.specs.Numbers.{text_limit}
 use Rattle.tables.specs.Record.{Node, Tree}
 use Rattle.text_utf8.specs.Text.{Utf, blank, utfs, whole}
 use Rattle.values.specs.Read.{read_identifier}
-use Rattle.serialize_laws.specs.Back.{some, no_place, same_bytes, placeless_prop, placeless_tok, placeless_node, placeless_tree}
+use Rattle.serialize_laws.specs.Back.{no_place, same_bytes, placeless_prop, placeless_tok, placeless_node, placeless_tree}
 use Rattle.serialize_laws.proofs.Inked.{ValidTree, written-ink}
 
 pub gm-same : (ts : List Tok) → All (OfTok (GmStays no_place no_place same_bytes)) ts

@@ -1,12 +1,11 @@
 -- The rule of a tree: the values in their normal form, places and records that are alike have one. Assumes nothing.
-use Rattle.lists.proofs.Prelude.{ℕ, ◌≡◌, refl, sym, ap, ap₂, ◌∙◌, Bool, true, false, List, [], ◌∷◌, map, pick}
+use Rattle.lists.proofs.Prelude.{ℕ, ◌≡◌, refl, ap, ap₂, ◌∙◌, Bool, true, false, List, [], ◌∷◌, map, pick}
 use Rattle.lists.specs.Same.{same}
 use Rattle.fit.proofs.RootRows.{same-equal}
 use Rattle.fit.specs.Record.{raws_of}
 use Rattle.fit_rule.specs.Rule.{rule_by, property_of, first_props, size_of_tree, rule_of}
 use Rattle.go.proofs.ReadBack.{normal-other}
 use Rattle.go.specs.Value.{is_go, unmarked, value_by, go_value}
-use Rattle.go.specs.declared.value.GoValue.{GoValue}
 use Rattle.go_points.specs.declared.Value.TheVariants.{Other}
 use Rattle.go_shape.specs.Shape.{shape_of}
 use Rattle.go_shape.specs.declared.Shape.{Shape}

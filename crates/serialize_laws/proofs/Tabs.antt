@@ -1,5 +1,5 @@
 -- A vertical tab between tokens is white space: texts with it and what is answered to them, by computation. Assumes nothing.
-use Rattle.lists.proofs.Prelude.{◌≡◌, refl, ℕ, true, List, [], ◌∷◌, map, eqb, pick, leb-true}
+use Rattle.lists.proofs.Prelude.{◌≡◌, refl, ℕ, List, [], ◌∷◌, map, eqb, pick, leb-true}
 use Prim.Native.String.{String}
 use Rattle.text_chars.specs.White.{white}
 use Rattle.text_utf8.specs.Trim.{trimmed}
