@@ -1,5 +1,5 @@
 -- Other bytes for value k are the edit of value k: the rows. Assumes nothing.
-use Rattle.lists.proofs.Prelude.{◌≡◌, refl, sym, ap, ap₂, ◌∙◌, ℕ, zero, suc, ◌+◌, ◌-◌, ◌<◌, ◌≤◌, arith, List, [], ◌∷◌, map, Bool, true, false, ltb, length, ltb-true, ltb-false}
+use Rattle.lists.proofs.Prelude.{◌≡◌, refl, ap₂, ◌∙◌, ℕ, zero, suc, ◌+◌, ◌-◌, ◌<◌, ◌≤◌, arith, List, [], ◌∷◌, map, length}
 use Rattle.lists.specs.All.{All}
 use Rattle.lexer.specs.Move.{starts_at, ends_at}
 use Rattle.tables.specs.Each.{sum, tabulate}

@@ -1,8 +1,8 @@
 -- Where a value's bytes stand in a text by its values; and that its own bytes give the text itself. Assumes nothing.
-use Rattle.lists.proofs.Prelude.{◌≡◌, refl, sym, ap, ap₂, ◌∙◌, ℕ, zero, suc, ◌+◌, ◌-◌, ◌<◌, ◌≤◌, arith, List, [], ◌∷◌, ◌++◌, append_assoc, length, take, drop, get_or, length-append, take-append-drop, slice, length-slice, length-take-le, drop-append-le, take-take}
+use Rattle.lists.proofs.Prelude.{◌≡◌, refl, sym, ap, ap₂, ◌∙◌, ℕ, zero, suc, ◌+◌, ◌-◌, ◌<◌, ◌≤◌, arith, List, [], ◌∷◌, ◌++◌, length, take, drop, get_or, length-append, take-append-drop, slice, length-slice, length-take-le, drop-append-le}
 use Rattle.tables.specs.Rows.{ValRow}
 use Rattle.tables.specs.Each.{sum}
-use Rattle.feed_laid.specs.Laid.{laid_from, laid, shift}
+use Rattle.feed_laid.specs.Laid.{laid_from, shift}
 use Rattle.feed_laid.proofs.Places.{sum_more, sum-none}
 use Rattle.feed_laid.proofs.Texts.{before}
 

@@ -1,10 +1,10 @@
 -- In lent memory whose tables fit: other bytes for a value are the edit of that value, and its own bytes give text and rows themselves. Assumes nothing.
-use Rattle.lists.proofs.Prelude.{ℕ, zero, suc, ◌+◌, ◌-◌, ◌≤◌, ◌<◌, true, ◌≡◌, refl, sym, ap, ap₂, ◌∙◌, subst, arith, List, [], ◌∷◌, ◌++◌, append_assoc, map, length, take, drop, get_or, slice, take_at, drop_at, length-append, length-take-le, length-slice, leb-true}
+use Rattle.lists.proofs.Prelude.{ℕ, zero, suc, ◌+◌, ◌-◌, ◌≤◌, ◌<◌, true, ◌≡◌, refl, sym, ap, ap₂, ◌∙◌, subst, arith, List, [], ◌∷◌, ◌++◌, append_assoc, map, length, drop, get_or, slice, take_at, drop_at, length-append, length-take-le, length-slice, leb-true}
 use Rattle.lists.specs.All.{All}
-use Rattle.tables.specs.Columns.{name_from_at, name_to_at, first_val_at, val_count_at, val_from_at, val_to_at}
+use Rattle.tables.specs.Columns.{first_val_at, val_count_at, val_from_at, val_to_at}
 use Rattle.tables.specs.Each.{sum, tabulate}
 use Rattle.tables.specs.Memory.{Memory}
-use Rattle.tables.specs.Rows.{PropRow, ValRow, Tables}
+use Rattle.tables.specs.Rows.{PropRow, ValRow}
 use Rattle.tables.proofs.Each.{each_at}
 use Rattle.fit.specs.Fit.{Fit}
 use Rattle.fit.specs.Record.{prop_row, val_row, rows_in, text_in}
@@ -15,11 +15,11 @@ use Rattle.fit_spans.specs.Ranges.{has_value}
 use Rattle.fit_spans.proofs.Ranges.{gapless-first, gapless-sum, gapless-in}
 use Rattle.edit_splice.specs.Splice.{pasted}
 use Rattle.edit_answer.specs.Edit.{span_at, shifted}
-use Rattle.feed_laid.specs.Laid.{with, shift, laid_val, laid_prop, laid_rows, laid}
+use Rattle.feed_laid.specs.Laid.{with, shift, laid_val, laid_prop}
 use Rattle.feed_laid.specs.OfMemory.{laid_text, laid_tables, own_bytes}
 use Rattle.edit.proofs.Rising.{Rise, rises}
 use Rattle.feed_laid.proofs.Places.{sum-none, sum_more, old-low, old-in, value-size}
-use Rattle.feed_laid.proofs.Lengths.{Chain, from_of, to_of, sum_same, before-shift, laid-own}
+use Rattle.feed_laid.proofs.Lengths.{Chain, from_of, to_of, before-shift, laid-own}
 use Rattle.feed_laid.proofs.Texts.{before, behind, laid-split, laid-pasted}
 use Rattle.feed_laid.proofs.Edited.{Named, laid-shifted, tabulate-ext}
 

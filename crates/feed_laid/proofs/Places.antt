@@ -1,5 +1,5 @@
 -- Other bytes for one value: places by number move as the edit moves them by place. Assumes nothing.
-use Rattle.lists.proofs.Prelude.{◌≡◌, refl, sym, ap, ap₂, ◌∙◌, ℕ, zero, suc, ◌+◌, ◌-◌, ◌<◌, ◌≤◌, arith, Bool, true, false, List, eqb, length, eq-eqb, ne_eqb, pick}
+use Rattle.lists.proofs.Prelude.{◌≡◌, refl, sym, ap, ap₂, ◌∙◌, ℕ, zero, suc, ◌+◌, ◌-◌, ◌<◌, ◌≤◌, arith, List, length, eq-eqb, ne_eqb}
 use Rattle.lists.proofs.Tests.{same_or}
 use Rattle.lexer.specs.Move.{starts_at, ends_at}
 use Rattle.lexer_laws.proofs.Replace.{starts-low, starts-high, ends_low, ends-high}

@@ -1,5 +1,5 @@
 -- Other bytes for one value: the text is that with the value's part replaced. Assumes nothing.
-use Rattle.lists.proofs.Prelude.{◌≡◌, refl, sym, ap, ap₂, ◌∙◌, ℕ, zero, suc, ◌+◌, ◌<◌, ◌≤◌, arith, Bool, true, false, List, [], ◌∷◌, ◌++◌, append_assoc, eqb, length, take, drop, length-append, slice, take_at, drop_at, eq-eqb, ne_eqb, pick}
+use Rattle.lists.proofs.Prelude.{◌≡◌, refl, sym, ap, ap₂, ◌∙◌, ℕ, zero, suc, ◌+◌, ◌<◌, ◌≤◌, arith, List, [], ◌∷◌, ◌++◌, append_assoc, length, drop, length-append, slice, take_at, drop_at, eq-eqb, ne_eqb}
 use Rattle.edit_splice.specs.Splice.{pasted}
 use Rattle.tables.specs.Rows.{ValRow}
 use Rattle.feed_laid.specs.Laid.{with, laid_from, laid}

@@ -1,6 +1,6 @@
 -- A text and its rows, by the bytes of its values: what stands between the values stays, and a place moves by the change in length of the values before it.
 use Rattle.std.specs.Prelude.{◌+◌, ◌-◌, ◌∷◌, ◌++◌}
-use Rattle.lists.specs.Prelude.{ℕ, suc, List, [], map, eqb, length, drop, get_or, slice, pick}
+use Rattle.lists.specs.Prelude.{ℕ, suc, List, [], map, eqb, length, drop, slice, pick}
 use Rattle.tables.specs.Rows.{PropRow, ValRow, Tables}
 use Rattle.tables.specs.Each.{sum, tabulate}
 
