@@ -1,5 +1,5 @@
 -- In each tree of an accepted reading the first node has no parent and every other one has. Assumes nothing.
-use Rattle.lists.proofs.Prelude.{◌≡◌, refl, sym, ap, ℕ, zero, suc, ◌+◌, ◌≤◌, arith, false≢true, List, [], ◌∷◌, ◌++◌, reverse_aux, length, Bool, true, false}
+use Rattle.lists.proofs.Prelude.{◌≡◌, refl, sym, ap, ℕ, zero, suc, ◌+◌, ◌≤◌, arith, false≢true, List, [], ◌∷◌, ◌++◌, reverse_aux, length, Bool, false}
 use Rattle.lists.specs.All.{All}
 use Rattle.lexer.specs.Token.{Prop, Tok, start, end, node, prop}
 use Rattle.tables.specs.Numbers.{none}
