@@ -1,10 +1,10 @@
 -- The properties that read GM, one token at a time; and the root's properties, which directly follow the first node. Assumes nothing.
-use Rattle.lists.proofs.Prelude.{ℕ, ◌+◌, ◌≡◌, refl, sym, ap, ◌∙◌, Bool, true, false, false≢true, List, [], ◌∷◌, ◌++◌, append-nil, pick}
+use Rattle.lists.proofs.Prelude.{ℕ, ◌≡◌, refl, sym, ap, ◌∙◌, Bool, true, false, false≢true, List, [], ◌∷◌, ◌++◌, append-nil, pick}
 use Rattle.lists.proofs.Tests.{never}
-use Rattle.lexer.specs.Token.{Prop, Tok, node, prop}
+use Rattle.lexer.specs.Token.{Prop, Tok, prop}
 use Rattle.lexer.specs.Step.{vals_at, prop_at}
 use Rattle.tables.specs.declared.Reason.{Reason}
-use Rattle.parser.specs.Game.{Game, is, no_game, GM, game_vals, game_props, props}
+use Rattle.parser.specs.Game.{Game, is, no_game, game_vals, game_props, props}
 use Rattle.parser_game.specs.declared.GameType.{GameType}
 use Rattle.parser_game.specs.declared.GameType.TheVariants.{Is, Refused}
 use Rattle.parser_game.specs.LocalsGame.{type_of}

@@ -1,6 +1,6 @@
 -- The walk of a slice for its entries, one token a turn: the state, and a start. Assumes nothing.
 use Rattle.lists.proofs.Prelude.{ℕ, suc, ◌+◌, ◌≤◌, ◌<◌, ◌≡◌, refl, sym, ap, ◌∙◌, subst, subst⁻¹, Bool, true, false, false≢true, List, [], ◌∷◌, ◌++◌, reverse, arith, add-one, length, length-reverse, set, length-set, pick}
-use Rattle.lexer.specs.Token.{Tok, start, node, Lexed, lexed, lex_at, token_place}
+use Rattle.lexer.specs.Token.{Tok, start, Lexed, lexed, lex_at, token_place}
 use Rattle.tables.specs.Numbers.{text_limit, depth_limit, none}
 use Rattle.tables.specs.Record.{Node, all_props}
 use Rattle.parser.specs.Walk.{Walk, walk, halted, walks, walked}

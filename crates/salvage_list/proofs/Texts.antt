@@ -1,5 +1,5 @@
 -- From a text to its tokens, and from the entries that were put to the lent rows. Assumes nothing.
-use Rattle.lists.proofs.Prelude.{ℕ, ◌+◌, ◌/◌, ◌≤◌, ◌<◌, ◌≡◌, refl, sym, ap, ◌∙◌, Bool, true, List, [], ◌++◌, arith, length, take, drop, le-leb, lt-leb, lt-ltb, le-ltb, pick}
+use Rattle.lists.proofs.Prelude.{ℕ, ◌/◌, ◌≤◌, ◌<◌, ◌≡◌, refl, sym, ap, ◌∙◌, Bool, true, List, [], ◌++◌, arith, length, take, drop, le-leb, lt-leb, lt-ltb, le-ltb, pick}
 use Rattle.lists.proofs.Put.{put_all}
 use Rattle.text_utf8.specs.Text.{Utf, whole, part, bad, blank, inked, utfs}
 use Rattle.text_utf8.specs.Trim.{trim_of, trimmed}

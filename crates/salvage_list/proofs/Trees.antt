@@ -1,9 +1,7 @@
 -- The entries of a tree. Assumes nothing.
 use Rattle.lists.proofs.Prelude.{ℕ, ◌+◌, ◌≤◌, ◌≡◌, sym, ap, ◌∙◌, max, Bool, true, false, List, [], ◌∷◌, ◌++◌, arith, length, eqb, eq-eqb, ne_eqb, pick}
-use Rattle.lexer.specs.Token.{node}
 use Rattle.tables.specs.Numbers.{text_limit}
 use Rattle.tables.specs.Record.{Node}
-use Rattle.parser.specs.Split.{no}
 use Rattle.salvage_mend.specs.Changes.{Change, empty_root, cut_short, nodes_changes}
 use Rattle.salvage_list.specs.Listed.{root_of}
 use Rattle.salvage_list.specs.LocalsPuts.{EntriesPut, root_if, cut_if}

@@ -1,6 +1,6 @@
 -- Texts and their lists of changes: one table, one statement.
 use Rattle.std.specs.Prelude.{◌≡◌, ◌∷◌}
-use Rattle.lists.specs.Prelude.{refl, ℕ, List, []}
+use Rattle.lists.specs.Prelude.{refl, List, []}
 use Prim.Native.String.{String}
 use Rattle.text_chars.specs.White.{white}
 use Rattle.lexer_scan.specs.Scan.{space}

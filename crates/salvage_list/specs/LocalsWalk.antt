@@ -1,13 +1,13 @@
 -- The walk of a slice for its entries, and the slices one after the other, in the code's own terms. Nothing public is stated by these.
-use Rattle.std.specs.Prelude.{◌+◌, ◌-◌, ◌≤◌, ◌<◌, ◌≡◌, ◌∷◌, ◌++◌}
-use Rattle.lists.specs.Prelude.{ℕ, max, Bool, true, false, List, [], length, drop}
+use Rattle.std.specs.Prelude.{◌+◌, ◌-◌, ◌≤◌, ◌≡◌, ◌++◌}
+use Rattle.lists.specs.Prelude.{ℕ, max, true, false, List, [], length, drop}
 use Rattle.lists.specs.All.{All}
 use Rattle.lexer.specs.Token.{Tok, lex_at}
 use Rattle.tables.specs.Numbers.{text_limit, none}
 use Rattle.tables.specs.Record.{Node, all_props}
 use Rattle.parser.specs.Split.{slices, split_by_gametree}
 use Rattle.parser.specs.Walk.{Walk, walk, walks, walked}
-use Rattle.parser.specs.LocalsSlice.{slice_from, rest_from, first_slices, Shallow}
+use Rattle.parser.specs.LocalsSlice.{slice_from, first_slices, Shallow}
 use Rattle.parser_tree.specs.LocalsTurns.{BehindIs}
 use Rattle.why_blame.specs.Blame.{Blame, blame, is_stopped}
 use Rattle.why_blame.specs.Cuts.{sliced_tokens}

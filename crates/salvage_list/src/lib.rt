@@ -1,4 +1,6 @@
 // The list of what salvage changes of a text, made over its tokens: a stack of 1,024 numbers, and no tables.
+#![tactic(auto)]
+
 mod walk; // walk.rt: the tree of a slice
 
 ghost use Rattle.std.specs.Prelude.{◌≡◌, true, ◌+◌, ◌≤◌, max, length};
