@@ -1,5 +1,5 @@
 -- The property that has a value, found from one on that lies before it. Assumes nothing.
-use Rattle.lists.proofs.Prelude.{ℕ, zero, suc, ◌+◌, ◌-◌, ◌≤◌, ◌<◌, ◌≡◌, refl, sym, ap, ◌∙◌, subst, Bool, true, false, ◌&&◌, List, arith, add-one, ltb, lt-ltb, le-ltb, slice}
+use Rattle.lists.proofs.Prelude.{ℕ, zero, suc, ◌+◌, ◌≤◌, ◌<◌, ◌≡◌, refl, sym, ap, ◌∙◌, subst, Bool, ◌&&◌, List, arith, add-one, ltb, lt-ltb, le-ltb, slice}
 use Rattle.lists.specs.Same.{same}
 use Rattle.lists.proofs.Tests.{same_or}
 use Rattle.tables.specs.Columns.{name_from_at, name_to_at, first_val_at, val_count_at}

@@ -1,4 +1,6 @@
 // Whether a feed may be applied to a record, before lengths are looked at: 19, 24, then for each correction 16, 17, 2, 18.
+#![tactic(auto)]
+
 ghost use Rattle.std.specs.Prelude.{◌≡◌, ◌&&◌, ◌+◌, ◌/◌, ◌<◌, ◌≤◌, ◌^◌, ltb, length};
 ghost use Rattle.std.proofs.Math.Seq.{slice};
 ghost use Rattle.lists.specs.Same.{same};
