@@ -1,9 +1,9 @@
 -- Sums column by column, and what a line adds. Assumes nothing.
-use Rattle.lists.proofs.Prelude.{ℕ, zero, suc, ◌+◌, ◌-◌, ◌^◌, ◌<◌, ◌≤◌, ◌≡◌, refl, sym, ap, ◌∙◌, Bool, true, false, ◌&&◌, List, [], ◌∷◌, length, get_or, arith, leb, leb-true, leb-false, zero-add, pick, le-leb, lt-leb, set_out, length-set, get_or-set_same, get_or-set_other, ext_get_or, add-one, replicate}
+use Rattle.lists.proofs.Prelude.{ℕ, zero, suc, ◌+◌, ◌-◌, ◌^◌, ◌<◌, ◌≤◌, ◌≡◌, refl, sym, ap, ◌∙◌, Bool, true, false, ◌&&◌, List, [], ◌∷◌, length, get_or, arith, leb, leb-true, leb-false, zero-add, pick, le-leb, lt-leb, set_out, length-set, get_or-set_same, get_or-set_other, ext_get_or}
 use lib.ListN.{set}
 use Rattle.lists.proofs.Tests.{same_or, never}
 use Rattle.season_totals.specs.declared.Line.{Line}
-use Rattle.season_totals.specs.declared.Line.TheVariants.{Unread, Refused, Counted}
+use Rattle.season_totals.specs.declared.Line.TheVariants.{Refused}
 use Rattle.season_totals.specs.declared.CheckedSum.TheVariants.{Is, Over}
 use Rattle.tables.proofs.Tabulate.{tabulate-length, tabulate-at}
 use Rattle.season_totals.specs.Locals.{checked}

@@ -1,5 +1,5 @@
 -- What a report says, as it is put: counts of numbers, one after another, and lines by their cases. Assumes nothing.
-use Rattle.lists.proofs.Prelude.{ℕ, zero, suc, ◌+◌, ◌-◌, ◌^◌, ◌<◌, ◌≤◌, ◌≡◌, refl, sym, ap, ◌∙◌, List, [], ◌∷◌, ◌++◌, length, get_or, arith, add-one, eq-eqb, ne_eqb}
+use Rattle.lists.proofs.Prelude.{ℕ, suc, ◌+◌, ◌-◌, ◌^◌, ◌<◌, ◌≤◌, ◌≡◌, refl, sym, ap, ◌∙◌, List, [], ◌∷◌, ◌++◌, length, get_or, arith, add-one, eq-eqb, ne_eqb}
 use Rattle.store_bytes.specs.LocalsWrote.{Wrote}
 use Rattle.store_bytes.proofs.Written.{wrote_none, wrote-more, wrote-length, wrote-is}
 use Rattle.values.specs.Decimal.{decimal}
@@ -7,7 +7,7 @@ use Rattle.season_tag.specs.Hex.{hex_of}
 use Rattle.season_totals.specs.declared.Tally.{Tally}
 use Rattle.season_totals.specs.declared.Line.{Line}
 use Rattle.season_totals.specs.declared.Line.TheVariants.{Unread, Refused, Counted}
-use Rattle.season_totals.specs.Report.{unread_word, accepted_word, refused_word, dashes, column, tally_text, named, line_text, count_text, refused_text, totals_text}
+use Rattle.season_totals.specs.Report.{unread_word, accepted_word, refused_word, dashes, column, tally_text, named, line_text, count_text, refused_text}
 
 module _ (number count : ℕ) where
   pub count_none : (out : List ℕ) (at : ℕ) → at < 2 ^ 64 → count ≡ 0 → Wrote (count_text number count) out at out at

@@ -1,5 +1,5 @@
 -- Totals are the sums of the lines, column by column, for any lines; of parts of a season they add up. Assumes nothing.
-use Rattle.lists.proofs.Prelude.{ℕ, zero, suc, ◌+◌, ◌*◌, ◌-◌, ◌^◌, ◌<◌, ◌≤◌, ◌≡◌, refl, sym, ap, ◌∙◌, Bool, true, List, [], ◌∷◌, ◌++◌, length, get_or, arith, ext_get_or, length-set, zero-add, get_or-set_same, get_or-set_other, replicate}
+use Rattle.lists.proofs.Prelude.{ℕ, zero, suc, ◌+◌, ◌*◌, ◌^◌, ◌<◌, ◌≤◌, ◌≡◌, refl, sym, ap, ◌∙◌, true, List, [], ◌∷◌, ◌++◌, length, get_or, arith, ext_get_or, length-set, get_or-set_same, get_or-set_other, replicate}
 use Rattle.lists.specs.All.{All}
 use Rattle.season_totals.specs.declared.Line.{Line}
 use Rattle.season_totals.specs.declared.Line.TheVariants.{Unread, Refused, Counted}

@@ -1,4 +1,6 @@
 // A report: what a line says of one file, the sums of lines, and both as bytes.
+#![tactic(auto)]
+
 ghost use Rattle.std.specs.Prelude.{◌≡◌};
 ghost use Rattle.store_bytes.specs.LocalsWrote.{Wrote};
 ghost use Rattle.season_totals.specs.Totals.{line_sums, added_to};

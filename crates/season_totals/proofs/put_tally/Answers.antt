@@ -1,0 +1,6 @@
+use Rattle.lists.proofs.Prelude.{arith}
+use Rattle.season_totals.proofs.Chain.{wrote_then}
+use Rattle.season_totals.proofs.put_tally.Goals as goal
+
+pub returns : goal.returns
+returns c = wrote_then (omega (arith, c.well_formed)) c.put_column-a.ensures (λ h1. wrote_then h1 c.put_column-b.ensures (λ h2. wrote_then h2 c.put_column-c.ensures (λ h3. wrote_then h3 c.put_column-d.ensures (λ h4. c.put_column.ensures))))
