@@ -1,12 +1,11 @@
 -- Simple values: the only byte of a read value, and each case of a kind. Assumes nothing.
-use Rattle.lists.proofs.Prelude.{ℕ, suc, zero, ◌+◌, ◌<◌, ◌≡◌, refl, sym, ap, ◌∙◌, Bool, true, false, ◌&&◌, ◌||◌, not, and-false, List, [], ◌∷◌, eqb, pick, drop, arith, eq-eqb, ne_eqb}
+use Rattle.lists.proofs.Prelude.{ℕ, suc, zero, ◌+◌, ◌<◌, ◌≡◌, refl, sym, ap, ◌∙◌, Bool, true, false, ◌&&◌, not, and-false, List, [], ◌∷◌, eqb, pick, arith, eq-eqb, ne_eqb}
 use Rattle.lists.specs.Same.{same}
 use Rattle.values.specs.Read.{read_value}
-use Rattle.values.specs.declared.read.ReadStep.{ReadStep}
 use Rattle.values.specs.declared.read.ReadStep.TheVariants.{Byte, End}
 use Rattle.values.proofs.Steps.{Steps, read-cons}
 use Rattle.parts.specs.Rows.{value_at, values_at}
-use Rattle.ff4_index.specs.Kinds.{kind_number, unknown, none, number, double, color}
+use Rattle.ff4_index.specs.Kinds.{kind_number, none, number, double, color}
 use Rattle.ff4_index.specs.Listed.{entry_of}
 use Rattle.ff4_index.specs.declared.Entry.{Entry}
 use Rattle.ff4_values.specs.Locals.{only_byte}

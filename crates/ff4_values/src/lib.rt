@@ -1,4 +1,6 @@
 // Simple values of FF[4]'s properties: None, Double, Color and Number.
+#![tactic(auto)]
+
 ghost use Rattle.std.specs.Prelude.{◌≡◌};
 ghost use Rattle.values.specs.Read.{read_value, read_identifier};
 ghost use Rattle.parts.specs.Rows.{values_at};
