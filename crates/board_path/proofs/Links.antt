@@ -1,8 +1,8 @@
 -- Next siblings, link by link. Assumes nothing.
-use Rattle.lists.proofs.Prelude.{ℕ, suc, ◌/◌, ◌≤◌, ◌<◌, Bool, true, false, true≢false, ◌&&◌, ◌≡◌, refl, sym, ◌∙◌, List, length, ltb, leb, arith, lt-ltb, le-ltb, le-leb, lt-leb, ltb-true, leb-true}
+use Rattle.lists.proofs.Prelude.{ℕ, ◌/◌, ◌≤◌, ◌<◌, true, false, true≢false, ◌&&◌, ◌≡◌, refl, sym, ◌∙◌, List, length, ltb, leb, lt-ltb, le-ltb, le-leb, lt-leb, ltb-true, leb-true}
 use Rattle.lists.proofs.Tests.{and_both}
 use Rattle.tables.specs.Columns.{node_stride, child_at, sibling_at}
-use Rattle.board_path.specs.LocalsNext.{is_row, follows, Along, stays, goes, NextIs}
+use Rattle.board_path.specs.LocalsNext.{is_row, follows, Along, NextIs}
 
 module _ (nd : List ℕ) (k c : ℕ) where
   pub follows-back : sibling_at nd c ≤ c → follows nd k c ≡ false

@@ -6,10 +6,10 @@ use Rattle.tables.specs.Columns.{node_stride, parent_at, child_at, sibling_at}
 use Rattle.tables.specs.Each.{each}
 use Rattle.tables.proofs.Each.{each_at}
 use Rattle.fit_nodes.specs.Locals.{Ruled}
-use Rattle.fit_nodes.specs.Nodes.{has_parent, on_path, first_under, child_right, sibling_right, next_sibling}
+use Rattle.fit_nodes.specs.Nodes.{on_path, first_under, child_right, sibling_right, next_sibling}
 use Rattle.fit_nodes.proofs.Path.{has-before, path-self, path-up, path-down, path-le}
 use Rattle.fit_nodes.proofs.Rule.{on-between}
-use Rattle.board_path.specs.LocalsNext.{is_row, follows, Along, stays, goes, NextIs}
+use Rattle.board_path.specs.LocalsNext.{follows, Along, stays, goes, NextIs}
 use Rattle.board_path.proofs.Links.{follows-made, follows_is}
 
 -- a node whose parent is p, from k on and not behind b

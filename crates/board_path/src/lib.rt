@@ -1,4 +1,6 @@
 // The way from a root down to a node, one node at a time and without memory: by first children and next siblings.
+#![tactic(auto)]
+
 ghost use Rattle.std.specs.Prelude.{◌≡◌};
 ghost use Rattle.board_path.specs.LocalsNext.{NextIs};
 
