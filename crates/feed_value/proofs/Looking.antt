@@ -1,5 +1,5 @@
 -- What a lookup answers, test by test; and that what it names lies in the text or in the feed. Assumes nothing.
-use Rattle.lists.proofs.Prelude.{ℕ, ◌≤◌, ◌<◌, ◌≡◌, refl, sym, ap, ap₂, ◌∙◌, subst, arith, Bool, true, false, List, [], length, ltb, lt-ltb, le-ltb, ltb-true, pick}
+use Rattle.lists.proofs.Prelude.{ℕ, ◌≤◌, ◌<◌, ◌≡◌, refl, sym, ap, ap₂, ◌∙◌, subst, arith, Bool, true, false, List, length, ltb, lt-ltb, le-ltb, ltb-true, pick}
 use Rattle.lists.proofs.Tests.{never}
 use Rattle.tables.specs.Columns.{val_from_at, val_to_at}
 use Rattle.tables.specs.Memory.{Memory}
@@ -14,7 +14,7 @@ use Rattle.feed.specs.declared.Found.TheVariants.{At, Nowhere}
 use Rattle.feed.proofs.Lying.{found_inside}
 use Rattle.feed_check.specs.Check.{feed_checked}
 use Rattle.feed_check.specs.declared.FeedRefusal.{FeedRefusal}
-use Rattle.feed_check.specs.declared.FeedRefusal.TheVariants.{NoSuchNumber, NotFitting}
+use Rattle.feed_check.specs.declared.FeedRefusal.TheVariants.{NoSuchNumber}
 use Rattle.feed_check.specs.declared.Checked.{Checked}
 use Rattle.feed_check.specs.declared.Checked.TheVariants.{Passed, Refused as Refuses}
 use Rattle.feed_check.proofs.Judging.{checked-misfit}

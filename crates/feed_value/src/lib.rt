@@ -1,4 +1,6 @@
 // A value looked up over a record and a feed: a part of the feed where corrected, else of the record.
+#![tactic(auto)]
+
 ghost use Rattle.std.specs.Prelude.{◌≡◌, ◌/◌, ◌<◌, length};
 ghost use Rattle.tables.specs.Columns.{value_stride, val_from_at, val_to_at};
 ghost use Rattle.tables.specs.Memory.{memory};
