@@ -1,4 +1,6 @@
 // The simple value of a property of a record in memory, by number.
+#![tactic(auto)]
+
 ghost use Rattle.std.specs.Prelude.{◌≡◌, ◌-◌};
 ghost use Rattle.values.specs.Read.{read_identifier};
 ghost use Rattle.parts.specs.Rows.{values_at};
