@@ -1,5 +1,5 @@
 -- How long a list can be: two entries a tree, one a property, and the tail. Assumes nothing.
-use Rattle.lists.proofs.Prelude.{◌≡◌, refl, sym, ap, ◌∙◌, subst, ℕ, zero, suc, ◌+◌, ◌*◌, ◌≤◌, max, arith, true, false, List, [], ◌∷◌, ◌++◌, length, length-append, drop}
+use Rattle.lists.proofs.Prelude.{◌≡◌, sym, ap, ◌∙◌, subst, ℕ, zero, suc, ◌+◌, ◌*◌, ◌≤◌, max, arith, true, false, List, [], ◌∷◌, ◌++◌, length, length-append, drop}
 use Rattle.lexer.specs.Token.{Tok, End, done, broken}
 use Rattle.tables.specs.Numbers.{none}
 use Rattle.tables.specs.Record.{Node, Tree, all_nodes, all_props}

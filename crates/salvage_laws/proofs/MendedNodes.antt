@@ -1,5 +1,5 @@
 -- The mended nodes stand in order as the nodes of the reading do: parents stay. Assumes nothing.
-use Rattle.lists.proofs.Prelude.{◌≡◌, refl, sym, ap, ◌∙◌, subst, ℕ, ◌+◌, ◌≤◌, arith, Bool, false, List, [], ◌∷◌, ◌++◌, map, reverse_aux, length, length-map, length-append}
+use Rattle.lists.proofs.Prelude.{◌≡◌, refl, sym, ◌∙◌, subst, ℕ, ◌+◌, ◌≤◌, arith, Bool, false, List, [], ◌∷◌, ◌++◌, map, reverse_aux, length, length-map, length-append}
 use Rattle.lists.specs.All.{All}
 use Rattle.lists.proofs.All.{all_append, all_left, all_right}
 use Rattle.lexer_laws.proofs.Proper.{HasProper}
@@ -7,7 +7,7 @@ use Rattle.tables.specs.Numbers.{none}
 use Rattle.tables.specs.Record.{Node, Tree, all_nodes, all_props}
 use Rattle.serialize_laws.specs.Same.{Pairs}
 use Rattle.serialize_laws.proofs.Inked.{ValidNode, ValidTree}
-use Rattle.serialize_laws.proofs.Nested.{OnN, left_n, path_r, GoodR}
+use Rattle.serialize_laws.proofs.Nested.{OnN, path_r, GoodR}
 use Rattle.serialize_laws.proofs.Sounded.{PreNodes, PreTrees, pre-nodes}
 use Rattle.serialize_laws.proofs.Written.{PlainNode, PlainTree}
 use Rattle.salvage_mend.specs.Mend.{root_game, kept_game, gms_bad, mend_node, mend_nodes, mend_tree}

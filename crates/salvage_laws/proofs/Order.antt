@@ -1,5 +1,5 @@
 -- The nodes of a slice stand in order, strict or lenient, whatever the slice begins with: each parent is open when its child comes. Assumes nothing.
-use Rattle.lists.proofs.Prelude.{◌≡◌, refl, sym, ap, ◌∙◌, subst, ◌⊎◌, inl, inr, ℕ, suc, ◌+◌, ◌≤◌, ◌<◌, arith, Bool, true, false, List, [], ◌∷◌, ◌++◌, reverse, reverse_aux, length, eq-eqb, ne_eqb}
+use Rattle.lists.proofs.Prelude.{◌≡◌, refl, ◌⊎◌, inl, inr, ℕ, ◌+◌, ◌≤◌, ◌<◌, arith, Bool, false, List, [], ◌∷◌, ◌++◌, reverse_aux, length}
 use Rattle.lists.specs.All.{All}
 use Rattle.lexer.specs.Token.{Prop, Tok}
 use Rattle.tables.specs.Numbers.{none}

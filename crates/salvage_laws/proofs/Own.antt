@@ -6,7 +6,7 @@ use Rattle.lexer.specs.Token.{Prop, Val}
 use Rattle.values.specs.Read.{read_identifier}
 use Rattle.parser.specs.Game.{Game, is, GM, game_props, props_named}
 use Rattle.tables.specs.Record.{Node, Tree}
-use Rattle.serialize_laws.specs.Back.{some, uppers, Named, placeless_prop, placeless_node, placeless_tree}
+use Rattle.serialize_laws.specs.Back.{some, Named, placeless_prop, placeless_node, placeless_tree}
 use Rattle.serialize_laws.proofs.Regrow.{SoundNodes, SoundTrees}
 use Rattle.serialize_laws.proofs.Written.{PlainNode, PlainTree}
 use Rattle.serialize_laws.proofs.WrittenProps.{Plain, letters-same}

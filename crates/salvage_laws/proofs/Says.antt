@@ -1,18 +1,18 @@
 -- The list leaves nothing unsaid: the lenient record with the listed changes is the mended record. Assumes nothing.
-use Rattle.lists.proofs.Prelude.{◌≡◌, refl, sym, ap, ap₂, ◌∙◌, subst, ℕ, zero, suc, ◌+◌, ◌≤◌, ◌<◌, max, arith, Bool, true, false, List, [], ◌∷◌, ◌++◌, map, reverse, length, length-append, length-reverse, drop}
-use Rattle.text_utf8.specs.Text.{Utf, whole, blank, utfs}
-use Rattle.lexer.specs.Token.{Prop, Tok, End, done, broken, Lexed}
+use Rattle.lists.proofs.Prelude.{◌≡◌, refl, sym, ap, ap₂, ◌∙◌, subst, ℕ, zero, suc, ◌+◌, ◌<◌, max, arith, true, false, List, [], ◌∷◌, ◌++◌, map, reverse, length, length-append, length-reverse, drop}
+use Rattle.text_utf8.specs.Text.{Utf}
+use Rattle.lexer.specs.Token.{Tok, End, done, broken}
 use Rattle.tables.specs.Numbers.{none}
-use Rattle.tables.specs.Record.{Node, Tree, all_nodes, all_props}
+use Rattle.tables.specs.Record.{Node, Tree, all_props}
 use Rattle.parser.specs.LocalsSlice.{slice_from, rest_from, first_slices}
-use Rattle.parser.specs.Split.{Slices, slices, split_by_gametree}
+use Rattle.parser.specs.Split.{Slices}
 use Rattle.parser.specs.Walk.{Walk, walk, halted, stopped, walks, walked}
 use Rattle.parser.specs.Read.{accepted, read_lenient, tokenize}
 use Rattle.reader_laws.proofs.Accepted.{Reading, reading-is}
-use Rattle.reader_laws.proofs.Grown.{Grew, nodes_of, walk_of, in_order}
+use Rattle.reader_laws.proofs.Grown.{Grew, nodes_of, in_order}
 use Rattle.why_blame.specs.Blame.{Blame, nowhere, found, blame, is_stopped}
 use Rattle.why_blame.specs.Cuts.{sliced_tokens}
-use Rattle.salvage_mend.specs.Mend.{root_game, gms_bad, kept_game, mend_nodes, mend_tree, mended}
+use Rattle.salvage_mend.specs.Mend.{root_game, gms_bad, mend_nodes, mend_tree, mended}
 use Rattle.salvage_mend.specs.Changes.{Change, nodes_changes, props_changes, change_nodes, change_trees, changed, game_kept}
 use Rattle.salvage_list.specs.Listed.{cut_of, walk_nodes, root_of, trees_changes, tail_of, slices_changes, utf_changes, changes_of}
 use Rattle.salvage_mend.proofs.Told.{Silent, Below, Above, silent-append, props-above, props-below, tells-behind, tells-before, NodesTold, nodes-told, game-told, nodes-tell}

@@ -1,30 +1,30 @@
 -- A strictly accepted text with nothing to mend and nothing behind its last tree has the empty list. Assumes nothing.
-use Rattle.lists.proofs.Prelude.{◌≡◌, refl, sym, ap, ap₂, ◌∙◌, subst, ℕ, zero, suc, ◌+◌, ◌≤◌, ◌<◌, max, arith, Bool, true, false, false≢true, not, ◌&&◌, List, [], ◌∷◌, ◌++◌, reverse, length, length-append, length-reverse, drop, leb, eqb, eq-eqb, ltb, pick}
+use Rattle.lists.proofs.Prelude.{◌≡◌, refl, sym, ap, ap₂, ◌∙◌, subst, ℕ, zero, suc, ◌+◌, ◌<◌, max, arith, Bool, true, false, false≢true, not, List, [], ◌∷◌, ◌++◌, length, length-reverse, drop, leb, eq-eqb, pick}
 use Rattle.lists.specs.All.{All}
 use Rattle.lists.specs.Same.{same}
 use Rattle.lists.proofs.Tests.{never}
-use Rattle.text_utf8.specs.Text.{Utf, whole, blank, utfs}
+use Rattle.text_utf8.specs.Text.{Utf}
 use Rattle.lexer.specs.Token.{Prop, Tok, start, end, node, prop, End, done, broken, Lexed}
 use Rattle.values.specs.Read.{read_identifier}
-use Rattle.tables.specs.Numbers.{none, text_limit}
+use Rattle.tables.specs.Numbers.{none}
 use Rattle.tables.specs.Record.{Node, Tree, all_props}
 use Rattle.tables.specs.declared.Reason.{Reason}
 use Rattle.tables.specs.declared.Reason.TheVariants.{UnexpectedGameTreeStart, UnexpectedGameTreeEnd, UnexpectedProperty}
-use Rattle.parser.specs.Game.{Game, is, GM}
+use Rattle.parser.specs.Game.{Game, is}
 use Rattle.parser.specs.LocalsSlice.{slice_from, rest_from, first_slices}
 use Rattle.parser.specs.Split.{Splitting, splitting, over, wrong, splits, split, Slices, no, slices, filled, sliced, split_by_gametree}
 use Rattle.parser.specs.Walk.{Walk, walk, halted, stopped, children, walks, walked}
-use Rattle.parser.specs.Read.{Answer, accepted, refused, read_strict, tokenize, lexing, parse_utf8}
+use Rattle.parser.specs.Read.{accepted, read_strict, tokenize, lexing, parse_utf8}
 use Rattle.parser.proofs.Runs.{stopped-stays}
 use Rattle.parser.proofs.Surveys.{wrong_stays}
 use Rattle.parser.proofs.Texts.{text-short}
 use Rattle.reader_laws.proofs.Accepted.{Reading, reading-is}
 use Rattle.reader_laws.proofs.Grown.{Grew, nodes_of, walk_of, in_order}
-use Rattle.serialize_laws.specs.Back.{Named, toks_of, slices_in}
-use Rattle.why_blame.specs.Blame.{Blame, nowhere, found, blame, is_stopped}
+use Rattle.serialize_laws.specs.Back.{Named, toks_of}
+use Rattle.why_blame.specs.Blame.{nowhere, found, blame, is_stopped}
 use Rattle.why_blame.specs.Cuts.{sliced_tokens}
-use Rattle.salvage_mend.specs.Mend.{reads_gm, root_game, gms_bad}
-use Rattle.salvage_mend.specs.Changes.{Change, unnamed, removed_gm, spelled_anew, prop_change, props_changes, nodes_changes}
+use Rattle.salvage_mend.specs.Mend.{root_game, gms_bad}
+use Rattle.salvage_mend.specs.Changes.{Change, unnamed, spelled_anew, prop_change, props_changes, nodes_changes}
 use Rattle.salvage_list.specs.Listed.{cut_of, walk_nodes, root_of, trees_changes, tail_of, slices_changes, utf_changes, changes_of}
 use Rattle.salvage_list.proofs.Rooted.{changes-append}
 use Rattle.salvage_laws.specs.Tail.{AllSliced, NoTail}

@@ -1,5 +1,5 @@
 -- Nothing stands behind the last tree of a writing. Assumes nothing.
-use Rattle.lists.proofs.Prelude.{◌≡◌, refl, sym, ap, ◌∙◌, subst, subst⁻¹, ℕ, zero, suc, ◌+◌, ◌≤◌, arith, Bool, true, false, List, [], ◌∷◌, ◌++◌, map, reverse, length, take-length, drop, drop-length, ltb, pick}
+use Rattle.lists.proofs.Prelude.{◌≡◌, refl, sym, ap, ◌∙◌, subst, subst⁻¹, ℕ, zero, suc, arith, Bool, true, false, List, [], ◌∷◌, map, reverse, length, take-length, drop, drop-length, ltb, pick}
 use Rattle.lists.proofs.Tests.{never}
 use Rattle.text_utf8.specs.Text.{Ink, inked, Utf, whole, blank, utfs}
 use Rattle.lexer.specs.Token.{Tok, start, end, node, prop, lex_from}

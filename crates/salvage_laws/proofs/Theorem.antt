@@ -1,13 +1,13 @@
 -- The mended record of a lenient reading can be written and strictly read: as it is, or 9. Assumes nothing.
-use Rattle.lists.proofs.Prelude.{◌≡◌, refl, sym, ap, ◌∙◌, subst, ℕ, zero, suc, ◌+◌, ◌≤◌, ◌<◌, arith, Bool, true, List, [], ◌∷◌, map, reverse, reverse_aux, length, length-map}
+use Rattle.lists.proofs.Prelude.{◌≡◌, refl, sym, ◌∙◌, subst, ℕ, zero, suc, ◌+◌, ◌≤◌, ◌<◌, arith, Bool, true, List, [], ◌∷◌, map, reverse_aux, length, length-map}
 use Rattle.lists.specs.All.{All}
 use Rattle.lexer.specs.Token.{Tok}
 use Rattle.lexer_laws.proofs.Proper.{HasProper}
-use Rattle.tables.specs.Numbers.{depth_limit, none, text_limit}
+use Rattle.tables.specs.Numbers.{depth_limit, text_limit}
 use Rattle.tables.specs.Record.{Node, Tree, all_nodes, all_props}
 use Rattle.tables.specs.declared.Reason.TheVariants.{TooDeep}
-use Rattle.parser.specs.LocalsSlice.{slice_from, rest_from, first_slices}
-use Rattle.parser.specs.Split.{Slices, slices, split, splitting, split_by_gametree}
+use Rattle.parser.specs.LocalsSlice.{slice_from, rest_from}
+use Rattle.parser.specs.Split.{split, splitting}
 use Rattle.parser.specs.Read.{accepted, refused, read_strict, read_lenient, tokenize}
 use Rattle.reader_laws.proofs.Accepted.{Reading, reading-is}
 use Rattle.reader_laws.proofs.Enough.{grew-some}

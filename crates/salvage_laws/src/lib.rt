@@ -1,1 +1,3 @@
+#![tactic(auto)]
+
 // What holds of the mended record of a lenient reading (proofs/). No code.
