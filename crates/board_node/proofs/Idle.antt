@@ -4,7 +4,7 @@ use Rattle.values.specs.Read.{read_identifier}
 use Rattle.tables.specs.Each.{tabulate}
 use Rattle.parts_props.specs.Props.{Property}
 use Rattle.board_play.specs.Steps.{Act}
-use Rattle.board_node.specs.Node.{setup_colour, move_colour, setups_of, moves_of, all_setups, all_moves}
+use Rattle.board_node.specs.Node.{setup_colour, move_colour, all_setups, all_moves}
 use Rattle.board_node.specs.LocalsSeen.{Idle}
 use Rattle.board_node.proofs.Moves.{setups-none, moves-none}
 

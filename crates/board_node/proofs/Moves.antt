@@ -1,5 +1,5 @@
 -- What a move plays, by its value. Assumes nothing.
-use Rattle.lists.proofs.Prelude.{ℕ, ◌+◌, ◌*◌, ◌<◌, ◌≤◌, Bool, true, false, true≢false, ◌≡◌, refl, sym, ap, ◌∙◌, List, [], ◌∷◌, pick, eqb, eqb-true, ltb, lt-ltb, le-ltb, arith}
+use Rattle.lists.proofs.Prelude.{ℕ, ◌+◌, ◌*◌, ◌<◌, ◌≤◌, Bool, true, false, true≢false, ◌≡◌, refl, sym, ap, ◌∙◌, List, [], ◌∷◌, pick, eqb, eqb-true, lt-ltb, le-ltb, arith}
 use Rattle.lists.proofs.Tests.{and_both}
 use types.Run.{OneOf, miss}
 use denote.Enum.Declared.{tag_of}
@@ -11,7 +11,7 @@ use Rattle.go_shape.specs.declared.Shape.TheVariants.{OneMove}
 use Rattle.go.specs.Value.{value_by, go_value}
 use Rattle.parts_props.specs.Props.{Property}
 use Rattle.board_play.specs.Play.{Player}
-use Rattle.board_play.specs.Steps.{Act, sets, plays}
+use Rattle.board_play.specs.Steps.{plays}
 use Rattle.lists.specs.Same.{same}
 use Rattle.board_node.specs.Node.{setup_colour, move_colour, sets_from, tt_pass, move_acts, setups_of, moves_of}
 

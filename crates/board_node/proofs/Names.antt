@@ -1,5 +1,5 @@
 -- The bytes of a short name or value. Assumes nothing.
-use Rattle.lists.proofs.Prelude.{ℕ, suc, ◌+◌, ◌-◌, ◌/◌, ◌<◌, ◌≤◌, ◌≡◌, sym, ap, ap₂, ◌∙◌, List, [], ◌∷◌, length, get_or, take, drop, drop-cons, ltb, lt-ltb, arith}
+use Rattle.lists.proofs.Prelude.{ℕ, suc, ◌+◌, ◌-◌, ◌/◌, ◌<◌, ◌≤◌, ◌≡◌, sym, ap, ap₂, ◌∙◌, List, [], ◌∷◌, length, get_or, take, drop, drop-cons, lt-ltb, arith}
 use Rattle.tables.specs.Columns.{property_stride, name_from_at, name_to_at}
 use Rattle.parts.specs.Rows.{cut}
 use Rattle.parts_props.specs.Props.{identifier_at}

@@ -1,5 +1,5 @@
 -- A node by its rows: setup and moves together are its acts. Assumes nothing.
-use Rattle.lists.proofs.Prelude.{ℕ, ◌+◌, ◌-◌, Bool, true, false, true≢false, ◌≡◌, refl, sym, ap, ◌∙◌, subst, List, [], ◌++◌, replicate, arith}
+use Rattle.lists.proofs.Prelude.{ℕ, ◌+◌, ◌-◌, Bool, true, false, true≢false, ◌≡◌, sym, ap, ◌∙◌, subst, List, ◌++◌, replicate, arith}
 use Rattle.tables.specs.Each.{tabulate}
 use Rattle.parts_props.specs.Props.{Property, rows_from, property_at, properties_at}
 use Rattle.board_acts.specs.Acts.{pos_of, StepsBy}

@@ -1,5 +1,5 @@
 -- The acts of places and of rows, one after another. Assumes nothing.
-use Rattle.lists.proofs.Prelude.{ℕ, zero, suc, ◌+◌, ◌-◌, ◌<◌, ◌≤◌, Bool, true, false, ◌≡◌, refl, sym, ap, ap₂, ◌∙◌, List, [], ◌∷◌, ◌++◌, length, get_or, drop, drop_of_length-le, drop-cons, add-one, pick, ltb, lt-ltb, le-ltb, arith}
+use Rattle.lists.proofs.Prelude.{ℕ, suc, ◌+◌, ◌-◌, ◌<◌, ◌≤◌, Bool, true, false, ◌≡◌, refl, sym, ap, ◌∙◌, List, [], ◌∷◌, ◌++◌, length, get_or, drop, drop_of_length-le, drop-cons, add-one, arith}
 use Rattle.tables.specs.Each.{tabulate}
 use Rattle.parts_props.specs.Props.{Property}
 use Rattle.board_play.specs.Steps.{Act, sets}

@@ -1,5 +1,5 @@
 -- A move that is seen at once is all that its node does. Assumes nothing.
-use Rattle.lists.proofs.Prelude.{ℕ, suc, ◌+◌, ◌*◌, ◌-◌, ◌/◌, ◌<◌, ◌≤◌, Bool, true, false, ◌&&◌, ◌||◌, true≢false, ◌≡◌, refl, sym, ap, ap₂, ◌∙◌, subst, List, [], ◌∷◌, ◌++◌, length, get_or, pick, leb, leb-true, le-leb, eqb, eqb-true, eq-eqb, ne_eqb, ltb, lt-ltb, arith}
+use Rattle.lists.proofs.Prelude.{ℕ, suc, ◌+◌, ◌*◌, ◌-◌, ◌/◌, ◌<◌, ◌≤◌, Bool, true, false, ◌&&◌, ◌||◌, ◌≡◌, refl, sym, ap, ap₂, ◌∙◌, subst, List, [], ◌∷◌, ◌++◌, length, get_or, pick, leb, leb-true, le-leb, eqb, eqb-true, eq-eqb, ne_eqb, lt-ltb, arith}
 use Rattle.lists.proofs.Tests.{and_both, same_or}
 use Rattle.lists.specs.Same.{same}
 use Rattle.tables.proofs.Cases.{either-bool}
@@ -9,7 +9,6 @@ use Rattle.values.specs.Read.{read_from, read_value, read_identifier}
 use Rattle.parts.specs.Rows.{cut, value_at, values_at}
 use Rattle.parts_props.specs.Props.{Property, rows_from, identifier_at, property_at, properties_at}
 use Rattle.go_points.specs.Area.{letter_of, move_to, move_of}
-use Rattle.go_points.specs.declared.Value.{Value}
 use Rattle.go_points.specs.declared.Value.TheVariants.{Move}
 use Rattle.go_shape.specs.declared.Shape.TheVariants.{OneMove}
 use Rattle.go.specs.Value.{move_under, value_by}
@@ -18,7 +17,7 @@ use Rattle.board_groups.specs.Board.{on_board}
 use Rattle.board_groups.proofs.Beside.{on-board}
 use Rattle.board_play.specs.Play.{playable}
 use Rattle.board_play.specs.Steps.{Act, plays}
-use Rattle.board_node.specs.Node.{setup_colour, move_colour, tt_pass, move_acts, setups_of, moves_of, acts_of}
+use Rattle.board_node.specs.Node.{setup_colour, move_colour, tt_pass, acts_of}
 use Rattle.board_node.specs.Seen.{MoveSeenIs}
 use Rattle.board_node.specs.LocalsSeen.{Idle, PointSeen, ValueSeen, RowSeen}
 use Rattle.board_node.specs.declared.MoveSeen.{MoveSeen}

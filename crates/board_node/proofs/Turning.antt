@@ -1,14 +1,14 @@
 -- Steps of a node one after another. Assumes nothing.
-use Rattle.lists.proofs.Prelude.{ℕ, zero, suc, ◌+◌, ◌*◌, ◌<◌, ◌≤◌, Bool, true, false, true≢false, ◌&&◌, not, ◌≡◌, refl, sym, ap, ap₂, ◌∙◌, subst, List, [], ◌∷◌, ◌++◌, append_assoc, append-nil, length, length-set, get_or, set, replicate, get_or-replicate, length-replicate, get_or-set_same, get_or-set_other, ltb, eqb, leb, pick, arith, lt-ltb, eq-eqb, ne_eqb, le-leb}
+use Rattle.lists.proofs.Prelude.{ℕ, zero, suc, ◌<◌, Bool, true, false, true≢false, ◌&&◌, not, ◌≡◌, refl, sym, ap, ap₂, ◌∙◌, subst, List, [], ◌∷◌, ◌++◌, append_assoc, append-nil, length, length-set, get_or, set, replicate, length-replicate, get_or-set_same, get_or-set_other, arith, lt-ltb, eq-eqb, ne_eqb}
 use Rattle.lists.proofs.Tests.{same_or}
 use Rattle.board_groups.specs.Board.{on_board}
 use Rattle.board_groups.proofs.Beside.{board-on}
 use Rattle.board_play.specs.Play.{Player, settable, playable}
-use Rattle.board_play.specs.Steps.{Pos, Act, sets, plays}
-use Rattle.board_acts.specs.Acts.{pos_of, StepBy, StepsBy, done-by, next-by, BoardActIs}
+use Rattle.board_play.specs.Steps.{Act, sets, plays}
+use Rattle.board_acts.specs.Acts.{pos_of, StepBy, StepsBy, done-by, next-by}
 use Rattle.board_acts.specs.declared.BoardState.{BoardState}
 use Rattle.board_node.specs.Node.{among, right_acts}
-use Rattle.board_node.specs.LocalsTurn.{right_by, Leads, LeadsOn, TurnIs}
+use Rattle.board_node.specs.LocalsTurn.{right_by, LeadsOn, TurnIs}
 
 module _ (w h : ℕ) where
   pub turn-none : (m : List Bool) (b : List ℕ) (s : BoardState) → TurnIs w h [] m b s m b s false

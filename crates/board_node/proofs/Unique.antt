@@ -1,14 +1,14 @@
 -- No second answer; what a node's acts are on a board of which nothing false is known; stones conserved. Assumes nothing.
 use Rattle.lists.proofs.Prelude.{ℕ, Bool, true, false, true≢false, ◌≡◌, refl, sym, ap, ap₂, ◌∙◌, List, length}
 use Rattle.parts_props.specs.Props.{Property}
-use Rattle.board_play.specs.Steps.{Steps, SumsRight}
+use Rattle.board_play.specs.Steps.{SumsRight}
 use Rattle.board_play.proofs.Sums.{stones-conserved}
 use Rattle.board_acts.specs.Acts.{pos_of, KnownSettled}
 use Rattle.board_acts.specs.declared.BoardState.{BoardState}
 use Rattle.board_acts.proofs.Exact.{ExactAll, steps-exact, steps-by-once}
 use Rattle.board_acts.proofs.Unique.{pos-once}
 use Rattle.board_node.specs.Node.{acts_of, right_node}
-use Rattle.board_node.specs.Answer.{refused_node, NodeIs}
+use Rattle.board_node.specs.Answer.{NodeIs}
 use Rattle.board_node.specs.declared.Position.{Position}
 use Rattle.board_node.specs.declared.NodeAnswer.{NodeAnswer}
 

@@ -1,6 +1,6 @@
 -- What a node upon a position answers.
 use Rattle.std.specs.Prelude.{◌≡◌}
-use Rattle.lists.specs.Prelude.{ℕ, Bool, true, false, not, List, replicate}
+use Rattle.lists.specs.Prelude.{ℕ, Bool, true, false, List, replicate}
 use Rattle.parts_props.specs.Props.{Property}
 use Rattle.board_acts.specs.Acts.{pos_of, StepsBy}
 use Rattle.board_acts.specs.declared.BoardState.{BoardState}

@@ -1,4 +1,6 @@
 // The acts of one node upon a position: what its setup sets, then what its moves play.
+#![tactic(auto)]
+
 ghost use Rattle.std.specs.Prelude.{◌≡◌, true, List, [], ◌∷◌, ℕ, ◌-◌, ◌/◌, ◌<◌, ◌≤◌, length};
 ghost use Rattle.values.specs.Read.{read_identifier};
 ghost use Rattle.tables.specs.Columns.{property_stride};
