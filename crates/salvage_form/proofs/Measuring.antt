@@ -1,5 +1,5 @@
 -- Lengths property by property, and what mending leaves of them. Assumes nothing.
-use Rattle.lists.proofs.Prelude.{ℕ, ◌+◌, ◌≤◌, ◌≡◌, refl, sym, ap, ◌∙◌, List, [], ◌∷◌, ◌++◌, map, arith, length, length-append, append-nil}
+use Rattle.lists.proofs.Prelude.{ℕ, ◌+◌, ◌≤◌, ◌≡◌, sym, ap, List, [], ◌∷◌, ◌++◌, map, arith, length, length-append}
 use Rattle.values.specs.Read.{read_identifier}
 use Rattle.lexer.specs.Token.{Prop}
 use Rattle.lexer.specs.Step.{prop_at}

@@ -13,7 +13,7 @@ use Rattle.lexer_scan.specs.contracts.ValueStep as value-step
 use Rattle.tables.specs.declared.Reason.{Reason}
 use Rattle.tables.specs.declared.Reason.TheVariants.{UnexpectedProperty}
 use Rattle.tables.specs.Record.{Node, Tree}
-use Rattle.parser.specs.Game.{Game, GM, game_vals, game_props, props}
+use Rattle.parser.specs.Game.{GM, game_vals, game_props, props}
 use Rattle.parser_game.specs.declared.GameType.{GameType}
 use Rattle.parser_game.specs.declared.GameType.TheVariants.{Is, Refused}
 use Rattle.parser_game.specs.LocalsGame.{type_of}

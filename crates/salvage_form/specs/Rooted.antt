@@ -1,9 +1,9 @@
 -- What a root's properties say of its tree once it is mended.
 use Rattle.std.specs.Prelude.{◌∷◌}
-use Rattle.lists.specs.Prelude.{ℕ, List, []}
+use Rattle.lists.specs.Prelude.{List, []}
 use Rattle.lexer.specs.Token.{Prop}
 use Rattle.tables.specs.Numbers.{none}
-use Rattle.tables.specs.Record.{Node, Tree}
+use Rattle.tables.specs.Record.{Tree}
 use Rattle.parser.specs.Game.{game_props}
 use Rattle.fit_rule.specs.Rule.{rule_of}
 use Rattle.salvage_mend.specs.Mend.{gms_among, gms_bad, mend_tree}

@@ -1,4 +1,6 @@
 // What measuring a mended text asks of its properties, found over the text without rows: the length of each as it is written, and the rule of a tree.
+#![tactic(auto)]
+
 pub mod root; // root.rt: the rule of a tree
 
 ghost use Rattle.std.specs.Prelude.{◌≡◌, true, [], ◌∷◌, ◌+◌, ◌*◌, ◌≤◌, length};

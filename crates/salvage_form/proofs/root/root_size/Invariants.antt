@@ -1,0 +1,11 @@
+use Rattle.lists.proofs.Prelude.{◌-◌, length}
+use Rattle.lexer.specs.Token.{lex_at}
+use Rattle.fit.specs.Record.{raws_of}
+use Rattle.salvage_form.proofs.Roots.{Gathered, sizes_among}
+use Rattle.salvage_form.proofs.root.root_size.Given as goal
+
+abbrev pub invariant-loop-i : goal.invariant-loop-i
+invariant-loop-i l = Gathered sizes_among raws_of l.s (lex_at l.s l.from).toks (lex_at l.s l.at).toks l.found l.k
+
+abbrev pub decreases-loop-i : goal.decreases-loop-i
+decreases-loop-i l = length l.s - l.at
