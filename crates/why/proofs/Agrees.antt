@@ -1,5 +1,5 @@
 -- A text is refused exactly where something is to blame, and by the number of the fact, strict and lenient. Assumes nothing.
-use Rattle.lists.proofs.Prelude.{ℕ, zero, suc, ◌≡◌, refl, subst, subst⁻¹, Bool, true, false, List, [], ◌∷◌, reverse, length, take, ltb, ltb-true, ltb-false, pick}
+use Rattle.lists.proofs.Prelude.{ℕ, zero, suc, ◌≡◌, refl, subst⁻¹, Bool, true, false, List, [], ◌∷◌, reverse, length, take, ltb, ltb-true, ltb-false, pick}
 use Rattle.lists.proofs.Pick.{pick-elim}
 use Rattle.text_utf8.specs.Trim.{trimmed}
 use Rattle.text_utf8.specs.declared.Trimmed.{Trimmed}
@@ -11,10 +11,10 @@ use Rattle.lexer.specs.declared.Fault.TheVariants.{MissingPropertyIdentifier, Un
 use Rattle.tables.specs.Numbers.{text_limit, depth_limit, none, reason_of}
 use Rattle.tables.specs.Record.{Tree}
 use Rattle.tables.specs.declared.Reason.TheVariants.{UnexpectedGameTreeEnd, TooDeep as too_deep}
-use Rattle.parser.specs.Split.{Splitting, splitting, over, wrong, split, ended, no, slices, deep, filled, sliced, split_by_gametree}
+use Rattle.parser.specs.Split.{Splitting, splitting, over, wrong, split, splits, ended, no, slices, deep, filled, sliced, split_by_gametree}
 use Rattle.parser.specs.Game.{Game, is, no_game, find_gametype}
 use Rattle.parser.specs.Walk.{Walk, walk, halted, stopped, walked}
-use Rattle.parser.specs.Read.{Answer, refused, accepted, Trees, trees_so_far, no_trees, tree_of_walk, tree_of_game, parse_gametrees, answer, parse_slices, parsed, lexing, read}
+use Rattle.parser.specs.Read.{Answer, Trees, trees_so_far, no_trees, tree_of_walk, tree_of_game, parse_gametrees, answer, parse_slices, parsed, lexing, read}
 use Rattle.parser.proofs.Texts.{lex-prefix, text-long, on_trimmed, text-trimmed}
 use Rattle.parser_tree.proofs.Bounded.{Mild, mild-walked}
 use Rattle.why_blame.specs.Cuts.{fault_fact, deep_at, loose, cut_deep, cut_slices, cutting, cut_tokens}
@@ -103,10 +103,10 @@ six-ended len (suc (suc d)) m t cur ss = tt
 
 six-split : (len : Bool) (x : Splitting) (ts : List Tok) → Six x → Six (split len x ts)
 six-split len x [] h = h
-six-split len (splitting d m cur ss) (start o ∷ ts) h = six-split len _ ts tt
-six-split len (splitting d m cur ss) (end o ∷ ts) h = six-split len _ ts (six-ended len d m (end o) cur ss)
-six-split len (splitting d m cur ss) (node o ∷ ts) h = six-split len _ ts tt
-six-split len (splitting d m cur ss) (prop p e ∷ ts) h = six-split len _ ts tt
+six-split len (splitting d m cur ss) (start o ∷ ts) h = six-split len (splits len (splitting d m cur ss) (start o)) ts tt
+six-split len (splitting d m cur ss) (end o ∷ ts) h = six-split len (ended len d m (end o) cur ss) ts (six-ended len d m (end o) cur ss)
+six-split len (splitting d m cur ss) (node o ∷ ts) h = six-split len (splits len (splitting d m cur ss) (node o)) ts tt
+six-split len (splitting d m cur ss) (prop p e ∷ ts) h = six-split len (splits len (splitting d m cur ss) (prop p e)) ts tt
 six-split len (over m ss) (t ∷ ts) h = six-split len (over m ss) ts tt
 six-split len (wrong r) (t ∷ ts) h = six-split len (wrong r) ts h
 

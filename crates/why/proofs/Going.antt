@@ -1,24 +1,23 @@
 -- The walk of a slice for the token to blame, one token a turn. Assumes nothing.
 use Rattle.lists.proofs.Prelude.{ℕ, zero, suc, ◌+◌, ◌-◌, ◌≤◌, ◌<◌, ◌≡◌, refl, sym, ap, ◌∙◌, subst, subst⁻¹, Bool, true, false, false≢true, List, [], ◌∷◌, ◌++◌, arith, add-one, length, get_or, set, length-set, pick}
-use Rattle.lexer.specs.Token.{Prop, Tok, start, end, node, prop, Lexed, lexed, lex_at}
-use Rattle.lexer.specs.Step.{prop_at}
+use Rattle.lexer.specs.Token.{Tok, start, end, Lexed, lexed, lex_at}
 use Rattle.tables.specs.Numbers.{text_limit, depth_limit, none}
 use Rattle.tables.specs.Record.{Node}
 use Rattle.tables.specs.declared.Reason.{Reason}
 use Rattle.tables.specs.declared.Reason.TheVariants.{UnexpectedGameTreeStart}
-use Rattle.parser.specs.Walk.{Walk, walk, stopped, walks, walked, opens, refuse, closes}
+use Rattle.parser.specs.Walk.{Walk, walk, stopped, walks, walked, closes}
 use Rattle.parser.specs.LocalsSlice.{slice_from, Shallow}
 use Rattle.parser_step.specs.LocalsActs.{stack_of, may_open, may_start}
 use Rattle.parser_tree.specs.LocalsTurns.{BehindIs}
 use Rattle.parser_step.proofs.Stacks.{stack-none, stack-pop, may-within}
 use Rattle.parser_tree.proofs.Stacks.{stack_push}
-use Rattle.parser_tree.proofs.Lines.{Line, line_first, line-open, line-shut, line-prop, line-node, line-may}
-use Rattle.parser_tree.proofs.Behind.{Skipping, skipping-first, skipping-start, skipping-end, skipping-last, skipping-node, skipping-prop, skipping-over, slice-last, slice-end, shallow-end}
-use Rattle.why_blame.specs.Blame.{Blame, nowhere, found, blame, is_stopped}
+use Rattle.parser_tree.proofs.Lines.{Line, line_first, line-open, line-shut, line-may}
+use Rattle.parser_tree.proofs.Behind.{Skipping, skipping-first, skipping-start, skipping-end, skipping-last, slice-last, slice-end, shallow-end}
+use Rattle.why_blame.specs.Blame.{nowhere, found, blame, is_stopped}
 use Rattle.why_blame.specs.declared.Fact.TheVariants.{EmptyList, EndBeyond}
-use Rattle.why_blame.specs.declared.Blamed.TheVariants.{No, By}
+use Rattle.why_blame.specs.declared.Blamed.TheVariants.{By}
 use Rattle.why_blame.proofs.Found.{blame-on, blame-here}
-use Rattle.why.specs.Trees.{top_node, stop_blame, tree_blame, nodes_of, nodes_in}
+use Rattle.why.specs.Trees.{top_node, stop_blame, tree_blame, nodes_of}
 use Rattle.why.specs.LocalsTrees.{slice_at, SliceReady, SoundSlice}
 
 -- before the first token

@@ -10,7 +10,6 @@ use Rattle.tables.specs.Numbers.{text_limit, depth_limit}
 use Rattle.tables.specs.Lenient.{as_reading}
 use Rattle.tables.specs.declared.Counts.{Counts}
 use Rattle.tables.specs.declared.Reading.{Reading}
-use Rattle.tables.specs.declared.Reading.TheVariants.{Accepted as counted}
 use Rattle.tables.specs.declared.Lenient.{Lenient}
 use Rattle.tables.specs.declared.Lenient.TheVariants.{Accepted as mildly, TextTooLong, NotUtf8, TooDeep as too_deep, NoRoom}
 use Rattle.tables.specs.contracts.Lenient as lenient-type

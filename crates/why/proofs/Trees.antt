@@ -1,5 +1,5 @@
 -- A slice is refused exactly where a token of it, or its game type, is to blame, and by the number of the fact. Assumes nothing.
-use Rattle.lists.proofs.Prelude.{ℕ, suc, ◌+◌, ◌-◌, ◌^◌, ◌≡◌, refl, subst, subst⁻¹, Bool, true, false, List, [], ◌∷◌, ◌++◌, length, drop, pick}
+use Rattle.lists.proofs.Prelude.{ℕ, suc, ◌+◌, ◌-◌, ◌^◌, ◌≡◌, refl, subst⁻¹, Bool, true, false, List, [], ◌∷◌, ◌++◌, length, drop, pick}
 use Rattle.lists.proofs.Pick.{pick-elim}
 use Rattle.lists.specs.Same.{same}
 use Rattle.values.specs.Read.{read_value}

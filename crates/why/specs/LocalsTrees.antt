@@ -4,7 +4,6 @@ use Rattle.lists.specs.Prelude.{ℕ, true, List, length}
 use Rattle.lists.specs.All.{All}
 use Rattle.lexer.specs.Token.{Tok, done, lex_at}
 use Rattle.tables.specs.Numbers.{text_limit}
-use Rattle.parser.specs.Walk.{walk}
 use Rattle.parser.specs.LocalsSlice.{slice_from, first_slices, Shallow}
 use Rattle.parser_tree.specs.LocalsTurns.{BehindIs}
 use Rattle.why_blame.specs.declared.Blamed.TheVariants.{No, By}

@@ -1,4 +1,6 @@
 // Why a text is refused: the number's fact and the place of the token to blame; of an accepted text the counts and the place where reading ended. No tables are lent and none is needed, and a text that is refused is walked once.
+#![tactic(auto)]
+
 mod tree; // tree.rt: the tree of a slice
 
 ghost use Rattle.std.specs.Prelude.{◌≡◌, true, false, length, ◌≤◌};

@@ -1,0 +1,30 @@
+use Rattle.lists.proofs.Prelude.{arith}
+use Rattle.why.proofs.Searched.{searching-first, searched-end, slice-ready, searched-game, searched-stop, searched-empty, searching-more}
+use Rattle.why.proofs.in_slices.Goals as goal
+
+pub loop-k-init : goal.loop-k-init
+loop-k-init c = searching-first c.requires
+
+pub returns-in-By : goal.returns-in-By
+returns-in-By c = searched-game c.loop-k.invariant c.loop-k-test.true c.in_game.ensures c.in-By.is
+
+pub walk_slice-requires : goal.walk_slice-requires
+walk_slice-requires c = slice-ready c.loop-k.invariant c.loop-k-test.true
+
+pub returns-in-Stopped : goal.returns-in-Stopped
+returns-in-Stopped c = searched-stop c.loop-k.invariant c.loop-k-test.true c.in_game.ensures c.in-No.is c.walk_slice.ensures c.in-Stopped.is
+
+pub returns-then-n-base : goal.returns-then-n-base
+returns-then-n-base c = searched-empty c.loop-k.invariant c.loop-k-test.true c.in_game.ensures c.in-No.is c.walk_slice.ensures c.in-Tree.is c.if-n-base.true c.first_place.ensures
+
+pub overflow_add-k : goal.overflow_add-k
+overflow_add-k c = let t = c.loop-k-test.true in omega arith
+
+pub loop-k-smaller : goal.loop-k-smaller
+loop-k-smaller c = let t = c.loop-k-test.true in omega arith
+
+pub loop-k-preserved : goal.loop-k-preserved
+loop-k-preserved c = searching-more c.loop-k.invariant c.loop-k-test.true c.in_game.ensures c.in-No.is c.walk_slice.ensures c.in-Tree.is c.if-n-base.false
+
+pub returns : goal.returns
+returns c = searched-end c.loop-k.invariant c.loop-k-test.false
