@@ -1,13 +1,13 @@
 -- After an accepted feed: every value's bytes are what the lookup handed out before, the tables fit, and a strict reading's memory is again what a strict
 -- reading of the new text gives. No text on the way is longer than both the old and the final one. Assumes nothing.
-use Rattle.lists.proofs.Prelude.{ℕ, ◌≤◌, ◌<◌, true, false, ◌≡◌, refl, sym, ap, ap₂, ◌∙◌, subst⁻¹, arith, Bool, List, ◌+◌, length, take, slice, ltb, ltb-false, drop, take-take, pick}
+use Rattle.lists.proofs.Prelude.{ℕ, ◌≤◌, ◌<◌, true, false, ◌≡◌, refl, sym, ap, ap₂, ◌∙◌, subst⁻¹, arith, Bool, List, ◌+◌, length, slice, ltb, ltb-false, drop, take-take, pick}
 use Rattle.lists.proofs.Tests.{never}
 use Rattle.tables.specs.Columns.{val_from_at, val_to_at}
 use Rattle.tables.specs.Memory.{Memory, memory}
 use Rattle.tables.specs.Numbers.{text_limit}
 use Rattle.tables.specs.Rows.{Tables, ValRow}
 use Rattle.fit.specs.Fit.{Fit}
-use Rattle.fit.specs.Record.{rows_in, text_in, val_row}
+use Rattle.fit.specs.Record.{val_row}
 use Rattle.fit.proofs.Clauses.{fit-vals}
 use Rattle.fit.proofs.Parts.{tabulate-at}
 use Rattle.edit_answer.specs.Edit.{span_at}

@@ -1,5 +1,5 @@
 -- A buffer whose first bytes are a text, with zeros up to a length that was used: one text after another put into it. Assumes nothing.
-use Rattle.lists.proofs.Prelude.{ℕ, zero, suc, ◌+◌, ◌-◌, ◌≤◌, ◌<◌, ◌≡◌, refl, sym, ap, ap₂, ◌∙◌, arith, List, [], ◌∷◌, ◌++◌, append_assoc, append-nil, length, take, drop, replicate, length-append, length-replicate, length-take-le, take-append-drop, drop_at, drop-append-add, drop-append-le, drop-drop, leb, leb-true, leb-false}
+use Rattle.lists.proofs.Prelude.{ℕ, zero, suc, ◌+◌, ◌-◌, ◌≤◌, ◌<◌, ◌≡◌, sym, ap, ap₂, ◌∙◌, arith, List, ◌∷◌, ◌++◌, append_assoc, append-nil, length, take, drop, replicate, length-append, length-replicate, length-take-le, take-append-drop, drop_at, drop-append-add, drop-append-le, drop-drop, leb, leb-true, leb-false}
 use Rattle.tables.proofs.Cases.{either-bool}
 use Rattle.tables.specs.Flat.{over}
 use Rattle.edit_splice.specs.Splice.{cleared}

@@ -1,5 +1,5 @@
 -- How many numbers rows have. Assumes nothing.
-use Rattle.lists.proofs.Prelude.{ℕ, ◌*◌, ◌≡◌, refl, arith, List, [], ◌∷◌, length}
+use Rattle.lists.proofs.Prelude.{◌*◌, ◌≡◌, refl, arith, List, [], ◌∷◌, length}
 use Rattle.tables.specs.Flat.{flat_props, flat_vals}
 use Rattle.tables.specs.Rows.{PropRow, ValRow}
 

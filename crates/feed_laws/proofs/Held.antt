@@ -1,5 +1,5 @@
 -- The buffer of a text with some of its values as corrected: the bytes of one more value replaced. Assumes nothing.
-use Rattle.lists.proofs.Prelude.{ℕ, suc, ◌+◌, ◌-◌, ◌≤◌, ◌<◌, true, ◌≡◌, refl, sym, ap, ap₂, ◌∙◌, subst, arith, List, ◌++◌, length, take, drop, length-append, length-drop, length-take-le}
+use Rattle.lists.proofs.Prelude.{ℕ, suc, ◌+◌, ◌-◌, ◌≤◌, ◌<◌, true, ◌≡◌, sym, ap, ◌∙◌, arith, List, ◌++◌, length, take, drop, length-append, length-drop, length-take-le}
 use Rattle.tables.specs.Columns.{val_from_at, val_to_at}
 use Rattle.tables.specs.Flat.{over}
 use Rattle.tables.specs.Memory.{Memory}
@@ -11,7 +11,7 @@ use Rattle.edit_splice.specs.Locals.{Replaceable}
 use Rattle.edit_splice.specs.Splice.{pasted, cleared, replaced}
 use Rattle.edit_splice.proofs.May.{replaced-is}
 use Rattle.edit_laws.proofs.Left.{text-left, length-buffer-left}
-use Rattle.feed_laid.specs.Laid.{with, shift, laid_val}
+use Rattle.feed_laid.specs.Laid.{with, shift}
 use Rattle.feed_laid.specs.OfMemory.{laid_text}
 use Rattle.feed_laid.proofs.OverMemory.{order, apart, count, span, ahead, text-edited}
 use Rattle.feed_laid.proofs.Places.{value-size}

@@ -1,8 +1,8 @@
 -- Lent memory with some of its values as corrected, and one more of them edited. Assumes nothing.
-use Rattle.lists.proofs.Prelude.{ℕ, suc, ◌+◌, ◌-◌, ◌*◌, ◌≤◌, ◌<◌, true, false, ◌≡◌, refl, sym, ap, ap₂, ◌∙◌, subst, subst⁻¹, arith, Bool, List, [], ◌∷◌, ◌++◌, map, length, take, drop, ltb, lt-ltb, le-ltb, length-map, length-take-le, take-append-drop}
+use Rattle.lists.proofs.Prelude.{ℕ, suc, ◌+◌, ◌-◌, ◌*◌, ◌≤◌, ◌<◌, true, false, ◌≡◌, refl, sym, ap, ap₂, ◌∙◌, subst, subst⁻¹, arith, Bool, List, [], ◌∷◌, ◌++◌, map, length, take, drop, lt-ltb, le-ltb, length-map, length-take-le, take-append-drop}
 use Rattle.lists.specs.All.{All}
 use Rattle.lists.specs.Same.{same}
-use Rattle.text_utf8.specs.Text.{Ink, blank, Utf, whole, utfs}
+use Rattle.text_utf8.specs.Text.{Ink, Utf, whole}
 use Rattle.parser.specs.Game.{GM}
 use Rattle.tables.specs.Columns.{val_from_at, val_to_at}
 use Rattle.tables.specs.Each.{sum, tabulate}
@@ -17,7 +17,7 @@ use Rattle.fit.proofs.Rows.{rows-of-flat}
 use Rattle.fit.proofs.Whole.{fit-lent}
 use Rattle.edit_splice.specs.Splice.{pasted, cleared}
 use Rattle.edit_answer.specs.Answer.{outcome_of, edited_for}
-use Rattle.edit_answer.specs.Edit.{owner_name, span_at, shifted, Outcome, gives, edit}
+use Rattle.edit_answer.specs.Edit.{owner_name, span_at, Outcome, gives, edit}
 use Rattle.edit_answer.specs.Locals.{outcome}
 use Rattle.edit_answer.specs.declared.Edited.TheVariants.{Changed}
 use Rattle.edit.specs.Lent.{memory_after}

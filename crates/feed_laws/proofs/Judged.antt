@@ -1,5 +1,5 @@
 -- What a feed that passes says of each value that it corrects: its bytes may stand for that value. Assumes nothing.
-use Rattle.lists.proofs.Prelude.{ℕ, ◌<◌, true, false, not, ◌≡◌, refl, sym, ap, ◌∙◌, subst, subst₂, Bool, List, [], ◌∷◌, eqb, ltb, eqb-true, ltb-true, slice, pick}
+use Rattle.lists.proofs.Prelude.{ℕ, true, false, not, ◌≡◌, refl, ap, ◌∙◌, subst, subst₂, Bool, List, [], ◌∷◌, eqb, ltb, eqb-true, slice, pick}
 use Rattle.lists.specs.Same.{same}
 use Rattle.lists.proofs.Tests.{never}
 use Rattle.text_utf8.specs.Text.{Ink, blank, inked, Utf, whole, part, bad, utfs}

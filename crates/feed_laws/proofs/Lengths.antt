@@ -1,5 +1,5 @@
 -- How long the text as corrected is: by the change of each value. Assumes nothing.
-use Rattle.lists.proofs.Prelude.{ℕ, zero, suc, ◌+◌, ◌-◌, ◌≤◌, ◌<◌, true, ◌≡◌, refl, sym, ap, ap₂, ◌∙◌, arith, List, [], ◌∷◌, ◌++◌, length, slice, drop, length-append, length-slice, length-drop}
+use Rattle.lists.proofs.Prelude.{ℕ, suc, ◌+◌, ◌-◌, true, ◌≡◌, ap, ◌∙◌, arith, List, [], ◌∷◌, ◌++◌, length, slice, length-append, length-slice, length-drop}
 use Rattle.tables.specs.Columns.{val_from_at, val_to_at}
 use Rattle.tables.specs.Each.{sum}
 use Rattle.tables.specs.Memory.{Memory}

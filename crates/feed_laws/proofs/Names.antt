@@ -1,5 +1,5 @@
 -- Identifiers stay under other bytes for values, and so do the owners of values. Assumes nothing.
-use Rattle.lists.proofs.Prelude.{ℕ, zero, suc, ◌+◌, ◌-◌, ◌≤◌, ◌<◌, true, false, ◌≡◌, refl, sym, ap, ap₂, ◌∙◌, arith, Bool, List, [], ◌∷◌, ◌++◌, append_assoc, map, length, take, drop, slice, ltb, length-append, length-slice, take-append-le, take-append-add, drop-append-add, drop-drop, take-take}
+use Rattle.lists.proofs.Prelude.{ℕ, zero, suc, ◌+◌, ◌-◌, ◌≤◌, ◌<◌, true, ◌≡◌, refl, sym, ap, ap₂, ◌∙◌, arith, List, [], ◌∷◌, ◌++◌, append_assoc, map, length, take, drop, slice, ltb, length-append, length-slice, take-append-le, take-append-add, drop-append-add, drop-drop, take-take}
 use Rattle.lists.specs.All.{All}
 use Rattle.tables.specs.Columns.{val_from_at, val_to_at}
 use Rattle.tables.specs.Memory.{Memory}
@@ -8,7 +8,7 @@ use Rattle.tables.proofs.Cases.{either-bool}
 use Rattle.fit.specs.Fit.{Fit}
 use Rattle.fit.specs.Record.{rows_in, text_in}
 use Rattle.fit_spans.proofs.Lists.{part_slice}
-use Rattle.edit_answer.specs.Edit.{owner_row, owner_name}
+use Rattle.edit_answer.specs.Edit.{owner_name}
 use Rattle.feed_laid.specs.Laid.{shift, laid_prop}
 use Rattle.feed_laid.specs.OfMemory.{laid_text, laid_tables}
 use Rattle.feed_laid.proofs.Edited.{Named}

@@ -1,5 +1,5 @@
 -- A text with some of its values as corrected: the text goes by the bytes of its own values alone, and longer bytes make it longer. Assumes nothing.
-use Rattle.lists.proofs.Prelude.{ℕ, zero, suc, ◌+◌, ◌-◌, ◌≤◌, ◌<◌, Bool, true, false, ◌≡◌, refl, sym, ap, ap₂, ◌∙◌, arith, List, [], ◌∷◌, ◌++◌, length, slice, leb, ltb, eqb, lt-ltb, le-ltb, ltb-true, ltb-false, eq-eqb, ne_eqb, le-leb, lt-leb, leb-true, leb-false, pick}
+use Rattle.lists.proofs.Prelude.{ℕ, zero, suc, ◌+◌, ◌-◌, ◌≤◌, ◌<◌, true, ◌≡◌, sym, ap, ap₂, ◌∙◌, arith, List, length, leb, ltb, lt-ltb, le-ltb, ltb-true, ltb-false, eq-eqb, ne_eqb, le-leb, lt-leb, leb-true, leb-false}
 use Rattle.lists.proofs.Tests.{same_or}
 use Rattle.tables.specs.Each.{sum}
 use Rattle.tables.specs.Memory.{Memory}

@@ -1,5 +1,5 @@
 -- An accepted feed is a run of accepted edits: the corrections that do not lengthen, then those that do. Assumes nothing.
-use Rattle.lists.proofs.Prelude.{ℕ, zero, suc, ◌+◌, ◌-◌, ◌≤◌, ◌<◌, true, false, ◌≡◌, refl, sym, ap, ◌∙◌, subst, subst⁻¹, subst₂, arith, Bool, List, [], ◌∷◌, ◌++◌, length, slice, leb, leb-true, leb-false, ltb, ltb-true, ltb-false, length-take, length-take-le}
+use Rattle.lists.proofs.Prelude.{ℕ, zero, suc, ◌+◌, ◌-◌, ◌≤◌, ◌<◌, true, ◌≡◌, refl, sym, ap, ◌∙◌, subst, subst⁻¹, subst₂, arith, List, [], ◌∷◌, ◌++◌, length, slice, leb, leb-true, leb-false, ltb, ltb-true, ltb-false, length-take, length-take-le}
 use Rattle.tables.specs.Memory.{Memory}
 use Rattle.tables.specs.Numbers.{text_limit}
 use Rattle.tables.proofs.Cases.{either-bool}

@@ -3,7 +3,7 @@ use Rattle.lists.proofs.Prelude.{ℕ, ◌<◌, true, ◌≡◌, refl, sym, ap, �
 use Rattle.tables.specs.Columns.{val_from_at, val_to_at}
 use Rattle.tables.specs.Memory.{Memory}
 use Rattle.fit.specs.Fit.{Fit}
-use Rattle.fit.specs.Record.{rows_in, text_in}
+use Rattle.fit.specs.Record.{text_in}
 use Rattle.fit.proofs.Clauses.{fit-vals}
 use Rattle.edit_answer.specs.Edit.{span_at}
 use Rattle.feed.specs.Feed.{listing}
