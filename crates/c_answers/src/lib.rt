@@ -1,4 +1,6 @@
 // Answers of the operations as the structs of the C header.
+#![tactic(auto)]
+
 ghost use Rattle.std.specs.Prelude.{◌≡◌};
 ghost use Rattle.tables.specs.Lenient.{as_reading};
 ghost use Rattle.go.specs.Value.{unmarked};
