@@ -1,5 +1,5 @@
 -- What a property counts as by its row, and one more of them. Assumes nothing.
-use Rattle.lists.proofs.Prelude.{ℕ, zero, suc, ◌+◌, ◌-◌, ◌/◌, ◌≤◌, ◌<◌, ◌≡◌, refl, sym, ap, ap₂, ◌∙◌, subst, Bool, true, false, List, [], ◌∷◌, arith, add-one, length, get_or, ◌&&◌, eqb, leb, le-ltb, lt-ltb, pick}
+use Rattle.lists.proofs.Prelude.{ℕ, ◌+◌, ◌/◌, ◌≤◌, ◌<◌, ◌≡◌, refl, sym, ap, ap₂, ◌∙◌, subst, Bool, true, false, List, [], ◌∷◌, arith, add-one, length, get_or, ◌&&◌, eqb, leb, le-ltb, lt-ltb, pick}
 use Rattle.lists.proofs.Tests.{never}
 use denote.Enum.Declared.{tag_of}
 use types.Run.{OneOf, miss}

@@ -1,5 +1,5 @@
 -- The walk tree by tree over tables that fit: what is counted below a property. Assumes nothing.
-use Rattle.lists.proofs.Prelude.{ℕ, zero, suc, ◌+◌, ◌-◌, ◌/◌, ◌≤◌, ◌<◌, ◌≡◌, refl, sym, ap, ap₂, ◌∙◌, subst, true, false, List, [], ◌∷◌, arith, add-one, length, get_or, slice, length-map, lt-ltb, le-ltb}
+use Rattle.lists.proofs.Prelude.{ℕ, suc, ◌+◌, ◌-◌, ◌/◌, ◌≤◌, ◌<◌, ◌≡◌, refl, sym, ap, ap₂, ◌∙◌, subst, true, false, List, [], ◌∷◌, arith, add-one, length, get_or, length-map, lt-ltb, le-ltb}
 use Rattle.lexer.specs.Token.{Val, Prop}
 use Rattle.values.specs.Read.{read_identifier}
 use Rattle.parts.specs.Rows.{values_at}
@@ -13,10 +13,10 @@ use Rattle.tables.specs.Columns.{root_at, first_prop_at, prop_count_at, name_fro
 use Rattle.tables.specs.Each.{sum, tabulate}
 use Rattle.tables.proofs.Cases.{below_or}
 use Rattle.tables.proofs.Tabulate.{tabulate-length, tabulate-at}
-use Rattle.fit.specs.Record.{tree_row, node_row, prop_row, prop_of, node_of, trees_of, record_of, rows_of, record_in}
+use Rattle.fit.specs.Record.{tree_row, node_row, prop_row, prop_of, trees_of, record_of, rows_of, record_in}
 use Rattle.fit.proofs.Clauses.{Clauses}
 use Rattle.fit.proofs.Parts.{map-tabulate}
-use Rattle.fit.proofs.RecordRows.{vals_in, props_in, first-root, no-trees, record-nodes, record-props}
+use Rattle.fit.proofs.RecordRows.{vals_in, first-root, no-trees, record-nodes, record-props}
 use Rattle.fit.proofs.RootRows.{root_in, root-rises}
 use Rattle.fit_spans.proofs.Lists.{part_slice}
 use Rattle.fit_spans.proofs.Ranges.{gapless-first, gapless-sum, sum-up}
@@ -26,12 +26,11 @@ use Rattle.ask.specs.Locals.{tree_from, name_at}
 use Rattle.ask.proofs.Goes.{go-of-rows}
 use Rattle.ask.proofs.Search.{tree-here, tree-on, tree-end, tree-first}
 use Rattle.season_totals.specs.declared.Tally.{Tally}
-use Rattle.season_tally.specs.declared.Played.{Played}
 use Rattle.season_tally.specs.declared.Moves.{Moves}
 use Rattle.season_tally.specs.declared.TallyAnswer.TheVariants.{Tallied, NotFitting}
 use Rattle.tables.specs.Memory.{Memory}
 use Rattle.fit.specs.Fit.{Fit}
-use Rattle.season_tally.specs.Tally.{played_by, counts_as, is_black, is_white, is_passed, tally_of, tally_answer}
+use Rattle.season_tally.specs.Tally.{played_by, counts_as, tally_of, tally_answer}
 use Rattle.season_tally.specs.Locals.{played_at, next_first, BelowAll, Counted, Goes, RootsLent}
 
 -- nothing counted yet

@@ -14,7 +14,6 @@ use Rattle.serialize.specs.declared.Written.TheVariants.{Wrote, Refused}
 use Rattle.serialize.proofs.Room.{answer-length}
 use Rattle.season_tag.specs.Tag.{tag_of}
 use Rattle.season_totals.specs.declared.Tally.{Tally}
-use Rattle.season_tally.specs.declared.WrittenTally.{WrittenTally}
 use Rattle.season_tally.specs.declared.WrittenTally.TheVariants.{Done, Undone}
 use Rattle.season_tally.specs.Tally.{tally_of, tally_with, WriteTallyIs}
 

@@ -1,6 +1,6 @@
 -- The tally of a record: by the read identifier and the Go value of each property, as SCOPE 97 numbers them. Properties are counted, not nodes.
 use Rattle.std.specs.Prelude.{◌≡◌, ◌∷◌}
-use Rattle.lists.specs.Prelude.{ℕ, Bool, List, [], length, get_or, pick}
+use Rattle.lists.specs.Prelude.{ℕ, List, [], length, get_or, pick}
 use Rattle.lists.specs.Same.{same}
 use Rattle.values.specs.Read.{read_identifier}
 use Rattle.go_points.specs.declared.Value.{Value}

@@ -1,4 +1,6 @@
 // The tally of a record in memory: its trees and nodes, its moves of each colour that are points, its passes.
+#![tactic(auto)]
+
 ghost use Rattle.std.specs.Prelude.{◌≡◌, true, [], ◌∷◌, ◌-◌, ◌^◌, ◌<◌, ◌≤◌};
 ghost use Rattle.tables.specs.Memory.{memory};
 ghost use Rattle.values.specs.Read.{read_identifier};
