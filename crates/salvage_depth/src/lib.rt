@@ -1,4 +1,6 @@
 // The depth of a record's writing, from its node rows alone: mending leaves it as it is. Linear in rows that fit: what climbs leaves a node only once.
+#![tactic(auto)]
+
 ghost use Rattle.std.specs.Prelude.{◌≡◌, ◌/◌, ◌-◌, ◌<◌, ◌≤◌, suc, max, min, length};
 ghost use Rattle.tables.specs.Columns.{node_stride, child_at};
 ghost use Rattle.salvage_depth.specs.LocalsDepth.{bracket_at, shut_below, open_at, depth_in};
