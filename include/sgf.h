@@ -25,7 +25,8 @@
  * One exception. Rows lent to sgf_block and sgf_close are working room until the close. After a close that is accepted
  * the rows behind its count are 0, after one that is refused all rows; only number 20 leaves them as they were.
  *
- * Stack, in bytes, on aarch64 (x86-64 within 130 bytes of it but for sgf_go_value, 14,080, and sgf_go_by_rule, 8,384):
+ * Stack, in bytes, measured with the older toolchain, rattle-kit-5b, on aarch64 (x86-64 within 130 bytes of it but for
+ * sgf_go_value, 14,080, and sgf_go_by_rule, 8,384):
  * sgf_board 22,976 and sgf_board_next 19,776, both measured on x86-64, sgf_go_value 11,392, sgf_write 8,832,
  * sgf_write_length and sgf_line 10,240 at most, sgf_go_by_rule 5,696, sgf_read_strict, sgf_read_lenient and those that
  * count rows or say why 6,144 at most, sgf_salvage 49,152 at most (44,288 measured on x86-64), sgf_tally 4,096 at most,
