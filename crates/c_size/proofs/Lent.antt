@@ -1,5 +1,5 @@
 -- Where the used bytes of a buffer are a part of it, what is asked by rows over the whole buffer is what is asked over the used bytes. Assumes nothing.
-use Rattle.lists.proofs.Prelude.{ℕ, zero, suc, ◌+◌, ◌-◌, ◌/◌, ◌≤◌, ◌<◌, min, true, List, [], ◌∷◌, ◌≡◌, refl, sym, ap, ap₂, ◌∙◌, arith, ltb, length, take, drop, take-take, length-take-le, lt-ltb, pick}
+use Rattle.lists.proofs.Prelude.{ℕ, zero, suc, ◌+◌, ◌/◌, ◌≤◌, ◌<◌, true, List, [], ◌∷◌, ◌≡◌, refl, sym, ap, ap₂, ◌∙◌, arith, ltb, length, take, drop, take-take, lt-ltb, pick}
 use Rattle.values.specs.Read.{read_identifier}
 use Rattle.parts.specs.Rows.{cut, value_at, values_at}
 use Rattle.parts_props.specs.Props.{Property, rows_from, identifier_at, property_at, properties_at}

@@ -1,5 +1,5 @@
 -- No side of a size is above 52. Assumes nothing.
-use Rattle.lists.proofs.Prelude.{ℕ, ◌≤◌, Bool, ◌||◌, List, [], ◌∷◌, arith, eqb}
+use Rattle.lists.proofs.Prelude.{ℕ, ◌≤◌, ◌||◌, List, [], ◌∷◌, arith, eqb}
 use Rattle.lists.proofs.Pick.{pick-elim}
 use Rattle.values.specs.Read.{read_value}
 use Rattle.values.specs.Decimal.{decimal_of}
@@ -10,7 +10,6 @@ use Rattle.parts_props.specs.Props.{Property}
 use Rattle.go_size.specs.Size.{has_colon, before_colon, behind_colon, plus_of, side_of, pair_of, size_of}
 use Rattle.go_size.specs.Root.{sizes_in, root_size, size_of_values, size_by, size_in}
 use Rattle.go_size.specs.declared.Size.{Size}
-use Rattle.go_size.specs.declared.Size.TheVariants.{Bad, Board}
 use Rattle.c_size.specs.Locals.{SmallSides}
 
 plus-small : (n : Number) → Within 52 n → plus_of n ≤ 52

@@ -1,5 +1,5 @@
 -- The size and the rule of the r-th tree that fitting tables denote are those by its rows. Assumes nothing.
-use Rattle.lists.proofs.Prelude.{ℕ, zero, suc, ◌+◌, ◌-◌, ◌≤◌, ◌<◌, true, false, List, [], ◌∷◌, map, ◌≡◌, refl, sym, ap, ap₂, ◌∙◌, subst, arith, get_or, take, drop, lt-ltb, le-ltb}
+use Rattle.lists.proofs.Prelude.{ℕ, zero, suc, ◌+◌, ◌-◌, ◌≤◌, ◌<◌, true, false, List, map, ◌≡◌, sym, ap, ap₂, ◌∙◌, subst, arith, get_or, take, drop, lt-ltb, le-ltb}
 use Rattle.tables.specs.declared.Counts.{Counts}
 use Rattle.tables.specs.declared.Reason.TheVariants.{NoSuchNumber, NotFitting}
 use Rattle.tables.specs.Columns.{root_at}

@@ -1,4 +1,6 @@
 // The board size of a tree and its rule, as the struct of the C header.
+#![tactic(auto)]
+
 ghost use Rattle.std.specs.Prelude.{◌≡◌};
 ghost use Rattle.tables.specs.Memory.{memory};
 ghost use Rattle.tables.specs.Numbers.{number_of};
