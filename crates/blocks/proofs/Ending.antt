@@ -1,5 +1,5 @@
 -- How the tokens end, and what is cleared_rows. Assumes nothing.
-use Rattle.lists.proofs.Prelude.{◌≡◌, refl, sym, ap, ◌∙◌, ℕ, suc, ◌+◌, ◌-◌, ◌*◌, ◌/◌, ◌≤◌, ◌<◌, Bool, true, false, List, [], ◌∷◌, ◌++◌, append_assoc, length, take, drop, replicate, eqb, ltb, pick, arith, paste, take_all, length-replicate, eq-eqb, ne_eqb, lt-ltb, le-ltb, le_refl}
+use Rattle.lists.proofs.Prelude.{◌≡◌, sym, ap, ◌∙◌, ℕ, ◌+◌, ◌-◌, ◌*◌, ◌/◌, ◌≤◌, ◌<◌, Bool, true, false, List, ◌++◌, append_assoc, length, take, drop, replicate, ltb, pick, arith, paste, take_all, length-replicate, eq-eqb, ne_eqb, lt-ltb, le-ltb}
 use Rattle.lists.specs.Put.{put_at, PutWhole}
 use Rattle.tables.specs.Numbers.{text_limit}
 use Rattle.lexer.specs.Token.{finish}

@@ -1,5 +1,5 @@
 -- An ASCII byte that is no white space, by the tests of the code. Assumes nothing.
-use Rattle.lists.proofs.Prelude.{◌≡◌, refl, sym, ap, ap₂, ◌∙◌, ℕ, zero, suc, ◌<◌, arith, true, false, true≢false, eqb, leb, eq-eqb, ne_eqb, lt-leb, pick}
+use Rattle.lists.proofs.Prelude.{◌≡◌, refl, sym, ap, ap₂, ◌∙◌, ℕ, zero, suc, ◌<◌, arith, true, false, true≢false, eq-eqb, ne_eqb, lt-leb}
 use Rattle.lists.proofs.Tests.{same_or}
 use Rattle.lexer_scan.specs.Scan.{space}
 use Rattle.lexer_laws.proofs.Laws.{space-exactly}

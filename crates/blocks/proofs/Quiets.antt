@@ -1,7 +1,7 @@
 -- Bytes of a value, one by one and together. Assumes nothing.
-use Rattle.lists.proofs.Prelude.{◌≡◌, refl, sym, ap, ap₂, ◌∙◌, subst, subst⁻¹, ℕ, zero, suc, ◌+◌, ◌-◌, ◌≤◌, ◌<◌, arith, Bool, true, false, List, [], ◌∷◌, ◌++◌, length, take, drop, get_or, add-one, length-drop, length-append, length-take-le, take-add, take-append-drop, drop-drop, ne_eqb, ◌&&◌, not, eqb, ltb, ltb-true, eqb-false, not-true}
+use Rattle.lists.proofs.Prelude.{◌≡◌, refl, sym, ap, ap₂, ◌∙◌, subst, ℕ, zero, suc, ◌+◌, ◌-◌, ◌≤◌, ◌<◌, arith, Bool, true, false, List, [], ◌∷◌, ◌++◌, length, take, drop, get_or, add-one, ne_eqb, ◌&&◌, not, eqb, ltb, ltb-true, eqb-false, not-true}
 use Rattle.lists.proofs.Places.{drop-next}
-use Rattle.lists.proofs.Tests.{and_both, same_or}
+use Rattle.lists.proofs.Tests.{and_both}
 use Rattle.tables.specs.Numbers.{text_limit}
 use Rattle.text_chars.specs.White.{white}
 use Rattle.text_chars.proofs.White.{ascii-dark}

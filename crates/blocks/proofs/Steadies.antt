@@ -1,5 +1,5 @@
 -- ASCII bytes where the token rules and the rows stand as after the last character that is no white space. Assumes nothing.
-use Rattle.lists.proofs.Prelude.{◌≡◌, refl, sym, ap, ap₂, ◌∙◌, subst⁻¹, ℕ, zero, suc, ◌+◌, ◌≤◌, ◌<◌, arith, Bool, true, false, List, [], ◌∷◌, ◌++◌, length, take, drop, get_or, add-one, take-append-drop, drop-drop}
+use Rattle.lists.proofs.Prelude.{◌≡◌, refl, sym, ap, ap₂, ◌∙◌, subst⁻¹, ℕ, zero, suc, ◌+◌, ◌≤◌, ◌<◌, arith, true, false, List, [], ◌∷◌, ◌++◌, length, take, drop, get_or, add-one, take-append-drop, drop-drop}
 use Rattle.tables.specs.Numbers.{text_limit}
 use Rattle.text_chars.proofs.White.{ascii-dark}
 use Rattle.lexer_scan.specs.Scan.{space}
@@ -9,9 +9,9 @@ use Rattle.blocks_step.specs.declared.Phase.{Phase}
 use Rattle.blocks_step.specs.declared.Phase.TheVariants.{Value, After}
 use Rattle.blocks_step.specs.Lean.{moves}
 use Rattle.blocks.specs.declared.BlocksKnown.{BlocksKnown}
-use Rattle.blocks.specs.Room.{filled_with, rows_at, add_rows, Room, room, goes, keeps, takes_byte, takes_all}
+use Rattle.blocks.specs.Room.{filled_with, rows_at, add_rows, Room, room, keeps, takes_byte, takes_all}
 use Rattle.blocks.specs.declared.Ran.{Ran}
-use Rattle.blocks.specs.LocalsSteady.{ValueRun, PointByte, PairFrom, WhiteStays, quiet_move, steady_at, Steady, ran_to, RanIs}
+use Rattle.blocks.specs.LocalsSteady.{ValueRun, PairFrom, WhiteStays, quiet_move, steady_at, Steady, ran_to, RanIs}
 use Rattle.blocks.proofs.Taking.{went, took-ink, took-white}
 use Rattle.blocks.proofs.Quiets.{takes-append, silent-goes, ends-ascii, quietly, quiet-byte, values-over, take_next, value-silent, close-silent}
 

@@ -1,12 +1,12 @@
 -- A row put, tokens put, a byte taken, by the tests of the code. Assumes nothing.
-use Rattle.lists.proofs.Prelude.{◌≡◌, refl, sym, ap, ap₂, ◌∙◌, ℕ, suc, ◌+◌, ◌*◌, ◌≤◌, ◌<◌, Bool, true, false, List, [], ◌∷◌, length, drop, get_or, eqb, leb, ltb, pick, arith, add-one, eq-eqb, ne_eqb, le-leb, lt-leb, leb-true, leb-false, lt-ltb, le-ltb, drop_of_length-le}
+use Rattle.lists.proofs.Prelude.{◌≡◌, refl, sym, ap, ap₂, ◌∙◌, ℕ, suc, ◌+◌, ◌*◌, ◌≤◌, ◌<◌, Bool, true, false, List, length, drop, get_or, leb, pick, add-one, eq-eqb, ne_eqb, leb-true, leb-false, lt-ltb, le-ltb, drop_of_length-le}
 use Rattle.lists.proofs.Places.{drop-next}
 use Rattle.lists.specs.Put.{put_at, PutWhole}
 use Rattle.tables.specs.Numbers.{text_limit}
 use Rattle.blocks_step.specs.declared.Utf8.{Utf8}
 use Rattle.blocks_step.specs.declared.Utf8.TheVariants.{Whole}
 use Rattle.blocks_step.specs.declared.Char.{Char}
-use Rattle.blocks_step.specs.declared.Char.TheVariants.{Ended, Goes}
+use Rattle.blocks_step.specs.declared.Char.TheVariants.{Ended}
 use Rattle.blocks_step.specs.declared.Moved.{Moved}
 use Rattle.blocks_step.specs.Decode.{decodes}
 use Rattle.blocks_step.specs.Lean.{moves}

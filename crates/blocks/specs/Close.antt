@@ -1,6 +1,6 @@
 -- Close: how the tokens end, the answer, and the lent rows after it.
 use Rattle.std.specs.Prelude.{◌+◌, ◌-◌, ◌*◌, ◌/◌, ◌≡◌, ◌∷◌, ◌++◌}
-use Rattle.lists.specs.Prelude.{ℕ, suc, List, [], length, take, drop, replicate, eqb, ltb, pick}
+use Rattle.lists.specs.Prelude.{ℕ, List, [], length, take, drop, replicate, eqb, ltb, pick}
 use Rattle.lists.specs.Put.{put_at}
 use Rattle.tables.specs.Numbers.{text_limit}
 use Rattle.lexer.specs.Token.{Tok, End, done, broken, finish, fault_number}

@@ -1,4 +1,6 @@
 // Tokens from blocks: what is known between two blocks, a block, and the close.
+#![tactic(auto)]
+
 ghost use Rattle.std.specs.Prelude.{◌≡◌, [], ◌∷◌, ℕ, suc, ◌+◌, ◌*◌, ◌/◌, ◌<◌, ◌≤◌, true, ltb, length, get_or};
 ghost use Rattle.lists.specs.Pick.{pick};
 ghost use Rattle.lists.specs.Put.{PutWhole};
