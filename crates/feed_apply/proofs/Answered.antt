@@ -1,5 +1,5 @@
 -- What applying answers, test by test, and what it leaves. Assumes nothing.
-use Rattle.lists.proofs.Prelude.{ℕ, ◌≤◌, ◌<◌, Bool, true, false, ◌≡◌, refl, sym, ap, ap₂, ◌∙◌, List, length, ltb, lt-ltb, le-ltb, pick}
+use Rattle.lists.proofs.Prelude.{ℕ, ◌≤◌, ◌<◌, Bool, true, ◌≡◌, sym, ap, ap₂, ◌∙◌, List, length, ltb, lt-ltb, le-ltb, pick}
 use Rattle.tables.specs.Each.{tabulate}
 use Rattle.tables.specs.Flat.{flat_props, flat_vals, over}
 use Rattle.tables.specs.Memory.{Memory, memory}

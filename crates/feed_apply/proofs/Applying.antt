@@ -1,12 +1,12 @@
 -- What applying asks of its steps, and that their work is the text and the rows as corrected. Assumes nothing.
-use Rattle.lists.proofs.Prelude.{ℕ, zero, suc, ◌+◌, ◌-◌, ◌≤◌, ◌<◌, true, ◌≡◌, refl, sym, ap, ap₂, ◌∙◌, arith, List, map, length}
+use Rattle.lists.proofs.Prelude.{ℕ, zero, suc, ◌+◌, ◌-◌, ◌≤◌, ◌<◌, true, ◌≡◌, refl, sym, ap₂, ◌∙◌, arith, List, length}
 use Rattle.tables.specs.Columns.{name_from_at, name_to_at, first_val_at, val_count_at, val_from_at, val_to_at}
 use Rattle.tables.specs.Each.{sum, tabulate}
 use Rattle.tables.specs.Memory.{Memory}
 use Rattle.tables.specs.Numbers.{text_limit}
-use Rattle.tables.specs.Rows.{PropRow, ValRow}
+use Rattle.tables.specs.Rows.{PropRow}
 use Rattle.fit.specs.Fit.{Fit}
-use Rattle.fit.specs.Record.{prop_row, rows_in, text_in}
+use Rattle.fit.specs.Record.{prop_row, text_in}
 use Rattle.fit.proofs.Clauses.{fit-clauses, fit-names, fit-short}
 use Rattle.fit.proofs.Parts.{map-tabulate}
 use Rattle.fit_spans.proofs.Ranges.{gapless-first}
@@ -16,7 +16,7 @@ use Rattle.feed_laid.proofs.OverMemory.{named}
 use Rattle.feed_laid.proofs.Places.{sum_more}
 use Rattle.feed_laws.specs.Corrected.{new_bytes, corrected_text, corrected_rows}
 use Rattle.feed_laws.proofs.Lengths.{laid-length}
-use Rattle.feed_apply.specs.LocalsSizes.{old_size, grown_to, shrunk_to, spanned_to, size_moved, moved_val, moved_prop, Spread, NamesStand}
+use Rattle.feed_apply.specs.LocalsSizes.{grown_to, shrunk_to, spanned_to, size_moved, moved_val, moved_prop, Spread, NamesStand}
 use Rattle.feed_apply.proofs.Measuring.{spread, new-sum}
 use Rattle.feed_apply.proofs.Sizes.{spanned-more, spanned-none, spanned-low, shrunk-spanned}
 use Rattle.feed_apply.proofs.Sweeping.{used-is}

@@ -1,5 +1,5 @@
 -- The buffer with some values as corrected: values that are not corrected, and the passage from sweep to sweep. Assumes nothing.
-use Rattle.lists.proofs.Prelude.{ℕ, ◌+◌, ◌-◌, ◌≤◌, ◌<◌, true, ◌≡◌, sym, ap, ◌∙◌, arith, List, ◌++◌, append-nil, length, take, drop, replicate, length-take-le, take-append-drop}
+use Rattle.lists.proofs.Prelude.{ℕ, ◌≤◌, ◌<◌, true, ◌≡◌, sym, ap, ◌∙◌, arith, List, length, length-take-le}
 use Rattle.tables.specs.Columns.{val_from_at, val_to_at}
 use Rattle.tables.specs.Flat.{over}
 use Rattle.tables.specs.Memory.{Memory}
@@ -10,7 +10,6 @@ use Rattle.feed.specs.Feed.{listing}
 use Rattle.feed.specs.Find.{found_in}
 use Rattle.feed.specs.declared.Found.{Found}
 use Rattle.feed.specs.declared.Found.TheVariants.{Nowhere}
-use Rattle.feed_laid.specs.Laid.{with}
 use Rattle.feed_laid.specs.OfMemory.{laid_text, own_bytes}
 use Rattle.feed_laid.proofs.OverMemory.{own-text}
 use Rattle.feed_laws.specs.Corrected.{bytes_for, new_bytes}

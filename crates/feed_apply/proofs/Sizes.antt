@@ -1,13 +1,12 @@
 -- What values grow and shrink by, value by value. Assumes nothing.
-use Rattle.lists.proofs.Prelude.{ℕ, zero, suc, ◌+◌, ◌-◌, ◌≤◌, ◌<◌, ◌≡◌, refl, sym, ap, ◌∙◌, subst, arith, add-one, List}
+use Rattle.lists.proofs.Prelude.{ℕ, zero, suc, ◌+◌, ◌-◌, ◌≤◌, ◌<◌, ◌≡◌, sym, ap, ◌∙◌, arith, add-one, List}
 use Rattle.lists.proofs.Tests.{same_or}
 use Rattle.tables.specs.Columns.{val_from_at, val_to_at}
-use Rattle.tables.specs.Each.{sum}
 use Rattle.feed.specs.Feed.{listing}
 use Rattle.feed.specs.Find.{found_in}
 use Rattle.feed.specs.declared.Found.{Found}
 use Rattle.feed.specs.declared.Found.TheVariants.{At, Nowhere}
-use Rattle.feed_laid.proofs.Places.{sum_more, sum-none, old-low, old-in}
+use Rattle.feed_laid.proofs.Places.{sum_more, sum-none, old-low}
 use Rattle.feed_apply.specs.LocalsAlong.{size_for, Uncorrected, Stands}
 use Rattle.feed_apply.specs.LocalsSizes.{old_size, new_size, grown_to, shrunk_to, spanned_to, Spread, Tallied}
 use Rattle.feed_apply.specs.declared.along.Along.{Along}

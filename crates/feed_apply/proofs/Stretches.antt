@@ -1,5 +1,5 @@
 -- Rows between two corrected values move by one number. Assumes nothing.
-use Rattle.lists.proofs.Prelude.{ℕ, zero, suc, ◌+◌, ◌-◌, ◌%◌, ◌^◌, ◌≤◌, ◌<◌, ◌≡◌, ◌*◌, sym, ap, ap₂, ◌∙◌, subst, arith, List}
+use Rattle.lists.proofs.Prelude.{ℕ, zero, suc, ◌+◌, ◌-◌, ◌%◌, ◌^◌, ◌≤◌, ◌<◌, ◌≡◌, ◌*◌, ap, ap₂, ◌∙◌, subst, arith, List}
 use Rattle.lists.proofs.Tests.{same_or}
 use Rattle.tables.specs.Columns.{name_from_at, name_to_at, first_val_at, val_count_at, val_from_at, val_to_at}
 use Rattle.tables.specs.Numbers.{text_limit}

@@ -1,4 +1,6 @@
 // A feed applied to a record in place: all of its corrections, or none.
+#![tactic(auto)]
+
 mod along; // along.rt: the corrections one after another
 mod rows; // rows.rt: the places in the rows moved
 mod sweep; // sweep.rt: the bytes rewritten
