@@ -1,5 +1,5 @@
 -- The answer over the whole way, case by case. Assumes nothing.
-use Rattle.lists.proofs.Prelude.{ℕ, ◌/◌, ◌≤◌, ◌<◌, Bool, true, false, true≢false, ◌≡◌, refl, sym, ap, ap₂, ◌∙◌, subst, List, [], ◌∷◌, ◌++◌, map, map-append, length, eqb, pick, arith, eq-eqb, ne_eqb, lt-ltb, le-ltb}
+use Rattle.lists.proofs.Prelude.{ℕ, ◌/◌, ◌≤◌, ◌<◌, Bool, true, false, ◌≡◌, sym, ap, ap₂, ◌∙◌, subst, List, ◌++◌, map, length, eqb, pick, arith, eq-eqb, ne_eqb, lt-ltb, le-ltb}
 use Rattle.tables.proofs.Cases.{either-bool}
 use Rattle.tables.specs.Columns.{tree_stride, node_stride, root_at, game_at, parent_at, first_prop_at, prop_count_at}
 use Rattle.tables.specs.Memory.{Memory}
@@ -9,13 +9,11 @@ use Rattle.fit_nodes.proofs.Path.{has-none}
 use Rattle.fit.specs.Fit.{Fit}
 use Rattle.fit.specs.Record.{text_in}
 use Rattle.fit.proofs.Clauses.{Clauses, fit-clauses}
-use Rattle.parts_props.specs.Props.{Property, properties_at}
+use Rattle.parts_props.specs.Props.{properties_at}
 use Rattle.go_size.specs.Root.{size_in}
 use Rattle.go_size.specs.declared.RootSize.{RootSize}
-use Rattle.go_size.specs.declared.RootSize.TheVariants.{Wrong}
-use Rattle.board_path.specs.Way.{way_to}
 use Rattle.board_path.proofs.Ways.{way-root, way-split}
-use Rattle.board.specs.Answer.{node_properties, way_properties, tree_over, is_go_node, said_size, is_wrong, columns_by, rows_by, way_right, way_number, board_number, refused_board, PlayedBoard, SizedBoard, BoardIs}
+use Rattle.board.specs.Answer.{node_properties, way_properties, tree_over, is_go_node, said_size, is_wrong, columns_by, rows_by, way_right, way_number, board_number, refused_board, PlayedBoard, BoardIs}
 use Rattle.board.specs.Locals.{SidesRight, WayWalk, WayAnswer}
 use Rattle.board.specs.declared.SgfBoard.{SgfBoard}
 use Rattle.board.proofs.Sizes.{size_small}

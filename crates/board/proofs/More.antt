@@ -1,10 +1,9 @@
 -- One node more: its properties upon the board of its parent are its board. Assumes nothing.
-use Rattle.lists.proofs.Prelude.{ℕ, zero, suc, ◌+◌, ◌≤◌, ◌<◌, Bool, true, false, true≢false, ◌&&◌, ◌≡◌, refl, sym, ap, ap₂, ◌∙◌, subst, subst₂, List, [], ◌∷◌, ◌++◌, map, map-append, length, length-append, leb, ltb, eqb, pick, arith, lt-ltb, le-leb, lt-leb}
+use Rattle.lists.proofs.Prelude.{ℕ, zero, suc, ◌<◌, Bool, true, false, ◌&&◌, ◌≡◌, refl, sym, ap, ap₂, ◌∙◌, subst, subst₂, List, [], ◌∷◌, ◌++◌, map, map-append, length, length-append, leb, eqb, pick, arith, lt-ltb, le-leb, lt-leb}
 use Rattle.lists.proofs.Tests.{same_or}
 use Rattle.tables.proofs.Cases.{either-bool, true-false, below_or}
 use Rattle.tables.specs.Columns.{root_at, parent_at, game_at}
 use Rattle.tables.specs.Memory.{Memory}
-use Rattle.fit_nodes.specs.Locals.{Ruled}
 use Rattle.fit_nodes.specs.Nodes.{has_parent, on_path}
 use Rattle.fit_nodes.proofs.Path.{has-before, has-none, path-self, path-up, path-out}
 use Rattle.fit_nodes.proofs.Rule.{on-between}
@@ -18,7 +17,7 @@ use Rattle.board_play.specs.Steps.{Act, Steps, empty_pos}
 use Rattle.board_node.specs.Node.{acts_of, right_node}
 use Rattle.board_path.specs.Way.{way_up, way_to}
 use Rattle.board_path.proofs.Ways.{way-child}
-use Rattle.board.specs.Answer.{node_properties, way_properties, tree_over, is_go_node, said_size, is_wrong, columns_by, rows_by, way_right, way_acts, way_number, board_number, refused_board, unreserved, pos_in, Shows, PlayedBoard, SizedBoard, BoardIs, NextBoardIs}
+use Rattle.board.specs.Answer.{node_properties, way_properties, tree_over, is_go_node, said_size, is_wrong, columns_by, rows_by, way_right, way_number, board_number, unreserved, pos_in, PlayedBoard, SizedBoard, BoardIs, NextBoardIs}
 use Rattle.board.specs.declared.SgfBoard.{SgfBoard}
 use Rattle.board.proofs.Answers.{refused-by}
 use Rattle.board.proofs.Ways.{steps_then, right-one, acts-one}

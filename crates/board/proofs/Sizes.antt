@@ -1,5 +1,5 @@
 -- No side of a board is above 52. Assumes nothing.
-use Rattle.lists.proofs.Prelude.{ℕ, ◌≤◌, ◌<◌, Bool, true, false, ◌||◌, List, [], ◌∷◌, eqb, arith}
+use Rattle.lists.proofs.Prelude.{ℕ, ◌≤◌, ◌||◌, List, [], ◌∷◌, eqb, arith}
 use Rattle.lists.proofs.Pick.{pick-elim}
 use Rattle.values.specs.Decimal.{decimal_of}
 use Rattle.values.specs.Read.{read_value}

@@ -1,7 +1,7 @@
 -- The tree that has a node, and its root. Assumes nothing.
 use Rattle.lists.proofs.Prelude.{ℕ, zero, suc, ◌+◌, ◌-◌, ◌≤◌, ◌<◌, Bool, true, false, ◌≡◌, refl, sym, ap, ◌∙◌, subst, List, leb, pick, arith, le-leb, lt-leb, leb-true, leb-false}
 use Rattle.lists.proofs.Tests.{same_or}
-use Rattle.tables.proofs.Cases.{either-bool, true-false, below_or}
+use Rattle.tables.proofs.Cases.{either-bool, true-false}
 use Rattle.tables.specs.Numbers.{none}
 use Rattle.tables.specs.Columns.{root_at, parent_at}
 use Rattle.fit_nodes.specs.Locals.{Ruled}

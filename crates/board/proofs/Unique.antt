@@ -1,14 +1,14 @@
 -- No second answer of the public functions; stones conserved. Assumes nothing.
-use Rattle.lists.proofs.Prelude.{ℕ, Bool, true, false, ◌≡◌, refl, sym, ap, ◌∙◌, subst, List}
+use Rattle.lists.proofs.Prelude.{ℕ, true, ◌≡◌, sym, ap, ◌∙◌, List}
 use Rattle.lists.proofs.Tests.{same_or}
 use Rattle.tables.proofs.Cases.{either-bool}
 use Rattle.tables.specs.Memory.{Memory}
 use Rattle.parts_props.specs.Props.{Property}
-use Rattle.board_play.specs.Steps.{Pos, Act, Steps, SumsRight}
+use Rattle.board_play.specs.Steps.{Pos, SumsRight}
 use Rattle.board_play.proofs.StepsOnce.{steps-once}
 use Rattle.board_play.proofs.Sums.{stones-conserved, empty-balanced}
-use Rattle.board_node.specs.Node.{acts_of, right_node}
-use Rattle.board.specs.Answer.{way_properties, said_size, columns_by, rows_by, board_number, pos_in, Shows, PlayedBoard, BoardIs, NextBoardIs}
+use Rattle.board_node.specs.Node.{right_node}
+use Rattle.board.specs.Answer.{way_properties, said_size, columns_by, rows_by, board_number, pos_in, Shows, BoardIs, NextBoardIs}
 use Rattle.board.specs.declared.SgfBoard.{SgfBoard}
 
 -- a board by its parts

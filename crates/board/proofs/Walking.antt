@@ -1,25 +1,22 @@
 -- Down a way, one node after another. Assumes nothing.
-use Rattle.lists.proofs.Prelude.{ℕ, zero, suc, ◌/◌, ◌≤◌, ◌<◌, Bool, true, false, ◌&&◌, true≢false, ◌≡◌, refl, sym, ap, ◌∙◌, subst, List, [], ◌∷◌, ◌++◌, map, map-append, length, replicate, length-replicate, get_or, arith}
-use Rattle.lists.proofs.Tests.{same_or}
+use Rattle.lists.proofs.Prelude.{ℕ, zero, suc, ◌/◌, ◌≤◌, ◌<◌, Bool, true, false, true≢false, ◌≡◌, refl, sym, ap, ◌∙◌, subst, List, [], ◌∷◌, ◌++◌, map, map-append, length, replicate, length-replicate, get_or, arith}
 use Rattle.tables.specs.Numbers.{none}
 use Rattle.tables.specs.Columns.{node_stride, parent_at}
-use Rattle.fit_nodes.specs.Nodes.{has_parent, on_path}
-use Rattle.fit_nodes.proofs.Path.{has-before, has-none, path-le, path-down}
+use Rattle.fit_nodes.specs.Nodes.{on_path}
+use Rattle.fit_nodes.proofs.Path.{has-before, has-none, path-le}
 use Rattle.fit_nodes.proofs.Rule.{rule-has}
 use Rattle.parts_props.specs.Props.{Property}
-use Rattle.board_groups.specs.Groups.{Stone, Liberty, Settled}
-use Rattle.board_play.specs.Steps.{Pos, Act, Steps, empty_pos}
+use Rattle.board_groups.specs.Groups.{Settled}
+use Rattle.board_play.specs.Steps.{Act, Steps, empty_pos}
 use Rattle.board_acts.specs.Acts.{pos_of, KnownSettled}
 use Rattle.board_acts.specs.declared.BoardState.{BoardState}
-use Rattle.board_acts.proofs.Exact.{ExactAll}
-use Rattle.board_node.specs.Node.{acts_of, right_node}
 use Rattle.board_node.specs.Answer.{position_of, answer_of, NodeIs}
 use Rattle.board_node.proofs.Unique.{node-exact}
 use Rattle.board_path.specs.Way.{way_to}
 use Rattle.board_path.specs.LocalsNext.{NextIs}
-use Rattle.board_path.proofs.Nexts.{Linked, next_way}
+use Rattle.board_path.proofs.Nexts.{next_way}
 use Rattle.board_path.proofs.Ways.{way-child, way-root, way-split}
-use Rattle.board.specs.Answer.{way_right, way_acts, refused_board, shown_board, pos_in, Shows}
+use Rattle.board.specs.Answer.{way_right, way_acts, refused_board, shown_board}
 use Rattle.board.specs.Locals.{start_state, WayWalk, WayAnswer, WayPlayed}
 use Rattle.board.specs.declared.SgfBoard.{SgfBoard}
 use Rattle.board.proofs.Next.{wrong-node, right-node}

@@ -1,6 +1,5 @@
 -- The nodes of a way, one more or taken apart. Assumes nothing.
-use Rattle.lists.proofs.Prelude.{ℕ, suc, ◌≤◌, ◌<◌, Bool, true, false, ◌&&◌, true≢false, ◌≡◌, refl, sym, ap, ap₂, ◌∙◌, subst, List, [], ◌∷◌, ◌++◌, append_assoc, append-nil, map, map-append, arith}
-use Rattle.lists.proofs.Tests.{and_both}
+use Rattle.lists.proofs.Prelude.{ℕ, Bool, true, false, ◌&&◌, ◌≡◌, refl, sym, ap, ap₂, ◌∙◌, List, [], ◌∷◌, ◌++◌, append_assoc, append-nil}
 use Rattle.parts_props.specs.Props.{Property}
 use Rattle.board_play.specs.Steps.{Pos, Act, Steps, done, next}
 use Rattle.board_node.specs.Node.{acts_of, right_node}

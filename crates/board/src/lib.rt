@@ -1,4 +1,6 @@
 // The board at a node of a Go tree, played from its root; and one node more upon a board.
+#![tactic(auto)]
+
 ghost use Rattle.std.specs.Prelude.{◌≡◌, map, ◌/◌, ◌<◌, ◌≤◌, length};
 ghost use Rattle.parts_props.specs.Props.{properties_at};
 ghost use Rattle.tables.specs.Columns.{tree_stride, node_stride};
