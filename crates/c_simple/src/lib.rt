@@ -1,4 +1,6 @@
 // Entries of the property index and simple values as the structs of the C header.
+#![tactic(auto)]
+
 ghost use Rattle.std.specs.Prelude.{◌≡◌};
 ghost use Rattle.c_simple.specs.InC.{entry_in_c, simple_struct, simple_in_c, simple_answer_in_c};
 
