@@ -1,5 +1,5 @@
 -- The open lists, each a chain, are the spine. Assumes nothing.
-use Rattle.lists.proofs.Prelude.{◌≡◌, refl, sym, ap, ◌∙◌, subst, ℕ, ◌+◌, ◌≤◌, arith, Bool, true, false, List, [], ◌∷◌, ◌++◌, eq-eqb, ne_eqb}
+use Rattle.lists.proofs.Prelude.{◌≡◌, refl, sym, ap, ◌∙◌, subst, ℕ, ◌≤◌, arith, Bool, true, false, List, [], ◌∷◌, ◌++◌, eq-eqb, ne_eqb}
 use Rattle.tables.specs.Numbers.{none}
 use Rattle.salvage_shape.specs.LocalsShape.{Fork, height_by, closed_into, shut_from, shut_to, leaf, Heads, height_from}
 use Rattle.salvage_shape.specs.LocalsChain.{height_limit, no_chain, joined_to, ended_by, close_all}

@@ -3,7 +3,7 @@ use Rattle.lists.proofs.Prelude.{◌≡◌, refl, sym, ap, ◌∙◌, ℕ, suc, 
 use Rattle.lexer.specs.Token.{Prop, Tok, node, lexed, lex_at}
 use Rattle.tables.specs.Record.{Node, all_props}
 use Rattle.parser.specs.Game.{props}
-use Rattle.parser.specs.Walk.{Walk, walk, walks, walked}
+use Rattle.parser.specs.Walk.{Walk, walk, walked}
 use Rattle.parser.specs.LocalsSlice.{slice_from}
 use Rattle.parser_step.specs.LocalsActs.{stack_of}
 use Rattle.parser_game.proofs.Gather.{props-slice}
@@ -15,7 +15,7 @@ use Rattle.salvage_form.specs.declared.root.RootRule.{RootRule}
 use Rattle.salvage_mend.specs.Changes.{prop_change, nodes_changes}
 use Rattle.salvage_list.specs.Listed.{walk_nodes}
 use Rattle.salvage_list.specs.LocalsWalk.{nodes_from}
-use Rattle.salvage_list.proofs.Going.{Going, here, walkeds-on}
+use Rattle.salvage_list.proofs.Going.{Going, walkeds-on}
 use Rattle.salvage_list.proofs.Props.{node-slice}
 use Rattle.salvage_list.proofs.Puts.{prop-few}
 use Rattle.salvage_list.proofs.Rooted.{end_nodes, root_props, root-open, nodes-end, props-node, props-prop}

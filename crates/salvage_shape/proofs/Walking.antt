@@ -4,7 +4,7 @@ use Rattle.lexer.specs.Token.{Tok, lex_at}
 use Rattle.tables.specs.Numbers.{text_limit, depth_limit, none}
 use Rattle.tables.specs.Record.{Node, all_props}
 use Rattle.tables.specs.Rows.{parents}
-use Rattle.parser.specs.Walk.{Walk, walk, walks, walked}
+use Rattle.parser.specs.Walk.{Walk, walks, walked}
 use Rattle.parser.specs.LocalsSlice.{slice_from}
 use Rattle.parser_step.specs.LocalsActs.{stack_of}
 use Rattle.parser_tree.specs.LocalsTurns.{BehindIs}

@@ -1,6 +1,6 @@
 -- The shape of a tree by its nodes' parents alone: the open nodes on a spine, closed one by one. Nothing public is stated by these.
 use Rattle.std.specs.Prelude.{◌≡◌, ◌∷◌}
-use Rattle.lists.specs.Prelude.{ℕ, zero, suc, max, Bool, true, false, List, [], leb, eqb, pick}
+use Rattle.lists.specs.Prelude.{ℕ, zero, suc, max, Bool, true, false, List, [], eqb, pick}
 use Rattle.tables.specs.Numbers.{none}
 use Rattle.serialize.specs.LocalsWrite.{bracketed}
 

@@ -1,5 +1,7 @@
 // The shape of a tree, from the tokens of its slice alone: how many nodes it has, how many of them stand in brackets when it is written, how deep it is then, and how
 // many bytes its properties take once it is mended.
+#![tactic(auto)]
+
 ghost use Rattle.std.specs.Prelude.{◌≡◌, true, ◌+◌, ◌≤◌, ◌<◌, max, length};
 ghost use Rattle.lexer.specs.Token.{lex_at};
 ghost use Rattle.lexer.specs.Step.{prop_at};
