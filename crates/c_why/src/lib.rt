@@ -1,4 +1,6 @@
 // Explanations as the struct of the C header.
+#![tactic(auto)]
+
 ghost use Rattle.std.specs.Prelude.{◌≡◌};
 ghost use Rattle.c_why.specs.WhyInC.{shown_fact, why_in_c};
 
