@@ -1,6 +1,5 @@
 -- An explanation and a reading agree.
 use Rattle.std.specs.Prelude.{◌≡◌}
-use Rattle.lists.specs.Prelude.{ℕ}
 use Rattle.tables.specs.Rows.{tables, counts_of}
 use Rattle.parser.specs.Read.{Answer, refused, accepted}
 use Rattle.why_blame.specs.Numbered.{fact_reason}

@@ -1,8 +1,7 @@
 -- The scope's condition behind a fact, without `explained`: what refuses the text holds, and nothing earlier in the scope's order does.
-use Rattle.std.specs.Prelude.{◌≤◌, ◌<◌, ◌≡◌, ◌⊎◌}
-use Rattle.lists.specs.Prelude.{ℕ, Bool, true, false, List, length}
+use Rattle.std.specs.Prelude.{◌≤◌, ◌<◌, ◌⊎◌}
+use Rattle.lists.specs.Prelude.{ℕ, List, length}
 use Rattle.text_chars.specs.Table.{BadFrom}
-use Rattle.lexer.specs.Token.{Tok}
 use Rattle.lexer.specs.declared.Fault.TheVariants.{MissingPropertyIdentifier, UnexpectedEndOfPropertyIdentifier, UnexpectedEndOfPropertyValue}
 use Rattle.tables.specs.Numbers.{text_limit}
 use Rattle.parser.specs.Balance.{Balanced}
