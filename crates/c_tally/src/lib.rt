@@ -1,4 +1,6 @@
 // The tally of a record, and its line in a season's report, as structs of the C header.
+#![tactic(auto)]
+
 ghost use Rattle.std.specs.Prelude.{◌≡◌};
 ghost use Rattle.tables.specs.Memory.{memory};
 ghost use Rattle.season_tally.specs.Tally.{tally_answer};
