@@ -1,17 +1,17 @@
 -- What sgf_feed_check says: 0, 19 and 24 exactly when; every other number by the first correction that is refused; and after a 0, sgf_feed_find agrees with
 -- sgf_corrected. Assumes nothing.
-use Rattle.lists.proofs.Prelude.{ℕ, ◌<◌, Bool, true, false, true≢false, false≢true, List, [], ◌∷◌, ◌++◌, ◌≡◌, refl, sym, ap, ◌∙◌, arith, pick, lt-ltb}
+use Rattle.lists.proofs.Prelude.{ℕ, ◌<◌, true, false, List, ◌≡◌, refl, sym, ap, ◌∙◌, arith, lt-ltb}
 use Rattle.tables.specs.Columns.{val_from_at, val_to_at}
 use Rattle.tables.specs.Memory.{Memory}
 use Rattle.tables.specs.Numbers.{number_of}
 use Rattle.tables.specs.declared.Reason.TheVariants.{NotFitting as FitReason, NoSuchNumber as NumberReason, GameTypeFixed as GameReason, NotUtf8 as Utf8Reason, NotClosed as ClosedReason, TextTooLong as LongReason, NoRoom as RoomReason}
 use Rattle.fit.specs.Fit.{Fit}
 use Rattle.fit.specs.Record.{rows_in, text_in}
-use Rattle.feed.specs.Feed.{Entry, listing}
+use Rattle.feed.specs.Feed.{listing}
 use Rattle.feed.specs.Find.{found_in}
 use Rattle.feed.specs.declared.Found.{Found}
 use Rattle.feed.specs.declared.Found.TheVariants.{At, Nowhere}
-use Rattle.feed_check.specs.Check.{feed_number, feed_checked, correction_judged, corrections_judged, first_refusal}
+use Rattle.feed_check.specs.Check.{feed_number, feed_checked, corrections_judged}
 use Rattle.feed_check.specs.declared.FeedRefusal.TheVariants.{NotFitting, Malformed, NoSuchNumber, GameTypeFixed, NotUtf8, NotClosed, TextTooLong, NoRoom}
 use Rattle.feed_check.specs.declared.Checked.{Checked}
 use Rattle.feed_check.specs.declared.Checked.TheVariants.{Passed, Refused}

@@ -14,9 +14,9 @@ use Rattle.fit.specs.Fit.{Fit}
 use Rattle.fit.specs.Record.{rows_in, text_in}
 use Rattle.edit_answer.specs.Edit.{owner_name}
 use Rattle.feed.specs.Feed.{Entry, listing}
-use Rattle.feed_check.specs.Check.{feed_number, feed_checked, bytes_at, bytes_judged, correction_judged, corrections_judged, first_refusal}
+use Rattle.feed_check.specs.Check.{feed_checked, bytes_at, bytes_judged, correction_judged, corrections_judged, first_refusal}
 use Rattle.feed_check.specs.declared.FeedRefusal.{FeedRefusal}
-use Rattle.feed_check.specs.declared.FeedRefusal.TheVariants.{NotFitting, Malformed, NoSuchNumber, GameTypeFixed, NotUtf8, NotClosed, TextTooLong, NoRoom}
+use Rattle.feed_check.specs.declared.FeedRefusal.TheVariants.{NoSuchNumber, GameTypeFixed, NotUtf8, NotClosed}
 use Rattle.feed_check.specs.declared.Checked.{Checked}
 use Rattle.feed_check.specs.declared.Checked.TheVariants.{Passed, Refused}
 use Rattle.c_feed.specs.Parts.{check_in_c}

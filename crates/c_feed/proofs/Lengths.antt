@@ -1,5 +1,5 @@
 -- 0, 1 and 14 of sgf_correct exactly when: by the final length, once the feed passes; any other number is the one that sgf_feed_check gives. Assumes nothing.
-use Rattle.lists.proofs.Prelude.{ℕ, ◌<◌, ◌≤◌, Bool, true, false, List, ◌≡◌, ◌↔◌, refl, sym, ap, ◌∙◌, arith, pick, ltb, length, lt-ltb, le-ltb}
+use Rattle.lists.proofs.Prelude.{ℕ, ◌<◌, ◌≤◌, Bool, true, false, List, ◌≡◌, ◌↔◌, refl, sym, ap, ◌∙◌, arith, pick, length, lt-ltb, le-ltb}
 use Rattle.tables.specs.Memory.{Memory}
 use Rattle.tables.specs.Numbers.{text_limit}
 use Rattle.tables.proofs.Cases.{below_or}

@@ -1,4 +1,6 @@
 // Answers about feeds as the structs of the C header.
+#![tactic(auto)]
+
 ghost use Rattle.std.specs.Prelude.{◌≡◌};
 ghost use Rattle.c_feed.specs.Parts.{part_in_c, found_in_c, check_in_c, made_in_c, applied_in_c};
 
