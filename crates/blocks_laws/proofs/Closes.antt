@@ -1,13 +1,13 @@
 -- What close leaves in lent memory, by the rows that stand there. Assumes nothing.
-use Rattle.lists.proofs.Prelude.{◌≡◌, refl, sym, ap, ap₂, ◌∙◌, subst, ℕ, zero, suc, ◌+◌, ◌-◌, ◌*◌, ◌/◌, ◌≤◌, ◌<◌, arith, Bool, true, false, List, [], ◌∷◌, ◌++◌, length, take, drop, replicate, length-append, take_all, eqb, leb, ltb, lt-ltb, le-ltb, le-leb, ltb-true, ltb-false, pick}
+use Rattle.lists.proofs.Prelude.{◌≡◌, refl, sym, ap, ap₂, ◌∙◌, subst, ℕ, ◌+◌, ◌-◌, ◌*◌, ◌/◌, ◌≤◌, ◌<◌, arith, Bool, true, false, List, [], ◌∷◌, ◌++◌, length, take, drop, replicate, length-append, take_all, ltb, lt-ltb, le-ltb, le-leb, ltb-true, ltb-false, pick}
 use Rattle.lists.specs.Put.{put_at}
 use Rattle.blocks.specs.declared.BlocksState.{BlocksState}
 use Rattle.blocks.specs.declared.Closed.{Closed}
 use Rattle.blocks.specs.declared.Closing.TheVariants.{Refused, Rows, Last}
 use Rattle.blocks.specs.Room.{filled_with, token_row, add_row}
 use Rattle.blocks.specs.Close.{cleared_rows, refused_at, accepted_with, closed_by, cells_by}
-use Rattle.blocks_laws.specs.Reading.{TokenReading, tokens_read, not_read, flat_rows, rows_left}
-use Rattle.blocks_laws.specs.Calls.{ReadAs, left_read}
+use Rattle.blocks_laws.specs.Reading.{tokens_read, not_read, flat_rows, rows_left}
+use Rattle.blocks_laws.specs.Calls.{ReadAs}
 use Rattle.blocks_laws.proofs.Stored.{Stored, Lent, lent_both, stored-none, add-lent, add-stored}
 
 cleared-left : (t t' : List ℕ) (rs : List (List ℕ)) → Lent t t' → Stored rs t' → length rs * 3 ≤ length t → cleared_rows t' (length rs) ≡ rows_left rs t

@@ -1,7 +1,7 @@
 -- Close after bytes that were followed answers as the state with its rows as lists ends. Assumes nothing.
-use Rattle.lists.proofs.Prelude.{◌≡◌, refl, sym, ap, ◌∙◌, subst, subst⁻¹, ℕ, ◌+◌, ◌/◌, ◌≤◌, ◌<◌, arith, Bool, true, false, List, [], ◌∷◌, ◌++◌, append-nil, length, eqb, eq-eqb, ne_eqb, le-ltb, pick}
+use Rattle.lists.proofs.Prelude.{◌≡◌, subst, subst⁻¹, ℕ, ◌/◌, ◌≤◌, arith, Bool, false, List, [], ◌++◌, append-nil, length, eqb, eq-eqb, ne_eqb, le-ltb, pick}
 use Rattle.tables.specs.Numbers.{text_limit}
-use Rattle.text_utf8.specs.Text.{Ink, blank, inked, Utf, whole, part, bad}
+use Rattle.text_utf8.specs.Text.{blank, inked, Utf, whole, part, bad}
 use Rattle.lexer.specs.Token.{finish}
 use Rattle.blocks_step.specs.declared.Utf8.{Utf8}
 use Rattle.blocks_step.specs.declared.Utf8.TheVariants.{Whole}
@@ -13,9 +13,9 @@ use Rattle.blocks.specs.declared.BlocksKnown.{BlocksKnown}
 use Rattle.blocks.specs.declared.Closed.{Closed}
 use Rattle.blocks.specs.declared.Closing.{Closing}
 use Rattle.blocks.specs.declared.Closing.TheVariants.{Refused, Rows, Last}
-use Rattle.blocks.specs.Room.{Room, room}
+use Rattle.blocks.specs.Room.{room}
 use Rattle.blocks.specs.Close.{closing_by, closing_at, closing, closed_by, cells_by}
-use Rattle.blocks_laws.specs.Reading.{TokenReading, tokens_read, read_end, token_rows}
+use Rattle.blocks_laws.specs.Reading.{tokens_read, read_end, token_rows}
 use Rattle.blocks_laws.specs.Calls.{ReadAs}
 use Rattle.blocks_laws.specs.LocalsListed.{listed_end}
 use Rattle.blocks_laws.proofs.Stored.{Stored, stored-none, stored-less}

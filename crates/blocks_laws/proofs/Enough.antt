@@ -1,5 +1,5 @@
 -- A text has no more tokens than bytes, so that as many rows never give 14. Assumes nothing.
-use Rattle.lists.proofs.Prelude.{◌≡◌, refl, sym, ap, ◌∙◌, ℕ, ◌+◌, ◌≤◌, ◌<◌, arith, Bool, true, false, List, [], ◌∷◌, ◌++◌, length, length-append, ltb, ltb-false, pick}
+use Rattle.lists.proofs.Prelude.{◌≡◌, refl, ap, ◌∙◌, ℕ, ◌≤◌, arith, Bool, true, false, List, [], ◌++◌, length, length-append, ltb, ltb-false, pick}
 use Rattle.lists.proofs.Tests.{never}
 use Rattle.tables.specs.Numbers.{text_limit}
 use Rattle.text_utf8.specs.Text.{Utf, whole, blank, inked, part, bad}
@@ -8,7 +8,7 @@ use Rattle.lexer.specs.Token.{End, done, broken, finish}
 use Rattle.blocks_step.specs.Lean.{machine_of}
 use Rattle.blocks.specs.State.{state_says}
 use Rattle.blocks.specs.Room.{Room, room, takes_all}
-use Rattle.blocks_laws.specs.Reading.{TokenReading, tokens_read, not_read, read_end, read_trimmed, read_tokens, token_rows}
+use Rattle.blocks_laws.specs.Reading.{tokens_read, not_read, read_end, read_trimmed, read_tokens, token_rows}
 use Rattle.blocks_laws.specs.Calls.{at_start}
 use Rattle.blocks_laws.specs.LocalsListed.{listed_end}
 use Rattle.blocks_laws.proofs.Owed.{finish-owed}

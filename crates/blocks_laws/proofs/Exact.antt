@@ -1,5 +1,5 @@
 -- The numbers of a block and of a close, each exactly where it is due. Assumes nothing.
-use Rattle.lists.proofs.Prelude.{◌≡◌, refl, sym, ap, ◌∙◌, ℕ, ◌/◌, ◌≤◌, ◌<◌, arith, Bool, true, false, ◌⊎◌, inl, inr, List, length, take, drop, eqb, ltb, ltb-true, ltb-false, pick, eq-eqb, ne_eqb}
+use Rattle.lists.proofs.Prelude.{◌≡◌, refl, sym, ap, ◌∙◌, ℕ, ◌/◌, ◌≤◌, ◌<◌, arith, Bool, true, false, inl, inr, List, length, take, drop, eqb, ltb, ltb-true, ltb-false, pick, eq-eqb, ne_eqb}
 use Rattle.lists.proofs.Tests.{never, same_or}
 use Rattle.tables.specs.Numbers.{text_limit}
 use Rattle.text_utf8.specs.Text.{Utf, whole, blank, inked, part, bad, utfs}

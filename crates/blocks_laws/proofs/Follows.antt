@@ -1,7 +1,7 @@
 -- What is known, and the rows in lent memory, follow the state with its rows as lists, byte by byte. Assumes nothing.
-use Rattle.lists.proofs.Prelude.{◌≡◌, refl, sym, ap, ◌∙◌, subst, subst⁻¹, ℕ, zero, suc, ◌+◌, ◌≤◌, ◌<◌, arith, Bool, true, false, List, [], ◌∷◌, ◌++◌, append_assoc, append-nil, length, length-append, eqb, eq-eqb, ne_eqb, ltb, lt-ltb, pick}
+use Rattle.lists.proofs.Prelude.{◌≡◌, refl, sym, ap, ◌∙◌, subst, subst⁻¹, ℕ, suc, ◌+◌, ◌≤◌, ◌<◌, arith, List, [], ◌++◌, append_assoc, append-nil, length, length-append, eq-eqb, ne_eqb, lt-ltb}
 use Rattle.tables.specs.Numbers.{text_limit}
-use Rattle.text_utf8.specs.Text.{Ink, blank, inked, Utf, whole, part, bad, utf}
+use Rattle.text_utf8.specs.Text.{Ink, blank, inked, Utf, whole, part, bad}
 use Rattle.blocks_step.specs.declared.Utf8.{Utf8}
 use Rattle.blocks_step.specs.declared.Utf8.TheVariants.{Whole, Within, Bad}
 use Rattle.blocks_step.specs.declared.Char.{Char}
@@ -9,7 +9,7 @@ use Rattle.blocks_step.specs.declared.Moved.{Moved}
 use Rattle.blocks_step.specs.Decode.{left_by, decodes}
 use Rattle.blocks_step.specs.Lean.{moves}
 use Rattle.blocks.specs.declared.BlocksKnown.{BlocksKnown}
-use Rattle.blocks.specs.Room.{filled_with, rows_at, add_rows, Room, room, goes_back, goes, keeps, settled, takes_byte}
+use Rattle.blocks.specs.Room.{filled_with, rows_at, add_rows, Room, goes_back, goes, keeps, settled, takes_byte}
 use Rattle.blocks_laws.specs.LocalsListed.{Listed, settles, lists}
 use Rattle.blocks_laws.proofs.Owed.{owed, moves-owed, rows-threes}
 use Rattle.blocks_laws.proofs.Stored.{Stored, Lent, lent_both, stored-less, Added, added}

@@ -1,5 +1,5 @@
 -- Blocks of a text, however it was cut, are one reading of the joined text. Assumes nothing.
-use Rattle.lists.proofs.Prelude.{◌≡◌, refl, sym, ap, ap₂, ◌∙◌, subst, subst⁻¹, ℕ, suc, ◌+◌, ◌≤◌, ◌<◌, arith, Bool, true, false, List, [], ◌∷◌, ◌++◌, append_assoc, append-nil, length, length-append, eqb, eq-eqb, leb, leb-true, leb-false, le-ltb, ltb, ltb-true, ltb-false, pick, ◌/◌}
+use Rattle.lists.proofs.Prelude.{◌≡◌, refl, sym, ap, ap₂, ◌∙◌, subst, subst⁻¹, ℕ, ◌+◌, ◌≤◌, ◌<◌, arith, Bool, true, false, List, [], ◌∷◌, ◌++◌, append_assoc, append-nil, length, length-append, eqb, eq-eqb, leb, leb-true, leb-false, le-ltb, ltb, ltb-true, ltb-false, pick, ◌/◌}
 use Rattle.lists.proofs.Tests.{same_or}
 use Rattle.tables.specs.Numbers.{text_limit}
 use Rattle.text_utf8.specs.Text.{Utf, whole, blank}
@@ -16,13 +16,13 @@ use Rattle.blocks.specs.Close.{closing, closed_by, cells_by, closed_before, Clos
 use Rattle.blocks.proofs.Ending.{ends-long}
 use Rattle.blocks_laws.specs.Reading.{TokenReading, not_read, read_trimmed, read_tokens}
 use Rattle.blocks_laws.specs.Calls.{at_start, BlockCalls, no_more, one_more, joined_text, ReadAs}
-use Rattle.blocks_laws.specs.LocalsListed.{Listed, begun, lists, listed_end}
+use Rattle.blocks_laws.specs.LocalsListed.{Listed}
 use Rattle.blocks_laws.proofs.Numbers.{says-state}
 use Rattle.blocks_laws.proofs.Stored.{Lent, lent_same, stored-none}
 use Rattle.blocks_laws.proofs.Closes.{refused_as}
 use Rattle.blocks_laws.proofs.Ends.{ended-as}
 use Rattle.blocks_laws.proofs.Tracked.{Tracked, tracked-none, tracked-more, tracked-read}
-use Rattle.blocks_laws.proofs.Follows.{listed_of, Sim, Next, next-takes}
+use Rattle.blocks_laws.proofs.Follows.{listed_of, Sim, next-takes}
 
 -- the bytes so far, as lists
 pub record Within (t xs : List ℕ) (w : Room) : Type 0 where

@@ -1,5 +1,5 @@
 -- The token rules without contents follow the machine with them. Assumes nothing.
-use Rattle.lists.proofs.Prelude.{◌≡◌, refl, sym, ap, ◌∙◌, ℕ, suc, Bool, true, false, List, [], ◌∷◌, ◌++◌, leb, eqb}
+use Rattle.lists.proofs.Prelude.{◌≡◌, refl, ap, ℕ, suc, Bool, true, false, List, [], ◌∷◌, ◌++◌, leb, eqb}
 use Rattle.lexer_scan.specs.Scan.{space}
 use Rattle.lexer.specs.Token.{Val, Prop, Tok, St, Out, End, step, state_after}
 use Rattle.lexer.specs.Token as machine

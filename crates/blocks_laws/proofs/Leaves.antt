@@ -1,5 +1,5 @@
 -- What a first close leaves in the lent rows, from any state: none where it is refused, zeros behind its rows where it is accepted. Assumes nothing.
-use Rattle.lists.proofs.Prelude.{◌≡◌, refl, sym, ap, ◌∙◌, subst, ℕ, ◌+◌, ◌-◌, ◌*◌, ◌/◌, ◌≤◌, ◌<◌, arith, Bool, true, false, List, [], ◌∷◌, ◌++◌, length, take, drop, replicate, eqb, ltb, pick, eq-eqb, ltb-false, drop_at, length-take-le}
+use Rattle.lists.proofs.Prelude.{◌≡◌, refl, sym, ap, ◌∙◌, subst, ℕ, ◌+◌, ◌-◌, ◌*◌, ◌/◌, ◌≤◌, arith, Bool, true, false, List, ◌++◌, length, take, drop, replicate, eqb, ltb, pick, eq-eqb, ltb-false, drop_at, length-take-le}
 use Rattle.lists.proofs.Tests.{never}
 use Rattle.lists.specs.Put.{put_at}
 use Rattle.tables.specs.Numbers.{text_limit}

@@ -1,5 +1,5 @@
 -- A state says what its numbers were made of. Assumes nothing.
-use Rattle.lists.proofs.Prelude.{◌≡◌, refl, ap, ◌∙◌}
+use Rattle.lists.proofs.Prelude.{◌≡◌, refl}
 use Rattle.blocks_step.specs.declared.Left.TheVariants.{One, TwoFromA0, TwoTo9f, Two, ThreeFrom90, Three, ThreeTo8f}
 use Rattle.blocks_step.specs.declared.Utf8.{Utf8}
 use Rattle.blocks_step.specs.declared.Utf8.TheVariants.{Whole, Within, Bad}

@@ -1,7 +1,7 @@
 -- No more tokens than bytes: what a byte completes was owed before it, or is its own. Assumes nothing.
-use Rattle.lists.proofs.Prelude.{◌≡◌, refl, ℕ, suc, ◌+◌, ◌≤◌, arith, Bool, true, false, List, [], ◌∷◌, leb, eqb, length}
+use Rattle.lists.proofs.Prelude.{refl, ℕ, suc, ◌+◌, ◌≤◌, arith, Bool, true, false, List, [], leb, eqb, length}
 use Rattle.lexer_scan.specs.Scan.{space}
-use Rattle.lexer.specs.Token.{Prop, Tok, End, begins, property_state, afters, values, finish}
+use Rattle.lexer.specs.Token.{Prop, begins, property_state, afters, values, finish}
 use Rattle.blocks_step.specs.declared.Phase.{Phase}
 use Rattle.blocks_step.specs.declared.Phase.TheVariants.{Between, Ident, Value, Escaped, After, Foreign}
 use Rattle.blocks_step.specs.declared.Tokens.{Tokens}

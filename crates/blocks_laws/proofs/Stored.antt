@@ -1,10 +1,10 @@
 -- Rows in lent numbers: those that fit stand in front, however many there are. Assumes nothing.
-use Rattle.lists.proofs.Prelude.{◌≡◌, refl, sym, ap, ap₂, ◌∙◌, subst, ℕ, zero, suc, ◌+◌, ◌-◌, ◌*◌, ◌/◌, ◌≤◌, ◌<◌, arith, Bool, true, false, List, [], ◌∷◌, ◌++◌, append_assoc, append-nil, leb, leb-true, leb-false, lt-ltb, pick, length, take, drop, length-append, length-take-le, take-append-le, take_all, take_at, take-take, drop_at, drop-append-add, drop-drop, length-drop, replicate, add-one}
+use Rattle.lists.proofs.Prelude.{◌≡◌, refl, sym, ap, ap₂, ◌∙◌, subst, ℕ, zero, suc, ◌+◌, ◌-◌, ◌*◌, ◌/◌, ◌≤◌, ◌<◌, arith, List, [], ◌∷◌, ◌++◌, append_assoc, append-nil, leb, leb-true, leb-false, lt-ltb, length, take, drop, length-append, length-take-le, take-append-le, take_all, take_at, take-take, drop-append-add, drop-drop, length-drop}
 use Rattle.lists.proofs.Tests.{same_or}
 use Rattle.lists.proofs.Pick.{pick-elim}
 use Rattle.lists.specs.Put.{put_at}
 use Rattle.tables.specs.Numbers.{text_limit}
-use Rattle.blocks.specs.Room.{Filled, filled_with, counted_on, add_row, add_rows}
+use Rattle.blocks.specs.Room.{Filled, counted_on, add_row, add_rows}
 use Rattle.blocks_laws.specs.Reading.{flat_rows}
 
 -- the first k of the rows stand in front, for every k for which there is room

@@ -1,16 +1,16 @@
 -- What a user of blocks is promised, over the contracts of `block` and `close`. Assumes nothing.
-use Rattle.lists.proofs.Prelude.{◌≡◌, refl, sym, ap, ◌∙◌, subst, ℕ, ◌+◌, ◌*◌, ◌/◌, ◌≤◌, ◌<◌, arith, List, [], ◌∷◌, ◌++◌, eq-eqb, ne_eqb, length, length-take-le, length-append, take, drop, Bool, true, false, le-ltb, ltb, ltb-false, pick, eqb}
+use Rattle.lists.proofs.Prelude.{◌≡◌, sym, ap, ◌∙◌, subst, ℕ, List, ne_eqb, length-take-le, take, drop}
 use Rattle.text_utf8.specs.declared.Trimmed.TheVariants.{Kept}
 use Rattle.text_utf8.specs.Trim.{trimmed}
 use Rattle.text_utf8.proofs.Extent.{trim-bounds}
-use Rattle.lexer.specs.Token.{Lexed, End, done, broken, finish, lex_from, lex_at}
+use Rattle.lexer.specs.Token.{lex_from, lex_at}
 use Rattle.blocks.specs.declared.BlocksState.{BlocksState}
 use Rattle.blocks.specs.declared.Blocked.{Blocked}
 use Rattle.blocks.specs.declared.Closed.{Closed}
 use Rattle.blocks.specs.Block.{BlockIs}
 use Rattle.blocks.specs.Close.{closed_before, CloseIs}
-use Rattle.blocks_laws.specs.Reading.{TokenReading, tokens_read, not_read, read_tokens, rows_left}
-use Rattle.blocks_laws.specs.Calls.{at_start, BlockCalls, joined_text, number_read, place_read, count_read, left_read, ReadAs}
+use Rattle.blocks_laws.specs.Reading.{read_tokens}
+use Rattle.blocks_laws.specs.Calls.{at_start, BlockCalls, joined_text, ReadAs}
 use Rattle.blocks_laws.proofs.Joined as joined
 use Rattle.blocks_laws.proofs.Shuts.{close-shuts}
 -- a text has no more tokens than bytes

@@ -1,6 +1,6 @@
 -- The state after all bytes of a text ends as one reading of it. Assumes nothing.
-use Rattle.lists.proofs.Prelude.{◌≡◌, refl, sym, ap, ap₂, ◌∙◌, subst⁻¹, ℕ, suc, ◌+◌, arith, Bool, true, false, List, [], ◌∷◌, ◌++◌, append_assoc, eqb, pick, length, take, drop, length-append, take_at, drop_at}
-use Rattle.text_utf8.specs.Text.{Ink, blank, inked, Utf, whole, part, bad, utf, utfs}
+use Rattle.lists.proofs.Prelude.{◌≡◌, refl, sym, ap, ap₂, ◌∙◌, subst⁻¹, ℕ, suc, arith, Bool, true, false, List, [], ◌∷◌, ◌++◌, append_assoc, eqb, pick, length, take, drop, length-append, take_at, drop_at}
+use Rattle.text_utf8.specs.Text.{blank, inked, Utf, whole, part, bad, utf, utfs}
 use Rattle.text_utf8.specs.Trim.{trim_of, trimmed}
 use Rattle.text_utf8.proofs.Steps.{place, place_is, utfs-append}
 use Rattle.lexer.specs.Token.{Tok, End, emits, state_after, lex_from}
@@ -8,7 +8,7 @@ use Rattle.lexer.specs.Token as machine
 use Rattle.blocks_step.specs.declared.Phase.{Phase}
 use Rattle.blocks_step.specs.declared.Moved.{Moved}
 use Rattle.blocks_step.specs.Lean.{machine_of, moves}
-use Rattle.blocks_laws.specs.Reading.{TokenReading, read_end, read_trimmed, token_rows}
+use Rattle.blocks_laws.specs.Reading.{read_end, read_trimmed, token_rows}
 use Rattle.blocks_laws.specs.LocalsListed.{Listed, begun, settles, lists, listed_end}
 use Rattle.blocks_laws.proofs.Leans.{after-mild, finish-lean, rows_append}
 use Rattle.blocks_laws.proofs.Tracks.{at_none, Run, Tracks, byte-tracks}

@@ -1,7 +1,7 @@
 -- The state after bytes is what the machine with contents has come to, between the first and the last character that is no white space, and behind it. Assumes nothing.
-use Rattle.lists.proofs.Prelude.{◌≡◌, refl, sym, ap, ap₂, ◌∙◌, subst, subst⁻¹, ℕ, zero, suc, ◌+◌, ◌-◌, ◌*◌, arith, Bool, true, false, List, [], ◌∷◌, ◌++◌, append_assoc, append-nil, eqb, length, take, drop, length-append, eq-eqb, ne_eqb}
+use Rattle.lists.proofs.Prelude.{◌≡◌, refl, sym, ap, ap₂, ◌∙◌, subst, subst⁻¹, ℕ, zero, suc, ◌+◌, ◌-◌, ◌*◌, arith, Bool, true, false, List, [], ◌∷◌, ◌++◌, append_assoc, append-nil, eqb, length, length-append, eq-eqb, ne_eqb}
 use Rattle.text_chars.specs.White.{white}
-use Rattle.text_utf8.specs.Text.{Ink, blank, inked, mark, Range, any, holds, Utf, whole, part, bad, later, utf, utfs}
+use Rattle.text_utf8.specs.Text.{blank, inked, mark, any, holds, Utf, whole, part, bad, later, utf}
 use Rattle.text_utf8.proofs.Steps.{place, place_is, utf-both}
 use Rattle.lexer.specs.Token.{Tok, St, step, emits, state_after}
 use Rattle.lexer.specs.Token as machine

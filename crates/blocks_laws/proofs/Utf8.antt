@@ -1,5 +1,5 @@
 -- UTF-8 one byte a call follows the machine that keeps what trimming keeps. Assumes nothing.
-use Rattle.lists.proofs.Prelude.{◌≡◌, refl, sym, ap, ap₂, ◌∙◌, ℕ, zero, suc, ◌+◌, ◌-◌, ◌*◌, ◌%◌, ◌≤◌, ◌<◌, arith, Bool, true, false, leb, eqb, leb-true, eqb-true, ◌&&◌}
+use Rattle.lists.proofs.Prelude.{◌≡◌, refl, ℕ, zero, suc, ◌+◌, ◌-◌, ◌*◌, ◌%◌, ◌≤◌, ◌<◌, arith, Bool, true, false, leb, eqb, leb-true, eqb-true, ◌&&◌}
 use Rattle.lists.proofs.Tests.{and_both}
 use native.Mathlib.Nat.{mod-eq_of_lt}
 use Rattle.text_chars.specs.White.{white}
@@ -7,7 +7,7 @@ use Rattle.text_utf8.specs.Text.{Ink, blank, inked, mark, Range, any, from-a0, t
 use Rattle.blocks_step.specs.declared.Utf8.TheVariants.{Whole, Within, Bad}
 use Rattle.blocks_step.specs.declared.Char.{Char}
 use Rattle.blocks_step.specs.declared.Char.TheVariants.{Ended, Goes}
-use Rattle.blocks_step.specs.Decode.{more_of, range_of, left_by, utf_of, char_of, decodes}
+use Rattle.blocks_step.specs.Decode.{more_of, range_of, left_by, char_of, decodes}
 
 -- so few bits by how many bytes are to come after the next one
 abbrev pub Small : ℕ → ℕ → Type 0

@@ -1,6 +1,6 @@
 -- A strict reading begins with the reading of tokens.
 use Rattle.std.specs.Prelude.{◌≡◌}
-use Rattle.lists.specs.Prelude.{ℕ, false, List}
+use Rattle.lists.specs.Prelude.{false, List}
 use Rattle.tables.specs.Numbers.{number_of}
 use Rattle.tables.specs.declared.Reason.{Reason}
 use Rattle.lexer.specs.Token.{Tok}

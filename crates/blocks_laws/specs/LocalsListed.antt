@@ -1,7 +1,7 @@
 -- The state between two bytes with its rows as lists, and what is kept of the text; what the proofs go by.
 use Rattle.std.specs.Prelude.{◌++◌}
 use Rattle.lists.specs.Prelude.{ℕ, suc, List, [], eqb, pick}
-use Rattle.text_utf8.specs.Text.{Ink, blank, inked, Utf, whole, part, bad, utf}
+use Rattle.text_utf8.specs.Text.{blank, inked, Utf, whole, part, bad, utf}
 use Rattle.lexer.specs.Token.{finish}
 use Rattle.blocks_step.specs.declared.Phase.{Phase}
 use Rattle.blocks_step.specs.declared.Phase.TheVariants.{Between}

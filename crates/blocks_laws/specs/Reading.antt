@@ -1,11 +1,11 @@
 -- One reading of a whole text into token rows: what trimming keeps, its tokens, and what is left in the lent rows.
 use Rattle.std.specs.Prelude.{◌-◌, ◌*◌, ◌/◌, ◌≡◌, ◌∷◌, ◌++◌}
-use Rattle.lists.specs.Prelude.{ℕ, suc, List, [], map, length, take, drop, replicate, ltb, pick}
+use Rattle.lists.specs.Prelude.{ℕ, suc, List, [], length, take, drop, replicate, ltb, pick}
 use Rattle.tables.specs.Numbers.{text_limit}
 use Rattle.text_utf8.specs.declared.Trimmed.{Trimmed}
 use Rattle.text_utf8.specs.declared.Trimmed.TheVariants.{NotUtf8, Blank, Kept}
 use Rattle.text_utf8.specs.Trim.{trimmed}
-use Rattle.lexer.specs.Token.{Tok, start, end, node, prop, End, done, broken, Lexed, lex_from, fault_number}
+use Rattle.lexer.specs.Token.{Tok, start, end, node, prop, End, done, broken, lex_from, fault_number}
 use Rattle.blocks_step.specs.Lean.{token_kind, token_from}
 use Rattle.blocks.specs.Room.{token_row}
 
