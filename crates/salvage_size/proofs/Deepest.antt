@@ -1,5 +1,5 @@
 -- How deep a writing is: that of its deepest tree, by the nodes' parents. Each parent is on the spine, since it is open when its child is written. Assumes nothing.
-use Rattle.lists.proofs.Prelude.{◌≡◌, refl, sym, ap, ◌∙◌, subst, inl, inr, ℕ, suc, ◌+◌, ◌≤◌, max, arith, List, [], ◌∷◌, length, eq-eqb, ne_eqb}
+use Rattle.lists.proofs.Prelude.{◌≡◌, refl, sym, ◌∙◌, subst, inl, inr, ℕ, suc, ◌+◌, max, arith, List, [], ◌∷◌, length, eq-eqb, ne_eqb}
 use Rattle.tables.specs.Numbers.{none}
 use Rattle.tables.specs.Record.{Node, Tree}
 use Rattle.tables.specs.Rows.{parents}

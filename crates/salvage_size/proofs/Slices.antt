@@ -1,5 +1,5 @@
 -- The mended record of a lenient reading, tree by tree from the slices: an empty root where a slice has no node. Assumes nothing.
-use Rattle.lists.proofs.Prelude.{◌≡◌, refl, sym, ap, ap₂, ◌∙◌, subst, ℕ, zero, suc, ◌+◌, ◌*◌, ◌<◌, max, arith, Bool, true, false, List, [], ◌∷◌, ◌++◌, map, reverse, length, length-reverse, pick}
+use Rattle.lists.proofs.Prelude.{◌≡◌, refl, sym, ap, ap₂, ◌∙◌, subst, ℕ, zero, suc, ◌+◌, ◌<◌, max, arith, Bool, true, false, List, [], ◌∷◌, map, reverse, length, length-reverse, pick}
 use Rattle.text_utf8.specs.Text.{Ink, whole, blank, utfs}
 use Rattle.lexer.specs.Token.{Prop, Tok}
 use Rattle.tables.specs.Numbers.{none}
@@ -9,7 +9,7 @@ use Rattle.parser.specs.LocalsSlice.{slice_from, rest_from, first_slices}
 use Rattle.parser.specs.Split.{slices, split_by_gametree}
 use Rattle.parser.specs.Walk.{Walk, walk, halted, stopped, walked}
 use Rattle.parser.specs.Read.{accepted, read_lenient, tokenize}
-use Rattle.fit_rule.specs.Rule.{rule_of, first_props}
+use Rattle.fit_rule.specs.Rule.{rule_of}
 use Rattle.serialize.specs.Form.{writing}
 use Rattle.serialize_laws.specs.Depth.{depth_of}
 use Rattle.reader_laws.proofs.Accepted.{Reading, reading-is}
