@@ -1,12 +1,12 @@
 -- Demand 1 for sgf_board and sgf_board_next, over their contracts: each number exactly for its reason, and all else 0 where a board is refused. Assumes nothing.
-use Rattle.lists.proofs.Prelude.{ℕ, Bool, true, false, ◌≡◌, refl, sym, ap, ◌∙◌, subst, List}
+use Rattle.lists.proofs.Prelude.{ℕ, ◌≡◌, sym, ap, ◌∙◌, subst, List}
 use Rattle.lists.proofs.Tests.{same_or}
 use Rattle.tables.proofs.Cases.{either-bool}
 use Rattle.tables.specs.Memory.{Memory}
 use Rattle.fit.specs.Fit.{Fit}
 use Rattle.parts_props.specs.Props.{Property}
 use Rattle.board_node.specs.Node.{right_node}
-use Rattle.board.specs.Answer.{is_go_node, way_number, board_number, refused_board, unreserved, BoardIs, NextBoardIs}
+use Rattle.board.specs.Answer.{is_go_node, way_number, board_number, refused_board, BoardIs, NextBoardIs}
 use Rattle.board.specs.declared.SgfBoard.{SgfBoard}
 use Rattle.board_laws.specs.When as when
 use Rattle.board_laws.specs.When.{size_wrong, all_right, BoardBecause, NextBecause, BoardExactly, NextExactly}
