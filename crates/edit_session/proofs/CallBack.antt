@@ -2,7 +2,7 @@
 -- contract is known. Assumes nothing.
 use Rattle.lists.proofs.Prelude.{ℕ, ◌*◌, ◌≤◌, ◌<◌, true, ◌≡◌, refl, sym, ap, ap₂, ◌∙◌, subst⁻¹, arith, List, ◌++◌, length, take, drop, length-take-le, take-append-drop, drop_at}
 use Rattle.tables.specs.Flat.{flat_props, flat_vals, over}
-use Rattle.tables.specs.Memory.{Memory, memory}
+use Rattle.tables.specs.Memory.{Memory}
 use Rattle.tables.specs.Rows.{Tables}
 use Rattle.tables.specs.declared.Counts.{Counts}
 use Rattle.fit.specs.Fit.{Fit}

@@ -1,1 +1,3 @@
+#![tactic(auto)]
+
 // Sessions of edits, undone and redone: laws, and no code.
