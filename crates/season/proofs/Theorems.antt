@@ -1,10 +1,10 @@
 -- The tag of a counted line is that of the bytes that the writer gives; a line of a text of at most 65,536 bytes is small. Assumes nothing.
-use Rattle.lists.proofs.Prelude.{ℕ, zero, suc, ◌+◌, ◌^◌, ◌<◌, ◌≤◌, Bool, true, false, List, [], ◌∷◌, ◌++◌, ◌≡◌, refl, sym, ap, ap₂, ◌∙◌, subst, inl, inr, arith, length, take, drop, get_or, replicate, set, get_or-set_same, get_or-set_other, pick}
+use Rattle.lists.proofs.Prelude.{ℕ, zero, suc, ◌+◌, ◌^◌, ◌<◌, ◌≤◌, Bool, true, false, List, [], ◌∷◌, ◌≡◌, refl, sym, ap, ◌∙◌, subst, inl, inr, arith, length, take, get_or, replicate, set, get_or-set_same, get_or-set_other, pick}
 use Rattle.lists.specs.All.{All}
 use Rattle.lists.proofs.Tests.{never, same_or}
 use Rattle.tables.specs.Each.{sum}
 use Rattle.tables.specs.Record.{Tree, all_nodes, all_props}
-use Rattle.tables.specs.Rows.{tables, parents, counts_of}
+use Rattle.tables.specs.Rows.{tables, parents}
 use Rattle.tables.specs.Memory.{Memory}
 use Rattle.tables.proofs.Lengths.{prop-rows-length, node-rows-length}
 use Rattle.fit.specs.Record.{record_in}
@@ -20,13 +20,13 @@ use Rattle.season_tally.specs.Tally.{tally_of, counts_as, is_black, is_white, is
 use Rattle.season_tally.proofs.Writes.{wrote-first}
 use Rattle.season_tally.specs.declared.Played.{Played}
 use Rattle.season_tally.specs.declared.Played.TheVariants.{Black, White, Passed, Nothing}
-use Rattle.season_totals.specs.Totals.{no_sums, line_sums, totals_of, small_sums}
+use Rattle.season_totals.specs.Totals.{no_sums, totals_of, small_sums}
 use Rattle.season_totals.specs.Columns.{small_line}
 use Rattle.season_totals.specs.declared.Line.{Line}
 use Rattle.season_totals.specs.declared.Line.TheVariants.{Unread, Refused, Counted}
 use Rattle.season_totals.specs.declared.Tally.{Tally}
 use Rattle.season_totals.proofs.Theorems.{totals-fit}
-use Rattle.season.specs.Season.{written_with, line_by, line_of, LineIs, RecordLineIs, SeasonLine}
+use Rattle.season.specs.Season.{written_with, line_by, line_of, RecordLineIs, SeasonLine}
 
 by-counted : (w : Written) (ts : List Tree) (c : Tally) (g : ℕ) → Counted c g ≡ line_by w ts → (c ≡ tally_of ts) × (g ≡ tag_of (writing ts))
 by-counted (Wrote n) ts c g e = (cc, cc)

@@ -1,4 +1,6 @@
 // The line of a text in a season's report: read strictly, counted, written and tagged, in memory that is lent once for all texts.
+#![tactic(auto)]
+
 ghost use Rattle.tables.specs.Memory.{memory};
 ghost use Rattle.parser.specs.Read.{read_strict};
 ghost use Rattle.reader.specs.Lent.{lent};
