@@ -1,5 +1,5 @@
 -- A search finds the token that is first in the scope's words. Assumes nothing.
-use Rattle.lists.proofs.Prelude.{ℕ, zero, suc, max, ◌≤◌, ◌<◌, ◌≡◌, refl, sym, ap, ◌∙◌, subst, Bool, true, false, false≢true, List, [], ◌∷◌, ◌++◌, append_assoc, append-nil, arith, ltb, ltb-false, le-ltb, pick}
+use Rattle.lists.proofs.Prelude.{ℕ, zero, suc, max, ◌≡◌, refl, sym, ap, ◌∙◌, Bool, true, false, false≢true, List, [], ◌∷◌, ◌++◌, append_assoc, append-nil, arith, ltb-false, le-ltb}
 use Rattle.lexer.specs.Token.{Tok, start, end, node, prop}
 use Rattle.tables.specs.Numbers.{depth_limit}
 use Rattle.parser.specs.Split.{Splitting, splitting, over, wrong, splits}

@@ -1,6 +1,5 @@
 -- What splitting has counted, and that every slice has a token. Assumes nothing.
-use Rattle.lists.proofs.Prelude.{ℕ, zero, suc, ◌+◌, ◌≤◌, ◌<◌, max, ◌≡◌, refl, sym, ap, ◌∙◌, subst, Bool, true, false, List, [], ◌∷◌, reverse, arith, length, take}
-use Rattle.lists.proofs.Tests.{never}
+use Rattle.lists.proofs.Prelude.{ℕ, zero, suc, ◌+◌, ◌≤◌, ◌<◌, max, ◌≡◌, refl, sym, subst, Bool, true, false, List, [], ◌∷◌, reverse, arith, length, take}
 use Rattle.lists.specs.All.{All}
 use Rattle.lexer.specs.Token.{Tok, start, end, node, prop}
 use Rattle.tables.specs.declared.Reason.TheVariants.{UnexpectedGameTreeEnd}

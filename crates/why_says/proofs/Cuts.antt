@@ -1,18 +1,16 @@
 -- What splitting blames, in the scope's words: the first end beyond the starts, the slice that stays open, the first start that is too deep. Assumes nothing.
-use Rattle.lists.proofs.Prelude.{ℕ, zero, suc, ◌+◌, ◌≤◌, ◌<◌, max, ◌≡◌, refl, sym, ap, ◌∙◌, subst, subst⁻¹, Bool, true, false, false≢true, List, [], ◌∷◌, ◌++◌, reverse, reverse-cons, arith, take, ltb, ltb-true, ltb-false}
-use Rattle.lists.proofs.Tests.{never}
+use Rattle.lists.proofs.Prelude.{ℕ, zero, suc, max, ◌≡◌, refl, sym, ap, ◌∙◌, subst, subst⁻¹, Bool, true, false, false≢true, List, [], ◌∷◌, ◌++◌, reverse, reverse-cons, arith, ltb-true, ltb-false}
 use Rattle.lists.specs.All.{All}
 use Rattle.lists.proofs.All.{all_right}
 use Rattle.lexer.specs.Token.{Tok, start, end, node, prop, done, token_place}
 use Rattle.tables.specs.Numbers.{depth_limit}
 use Rattle.parser.specs.Split.{Splitting, splitting, over, wrong, splits, split}
-use Rattle.parser.specs.Balance.{starts, ends, Covered}
 use Rattle.parser.proofs.Cuts.{standing, Right}
-use Rattle.reader_exactly.specs.Slicing.{slices_from, Deep}
+use Rattle.reader_exactly.specs.Slicing.{slices_from}
 use Rattle.reader_exactly.proofs.Standing.{slices-are}
 use Rattle.why_blame.specs.Blame.{Blame, nowhere, found, blame, split_wrong, is_deep, blame_place}
 use Rattle.why_blame.specs.Cuts.{wrong_at, deep_at, first_place}
-use Rattle.why_blame.proofs.Found.{folds, First, Says, blame-says, split-folds}
+use Rattle.why_blame.proofs.Found.{Says, blame-says, split-folds}
 use Rattle.why_says.specs.Says.{TokenAt, HeadAt, ExceedsAt, OpenAt, DeepAt}
 use Rattle.why_says.proofs.Counts.{Counted, Counts, counts, Some, slices-some}
 

@@ -1,5 +1,5 @@
 -- What the scope's words say of splitting is what splitting blames. Assumes nothing.
-use Rattle.lists.proofs.Prelude.{ℕ, zero, suc, ◌+◌, ◌≤◌, ◌<◌, max, ◌≡◌, refl, sym, ap, ◌∙◌, subst, Bool, true, false, false≢true, List, [], ◌∷◌, ◌++◌, reverse, arith, lt_of_not-le, length, take, ltb, ltb-true, lt-ltb, le-ltb, pick, head-eq_of_cons-eq, tail-eq_of_cons-eq}
+use Rattle.lists.proofs.Prelude.{ℕ, zero, suc, ◌+◌, ◌≤◌, ◌<◌, max, ◌≡◌, refl, sym, ap, ◌∙◌, subst, Bool, true, false, List, [], ◌∷◌, ◌++◌, reverse, arith, lt_of_not-le, length, take, lt-ltb, le-ltb, pick, head-eq_of_cons-eq, tail-eq_of_cons-eq}
 use native.Mathlib.Decide.{dec_le}
 use Rattle.lists.proofs.Tests.{never}
 use Rattle.lexer.specs.Token.{Tok, start, end, done, Lexed}
@@ -9,13 +9,11 @@ use Rattle.parser.specs.Split.{Splitting, splitting, over, wrong, splits, split}
 use Rattle.parser.specs.Balance.{starts, ends, Covered, Balanced}
 use Rattle.parser.proofs.Balanced.{Comes, comes}
 use Rattle.parser.proofs.Surveys.{wrong_stays}
-use Rattle.reader_exactly.specs.Slicing.{slices_from, Deep}
-use Rattle.why_blame.specs.Blame.{Blame, blame, split_wrong, is_deep, blame_place}
+use Rattle.why_blame.specs.Blame.{blame, split_wrong, is_deep, blame_place}
 use Rattle.why_blame.specs.Cuts.{wrong_at, deep_at, first_place, loose, cut_deep, cut_slices, cutting, cut_tokens}
 use Rattle.why_blame.specs.declared.Fact.TheVariants.{EndBeyond, StaysOpen, NoEnd, TooDeep}
-use Rattle.why_blame.specs.declared.Cutting.{Cutting}
 use Rattle.why_blame.specs.declared.Cutting.TheVariants.{Wrong, Slices}
-use Rattle.why_blame.proofs.Found.{folds, folds-append, split-folds}
+use Rattle.why_blame.proofs.Found.{folds, split-folds}
 use Rattle.why_says.specs.Says.{HeadAt, ExceedsAt, OpenAt, DeepAt}
 use Rattle.why_says.proofs.Along.{found_at, right-back, NotDeep, deep_back}
 use Rattle.why_says.proofs.Counts.{Counted, Counts, counts, Going, going, Sliced, some-sliced}

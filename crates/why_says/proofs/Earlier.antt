@@ -1,16 +1,14 @@
 -- Where nothing earlier applies to a fact, no fact that stands earlier in the scope's order holds of the text, at any place. Assumes nothing.
-use Rattle.lists.proofs.Prelude.{ℕ, zero, suc, ◌+◌, ◌≤◌, ◌<◌, ◌≡◌, refl, sym, ap, ◌∙◌, subst, false, List, [], arith, lt_of_not-le, length}
+use Rattle.lists.proofs.Prelude.{ℕ, zero, suc, ◌≤◌, ◌<◌, ◌≡◌, sym, ◌∙◌, subst, false, List, [], arith, lt_of_not-le, length}
 use native.Mathlib.Decide.{dec_le}
 use Rattle.lists.proofs.Tests.{never, same_or}
-use Rattle.text_chars.specs.Table.{WellFormed}
 use Rattle.text_utf8.proofs.WellFormed.{bad-trimmed, well-formed-trimmed}
 use Rattle.lexer.specs.Token.{Lexed, done, broken}
 use Rattle.lexer.specs.declared.Fault.{Fault}
-use Rattle.lexer.specs.declared.Fault.TheVariants.{MissingPropertyIdentifier, UnexpectedEndOfPropertyIdentifier, UnexpectedEndOfPropertyValue}
 use Rattle.tables.specs.Numbers.{text_limit}
 use Rattle.parser.specs.Split.{split}
 use Rattle.parser.specs.Balance.{starts, ends, Covered, Balanced}
-use Rattle.reader_exactly.specs.Slicing.{Any, slices_from, Deep}
+use Rattle.reader_exactly.specs.Slicing.{slices_from}
 use Rattle.reader_exactly.specs.When.{Valid, tokens_of, FailsAt, Lexes, Splits}
 use Rattle.reader_exactly.proofs.Stages.{fails-broken, not-deep}
 use Rattle.why_blame.specs.declared.Fact.{Fact}

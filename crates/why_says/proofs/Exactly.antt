@@ -1,36 +1,25 @@
 -- A fact that holds of a text where nothing earlier applies is the one that explains it: so both together entail the number, and there is no second such fact or place. Assumes nothing.
-use Rattle.lists.proofs.Prelude.{ℕ, zero, suc, ◌+◌, ◌≤◌, ◌<◌, ◌≡◌, refl, sym, ap, ◌∙◌, subst, subst⁻¹, Bool, true, false, List, [], length, length-take-le, take, drop, ltb, lt-ltb, le-ltb, pick}
-use Rattle.lists.proofs.Tests.{never}
+use Rattle.lists.proofs.Prelude.{ℕ, ◌≤◌, ◌<◌, ◌≡◌, refl, sym, ap, ◌∙◌, subst, Bool, true, false, List, [], length, length-take-le, take, lt-ltb, le-ltb, pick}
 use Rattle.text_utf8.specs.Trim.{trimmed}
 use Rattle.text_utf8.specs.declared.Trimmed.{Trimmed}
 use Rattle.text_utf8.specs.declared.Trimmed.TheVariants.{NotUtf8, Blank, Kept}
 use Rattle.text_utf8.proofs.Extent.{trim-bounds}
 use Rattle.text_utf8.proofs.WellFormed.{bad-trimmed, well-formed-trimmed}
-use Rattle.lexer.specs.Token.{Tok, End, done, broken, Lexed, lex_at}
+use Rattle.lexer.specs.Token.{Tok, Lexed, lex_at}
 use Rattle.lexer.specs.declared.Fault.{Fault}
-use Rattle.lexer.specs.declared.Fault.TheVariants.{MissingPropertyIdentifier, UnexpectedEndOfPropertyIdentifier, UnexpectedEndOfPropertyValue}
 use Rattle.lexer_laws.proofs.Faults.{fault-if}
 use Rattle.tables.specs.Numbers.{text_limit}
-use Rattle.tables.specs.declared.Reason.{Reason}
-use Rattle.parser.specs.Split.{Slices as Sliced, splitting, split, split_by_gametree}
-use Rattle.parser.specs.Read.{Answer, refused, accepted, read}
-use Rattle.reader.specs.Lent.{rows_counted}
-use Rattle.reader_exactly.specs.Slicing.{Iff, slices_from}
-use Rattle.reader_exactly.specs.When.{Valid, tokens_in, tokens_of, FailsAt, Lexes, Splits, First}
+use Rattle.parser.specs.Split.{Slices as Sliced, split}
+use Rattle.reader_exactly.specs.Slicing.{slices_from}
+use Rattle.reader_exactly.specs.When.{Valid, tokens_in, tokens_of, FailsAt, Lexes, Splits}
 use Rattle.reader_exactly.proofs.Stages.{not-deep}
-use Rattle.why_blame.specs.Cuts.{foreign_from, fault_fact, cut_tokens}
-use Rattle.why_blame.specs.Numbered.{fact_reason}
+use Rattle.why_blame.specs.Cuts.{fault_fact, cut_tokens}
 use Rattle.why_blame.specs.declared.Fact.{Fact}
 use Rattle.why_blame.specs.declared.Fact.TheVariants.{Length, BadSequence, NoBracket, Foreign, NotClosed, EndBeyond, StaysOpen, NoNode, NoEnd, TooDeep, EmptyList, SecondGm, Stray, GmValues, GmNumber}
-use Rattle.why_blame.specs.declared.Blamed.{Blamed}
-use Rattle.why_blame.specs.declared.Blamed.TheVariants.{No, By}
+use Rattle.why_blame.specs.declared.Blamed.TheVariants.{By}
 use Rattle.why_blame.specs.declared.Cutting.{Cutting}
-use Rattle.why_blame.specs.declared.Cutting.TheVariants.{Wrong, Slices}
 use Rattle.why.specs.Trees.{slices_blame}
-use Rattle.why.specs.Why.{accepted_slices, cut_blame, tokens_blame, kept_blame, trim_blame, text_blame, trim_loose, refused_by, explained_by, explained}
-use Rattle.why.specs.declared.Why.TheVariants.{Refused}
-use Rattle.why.proofs.Trees.{Agree}
-use Rattle.why.proofs.Agrees.{text-agrees}
+use Rattle.why.specs.Why.{accepted_slices, cut_blame, tokens_blame, kept_blame, trim_blame, text_blame}
 use Rattle.why_says.specs.Says.{NodelessAt, EmptyListAt, StrayAt, SecondAt, ValuesAt, NumberAt, FactSays}
 use Rattle.why_says.specs.Clear.{Clear, LenientClear}
 use Rattle.why_says.proofs.Scanned.{missing-fails, foreign-met, foreign-fails, unclosed-fails}
@@ -38,7 +27,6 @@ use Rattle.why_says.proofs.Cuts.{begun}
 use Rattle.why_says.proofs.CutsBack.{exceeds-cut, open-cut, none-cut, deep-lenient, deep-strict}
 use Rattle.why_says.proofs.SlicesBack.{second-blamed, values-blamed, number-blamed, empty-blamed, stray-blamed, nodeless-blamed}
 use Rattle.why_says.proofs.TreesBack.{sliced-cut, first-blamed}
-use Rattle.why_says.proofs.Says.{why-says, why-clear, why-clear-lenient}
 
 module _ (t : List ℕ) where
   abbrev L : Lexed

@@ -1,6 +1,5 @@
 -- Facts, places and numbers: an explanation is the one fact, with the one place, that the scope's words give. Assumes nothing.
 use Rattle.lists.proofs.Prelude.{ℕ, ◌<◌, ◌≡◌, refl, sym, ap, ◌∙◌, subst, Bool, true, false, List}
-use Rattle.lists.proofs.Tests.{never}
 use Rattle.text_utf8.specs.Trim.{trimmed}
 use Rattle.tables.specs.declared.Reason.{Reason}
 use Rattle.parser.specs.Read.{Answer, refused, accepted, read}

@@ -1,5 +1,5 @@
 -- The node of an empty list is numbered as in the node table. Assumes nothing.
-use Rattle.lists.proofs.Prelude.{ℕ, suc, ◌+◌, ◌≤◌, ◌<◌, ◌≡◌, refl, subst, Bool, true, false, ◌⊎◌, inl, inr, ⊎_elim, List, [], ◌∷◌, arith, length}
+use Rattle.lists.proofs.Prelude.{ℕ, suc, ◌+◌, ◌≤◌, ◌<◌, ◌≡◌, refl, subst, true, false, ◌⊎◌, inl, inr, ⊎_elim, List, [], ◌∷◌, arith, length}
 use Rattle.lists.proofs.Pick.{pick-elim}
 use Rattle.lists.specs.All.{All}
 use Rattle.lexer.specs.Token.{Tok, start, end, node, prop}

@@ -12,23 +12,21 @@ use Rattle.lexer.specs.declared.Fault.{Fault}
 use Rattle.lexer.specs.declared.Fault.TheVariants.{MissingPropertyIdentifier, UnexpectedEndOfPropertyIdentifier, UnexpectedEndOfPropertyValue}
 use Rattle.lexer_laws.proofs.Faults.{fault-only}
 use Rattle.tables.specs.Numbers.{text_limit, depth_limit}
-use Rattle.parser.specs.Split.{Splitting, splitting, over, wrong, split, split_by_gametree}
+use Rattle.parser.specs.Split.{Splitting, splitting, over, wrong, split}
 use Rattle.parser.specs.Read.{Answer, refused, accepted, read}
-use Rattle.parser.specs.Balance.{starts, ends, Covered, Balanced}
+use Rattle.parser.specs.Balance.{starts, ends}
 use Rattle.parser.proofs.Balanced.{Comes, comes}
 use Rattle.reader.specs.Lent.{rows_counted}
 use Rattle.reader_exactly.specs.When.{Valid, tokens_in, tokens_of, FailsAt, Lexes}
 use Rattle.why_blame.specs.Blame.{split_wrong, is_deep}
-use Rattle.why_blame.specs.Cuts.{fault_fact, deep_at, loose, cut_deep, cut_slices, cutting, cut_tokens}
+use Rattle.why_blame.specs.Cuts.{fault_fact, deep_at, loose, cut_deep, cut_slices, cutting}
 use Rattle.why_blame.specs.declared.Fact.{Fact}
 use Rattle.why_blame.specs.declared.Fact.TheVariants.{Length, BadSequence, TooDeep}
 use Rattle.why_blame.specs.declared.Blamed.{Blamed}
 use Rattle.why_blame.specs.declared.Blamed.TheVariants.{No, By}
-use Rattle.why_blame.specs.declared.Cutting.{Cutting}
 use Rattle.why_blame.specs.declared.Cutting.TheVariants.{Wrong, Slices}
-use Rattle.why.specs.Trees.{slices_blame}
-use Rattle.why.specs.Why.{accepted_slices, cut_blame, tokens_blame, kept_blame, trim_blame, text_blame, trim_loose, explained_by, explained}
-use Rattle.why.specs.declared.Why.TheVariants.{Accepted, Refused}
+use Rattle.why.specs.Why.{cut_blame, tokens_blame, kept_blame, trim_blame, text_blame, trim_loose, explained_by, explained}
+use Rattle.why.specs.declared.Why.TheVariants.{Refused}
 use Rattle.why.proofs.Trees.{Agree}
 use Rattle.why.proofs.Agrees.{text-agrees}
 use Rattle.why_says.specs.Says.{FactSays}

@@ -1,5 +1,5 @@
 -- Where the scan of a failing token stops. Assumes nothing.
-use Rattle.lists.proofs.Prelude.{ℕ, zero, suc, ◌+◌, ◌-◌, ◌≤◌, ◌<◌, ◌≡◌, refl, sym, ap, ◌∙◌, subst, Bool, true, false, List, [], ◌∷◌, ◌++◌, arith, length, take, drop, get_or, eqb, leb, ltb, eqb-true, eqb-false, ne_eqb, le-leb, lt-leb, ltb-true, lt-ltb, pick}
+use Rattle.lists.proofs.Prelude.{ℕ, zero, suc, ◌+◌, ◌-◌, ◌≤◌, ◌<◌, ◌≡◌, refl, sym, ap, ◌∙◌, subst, Bool, true, false, List, [], ◌∷◌, ◌++◌, arith, length, take, drop, get_or, eqb, ltb, eqb-true, eqb-false, ne_eqb, le-leb, lt-leb, ltb-true, lt-ltb, pick}
 use Rattle.lists.proofs.Pick.{pick-elim}
 use Rattle.lists.proofs.Tests.{never}
 use Rattle.lists.specs.All.{All}
@@ -17,7 +17,6 @@ use Rattle.lexer.specs.Step.{head_from, head_at, on_ident, on_values, on_head, n
 use Rattle.lexer.specs.declared.Fault.{Fault}
 use Rattle.lexer.specs.declared.Fault.TheVariants.{MissingPropertyIdentifier, UnexpectedEndOfPropertyIdentifier, UnexpectedEndOfPropertyValue}
 use Rattle.lexer.specs.declared.Head.{Head}
-use Rattle.lexer.specs.declared.Head.TheVariants.{Start as head_start, End as head_end, Node as head_node, Name, Refused as head_refused, Done as head_done}
 use Rattle.lexer.specs.declared.Step.{Step}
 use Rattle.lexer.specs.declared.Step.TheVariants.{Start, End, Node, Property, Refused, Done}
 use Rattle.lexer_laws.proofs.Exactly.{IdentIs, ident-is, ident-exactly, CloseIs, close-is, close-exactly}

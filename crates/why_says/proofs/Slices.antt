@@ -1,38 +1,32 @@
 -- What is blamed of slices, in the scope's words: the game type, the tree, no node. Assumes nothing.
-use Rattle.lists.proofs.Prelude.{ℕ, zero, suc, ◌+◌, ◌-◌, ◌^◌, ◌≤◌, ◌<◌, ◌≡◌, refl, sym, ap, ◌∙◌, subst, subst⁻¹, Bool, true, false, false≢true, List, [], ◌∷◌, ◌++◌, reverse, arith, length, pick}
+use Rattle.lists.proofs.Prelude.{ℕ, ◌+◌, ◌-◌, ◌^◌, ◌<◌, ◌≡◌, refl, sym, ap, ◌∙◌, subst, Bool, true, false, false≢true, List, [], ◌∷◌, ◌++◌, reverse, arith, length, pick}
 use Rattle.lists.proofs.Pick.{pick-elim}
 use Rattle.lists.proofs.Tests.{never}
-use Rattle.lists.specs.All.{All}
 use Rattle.lists.specs.Same.{same}
 use Rattle.values.specs.Read.{read_value}
 use Rattle.values.specs.Decimal.{decimal_of}
-use Rattle.lexer.specs.Token.{Val, Prop, Tok, start, end, node, prop, done}
+use Rattle.lexer.specs.Token.{Val, Prop, Tok, start, end, node, prop}
 use Rattle.tables.specs.Numbers.{none}
-use Rattle.tables.specs.Record.{Node, Tree}
+use Rattle.tables.specs.Record.{Tree}
 use Rattle.tables.specs.declared.Reason.{Reason}
 use Rattle.tables.specs.declared.Reason.TheVariants.{UnexpectedGameTreeEnd, UnexpectedGameTreeStart, InvalidGameType}
 use Rattle.parser.specs.Game.{Game, is, no_game, is_i32, game_vals, game_props, find_gametype}
 use Rattle.parser.specs.Walk.{Walk, walk, halted, stopped, children, walks, walked}
-use Rattle.parser.specs.Read.{Trees, trees_so_far, tree_of_walk, tree_of_game, parse_gametree, parse_gametrees}
+use Rattle.parser.specs.Read.{trees_so_far, tree_of_walk, tree_of_game, parse_gametree}
 use Rattle.parser.specs.Balance.{Covered}
-use Rattle.parser.proofs.Runs.{walked-append, stopped-stays, grow-append}
-use Rattle.reader_exactly.specs.Slicing.{slices_from}
-use Rattle.reader_exactly.specs.When.{tokens_of, Splits, First, games, nodes, Comes, Nodeless}
-use Rattle.reader_exactly.proofs.Firm.{slices-covered}
+use Rattle.parser.proofs.Runs.{walked-append, stopped-stays}
+use Rattle.reader_exactly.specs.When.{games, Comes}
 use Rattle.reader_exactly.proofs.Walking.{WalkWhy, walked-why}
 use Rattle.why_blame.specs.Blame.{Blame, nowhere, found, blame, is_stopped}
-use Rattle.why_blame.specs.Cuts.{first_place}
-use Rattle.why_blame.specs.Games.{values_fact, values_blame, game_blame}
-use Rattle.why_blame.specs.declared.Fact.{Fact}
+use Rattle.why_blame.specs.Games.{values_blame, game_blame}
 use Rattle.why_blame.specs.declared.Fact.TheVariants.{Length, BadSequence, NoBracket, Foreign, NotClosed, EndBeyond, StaysOpen, NoNode, NoEnd, TooDeep, EmptyList, SecondGm, Stray, GmValues, GmNumber}
 use Rattle.why_blame.specs.declared.Blamed.{Blamed}
 use Rattle.why_blame.specs.declared.Blamed.TheVariants.{No, By}
-use Rattle.why_blame.proofs.Found.{folds, First as FirstAt, Says, blame-says, walk-folds}
-use Rattle.why.specs.Trees.{or_blame, top_of, stop_blame, tree_blame, nodes_of, nodes_in, empty_blame, slice_blame, slices_blame}
-use Rattle.why_says.specs.Says.{HeadAt, InSlice, NodelessAt, EmptyListAt, StrayAt, SecondAt, ValuesAt, NumberAt, FactSays}
-use Rattle.why_says.proofs.Counts.{Some, slices-some}
+use Rattle.why_blame.proofs.Found.{Says, blame-says, walk-folds}
+use Rattle.why.specs.Trees.{or_blame, stop_blame, tree_blame, nodes_of, nodes_in, empty_blame, slice_blame}
+use Rattle.why_says.specs.Says.{NodelessAt, EmptyListAt, StrayAt, SecondAt, ValuesAt, NumberAt}
+use Rattle.why_says.proofs.Counts.{Some}
 use Rattle.why_says.proofs.Cuts.{head_at}
-use Rattle.why_says.proofs.Held.{Held}
 
 -- ---- what is said of one slice, number n, behind `base` nodes
 

@@ -1,29 +1,28 @@
 -- What the scope's words say of a slice is what is blamed of it. Assumes nothing.
-use Rattle.lists.proofs.Prelude.{ℕ, zero, suc, ◌+◌, ◌-◌, ◌^◌, ◌≤◌, ◌<◌, ◌≡◌, refl, sym, ap, ◌∙◌, subst, Bool, true, false, false≢true, inl, inr, List, [], ◌∷◌, ◌++◌, arith, length, pick}
+use Rattle.lists.proofs.Prelude.{ℕ, ◌+◌, ◌-◌, ◌^◌, ◌≡◌, refl, sym, ap, ◌∙◌, subst, Bool, true, false, false≢true, inl, inr, List, [], ◌∷◌, ◌++◌, arith, length, pick}
 use Rattle.lists.proofs.Tests.{never}
 use Rattle.lists.specs.Same.{same}
 use Rattle.values.specs.Read.{read_value}
 use Rattle.values.specs.Decimal.{decimal_of}
 use Rattle.lexer.specs.Token.{Val, Prop, Tok, start, prop, done}
-use Rattle.tables.specs.Numbers.{none}
 use Rattle.tables.specs.Record.{Node, Tree}
 use Rattle.tables.specs.declared.Reason.{Reason}
 use Rattle.tables.specs.declared.Reason.TheVariants.{UnexpectedEndOfData, UnexpectedGameTreeStart, UnexpectedProperty, InvalidGameType}
-use Rattle.parser.specs.Game.{Game, is, no_game, is_i32, game_vals, game_props, find_gametype}
-use Rattle.parser.specs.Walk.{Walk, walk, halted, stopped, children, walks, walked}
-use Rattle.parser.specs.Read.{Trees, trees_so_far, no_trees, parse_gametree}
+use Rattle.parser.specs.Game.{is, no_game, is_i32, game_vals, game_props, find_gametype}
+use Rattle.parser.specs.Walk.{Walk, walk, stopped, walks, walked}
+use Rattle.parser.specs.Read.{trees_so_far, no_trees, parse_gametree}
 use Rattle.parser.specs.Balance.{Covered}
-use Rattle.reader_exactly.specs.When.{games, nodes, Numeric, Comes, Nodeless}
+use Rattle.reader_exactly.specs.When.{games}
 use Rattle.reader_exactly.proofs.Walking.{WalkWhy, walked-why}
 use Rattle.reader_exactly.proofs.Growths.{starts-fails, unexpected-fails, wrong-fails, nodeless-fails}
-use Rattle.why_blame.specs.Blame.{Blame, nowhere, found, blame, is_stopped}
+use Rattle.why_blame.specs.Blame.{found, blame, is_stopped}
 use Rattle.why_blame.specs.Cuts.{first_place}
-use Rattle.why_blame.specs.Games.{values_fact, values_blame, game_blame}
+use Rattle.why_blame.specs.Games.{values_blame, game_blame}
 use Rattle.why_blame.specs.declared.Fact.{Fact}
 use Rattle.why_blame.specs.declared.Fact.TheVariants.{Length, BadSequence, NoBracket, Foreign, NotClosed, EndBeyond, StaysOpen, NoNode, NoEnd, TooDeep, EmptyList, SecondGm, Stray, GmValues, GmNumber}
 use Rattle.why_blame.specs.declared.Blamed.{Blamed}
 use Rattle.why_blame.specs.declared.Blamed.TheVariants.{No, By}
-use Rattle.why_blame.proofs.Found.{folds, walk-folds}
+use Rattle.why_blame.proofs.Found.{walk-folds}
 use Rattle.why.specs.Trees.{or_blame, stop_blame, tree_blame, nodes_of, nodes_in, empty_blame, slice_blame}
 use Rattle.why_says.specs.Says.{NodelessAt, EmptyListAt, StrayAt, SecondAt, ValuesAt, NumberAt}
 use Rattle.why_says.proofs.Along.{found_at, found_nowhere, on-back}

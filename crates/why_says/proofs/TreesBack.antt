@@ -7,7 +7,7 @@ use Rattle.lexer.specs.Token.{Tok, Lexed}
 use Rattle.tables.specs.Numbers.{depth_limit}
 use Rattle.tables.specs.Record.{Tree}
 use Rattle.tables.specs.declared.Reason.TheVariants.{TooDeep as too_deep}
-use Rattle.parser.specs.Split.{Splitting, splitting, over, wrong, Slices as Sliced, no, slices, sliced, split_by_gametree}
+use Rattle.parser.specs.Split.{Splitting, splitting, over, wrong, no, slices, sliced}
 use Rattle.parser.specs.Read.{Trees, trees_so_far, no_trees, parse_gametree, parse_gametrees}
 use Rattle.parser.specs.Balance.{Covered}
 use Rattle.parser.proofs.Runs.{failing-stays}
@@ -18,8 +18,7 @@ use Rattle.why_blame.specs.Cuts.{deep_at, loose, cut_deep, cutting}
 use Rattle.why_blame.specs.declared.Fact.{Fact}
 use Rattle.why_blame.specs.declared.Fact.TheVariants.{TooDeep}
 use Rattle.why_blame.specs.declared.Blamed.{Blamed}
-use Rattle.why_blame.specs.declared.Blamed.TheVariants.{No, By}
-use Rattle.why_blame.specs.declared.Cutting.{Cutting}
+use Rattle.why_blame.specs.declared.Blamed.TheVariants.{By}
 use Rattle.why_blame.specs.declared.Cutting.TheVariants.{Wrong, Slices}
 use Rattle.why.specs.Trees.{or_blame, nodes_in, slice_blame, slices_blame}
 use Rattle.why_says.proofs.Counts.{Some, slices-some}
