@@ -1,1 +1,3 @@
+#![tactic(auto)]
+
 // Tags of records with one writing, and of records that differ only in places (proofs/Same). No code.
