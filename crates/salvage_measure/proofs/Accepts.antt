@@ -1,5 +1,5 @@
 -- Lenient reading makes trees of any slices. Assumes nothing.
-use Rattle.lists.proofs.Prelude.{ℕ, ◌≡◌, refl, Bool, true, false, List, [], ◌∷◌, reverse}
+use Rattle.lists.proofs.Prelude.{ℕ, ◌≡◌, refl, true, false, List, [], ◌∷◌, reverse}
 use Rattle.lists.proofs.Pick.{pick-elim}
 use Rattle.lexer.specs.Token.{Tok, start, end, node, prop}
 use Rattle.tables.specs.Numbers.{none}

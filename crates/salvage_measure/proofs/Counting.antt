@@ -1,5 +1,5 @@
 -- The entries of the slices, counted where none of them has room. Assumes nothing.
-use Rattle.lists.proofs.Prelude.{ℕ, ◌+◌, ◌-◌, ◌*◌, ◌≤◌, ◌<◌, ◌≡◌, refl, ap, ◌∙◌, max, true, List, [], ◌∷◌, ◌++◌, arith, length, length-append}
+use Rattle.lists.proofs.Prelude.{ℕ, ◌+◌, ◌-◌, ◌*◌, ◌≤◌, ◌<◌, ◌≡◌, refl, max, true, List, [], ◌∷◌, ◌++◌, arith, length, length-append}
 use Rattle.lists.specs.Put.{PutIs}
 use Rattle.lists.proofs.Put.{put-none}
 use Rattle.lexer.specs.Token.{lex_at}
@@ -7,7 +7,7 @@ use Rattle.tables.specs.Record.{Node, all_props}
 use Rattle.parser.specs.Split.{split_by_gametree}
 use Rattle.parser.specs.Walk.{Walk}
 use Rattle.why_blame.specs.Blame.{Blame, nowhere, found}
-use Rattle.salvage_mend.specs.Changes.{Change, empty_root, nodes_changes}
+use Rattle.salvage_mend.specs.Changes.{Change, nodes_changes}
 use Rattle.salvage_list.specs.Listed.{cut_of, root_of, tail_of, slices_changes}
 use Rattle.salvage_list.specs.ListRows.{change_rows}
 use Rattle.salvage_list.specs.LocalsPuts.{entry_limit, EntriesPut}

@@ -1,5 +1,5 @@
 -- Of a text whose rows the census counts: its slices are as many as its trees. Assumes nothing.
-use Rattle.lists.proofs.Prelude.{ℕ, refl, true, List, arith, length, take, length-take-le}
+use Rattle.lists.proofs.Prelude.{ℕ, refl, true, List, arith, take, length-take-le}
 use Rattle.text_utf8.proofs.Extent.{trim-bounds}
 use Rattle.lexer.specs.Token.{lex_at}
 use Rattle.tables.specs.declared.Counts.{Counts}

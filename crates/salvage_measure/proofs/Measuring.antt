@@ -1,9 +1,8 @@
 -- The slices of a text, measured one after the other. Assumes nothing.
-use Rattle.lists.proofs.Prelude.{ℕ, zero, suc, ◌+◌, ◌-◌, ◌*◌, ◌≤◌, ◌<◌, ◌≡◌, refl, sym, ap, ap₂, ◌∙◌, subst, max, true, false, List, [], ◌∷◌, arith, length}
+use Rattle.lists.proofs.Prelude.{ℕ, suc, ◌+◌, ◌-◌, ◌*◌, ◌≤◌, ◌<◌, ◌≡◌, refl, sym, ap, ap₂, ◌∙◌, subst, max, true, List, [], ◌∷◌, arith, length}
 use Rattle.lists.specs.All.{All}
 use Rattle.lists.proofs.Tests.{never}
 use Rattle.lexer.specs.Token.{Tok, lex_at}
-use Rattle.tables.specs.Numbers.{text_limit}
 use Rattle.tables.specs.Record.{Node}
 use Rattle.tables.specs.Rows.{parents}
 use Rattle.tables.specs.declared.Reason.{Reason}
@@ -11,7 +10,7 @@ use Rattle.parser.specs.Split.{Slices, no, slices, split_by_gametree}
 use Rattle.parser.specs.LocalsSlice.{rest_from, first_slices, Shallow}
 use Rattle.parser.specs.LocalsSurvey.{survey_of_slices}
 use Rattle.parser.specs.declared.Survey.{Survey}
-use Rattle.parser.specs.declared.Survey.TheVariants.{Refused, Slices as counted, Empty}
+use Rattle.parser.specs.declared.Survey.TheVariants.{Refused, Empty}
 use Rattle.fit_rule.specs.Rule.{first_props}
 use Rattle.salvage_form.specs.Measured.{length_limit}
 use Rattle.salvage_form.specs.Rooted.{root_rule}
@@ -24,7 +23,6 @@ use Rattle.salvage_shape.proofs.Siblings.{brackets-few}
 use Rattle.salvage_shape.proofs.Walking.{parents-length}
 use Rattle.salvage_size.specs.LocalsSlices.{tree_length, slices_length, slices_depth}
 use Rattle.salvage_measure.specs.LocalsMeasure.{measured, unmeasured, slices_measure, SlicesMeasured}
-use Rattle.salvage_measure.specs.declared.Measured.{Measured}
 
 less : (count k : ℕ) → k < count → count - k ≡ suc (count - (k + 1))
 less count k h = omega arith

@@ -5,12 +5,11 @@ use Rattle.text_utf8.specs.Trim.{trim_of, trimmed}
 use Rattle.text_utf8.specs.declared.Trimmed.{Trimmed}
 use Rattle.text_utf8.specs.declared.Trimmed.TheVariants.{NotUtf8, Blank, Kept}
 use Rattle.text_utf8.proofs.Extent.{trim-bounds}
-use Rattle.lexer.specs.Token.{Tok, Lexed, lex_at}
+use Rattle.lexer.specs.Token.{Lexed, lex_at}
 use Rattle.tables.specs.Numbers.{text_limit}
-use Rattle.tables.specs.Record.{Tree}
 use Rattle.tables.specs.declared.Reason.TheVariants.{TextTooLong}
 use Rattle.parser.specs.Split.{Slices, no, slices, split_by_gametree}
-use Rattle.parser.specs.Read.{Answer, refused, accepted, answer, trees_so_far, parse_gametrees, parse_slices, tokenize, parse_utf8, read_lenient}
+use Rattle.parser.specs.Read.{Answer, refused, accepted, parse_slices, tokenize, parse_utf8, read_lenient}
 use Rattle.parser.proofs.Texts.{lex-prefix}
 use Rattle.salvage_laws.specs.Result.{salvage_of}
 use Rattle.salvage_size.proofs.Slices.{slices-length, slices-depth}

@@ -1,4 +1,6 @@
 // How long the text is that salvage makes of a text, how deep its trees stand in each other, and how many entries its list has: found over the tokens, without tables.
+#![tactic(auto)]
+
 ghost use Rattle.std.specs.Prelude.{◌≡◌, ◌+◌, ◌*◌, ◌≤◌, max, length};
 ghost use Rattle.lexer.specs.Token.{lex_at};
 ghost use Rattle.tables.specs.Numbers.{text_limit};
