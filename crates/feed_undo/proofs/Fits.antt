@@ -1,12 +1,12 @@
 -- Memory that holds a text with other bytes for its values: with their own it fits, and where it fits, it does with other bytes for one more value. Assumes nothing.
-use Rattle.lists.proofs.Prelude.{ℕ, zero, suc, ◌*◌, ◌≤◌, ◌<◌, Bool, true, false, ◌≡◌, refl, sym, ap, ap₂, ◌∙◌, subst⁻¹, arith, List, [], ◌∷◌, length, length-take-le}
+use Rattle.lists.proofs.Prelude.{ℕ, ◌≤◌, ◌<◌, Bool, true, false, ◌≡◌, refl, sym, ap, ap₂, ◌∙◌, subst⁻¹, arith, List, length}
 use Rattle.lists.specs.Same.{same}
 use Rattle.text_utf8.specs.Text.{Ink, blank, whole, utfs}
 use Rattle.lexer.specs.Closed.{closed}
-use Rattle.tables.specs.Flat.{flat_props, flat_vals, over}
+use Rattle.tables.specs.Flat.{flat_props, flat_vals}
 use Rattle.tables.specs.Memory.{Memory}
 use Rattle.tables.specs.Numbers.{text_limit}
-use Rattle.tables.specs.Rows.{PropRow, ValRow, Tables}
+use Rattle.tables.specs.Rows.{Tables}
 use Rattle.parser.specs.Game.{GM}
 use Rattle.fit.specs.Fit.{Fit}
 use Rattle.fit.specs.Record.{rows_in, text_in}
@@ -20,7 +20,7 @@ use Rattle.edit_laws.specs.Run.{TextRows}
 use Rattle.edit_laws.proofs.Left.{text-left, length-buffer-left}
 use Rattle.edit_laws.proofs.Stays.{edit-stays}
 use Rattle.edit_session.specs.Session.{asked}
-use Rattle.edit_session.proofs.CallBack.{same-fit, over-own, over-over, outcome-asked}
+use Rattle.edit_session.proofs.CallBack.{same-fit, over-over, outcome-asked}
 use Rattle.edit_session.proofs.Step.{lays-edit}
 use Rattle.feed_laid.specs.Laid.{with}
 use Rattle.feed_laid.specs.OfMemory.{laid_text, laid_tables, own_bytes}
