@@ -1,0 +1,6 @@
+use Rattle.lists.proofs.Prelude.{ap, ◌∙◌}
+use Rattle.c_answers.specs.Structs.{reading_in_c}
+use Rattle.sgf.proofs.explain.sgf_count_lenient.Goals as goal
+
+pub returns : goal.returns
+returns c = c.lenient_in_c.ensures ∙ ap (reading_in_c 0) c.count_lenient.ensures
