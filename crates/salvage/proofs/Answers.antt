@@ -5,8 +5,8 @@ use Rattle.tables.specs.Record.{Tree}
 use Rattle.tables.specs.Rows.{tables, counts_of}
 use Rattle.tables.specs.declared.Reason.{Reason}
 use Rattle.tables.specs.declared.Reason.TheVariants.{TextTooLong, TooDeep, NoRoom}
-use Rattle.parser.specs.Read.{Answer, refused, accepted, read, read_lenient}
-use Rattle.reader.specs.Lent.{Lent, roomy, leaves}
+use Rattle.parser.specs.Read.{Answer, refused, accepted, read_lenient}
+use Rattle.reader.specs.Lent.{Lent, roomy}
 use Rattle.serialize.specs.Form.{writing}
 use Rattle.serialize_laws.specs.Depth.{depth_of}
 use Rattle.salvage_list.specs.ListRows.{text_changes}

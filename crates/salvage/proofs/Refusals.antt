@@ -5,7 +5,7 @@ use Rattle.tables.specs.Numbers.{text_limit}
 use Rattle.tables.specs.declared.Reason.{Reason}
 use Rattle.tables.specs.declared.Reason.TheVariants.{TextTooLong}
 use Rattle.parser.specs.Split.{Slices, no, slices, split_by_gametree}
-use Rattle.parser.specs.Read.{refused, accepted, parse_slices, tokenize, parse_utf8, read_lenient}
+use Rattle.parser.specs.Read.{refused, parse_slices, tokenize, parse_utf8, read_lenient}
 use Rattle.parser.proofs.Answers.{not-both}
 use Rattle.salvage_list.specs.Listed.{slices_changes, utf_changes, changes_of}
 use Rattle.salvage_list.specs.ListRows.{text_changes}

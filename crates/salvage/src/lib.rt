@@ -1,5 +1,7 @@
 // Salvage: out of any text one that strict reading accepts, and a list of what was changed. All is decided over the tokens before anything is written: then the text is
 // read leniently into lent tables, and its record is mended as it is written.
+#![tactic(auto)]
+
 ghost use Rattle.std.specs.Prelude.{◌≡◌};
 ghost use Rattle.reader.specs.Lent.{lent};
 ghost use Rattle.salvage_list.specs.ListRows.{text_changes};
