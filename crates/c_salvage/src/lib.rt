@@ -1,4 +1,6 @@
 // Salvage as the struct of the C header.
+#![tactic(auto)]
+
 ghost use Rattle.std.specs.Prelude.{◌≡◌};
 ghost use Rattle.reader.specs.Lent.{lent};
 ghost use Rattle.c_salvage.specs.SalvageInC.{salvage_in_c, SalvageInC};
