@@ -1,4 +1,6 @@
 // The library that crates/sgf_c exports: one function an operation. Each only calls a proved operation and shows its answer as numbers; include/sgf.h says what a caller sees.
+#![tactic(auto)]
+
 pub mod index; // index.rt: the property index, simple values
 pub mod escape;
 pub mod feeds; // feeds.rt: corrections over the air
