@@ -1,0 +1,5 @@
+use Rattle.lists.proofs.Prelude.{◌-◌, length}
+use Rattle.cases_blocks.proofs.on_words.Given as goal
+
+abbrev pub decreases-loop-at : goal.decreases-loop-at
+decreases-loop-at l = length l.line - l.at
