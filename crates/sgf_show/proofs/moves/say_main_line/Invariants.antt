@@ -1,0 +1,5 @@
+use Rattle.lists.proofs.Prelude.{◌-◌}
+use Rattle.sgf_show.proofs.moves.say_main_line.Given as goal
+
+abbrev pub decreases-loop-node : goal.decreases-loop-node
+decreases-loop-node l = l.end - l.node
