@@ -13,7 +13,6 @@ use Rattle.fit.specs.Fit.{Fit}
 use Rattle.fit.specs.Record.{record_in}
 use Rattle.fit.proofs.RootRows.{same-equal}
 use Rattle.season_tally.specs.Tally.{tally_of, tally_answer}
-use Rattle.season_tally.specs.declared.TallyAnswer.{TallyAnswer}
 use Rattle.season_tally.specs.declared.TallyAnswer.TheVariants.{Tallied, NotFitting as NotTallied}
 use Rattle.c_tally.specs.TallyInC.{tally_in_c, tally_or_number}
 use Rattle.c_tally.specs.declared.SgfTally.{SgfTally}

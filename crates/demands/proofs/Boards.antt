@@ -1,5 +1,5 @@
 -- Whether `tt` is a pass is one rule for the Go value and for the board: what `tt_pass` says of the board's sides is what `tt_passes` says of the size. Assumes nothing.
-use Rattle.lists.proofs.Prelude.{ℕ, Bool, true, false, ◌&&◌, ◌≡◌, refl, leb}
+use Rattle.lists.proofs.Prelude.{Bool, true, false, ◌&&◌, ◌≡◌, refl, leb}
 use Rattle.lists.proofs.Tests.{never}
 use Rattle.go_size.specs.declared.RootSize.{RootSize}
 use Rattle.go_size.specs.declared.RootSize.TheVariants.{Absent, Sized, Wrong}

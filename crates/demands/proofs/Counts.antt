@@ -18,7 +18,6 @@ use Rattle.demands.specs.Requests.{CountsAs}
 use Rattle.demands.specs.Settings.{SameAnswer}
 use Rattle.demands.specs.When.{Exactly}
 use Rattle.demands.proofs.Accepts.{upto-12}
-use Rattle.demands.proofs.Listed.{one_of}
 use Rattle.demands.proofs.Numbers.{exactly}
 use Rattle.demands.proofs.Readings.{strict-listed, lenient-listed}
 

@@ -1,5 +1,5 @@
 -- Demand 1 of sgf_size and of sgf_write_length: when each number is given. Passed on by Demand1.
-use Rattle.lists.proofs.Prelude.{ℕ, ◌<◌, Bool, true, ◌≡◌, ap, ◌∙◌, ltb, lt-ltb, le-ltb, get_or, pick}
+use Rattle.lists.proofs.Prelude.{ℕ, Bool, ◌≡◌, ap, ◌∙◌, ltb, lt-ltb, le-ltb, get_or, pick}
 use Rattle.tables.specs.Memory.{Memory}
 use Rattle.tables.specs.Numbers.{number_of}
 use Rattle.tables.specs.Record.{Tree}

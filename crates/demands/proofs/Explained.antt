@@ -1,8 +1,6 @@
 -- The exported explanations: when each number is given, with its fact and place; number and counts are those of a reading without tables. Assumes nothing.
-use Rattle.lists.proofs.Prelude.{ℕ, Bool, true, false, List, ◌⊎◌, inl, inr, ◌≡◌, refl, sym, ap, ◌∙◌, subst⁻¹}
+use Rattle.lists.proofs.Prelude.{ℕ, Bool, List, ◌⊎◌, inl, inr, ◌≡◌, refl, sym, ap, ◌∙◌, subst⁻¹}
 use Rattle.tables.specs.Numbers.{number_of}
-use Rattle.tables.specs.Record.{Tree}
-use Rattle.tables.specs.Rows.{tables, counts_of}
 use Rattle.tables.specs.declared.Counts.{Counts}
 use Rattle.tables.specs.declared.Reason.{Reason}
 use Rattle.parser.specs.Read.{Answer, refused, accepted, read}
@@ -24,7 +22,7 @@ use Rattle.why_says.specs.Says.{FactSays}
 use Rattle.why_says.proofs.Loose.{accepted-exactly}
 use Rattle.demands.specs.Cells.{counts_read}
 use Rattle.demands.specs.Lists.{OneOf}
-use Rattle.demands.specs.Requests.{CountsAs, EndsAt, BlamedFor}
+use Rattle.demands.specs.Requests.{EndsAt, BlamedFor}
 use Rattle.demands.specs.When.{Exactly}
 use Rattle.demands.proofs.Numbers.{exactly}
 

@@ -1,7 +1,7 @@
 -- The exported functions of feeds: when each number is given, and its place; what a refusal leaves. Assumes nothing.
-use Rattle.lists.proofs.Prelude.{ℕ, ◌+◌, ◌≤◌, ◌<◌, Bool, true, false, List, [], ◌∷◌, ◌⊎◌, inl, inr, ⊎_elim, ◌≡◌, refl, sym, ap, ◌∙◌, subst₂, arith, length, lt-ltb, le-ltb}
+use Rattle.lists.proofs.Prelude.{ℕ, ◌+◌, ◌<◌, Bool, true, false, List, [], ◌∷◌, ◌⊎◌, inl, inr, ⊎_elim, ◌≡◌, refl, sym, ap, ◌∙◌, subst₂, arith, lt-ltb, le-ltb}
 use Rattle.lists.specs.Same.{same}
-use Rattle.text_chars.specs.Table.{WellFormed, BadFrom}
+use Rattle.text_chars.specs.Table.{WellFormed}
 use Rattle.text_utf8.specs.Trim.{trimmed}
 use Rattle.text_utf8.specs.declared.Trimmed.{Trimmed}
 use Rattle.text_utf8.specs.declared.Trimmed.TheVariants.{NotUtf8 as BadAt, Blank, Kept}

@@ -1,5 +1,5 @@
 -- The exported length of a writing: when each number is given, and what it says about sgf_write. Assumes nothing.
-use Rattle.lists.proofs.Prelude.{ℕ, ◌^◌, ◌≤◌, ◌<◌, List, ⊎_elim, ◌≡◌, ap, ◌∙◌, subst, subst⁻¹, arith, length}
+use Rattle.lists.proofs.Prelude.{ℕ, ◌^◌, ◌≤◌, ◌<◌, List, ⊎_elim, ◌≡◌, ap, ◌∙◌, arith, length}
 use Rattle.tables.specs.Memory.{Memory}
 use Rattle.tables.specs.Numbers.{number_of}
 use Rattle.tables.specs.declared.Reason.{Reason}

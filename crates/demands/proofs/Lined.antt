@@ -1,7 +1,6 @@
 -- The exported line of a record: its numbers are the writer's, and it says what sgf_write, sgf_tally and sgf_tag say. Assumes nothing.
-use Rattle.lists.proofs.Prelude.{ℕ, ◌<◌, List, ◌≡◌, refl, sym, ap, ◌∙◌, subst⁻¹, arith, length, take}
+use Rattle.lists.proofs.Prelude.{ℕ, ◌<◌, List, ◌≡◌, refl, sym, ap, ◌∙◌, arith, length, take}
 use Rattle.tables.specs.Memory.{Memory}
-use Rattle.tables.specs.Numbers.{number_of}
 use Rattle.tables.specs.Record.{Tree}
 use Rattle.fit.specs.Record.{record_in}
 use Rattle.serialize.specs.Form.{writing, written, output}

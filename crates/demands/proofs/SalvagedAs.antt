@@ -1,5 +1,5 @@
 -- The exported salvage: when each number is given, and what a refusal leaves. Assumes nothing.
-use Rattle.lists.proofs.Prelude.{ℕ, ◌<◌, Bool, true, false, List, ◌≡◌, refl, ap, ◌∙◌, subst⁻¹, arith, length, ltb, lt-ltb, le-ltb, pick}
+use Rattle.lists.proofs.Prelude.{ℕ, ◌<◌, Bool, true, List, ◌≡◌, refl, ap, ◌∙◌, arith, length, lt-ltb, le-ltb}
 use Rattle.tables.specs.Numbers.{number_of, text_limit, depth_limit}
 use Rattle.tables.specs.Record.{Tree}
 use Rattle.tables.specs.Rows.{tables, counts_of}
@@ -7,7 +7,7 @@ use Rattle.tables.specs.declared.Reason.{Reason}
 use Rattle.tables.specs.declared.Reason.TheVariants.{TextTooLong, TooDeep, NoRoom}
 use Rattle.tables.proofs.Cases.{either-bool, below_or, true-false}
 use Rattle.parser.specs.Read.{Answer, refused, accepted, read_lenient}
-use Rattle.reader.specs.Lent.{Lent, leaves}
+use Rattle.reader.specs.Lent.{Lent}
 use Rattle.reader.proofs.Reasons.{refused-with}
 use Rattle.serialize.specs.Form.{writing}
 use Rattle.serialize_laws.specs.Depth.{depth_of}

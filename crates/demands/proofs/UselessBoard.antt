@@ -17,7 +17,7 @@ use Rattle.fit_spans.specs.Ranges.{ranges_fit}
 use Rattle.fit_spans.specs.Spans.{spans, ascending, plain_name, spans_fit}
 use Rattle.board_groups.specs.Board.{at, on_board, beside}
 use Rattle.board_groups.specs.Groups.{self, TakesAt}
-use Rattle.board_play.specs.Steps.{Pos, plays, play-step, Steps, done, next, empty_pos}
+use Rattle.board_play.specs.Steps.{Pos, plays, play-step, played, Steps, done, next, empty_pos}
 use Rattle.board_node.specs.Node.{setup_colour, move_colour, sets_from, move_acts, setups_of, moves_of, right_node}
 use Rattle.board_path.specs.Way.{way_up, way_to}
 use Rattle.board.specs.Answer.{node_properties, tree_over, way_properties, way_number, board_number, pos_in, SizedBoard, BoardIs}
@@ -39,7 +39,7 @@ placed = set (replicate 2704 0) 0 1
 -- a stone played on an empty board stands there
 stands : (w h : ℕ) (q : Pos) → on_board w h 0 ≡ true → on_board w h 1 ≡ true → Steps w h empty_pos (plays 1 0 ∷ []) q → at q.stones 0 ≡ 1
 unfolding beside
-stands w h q o p (next (play-step {between = b} {b' = b'} ok one two) done) = go (two.each 0)
+stands w h q o p (next (play-step {between = b} {b' = b'} {n = n} {k = k} ok one two) rest) = ends q rest
   where
     first : TakesAt w h 2 placed b 0 → at b 0 ≡ 1
     first (inl x) = absurd (omega (arith, x.0.stone.is))
@@ -54,6 +54,9 @@ stands w h q o p (next (play-step {between = b} {b' = b'} ok one two) done) = go
         let here = self (record { on = o; is = first (one.each 0) }) in
         absurd (x.0.none (record { stone = 0; point = 1; joined = here; near = refl; empty = record { on = p; is = second (one.each 1) } }))
     go (inr x) = x.1 ∙ first (one.each 0)
+
+    ends : (q : Pos) → Steps w h (played 1 0 b' n k empty_pos) [] q → at q.stones 0 ≡ 1
+    ends q done = go (two.each 0)
 
 module _ (r : SgfBoard) (s : BoardIs game 0 r) where
   -- one that refuses everything

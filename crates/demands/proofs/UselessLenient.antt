@@ -1,5 +1,5 @@
 -- Useless lenient readers, held against the contract of sgf_read_lenient on `(;;`, which strict reading refuses. Assumes nothing.
-use Rattle.lists.proofs.Prelude.{ℕ, ◌<◌, List, [], ◌∷◌, ◌≡◌, refl, ap, ◌∙◌, arith}
+use Rattle.lists.proofs.Prelude.{ℕ, ◌<◌, [], ◌∷◌, ◌≡◌, refl, ap, ◌∙◌, arith}
 use Rattle.text_chars.specs.White.{white}
 use Rattle.lexer_scan.specs.Scan.{space}
 use Rattle.tables.specs.declared.Counts.{Counts}

@@ -1,6 +1,5 @@
 -- Useless builds of the later requests, held against the exported contracts, each on one small input: none meets it. Assumes nothing.
 use Rattle.lists.proofs.Prelude.{ℕ, ◌<◌, false, List, [], ◌∷◌, ◌≡◌, refl, sym, ap, ◌∙◌, arith, get_or}
-use Rattle.lists.specs.Same.{same}
 use Rattle.text_chars.specs.White.{white}
 use Rattle.text_utf8.specs.Trim.{trimmed}
 use Rattle.lexer_scan.specs.Scan.{space}
@@ -15,7 +14,6 @@ use Rattle.tables.specs.Each.{each, sum, tabulate}
 use Rattle.tables.specs.Memory.{Memory, memory}
 use Rattle.tables.specs.Numbers.{none}
 use Rattle.fit.specs.Fit.{fit_text, Fit}
-use Rattle.fit.specs.Record.{record_in}
 use Rattle.fit_nodes.specs.Nodes.{orphans, upward, on_path, first_under, nodes_fit}
 use Rattle.fit_spans.specs.Ranges.{ranges_fit}
 use Rattle.fit_spans.specs.Spans.{spans, ascending, plain_name, spans_fit}
