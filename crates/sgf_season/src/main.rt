@@ -13,16 +13,26 @@ use reports::Report;
 use season_totals::{Line, Totals};
 use std::env::{Env, FillError};
 use std::fs::File;
-use std::io::IsTerminal;
+use std::io::{ErrorKind, IsTerminal, Print};
 use std::os::fd::AsRawFd;
+use std::process::ExitCode;
 
-// What was counted; whether every file was accepted; whether there is more to do.
+// How writing to standard output ended: all is there, nobody reads it any more, or it failed.
+#[derive(Clone, Copy)]
+enum Said {
+    All,
+    Unheard,
+    Failed,
+}
+
+// What was counted; whether every file was accepted; whether there is more to do; whether nobody reads standard output any more.
 #[derive(Clone, Copy)]
 struct Season {
     totals: Totals,
     files: u64,
     clean: bool,
     going: bool,
+    unheard: bool,
 }
 
 // Nothing yet.
@@ -32,6 +42,7 @@ fn begin() -> Season {
         files: 0,
         clean: true,
         going: true,
+        unheard: false,
     }
 }
 
@@ -40,17 +51,49 @@ fn line_room() -> [u8; 8192] {
     [0u8; 8192]
 }
 
-// A line to standard output, in one piece.
-fn say_line(line: Line, name: &[u8]) -> bool {
-    let mut room = line_room();
-    let n = season_totals::put_line(&mut room, 0, line, tool::first(name, 4095));
-    io::write_all(1, tool::first(&room, n))
+// Bytes to standard output.
+fn say(rt: &HostRuntime, bytes: &[u8]) -> Said {
+    match rt.write_all(bytes) {
+        Ok(()) => Said::All,
+        Err(error) => match error.kind() {
+            ErrorKind::BrokenPipe => Said::Unheard,
+            _ => Said::Failed,
+        },
+    }
 }
 
-fn say_totals(totals: Totals) -> bool {
+fn is_all(said: Said) -> bool {
+    match said {
+        Said::All => true,
+        Said::Unheard => false,
+        Said::Failed => false,
+    }
+}
+
+fn is_unheard(said: Said) -> bool {
+    match said {
+        Said::All => false,
+        Said::Unheard => true,
+        Said::Failed => false,
+    }
+}
+
+// The status of a program that a pipe without a reader ended, as a shell tells it; the system itself ends none of ours.
+fn unheard_status() -> ExitCode {
+    ExitCode::from(141u8)
+}
+
+// A line to standard output, in one piece.
+fn say_line(rt: &HostRuntime, line: Line, name: &[u8]) -> Said {
+    let mut room = line_room();
+    let n = season_totals::put_line(&mut room, 0, line, tool::first(name, 4095));
+    say(rt, tool::first(&room, n))
+}
+
+fn say_totals(rt: &HostRuntime, totals: Totals) -> Said {
     let mut room = line_room();
     let n = season_totals::put_totals(&mut room, 0, totals);
-    io::write_all(1, tool::first(&room, n))
+    say(rt, tool::first(&room, n))
 }
 
 fn is_counted(line: Line) -> bool {
@@ -85,7 +128,7 @@ fn one_more(n: u64) -> u64 {
 
 // A line said and added.
 fn grow(rt: &HostRuntime, season: Season, line: Line, name: &[u8]) -> Season {
-    let said = say_line(line, name);
+    let said = say_line(rt, line, name);
     let totals = season.totals;
     let sum = season_totals::added(totals, season_totals::line_sums(line));
     let sums = sum.totals;
@@ -97,7 +140,8 @@ fn grow(rt: &HostRuntime, season: Season, line: Line, name: &[u8]) -> Season {
         totals: sums,
         files: files,
         clean: season.clean & is_counted(line),
-        going: said & sum.fits,
+        going: is_all(said) & sum.fits,
+        unheard: is_unheard(said),
     }
 }
 
@@ -170,26 +214,33 @@ fn leave(rt: &HostRuntime, word: &[u8]) {
     io::write_all(file.as_raw_fd(), word);
 }
 
-fn leave_status(rt: &HostRuntime, season: Season, said: bool) {
-    if !(season.going & said) {
+fn leave_status(rt: &HostRuntime, season: Season, said: Said) -> ExitCode {
+    if is_unheard(said) {
+        return unheard_status();
+    }
+    if !(season.going & is_all(said)) {
         leave(rt, b"2");
-        return;
+        return ExitCode::SUCCESS;
     }
     if !season.clean {
         leave(rt, b"1");
-        return;
+        return ExitCode::SUCCESS;
     }
     leave(rt, b"0");
+    ExitCode::SUCCESS
 }
 
-fn count_season(rt: &HostRuntime) {
+fn count_season(rt: &HostRuntime) -> ExitCode {
     let mut block = io::large_buffer();
     let mut name = io::buffer();
     let season = take_names(rt, &mut block, &mut name);
+    if season.unheard {
+        return unheard_status();
+    }
     tell(rt, season.files, b"\n");
     let totals = season.totals;
-    let said = say_totals(totals);
-    leave_status(rt, season, said);
+    let said = say_totals(rt, totals);
+    leave_status(rt, season, said)
 }
 
 // What went wrong with which report.
@@ -213,6 +264,7 @@ fn add_report(
         files: season.files,
         clean: false,
         going: false,
+        unheard: false,
     };
     let n = argument(rt, i, name);
     let Ok(path) = str::from_utf8(tool::first(name, n)) else {
@@ -244,11 +296,12 @@ fn add_report(
         files: season.files,
         clean: season.clean,
         going: true,
+        unheard: false,
     }
 }
 
 // The totals of all reports that the arguments name, from the second on.
-fn add_reports(rt: &HostRuntime, count: usize) {
+fn add_reports(rt: &HostRuntime, count: usize) -> ExitCode {
     let mut block = io::large_buffer();
     let mut name = io::buffer();
     let mut season = begin();
@@ -256,20 +309,19 @@ fn add_reports(rt: &HostRuntime, count: usize) {
     while i < count {
         season = add_report(rt, i, season, &mut block, &mut name);
         if !season.going {
-            return;
+            return ExitCode::SUCCESS;
         }
         i += 1;
     }
     let totals = season.totals;
-    let said = say_totals(totals);
-    leave_status(rt, season, said);
+    let said = say_totals(rt, totals);
+    leave_status(rt, season, said)
 }
 
-fn main(rt: HostRuntime) {
+fn main(rt: HostRuntime) -> ExitCode {
     let count = argument_count(&rt);
     if count <= 2 {
-        count_season(&rt);
-        return;
+        return count_season(&rt);
     }
-    add_reports(&rt, count);
+    add_reports(&rt, count)
 }
