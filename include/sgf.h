@@ -25,13 +25,10 @@
  * One exception. Rows lent to sgf_block and sgf_close are working room until the close. After a close that is accepted
  * the rows behind its count are 0, after one that is refused all rows; only number 20 leaves them as they were.
  *
- * Stack, in bytes, on x86-64 with rattle-kit-13f: sgf_board 25,728 and sgf_board_next 22,464. The others with the older
- * rattle-kit-5b on aarch64 (x86-64 within 130 bytes of it but for sgf_go_value, 14,080, and sgf_go_by_rule, 8,384):
- * sgf_go_value 11,392, sgf_write 8,832, sgf_write_length and sgf_line 10,240 at most, sgf_go_by_rule 5,696,
- * sgf_read_strict, sgf_read_lenient and those that count rows or say why 6,144 at most, sgf_salvage 49,152 at most
- * (44,288 measured on x86-64), sgf_tally 4,096 at most, sgf_simple_value, sgf_simple_property and sgf_entry 1,900 at
- * most; of the others sgf_block 1,536, sgf_correct, sgf_corrected and sgf_feed_check 1,536 at most, the rest 1,024 at
- * most. docs/MEMORY.md has each function's bound, which examples/c/stack.c tests.
+ * Stack, in bytes, on x86-64: sgf_salvage 44,224, sgf_board 25,728, sgf_board_next 22,464, sgf_go_value 13,952,
+ * sgf_go_by_rule 8,384, sgf_line 6,400, sgf_write 6,336, sgf_write_length 6,144, sgf_read_strict and sgf_read_lenient
+ * 5,440, those that count rows or say why at most 4,800, each other below 1,024. docs/MEMORY.md has each function's bound,
+ * which examples/c/stack.c tests.
  */
 #ifndef SGF_H
 #define SGF_H
