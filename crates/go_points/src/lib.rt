@@ -29,23 +29,23 @@ pub enum Area {
 }
 
 // The coordinate that a letter is, or 52.
+#[tactic(auto, unfolding(crate::specs::Area::letter_of))]
 pub fn letter_of(b: u8) -> u8
     ensures { result ≡ letter_of b }
 {
-    if (b'a' <= b) & (b <= b'z') {
-        return b - b'a';
+    match b {
+        b'a'..=b'z' => b - b'a',
+        b'A'..=b'Z' => b - b'A' + 26,
+        _ => 52,
     }
-    if (b'A' <= b) & (b <= b'Z') {
-        return b - b'A' + 26;
-    }
-    52
 }
 
 // The move to the point (x, y).
+#[tactic(auto, unfolding(crate::specs::Area::move_to))]
 fn move_to(x: u8, y: u8) -> Value
     ensures { result ≡ move_to x y }
 {
-    if (x <= 51) & (y <= 51) {
+    if x <= 51 && y <= 51 {
         return Value::Move(x, y);
     }
     Value::Invalid
@@ -68,22 +68,18 @@ pub fn read_move(s: &[u8]) -> Value
 }
 
 // The number of handicap stones that a value stands for.
+#[tactic(auto, unfolding(crate::specs::Handicap::handicap_of))]
 pub fn read_handicap(s: &[u8]) -> Value
     ensures { result ≡ handicap_of (decimal_of (2 ^ 63 - 1) (read_value s.now)) }
 {
     match values::decimal::read_i64(s) {
-        Number::Bad => Value::Invalid,
-        Number::Minus(_) => Value::Invalid,
-        Number::Plus(n) => {
-            if n < 2 {
-                return Value::Invalid;
-            }
-            Value::Handicap(n)
-        }
+        Number::Plus(n) if n >= 2 => Value::Handicap(n),
+        _ => Value::Invalid,
     }
 }
 
 // The area between two corners by their letters.
+#[tactic(auto, unfolding(crate::specs::Area::cornered))]
 fn area_of(a: u8, b: u8, d: u8, e: u8) -> Area
     ensures { result ≡ cornered (letter_of a) (letter_of b) (letter_of d) (letter_of e) }
 {
@@ -91,13 +87,8 @@ fn area_of(a: u8, b: u8, d: u8, e: u8) -> Area
     let y = letter_of(b);
     let x2 = letter_of(d);
     let y2 = letter_of(e);
-    if ((x <= x2) & (y <= y2)) & ((x2 <= 51) & (y2 <= 51)) {
-        return Area::Rect {
-            x: x,
-            y: y,
-            x2: x2,
-            y2: y2,
-        };
+    if x <= x2 && y <= y2 && x2 <= 51 && y2 <= 51 {
+        return Area::Rect { x, y, x2, y2 };
     }
     Area::Bad
 }

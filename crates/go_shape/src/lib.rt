@@ -21,40 +21,36 @@ pub enum Shape {
 fn next_letter(s: &[u8], from: usize) -> ReadStep
     ensures { Letters s.now from result }
 {
-    let mut at = from;
-    while at < s.len() {
+    for at in from..s.len() {
         let b = s[at];
-        at += 1;
-        if (b'A' <= b) & (b <= b'Z') {
-            return ReadStep::Byte(b, at);
+        if b.is_ascii_uppercase() {
+            return ReadStep::Byte(b, at + 1);
         }
     }
     ReadStep::End
 }
 
 // What an identifier of one letter takes.
+#[tactic(auto, unfolding(crate::specs::Shape::shape_of))]
 fn shape_of_one(a: u8) -> Shape
     ensures { result ≡ shape_of (a ∷ []) }
 {
-    if (a == b'B') | (a == b'W') {
-        return Shape::OneMove;
+    match a {
+        b'B' | b'W' => Shape::OneMove,
+        _ => Shape::Unread,
     }
-    Shape::Unread
 }
 
 // What an identifier of two letters takes.
+#[tactic(auto, unfolding(crate::specs::Shape::shape_of))]
 fn shape_of_two(a: u8, b: u8) -> Shape
     ensures { result ≡ shape_of (a ∷ b ∷ []) }
 {
-    if (a == b'H') & (b == b'A') {
-        return Shape::OneNumber;
+    match (a, b) {
+        (b'H', b'A') => Shape::OneNumber,
+        (b'A', b'B' | b'W' | b'E') | (b'T', b'B' | b'W') => Shape::ManyPoints,
+        _ => Shape::Unread,
     }
-    let setup = (a == b'A') & ((b == b'B') | ((b == b'W') | (b == b'E')));
-    let territory = (a == b'T') & ((b == b'B') | (b == b'W'));
-    if setup | territory {
-        return Shape::ManyPoints;
-    }
-    Shape::Unread
 }
 
 // What a property with this raw identifier takes.
