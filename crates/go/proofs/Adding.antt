@@ -1,16 +1,14 @@
--- Marks added to marks: none, one place, one more, a row and a rectangle. Assumes nothing.
-use Rattle.lists.proofs.Prelude.{ℕ, ◌+◌, ◌*◌, ◌/◌, ◌%◌, ◌≤◌, ◌<◌, ◌≡◌, refl, sym, ap, ◌∙◌, Bool, true, false, ◌&&◌, ◌||◌, and-false, or-false, or_assoc, and-or_distrib_left, and-or_distrib_right, List, le_refl, arith, leb, ltb, eqb, length, get_or, set, length-set, get_or-set_same, get_or-set_other, eqb-true, eqb-false, eq-eqb, le-leb, lt-ltb, le-ltb, ltb-true, ltb-false, leb-true}
+-- Marks added to marks: none, more, a row and a rectangle. Assumes nothing.
+use Rattle.lists.proofs.Prelude.{ℕ, ◌+◌, ◌*◌, ◌/◌, ◌%◌, ◌≤◌, ◌<◌, ◌≡◌, refl, sym, ap, ◌∙◌, Bool, true, false, ◌&&◌, ◌||◌, and-false, or_assoc, and-or_distrib_right, List, arith, leb, ltb, eqb, length, get_or, eqb-true, eqb-false, le-leb, lt-ltb, le-ltb, ltb-true, ltb-false, leb-true}
+use Rattle.lists.proofs.Prelude.{rules, ◌-◌, replicate, lt-leb, leb-false}
+use Rattle.std.proofs.lemmas.List.{places}
+use Rattle.std.proofs.lemmas.Slice.{overwrites}
+use borrow.Rule.Slice.PartMut.{put_mid, mid_of, mid_len}
+use Rattle.lists.proofs.Tests.{eqb-sym}
 use Rattle.go.specs.Marks.{Adds, in_rect}
 
 pub adds_none : {f : ℕ → Bool} (l : List Bool) → ((i : ℕ) → f i ≡ false) → Adds f l l
 adds_none l e = record { as_long = refl; at = λ i. rw (e i) }
-
-pub adds_one : (l : List Bool) (k : ℕ) → k < length l → Adds (eqb k) l (set l k true)
-adds_one l k h = record { as_long = length-set l k true; at = λ i. go i (eqb k i) refl }
-  where
-    go : (i : ℕ) (b : Bool) → eqb k i ≡ b → get_or (set l k true) i false ≡ (b || get_or l i false)
-    go i true e = rw (← eqb-true k i e) (get_or-set_same l k true false h)
-    go i false e = get_or-set_other l k i true false (λ p. eqb-false k i e (sym p))
 
 pub adds-more : {f g h : ℕ → Bool} {a b c : List Bool} → Adds f a b → Adds g b c → ((i : ℕ) → (g i || f i) ≡ h i) → Adds h a c
 adds-more {f} {g} {h} {a} p q e =
@@ -53,35 +51,54 @@ ranged-more a b n h = go (eqb n b) refl
     go true e = let p = eqb-true n b e in rw (le-leb a n (omega arith), lt-ltb n (b + 1) (omega arith))
     go false e = ap (λ t. leb a n && t) (next (ltb n b) refl (eqb-false n b e))
 
--- a place by its coordinates
-place_is : (x y i : ℕ) → y < 52 → eqb (52 * x + y) i ≡ (eqb (i / 52) x && eqb (i % 52) y)
-place_is x y i h = go (eqb (52 * x + y) i) refl
+-- a row is the places from its first to its last
+row-is : (x from to i : ℕ) → to < 52 → in_rect x (x + 1) from (to + 1) i ≡ (leb (52 * x + from) i && ltb i (52 * x + to + 1))
+unfolding in_rect
+row-is x from to i h = go (leb x (i / 52)) (ltb (i / 52) (x + 1)) (leb from (i % 52)) (ltb (i % 52) (to + 1)) refl refl refl refl
   where
-    apart : (p q : Bool) → eqb (i / 52) x ≡ p → eqb (i % 52) y ≡ q → (52 * x + y ≡ i → ⊥) → false ≡ (p && q)
-    apart true true e f k = absurd (k (omega (arith, eqb-true (i / 52) x e, eqb-true (i % 52) y f)))
-    apart true false e f k = refl
-    apart false q e f k = refl
+    go : (p q r s : Bool) → leb x (i / 52) ≡ p → ltb (i / 52) (x + 1) ≡ q → leb from (i % 52) ≡ r → ltb (i % 52) (to + 1) ≡ s
+        → ((p && q) && (r && s)) ≡ (leb (52 * x + from) i && ltb i (52 * x + to + 1))
+    go false q r s a b c d =
+        let e = leb-false x (i / 52) a in
+        rw (lt-leb (52 * x + from) i (omega arith))
+    go true false r s a b c d =
+        let e = ltb-false (i / 52) (x + 1) b in
+        rw (le-ltb i (52 * x + to + 1) (omega arith)) (sym (and-false (leb (52 * x + from) i)))
+    go true true false s a b c d =
+        let e = ltb-true (i / 52) (x + 1) b in
+        let f = leb-false from (i % 52) c in
+        rw (lt-leb (52 * x + from) i (omega arith))
+    go true true true false a b c d =
+        let e = leb-true x (i / 52) a in
+        let f = ltb-false (i % 52) (to + 1) d in
+        rw (le-ltb i (52 * x + to + 1) (omega arith)) (sym (and-false (leb (52 * x + from) i)))
+    go true true true true a b c d =
+        let e = leb-true x (i / 52) a in
+        let f = ltb-true (i / 52) (x + 1) b in
+        let g = leb-true from (i % 52) c in
+        let k = ltb-true (i % 52) (to + 1) d in
+        rw (le-leb (52 * x + from) i (omega arith), lt-ltb i (52 * x + to + 1) (omega arith))
 
-    go : (t : Bool) → eqb (52 * x + y) i ≡ t → t ≡ (eqb (i / 52) x && eqb (i % 52) y)
-    go true e = let p = eqb-true (52 * x + y) i e in rw (eq-eqb (i / 52) x (omega arith), eq-eqb (i % 52) y (omega arith))
-    go false e = apart (eqb (i / 52) x) (eqb (i % 52) y) refl refl (eqb-false (52 * x + y) i e)
+-- the places from a on and before b are marked
+fills : (l m : List Bool) (a b : ℕ) → a ≤ b → b ≤ length l → m ≡ replicate (b - a) true
+    → Adds (λ i. leb a i && ltb i b) l (put_mid a (b - a) l m)
+fills l m a b p q e = record { as_long = rw e (search (rules, places, overwrites)); at = λ i. go i (leb a i) (ltb i b) refl refl }
+  where
+    go : (i : ℕ) (s t : Bool) → leb a i ≡ s → ltb i b ≡ t → get_or (put_mid a (b - a) l m) i false ≡ ((s && t) || get_or l i false)
+    go i false t f g = let h = leb-false a i f in search (rules, places)
+    go i true false f g = let h = ltb-false i b g in rw e (search (rules, places))
+    go i true true f g = let h = leb-true a i f in let k = ltb-true i b g in rw e (search (rules, places))
 
-pub row-none : (x y i : ℕ) → in_rect x (x + 1) y y i ≡ false
-unfolding in_rect
-row-none x y i = ap (λ t. ranged x (x + 1) (i / 52) && t) (ranged-none y (i % 52)) ∙ and-false (ranged x (x + 1) (i / 52))
-
-pub row_more : (x from y : ℕ) → from ≤ y → y < 52 → (i : ℕ) → (eqb (52 * x + y) i || in_rect x (x + 1) from y i) ≡ in_rect x (x + 1) from (y + 1) i
-unfolding in_rect
-row_more x from y h l i =
-    ap (λ t. t || in_rect x (x + 1) from y i) (place_is x y i l)
-    ∙ ap (λ t. eqb (i / 52) x && eqb (i % 52) y || (t && ranged from y (i % 52))) (ranged-one x (i / 52))
-    ∙ sym (and-or_distrib_left (eqb (i / 52) x) (eqb (i % 52) y) (ranged from y (i % 52)))
-    ∙ ap (λ t. t && (eqb (i % 52) y || ranged from y (i % 52))) (sym (ranged-one x (i / 52)))
-    ∙ ap (λ t. ranged x (x + 1) (i / 52) && t) (ranged-more from y (i % 52) h)
+pub row-filled : (l m : List Bool) (x from to : ℕ) → to < 52 → from ≤ to → 52 * x + to < length l → m ≡ replicate (length (mid_of (52 * x + from) (52 * x + to + 1 - (52 * x + from)) l)) true
+    → Adds (in_rect x (x + 1) from (to + 1)) l (put_mid (52 * x + from) (52 * x + to + 1 - (52 * x + from)) l m)
+row-filled l m x from to h k q e =
+    let n = mid_len (52 * x + from) (52 * x + to + 1) l (omega arith) in
+    let f = fills l m (52 * x + from) (52 * x + to + 1) (omega arith) (omega arith) (e ∙ ap (λ k. replicate k true) n) in
+    record { as_long = f.as_long; at = λ i. f.at i ∙ ap (λ t. t || get_or l i false) (sym (row-is x from to i h)) }
 
 -- one place
 pub cell-is : (x y : ℕ) → y < 52 → (i : ℕ) → in_rect x (x + 1) y (y + 1) i ≡ eqb (52 * x + y) i
-cell-is x y h i = sym (row_more x y y (le_refl y) h i) ∙ ap (λ t. eqb (52 * x + y) i || t) (row-none x y i) ∙ or-false (eqb (52 * x + y) i)
+cell-is x y h i = row-is x y y i h ∙ ranged-one (52 * x + y) i ∙ eqb-sym i (52 * x + y)
 
 pub rect-none : (x y y2 i : ℕ) → in_rect x x y y2 i ≡ false
 unfolding in_rect

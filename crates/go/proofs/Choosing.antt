@@ -59,13 +59,12 @@ module _ (rule : ℕ) (text vals : List ℕ) (first count : ℕ) where
     unfolding value_by
     by_move e m = m ∙ one_only (λ v. move_under rule (move_of (read_value v))) text vals first count h q ∙ ap (λ (z : Shape). (value_by rule z vs).value) (sym e)
 
-    pub by_number : (s : Shape) → (s ≡ Unread → ⊥) → (s ≡ OneMove → ⊥) → (s ≡ ManyPoints → ⊥)
-        → x ≡ handicap_of (decimal_of (2 ^ 63 - 1) (read_value v)) → x ≡ (value_by rule s vs).value
+    pub by_number : {s : Shape} → s ≡ OneNumber → x ≡ handicap_of (decimal_of (2 ^ 63 - 1) (read_value v)) → x ≡ (value_by rule s vs).value
     unfolding value_by
-    by_number OneMove u n p m = absurd (n refl)
-    by_number OneNumber u n p m = m ∙ one_only (λ v. handicap_of (decimal_of (2 ^ 63 - 1) (read_value v))) text vals first count h q
-    by_number ManyPoints u n p m = absurd (p refl)
-    by_number Unread u n p m = absurd (u refl)
+    by_number e m =
+        m
+        ∙ one_only (λ v. handicap_of (decimal_of (2 ^ 63 - 1) (read_value v))) text vals first count h q
+        ∙ ap (λ (z : Shape). (value_by rule z vs).value) (sym e)
 
 -- what is no set has no marks
 pub by-alone : (rule : ℕ) (s : Shape) (vs : List (List ℕ)) {x : Value} → (s ≡ ManyPoints → ⊥) → x ≡ (value_by rule s vs).value → unmarked x ≡ value_by rule s vs

@@ -14,11 +14,7 @@ fn mark_row(marks: &mut [bool; 2704], x: usize, from: usize, to: usize)
     requires { (x < 52) × (from ≤ to) × (to < 52) × (length marks.old ≡ 2704) }
     ensures { Adds (in_rect x (x + 1) from (to + 1)) marks.old marks.new }
 {
-    let mut y = from;
-    while y <= to {
-        marks[52 * x + y] = true;
-        y += 1;
-    }
+    marks[52 * x + from..52 * x + to + 1].fill(true);
 }
 
 // Marks the points from (x, y) to (x2, y2), the first nowhere greater.
@@ -26,13 +22,8 @@ fn mark_rect(marks: &mut [bool; 2704], x: u8, y: u8, x2: u8, y2: u8)
     requires { (x ≤ x2) × (x2 < 52) × (y ≤ y2) × (y2 < 52) × (length marks.old ≡ 2704) }
     ensures { Adds (in_rect x (x2 + 1) y (y2 + 1)) marks.old marks.new }
 {
-    let from = y as usize;
-    let to = y2 as usize;
-    let last = x2 as usize;
-    let mut at = x as usize;
-    while at <= last {
-        mark_row(marks, at, from, to);
-        at += 1;
+    for at in x as usize..x2 as usize + 1 {
+        mark_row(marks, at, y as usize, y2 as usize);
     }
 }
 
@@ -56,20 +47,14 @@ pub fn read_points(text: &[u8], vals: &[u32], first: usize, count: usize) -> GoV
     ensures { result ≡ points_of (values_at text.now vals.now first count) }
 {
     let mut marks = [false; 2704];
-    let mut n: usize = 0;
-    while n < count {
+    for n in 0..count {
         let value = parts::value_at(text, vals, first, n);
         if !mark_value(&mut marks, value) {
-            let none = [false; 2704];
-            return GoValue {
-                value: Value::Invalid,
-                marks: none,
-            };
+            return crate::value::unmarked_value(Value::Invalid);
         }
-        n += 1;
     }
     GoValue {
         value: Value::Points,
-        marks: marks,
+        marks,
     }
 }

@@ -15,34 +15,31 @@ pub struct GoValue {
 }
 
 // A value with no point marked.
-fn unmarked_value(v: Value) -> GoValue
+pub fn unmarked_value(v: Value) -> GoValue
     ensures { result ≡ unmarked v }
 {
-    let none = [false; 2704];
     GoValue {
         value: v,
-        marks: none,
+        marks: [false; 2704],
     }
 }
 
 // Whether a rule is one of Go's.
-fn is_go(rule: u32) -> bool
+pub fn is_go(rule: u32) -> bool
     ensures { result ≡ is_go rule }
 {
-    (rule == 0) | (rule == 2)
+    matches!(rule, 0 | 2)
 }
 
 // A move under a rule: the point (19, 19) is a pass where the rule is 0.
+#[tactic(auto, unfolding(crate::specs::Value::move_under))]
 fn play(rule: u32, v: Value) -> Value
     ensures { result ≡ move_under rule v }
 {
-    let Value::Move(x, y) = v else {
-        return v;
-    };
-    if (rule == 0) & ((x == 19) & (y == 19)) {
-        return Value::Pass;
+    match v {
+        Value::Move(19, 19) if rule == 0 => Value::Pass,
+        _ => v,
     }
-    v
 }
 
 // What the values of a property of this shape stand for under a rule, without the marks of a set: a move or a number where there is exactly one.
@@ -56,21 +53,20 @@ pub fn value_by(
 ) -> Value
     ensures { result ≡ (value_by rule shape (values_at text.now vals.now first count)).value }
 {
-    if let Shape::Unread = shape {
-        return Value::Other;
+    match shape {
+        Shape::OneMove if count == 1 => {
+            play(
+                rule,
+                go_points::read_move(parts::value_at(text, vals, first, 0)),
+            )
+        }
+        Shape::OneNumber if count == 1 => {
+            go_points::read_handicap(parts::value_at(text, vals, first, 0))
+        }
+        Shape::OneMove | Shape::OneNumber => Value::Invalid,
+        Shape::ManyPoints => crate::set::read_points(text, vals, first, count).value,
+        Shape::Unread => Value::Other,
     }
-    if let Shape::ManyPoints = shape {
-        let set = crate::set::read_points(text, vals, first, count);
-        return set.value;
-    }
-    if count != 1 {
-        return Value::Invalid;
-    }
-    let value = parts::value_at(text, vals, first, 0);
-    if let Shape::OneMove = shape {
-        return play(rule, go_points::read_move(value));
-    }
-    go_points::read_handicap(value)
 }
 
 // The Go value of a property: the rule of its tree, its raw identifier, and the rows of its values.
@@ -87,9 +83,8 @@ pub fn go_value(
     if !is_go(rule) {
         return unmarked_value(Value::Other);
     }
-    let shape = go_shape::shape_of(identifier);
-    if let Shape::ManyPoints = shape {
-        return crate::set::read_points(text, vals, first, count);
+    match go_shape::shape_of(identifier) {
+        Shape::ManyPoints => crate::set::read_points(text, vals, first, count),
+        shape => unmarked_value(value_by(rule, shape, text, vals, first, count)),
     }
-    unmarked_value(value_by(rule, shape, text, vals, first, count))
 }

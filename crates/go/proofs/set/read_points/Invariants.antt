@@ -5,6 +5,3 @@ use Rattle.go.proofs.set.read_points.Given as goal
 
 abbrev pub invariant-loop-n : goal.invariant-loop-n
 invariant-loop-n l = Gathering (values_at l.text l.vals l.first l.count) (values_at l.text l.vals (l.first + l.n) (l.count - l.n)) l.marks
-
-abbrev pub decreases-loop-n : goal.decreases-loop-n
-decreases-loop-n l = l.count - l.n
