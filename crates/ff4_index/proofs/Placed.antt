@@ -1,5 +1,5 @@
 -- Places and identifiers: one to one; the place counted letter by letter. Assumes nothing.
-use Rattle.lists.proofs.Prelude.{ℕ, ◌+◌, ◌-◌, ◌*◌, ◌/◌, ◌%◌, ◌≤◌, ◌<◌, ◌≡◌, refl, ap, Bool, true, false, ◌&&◌, not, List, [], ◌∷◌, leb, ltb, eqb, pick, length, get_or, drop, arith, leb-true, lt-ltb, le-ltb, ne_eqb, ltb-false, not-false}
+use Rattle.lists.proofs.Prelude.{ℕ, ◌+◌, ◌-◌, ◌*◌, ◌/◌, ◌%◌, ◌≤◌, ◌<◌, ◌≡◌, refl, ap, Bool, true, false, ◌&&◌, List, [], ◌∷◌, leb, ltb, eqb, pick, length, get_or, drop, arith, leb-true, lt-ltb, le-ltb, ne_eqb, ltb-false}
 use Rattle.lists.specs.All.{All}
 use Rattle.lists.proofs.Tests.{and_both}
 use Rattle.values.specs.Read.{read_identifier}
@@ -10,9 +10,6 @@ use Rattle.ff4_index.specs.Locals.{place_from}
 -- an uppercase letter
 abbrev pub Upper : ℕ → Type 0
 Upper b = (0x41 ≤ b) × (b ≤ 0x5a)
-
-pub letter-in : (b : ℕ) → not (leb 0x41 b && leb b 0x5a) ≡ false → Upper b
-letter-in b h = let u = and_both (leb 0x41 b) (leb b 0x5a) (not-false _ h) in (leb-true 0x41 b u.0, leb-true b 0x5a u.1)
 
 pub letters-upper : (s : List ℕ) → All Upper (read_identifier s)
 unfolding read_identifier

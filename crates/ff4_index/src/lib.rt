@@ -46,29 +46,19 @@ const INDEX: [u16; 702] = [
     0, 0, 0, 0, 0, 0, 0, 0, 0, 0, 0, 0, 0, 0, 0, 0, 0, 0, 0, 0, 0, 0, 0, 0, 0, 0, 0, 0, 0, 0, 0, 0,
 ];
 
-// A byte as an index.
-fn wide(x: u8) -> usize
-    ensures { result ≡ x }
-{
-    x as usize
-}
-
 // The place of an identifier in the table; 702 where it has none. Letters count as those of a sheet's columns do, from 1 for `A`.
 fn place_of(identifier: &[u8]) -> usize
     ensures { result ≡ index_place (read_identifier identifier.now) }
 {
     let mut number: usize = 0;
-    let mut at = 0;
-    while at < identifier.len() {
-        let b = identifier[at];
-        at += 1;
-        if !((b'A' <= b) & (b <= b'Z')) {
+    for &b in identifier {
+        if !b.is_ascii_uppercase() {
             continue;
         }
         if 26 < number {
             return PLACES;
         }
-        number = number * 26 + wide(b - 64);
+        number = number * 26 + (b - 64) as usize;
     }
     if number == 0 {
         return PLACES;

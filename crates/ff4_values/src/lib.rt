@@ -37,13 +37,6 @@ const COLOR: u32 = 5;
 // The section of Go's own properties.
 const GO: u32 = 10;
 
-// A byte as a number.
-fn wide(x: u8) -> u32
-    ensures { result ≡ x }
-{
-    x as u32
-}
-
 // The byte that a value reads as; 256 where it reads as none, or as several.
 fn only_byte(raw: &[u8]) -> u32
     ensures { result ≡ only_byte (read_value raw.now) }
@@ -52,7 +45,7 @@ fn only_byte(raw: &[u8]) -> u32
         return 256;
     };
     let ReadStep::Byte(_, _) = values::read::next_read(raw, at) else {
-        return wide(b);
+        return b as u32;
     };
     256
 }
@@ -71,28 +64,22 @@ fn read_none(raw: &[u8]) -> Simple
 fn read_double(raw: &[u8]) -> Simple
     ensures { result ≡ double_of (read_value raw.now) }
 {
-    let b = only_byte(raw);
-    if b == 0x31 {
-        return Simple::Normal;
+    match only_byte(raw) {
+        0x31 => Simple::Normal,
+        0x32 => Simple::Emphasized,
+        _ => Simple::Invalid,
     }
-    if b == 0x32 {
-        return Simple::Emphasized;
-    }
-    Simple::Invalid
 }
 
 // `B` or `W`.
 fn read_color(raw: &[u8]) -> Simple
     ensures { result ≡ color_of (read_value raw.now) }
 {
-    let b = only_byte(raw);
-    if b == 0x42 {
-        return Simple::Black;
+    match only_byte(raw) {
+        0x42 => Simple::Black,
+        0x57 => Simple::White,
+        _ => Simple::Invalid,
     }
-    if b == 0x57 {
-        return Simple::White;
-    }
-    Simple::Invalid
 }
 
 // A decimal within 64 bits with sign.
@@ -110,26 +97,21 @@ fn read_number(raw: &[u8]) -> Simple
 fn is_simple(kind: u32) -> bool
     ensures { result ≡ is_simple kind }
 {
-    (kind == NONE) | ((kind == NUMBER) | ((kind == DOUBLE) | (kind == COLOR)))
+    matches!(kind, NONE | NUMBER | DOUBLE | COLOR)
 }
 
 // A raw value by its kind.
+#[tactic(auto, unfolding(crate::specs::Simple::simple_of))]
 fn simple_of(kind: u32, raw: &[u8]) -> Simple
     ensures { result ≡ simple_of kind (read_value raw.now) }
 {
-    if kind == NONE {
-        return read_none(raw);
+    match kind {
+        NONE => read_none(raw),
+        DOUBLE => read_double(raw),
+        COLOR => read_color(raw),
+        NUMBER => read_number(raw),
+        _ => Simple::Other,
     }
-    if kind == DOUBLE {
-        return read_double(raw);
-    }
-    if kind == COLOR {
-        return read_color(raw);
-    }
-    if kind == NUMBER {
-        return read_number(raw);
-    }
-    Simple::Other
 }
 
 // The values of a property by their kind: exactly one is wanted.
@@ -147,11 +129,12 @@ fn simple_by(kind: u32, text: &[u8], values: &[u32], first: usize, count: usize)
 }
 
 // The kind of a property's values where the tree is read by this rule: 0 and 2 are Go's, and Go's own properties are unknown in another game.
+#[tactic(auto, unfolding(crate::specs::Simple::kind_in))]
 fn kind_in(rule: u32, identifier: &[u8]) -> u32
     ensures { result ≡ kind_in rule (read_identifier identifier.now) }
 {
     let entry = ff4_index::entry_of(identifier);
-    if (entry.section == GO) & !((rule == 0) | (rule == 2)) {
+    if entry.section == GO && !go::value::is_go(rule) {
         return 0;
     }
     entry.kind

@@ -4,6 +4,7 @@ pub mod Keeps
 pub mod Listed
 pub mod Marked
 pub mod Order
+pub mod Playing
 pub mod ReadBack
 pub mod Sets
 pub mod Shapes

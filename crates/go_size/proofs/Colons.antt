@@ -1,6 +1,10 @@
 -- The read value has its colons where the raw bytes have them. Assumes nothing.
-use Rattle.lists.proofs.Prelude.{ℕ, suc, ◌+◌, ◌-◌, ◌≤◌, ◌<◌, ◌≡◌, refl, sym, ap, ◌∙◌, Bool, true, false, ◌||◌, List, [], ◌∷◌, add-one, arith, eqb, ltb, length, take, drop, get_or, pick, drop_of_length-le, length-drop, drop-cons, take_all, ne_eqb, eq-eqb, eqb-true, lt-ltb, le-ltb}
+use Rattle.lists.proofs.Prelude.{ℕ, suc, ◌+◌, ◌-◌, ◌≤◌, ◌<◌, ◌≡◌, refl, sym, ap, ◌∙◌, Bool, true, false, ◌||◌, List, [], ◌∷◌, add-one, arith, eqb, ltb, length, take, drop, pick, length-drop, take_all, ne_eqb, eqb-true, lt-ltb, le-ltb}
 use lib.Dec.{leb-suc-suc}
+use Rattle.lists.proofs.Prelude.{not, ltb-true, ltb-false}
+use Rattle.std.proofs.Common.{cond, Some, None}
+use Rattle.std.specs.Prelude.{position}
+use Rattle.std.specs.List.{position_or_len}
 use Rattle.values.specs.Read.{read_from, read_value}
 use Rattle.go_size.specs.Size.{has_colon, colon_place, before_colon, behind_colon, side_of, pair_of, size_of}
 use Rattle.go_size.specs.declared.Size.{Size}
@@ -69,32 +73,45 @@ has-place (x ∷ s) = go (eqb x 0x3a) (has-place s)
     go false e = e ∙ sym (leb-suc-suc (suc (colon_place s)) (length s))
 
 -- the search
-module _ (s : List ℕ) (i x : ℕ) (e : i + colon_place (drop i s) ≡ x) where
-  pub colon-passed : i < length s → (get_or s i 0 ≡ 0x3a → ⊥) → i + 1 + colon_place (drop (i + 1) s) ≡ x
-  colon-passed l n =
-      let f : i + suc (colon_place (drop (suc i) s)) ≡ x = rw (drop-cons s i 0 l, ne_eqb (get_or s i 0) 0x3a n) at e in
-      rw add-one (omega arith)
+place-is : (s : List ℕ) → colon_place s ≡ position_or_len (λ b. eqb b 0x3a) s
+place-is [] = refl
+place-is (x ∷ s) = go (eqb x 0x3a) (place-is s)
+  where
+    go : (t : Bool) → colon_place s ≡ position_or_len (λ b. eqb b 0x3a) s → pick t 0 (suc (colon_place s)) ≡ cond (not t) (1 + position_or_len (λ b. eqb b 0x3a) s) 0
+    go true e = refl
+    go false e = omega (arith, e)
 
-  pub colon-found : i < length s → get_or s i 0 ≡ 0x3a → i ≡ x
-  colon-found l p = let f : i + 0 ≡ x = rw (drop-cons s i 0 l, eq-eqb (get_or s i 0) 0x3a p) at e in omega arith
+pub colon-found : (s : List ℕ) (p : ℕ) → position (λ b. eqb b 0x3a) s ≡ Some p → (p ≡ colon_place s) × (p < length s)
+colon-found s p e = go (ltb (position_or_len (λ b. eqb b 0x3a) s) (length s)) refl e
+  where
+    go : (t : Bool) → ltb (position_or_len (λ b. eqb b 0x3a) s) (length s) ≡ t → cond t (Some (position_or_len (λ b. eqb b 0x3a) s)) None ≡ Some p
+        → (p ≡ colon_place s) × (p < length s)
+    go true f g =
+        let l = ltb-true (position_or_len (λ b. eqb b 0x3a) s) (length s) f in
+        let q : position_or_len (λ b. eqb b 0x3a) s ≡ p = cc in
+        (sym q ∙ sym (place-is s), omega arith)
+    go false f g = absurd cc
 
-  pub colon-missed : length s ≤ i → i ≡ x
-  colon-missed l = let f : i + 0 ≡ x = rw (drop_of_length-le s l) at e in omega arith
+pub colon-missed : (s : List ℕ) → position (λ b. eqb b 0x3a) s ≡ None → length s ≤ colon_place s
+colon-missed s e = go (ltb (position_or_len (λ b. eqb b 0x3a) s) (length s)) refl e
+  where
+    go : (t : Bool) → ltb (position_or_len (λ b. eqb b 0x3a) s) (length s) ≡ t → cond t (Some (position_or_len (λ b. eqb b 0x3a) s)) None ≡ None
+        → length s ≤ colon_place s
+    go true f g = absurd cc
+    go false f g = let l = ltb-false (position_or_len (λ b. eqb b 0x3a) s) (length s) f in omega (arith, place-is s)
 
 -- the size
-module _ (s : List ℕ) (p x y : ℕ) (r : Size) (e : p ≡ colon_place s) where
-  pub size-two : p < length s → x ≡ side_of (read_value (take p s)) → y ≡ side_of (read_value (take (length s - (p + 1)) (drop (p + 1) s))) → r ≡ pair_of x y
+module _ (s : List ℕ) {x : ℕ} {r : Size} where
+  pub size-two : (p y : ℕ) → p ≡ colon_place s → p < length s → x ≡ side_of (read_value (take p s)) → y ≡ side_of (read_value (take (length s - (p + 1)) (drop (p + 1) s))) → r ≡ pair_of x y
       → r ≡ size_of (read_value s)
   unfolding size_of
-  size-two l f g h =
+  size-two p y e l f g h =
       let all : take (length s - (p + 1)) (drop (p + 1) s) ≡ drop (p + 1) s = take_all (length s - (p + 1)) (drop (p + 1) s) (omega (arith, length-drop (p + 1) s)) in
       let b : before_colon (read_value s) ≡ read_value (take p s) = rw e (read-before false s) in
       let a : behind_colon (read_value s) ≡ read_value (drop (p + 1) s) = rw (e, add-one) (read_behind false s) in
       let l2 : colon_place s < length s = omega arith in
       rw (has-colon false s, has-place s, lt-ltb (colon_place s) (length s) l2, b, a, ← f, ← all, ← g) h
 
-  pub size-one : length s ≤ p → x ≡ side_of (read_value s) → r ≡ pair_of x x → r ≡ size_of (read_value s)
+  pub size-one : length s ≤ colon_place s → x ≡ side_of (read_value s) → r ≡ pair_of x x → r ≡ size_of (read_value s)
   unfolding size_of
-  size-one l f h =
-      let l2 : length s ≤ colon_place s = omega arith in
-      rw (has-colon false s, has-place s, le-ltb (colon_place s) (length s) l2, ← f) h
+  size-one l f h = rw (has-colon false s, has-place s, le-ltb (colon_place s) (length s) l, ← f) h

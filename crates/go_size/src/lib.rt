@@ -1,11 +1,11 @@
 // The size of a board: SZ is one number, or two with one colon, each from 1 to 52, over the read value.
 #![tactic(auto)]
 
-ghost use Rattle.std.specs.Prelude.{◌≡◌};
+ghost use Rattle.std.specs.Prelude.{◌≡◌, ◌==◌, ◌≤◌, position};
 ghost use Rattle.values.specs.Read.{read_value};
 ghost use Rattle.parts.specs.Rows.{values_at};
 ghost use Rattle.parts_props.specs.Props.{named_at, properties_at};
-ghost use Rattle.go_size.specs.Size.{colon_place, side_of, pair_of, size_of};
+ghost use Rattle.go_size.specs.Size.{side_of, pair_of, size_of};
 ghost use Rattle.go_size.specs.Root.{SZ, size_of_values, size_in};
 ghost use Rattle.go_size.specs.Locals.{NextSize};
 
@@ -26,39 +26,30 @@ pub enum RootSize {
     Wrong,
 }
 
-// The place of the first colon of the raw bytes, or their length.
-fn colon_place(s: &[u8]) -> usize
-    ensures { result ≡ colon_place s.now }
+// The place of the first colon of the raw bytes, if there is one.
+fn colon_place(s: &[u8]) -> Option<usize>
+    ensures { result ≡ position (λ b. b == 0x3a) s.now }
 {
-    let mut i = 0;
-    while i < s.len() {
-        if s[i] == b':' {
-            break;
-        }
-        i += 1;
-    }
-    i
+    s.iter().position(|&b| b == b':')
 }
 
 // A side, or 0.
+#[tactic(auto, unfolding(crate::specs::Size::side_of))]
 fn side(s: &[u8]) -> usize
     ensures { result ≡ side_of (read_value s.now) }
 {
     match values::decimal::decimal_within(s, 52) {
-        Number::Bad => 0,
-        Number::Minus(_) => 0,
         Number::Plus(n) => n as usize,
+        Number::Bad | Number::Minus(_) => 0,
     }
 }
 
 // Two sides, none of them 0.
+#[tactic(auto, unfolding(crate::specs::Size::pair_of))]
 fn board(x: usize, y: usize) -> Size
     ensures { result ≡ pair_of x y }
 {
-    if x == 0 {
-        return Size::Bad;
-    }
-    if y == 0 {
+    if x == 0 || y == 0 {
         return Size::Bad;
     }
     Size::Board(x, y)
@@ -68,15 +59,13 @@ fn board(x: usize, y: usize) -> Size
 pub fn read_size(s: &[u8]) -> Size
     ensures { result ≡ size_of (read_value s.now) }
 {
-    let p = colon_place(s);
-    if p < s.len() {
-        let next = p + 1;
-        let x = side(&s[..p]);
-        let y = side(&s[next..]);
-        return board(x, y);
+    match colon_place(s) {
+        Some(p) => board(side(&s[..p]), side(&s[p + 1..])),
+        None => {
+            let x = side(s);
+            board(x, x)
+        }
     }
-    let x = side(s);
-    board(x, x)
 }
 
 // The size that the values of an SZ say: exactly one is wanted.
@@ -102,16 +91,15 @@ fn is_size(text: &[u8], properties: &[u32], p: usize) -> bool
 
 // The first SZ of the properties from `from` up to `to`, or `to`.
 fn next_size(text: &[u8], properties: &[u32], from: usize, to: usize) -> usize
+    requires { from ≤ to }
     ensures { NextSize text.now properties.now from to result }
 {
-    let mut p = from;
-    while p < to {
+    for p in from..to {
         if is_size(text, properties, p) {
             return p;
         }
-        p += 1;
     }
-    p
+    to
 }
 
 // The size that the properties of `count` rows from `first` on say.

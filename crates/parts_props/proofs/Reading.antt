@@ -1,5 +1,5 @@
 -- Whether what is left of an identifier reads as what is left of a name; an identifier by its row. Assumes nothing.
-use Rattle.lists.proofs.Prelude.{ℕ, ◌+◌, ◌*◌, ◌/◌, ◌≤◌, ◌<◌, ◌≡◌, refl, Bool, true, false, ◌&&◌, List, [], leb, length, get_or, drop, arith, drop_of_length-le, eq-eqb, ne_eqb, lt-ltb, le-ltb, leb-true, leb-false}
+use Rattle.lists.proofs.Prelude.{ℕ, ◌+◌, ◌*◌, ◌/◌, ◌≤◌, ◌<◌, ◌≡◌, refl, Bool, true, false, ◌&&◌, List, [], leb, eqb, eqb-true, eqb-false, length, get_or, drop, arith, drop_of_length-le, eq-eqb, ne_eqb, lt-ltb, le-ltb}
 use Rattle.lists.proofs.Places.{drop-next}
 use Rattle.lists.specs.Same.{same}
 use Rattle.values.specs.Read.{read_identifier}
@@ -8,13 +8,13 @@ use Rattle.tables.specs.Columns.{property_stride}
 use Rattle.parts_props.specs.Props.{identifier_at}
 
 module _ (s w : List ℕ) (i n : ℕ) {x : Bool} (e : same (read_identifier (drop i s)) (drop n w) ≡ x) where
-  pub reads_end : length s ≤ i → leb (length w) n ≡ x
+  pub reads_end : length s ≤ i → n ≤ length w → eqb n (length w) ≡ x
   unfolding read_identifier
-  reads_end h = go (leb (length w) n) refl (rw (drop_of_length-le s h) at e)
+  reads_end h l = go (eqb n (length w)) refl (rw (drop_of_length-le s h) at e)
     where
-      go : (t : Bool) → leb (length w) n ≡ t → same [] (drop n w) ≡ x → t ≡ x
-      go true f g = rw (drop_of_length-le w (leb-true (length w) n f)) at g
-      go false f g = rw (drop-next w n (leb-false (length w) n f)) at g
+      go : (t : Bool) → eqb n (length w) ≡ t → same [] (drop n w) ≡ x → t ≡ x
+      go true f g = let z = eqb-true n (length w) f in let p : length w ≤ n = omega arith in rw (drop_of_length-le w p) at g
+      go false f g = let z = eqb-false n (length w) f in let p : n < length w = omega (arith, z) in rw (drop-next w n p) at g
 
   module _ (h : i < length s) where
     pub reads_on : (leb 0x41 (get_or s i 0) && leb (get_or s i 0) 0x5a) ≡ false → same (read_identifier (drop (i + 1) s)) (drop n w) ≡ x

@@ -11,14 +11,7 @@ pub fn row_count(properties: &[u32], first: usize, count: usize) -> usize
     ensures { result ≡ rows_from properties.now first count }
 {
     let rows = properties.len() / tables::PROPERTY_STRIDE;
-    if rows <= first {
-        return 0;
-    }
-    let left = rows - first;
-    if left < count {
-        return left;
-    }
-    count
+    rows.saturating_sub(first).min(count)
 }
 
 // The raw identifier of property p, as a part of the text; nothing where there is no such row.
@@ -35,23 +28,17 @@ pub fn identifier_at<'a, 'b>(text: &'a [u8], properties: &'b [u32], p: usize) ->
 pub fn reads_as(identifier: &[u8], name: &[u8]) -> bool
     ensures { result ≡ same (read_identifier identifier.now) name.now }
 {
-    let mut at = 0;
     let mut n = 0;
-    while at < identifier.len() {
-        let b = identifier[at];
-        at += 1;
-        if !((b'A' <= b) & (b <= b'Z')) {
+    for &b in identifier {
+        if !b.is_ascii_uppercase() {
             continue;
         }
-        if name.len() <= n {
-            return false;
-        }
-        if b != name[n] {
+        if n == name.len() || b != name[n] {
             return false;
         }
         n += 1;
     }
-    name.len() <= n
+    n == name.len()
 }
 
 // Whether the identifier of property p reads as a name.

@@ -36,10 +36,8 @@ fn put_raw(
     ensures { Wrote (raws_text (values_at text.now values.now first count)) out.old at out.new result }
 {
     let mut to = at;
-    let mut i: usize = 0;
-    while i < count {
+    for i in 0..count {
         to = put_box(out, to, parts::value_at(text, values, first, i));
-        i += 1;
     }
     to
 }
@@ -67,10 +65,7 @@ fn is_plain(shape: Shape, count: usize, value: &[u8]) -> bool
     ensures { result ≡ true → (count ≡ 1) × (length value.now ≡ 2)
         × ((rule : ℕ) → value.now ∷ [] ≡ form_by rule shape (value.now ∷ [])) }
 {
-    if count != 1 {
-        return false;
-    }
-    if value.len() != 2 {
+    if count != 1 || value.len() != 2 {
         return false;
     }
     if 51 < go_points::letter_of(value[0]) {
@@ -125,8 +120,8 @@ fn any_marked(marks: &[bool; 2704], i: usize) -> bool
     ensures { result ≡ false → (k : ℕ) → k < 64 → get_or marks.now (i + k) false ≡ false }
 {
     let mut any = false;
-    for k in 0..64usize {
-        any = any | marks[i + k];
+    for &mark in &marks[i..i + 64] {
+        any |= mark;
     }
     any
 }
@@ -137,6 +132,7 @@ fn past_unmarked(marks: &[bool; 2704], i: usize) -> usize
     ensures { (i ≤ result) × (result < 2704) × (points_from i (drop i marks.now) ≡ points_from result (drop result marks.now)) }
 {
     let mut at = i;
+    // A while: it steps by 64 and ends at the first step with a mark.
     while at + 64 < 2704 {
         if any_marked(marks, at) {
             return at;
@@ -153,6 +149,7 @@ fn put_points(out: &mut [u8], at: usize, marks: &[bool; 2704]) -> usize
 {
     let mut to = at;
     let mut i: usize = 0;
+    // A while: i jumps over places that are not marked.
     while i < 2704 {
         let n = past_unmarked(marks, i);
         to = put_marked(out, to, marks[n], n);
@@ -174,12 +171,10 @@ fn put_set(
         out.old at out.new result }
 {
     let set = go::set::read_points(text, values, first, count);
-    let value = set.value;
-    let Value::Points = value else {
+    let Value::Points = set.value else {
         return put_raw(out, at, text, values, first, count);
     };
-    let marks = set.marks;
-    put_points(out, at, &marks)
+    put_points(out, at, &set.marks)
 }
 
 // A move under a rule or a number of handicap stones, or the raw values of what is neither.
@@ -223,7 +218,7 @@ pub fn put_values(
     ensures { Wrote (raws_text (normal rule (read_identifier identifier.now) (values_at text.now values.now first count)))
         out.old at out.new result }
 {
-    if !((rule == 0) | (rule == 2)) {
+    if !go::value::is_go(rule) {
         return put_raw(out, at, text, values, first, count);
     }
     let shape = go_shape::shape_of(identifier);

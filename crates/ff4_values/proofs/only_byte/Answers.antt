@@ -1,4 +1,3 @@
-use Rattle.lists.proofs.Prelude.{◌∙◌}
 use Rattle.values.proofs.Steps.{stepped}
 use Rattle.ff4_values.proofs.Readings.{only_none, only_one, only-more}
 use Rattle.ff4_values.proofs.only_byte.Goals as goal
@@ -8,7 +7,7 @@ returns-in_default c = let s = c.args.raw.now in only_none s (stepped s 0 c.next
 
 pub returns-in_default-next_read : goal.returns-in_default-next_read
 returns-in_default-next_read c = let s = c.args.raw.now in
-    c.wide.ensures ∙ only_one s (stepped s 0 c.next_read.ensures c.in-Byte.is) (stepped s c.in-Byte.at c.next_read-2.ensures c.in_default-next_read.is)
+    only_one s (stepped s 0 c.next_read.ensures c.in-Byte.is) (stepped s c.in-Byte.at c.next_read-2.ensures c.in_default-next_read.is)
 
 pub returns : goal.returns
 returns c = let s = c.args.raw.now in

@@ -1,13 +1,12 @@
-use Rattle.lists.proofs.Prelude.{sym, length-take-le, arith}
-use Rattle.go_size.proofs.Colons.{size-one, size-two}
+use Rattle.lists.proofs.Prelude.{sym, ◌∙◌}
+use Rattle.go_size.proofs.Colons.{colon-found, colon-missed, size-one, size-two}
 use Rattle.go_size.proofs.read_size.Goals as goal
 
-pub slice_bounds-side-end : goal.slice_bounds-side-end
-slice_bounds-side-end c = sym (length-take-le c.colon_place-p.result c.args.s.now (omega arith))
+pub returns-in-Some : goal.returns-in-Some
+returns-in-Some c = let s = c.args.s.now in
+    let f = colon-found s c.in-Some.p (sym c.colon_place.ensures ∙ c.in-Some.is) in
+    size-two s c.in-Some.p c.side-in-Some.result f.0 f.1 c.side.ensures c.side-in-Some.ensures c.board.ensures
 
-pub returns-then-p-s : goal.returns-then-p-s
-returns-then-p-s c = size-two c.args.s.now c.colon_place-p.result c.side-x.result c.side-y.result _ c.colon_place-p.ensures c.if-p-s.true
-    c.side-x.ensures c.side-y.ensures c.board.ensures
-
-pub returns : goal.returns
-returns c = size-one c.args.s.now c.colon_place-p.result c.side-x-2.result 0 _ c.colon_place-p.ensures c.if-p-s.false c.side-x-2.ensures c.board-2.ensures
+pub returns-in-None : goal.returns-in-None
+returns-in-None c = let s = c.args.s.now in
+    size-one s (colon-missed s (sym c.colon_place.ensures ∙ c.in-None.is)) c.side-x.ensures c.board-in-None.ensures

@@ -1,18 +1,6 @@
-use Rattle.lists.proofs.Prelude.{false≢true, not-true}
+use Rattle.lists.proofs.Prelude.{not-true}
 use Rattle.serialize_values.proofs.Plain.{corner-none, plain-move, plain-set}
 use Rattle.serialize_values.proofs.is_plain.Goals as goal
-
-pub returns-then-count-ne1 : goal.returns-then-count-ne1
-returns-then-count-ne1 c = λ e. absurd (false≢true e)
-
-pub returns-then-value-ne2 : goal.returns-then-value-ne2
-returns-then-value-ne2 c = λ e. absurd (false≢true e)
-
-pub returns-then-letter_of-gt51 : goal.returns-then-letter_of-gt51
-returns-then-letter_of-gt51 c = λ e. absurd (false≢true e)
-
-pub returns-then-letter_of-gt51-2 : goal.returns-then-letter_of-gt51-2
-returns-then-letter_of-gt51-2 c = λ e. absurd (false≢true e)
 
 pub returns-in-OneMove : goal.returns-in-OneMove
 returns-in-OneMove c = λ e.
@@ -28,6 +16,3 @@ pub returns-in-ManyPoints : goal.returns-in-ManyPoints
 returns-in-ManyPoints c = λ e.
     let l = c.if-value-ne2.false in
     (c.if-count-ne1.false, l, plain-set c.args.value.now l c.letter_of.ensures c.letter_of-2.ensures c.if-letter_of-gt51.false c.if-letter_of-gt51-2.false c.in-ManyPoints.is)
-
-pub returns-in_default : goal.returns-in_default
-returns-in_default c = λ e. absurd (false≢true e)

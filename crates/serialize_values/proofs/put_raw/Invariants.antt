@@ -5,7 +5,6 @@ use Rattle.serialize_values.proofs.Writing.{Writing}
 use Rattle.serialize_values.proofs.put_raw.Given as goal
 
 abbrev pub invariant-loop-i : goal.invariant-loop-i
-invariant-loop-i l = Writing (raws_text (values_at l.text l.values l.first l.count)) (raws_text (values_at l.text l.values (l.first + l.i) (l.count - l.i))) l.initial.out l.at l.out l.to
-
-abbrev pub decreases-loop-i : goal.decreases-loop-i
-decreases-loop-i l = l.count - l.i
+invariant-loop-i l =
+    let raws = values_at l.text l.values in
+    Writing (raws_text (raws l.first l.count)) (raws_text (raws (l.first + l.i) (l.count - l.i))) l.initial.out l.at l.out l.to

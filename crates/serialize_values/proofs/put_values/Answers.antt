@@ -8,9 +8,9 @@ use Rattle.serialize_values.proofs.Forms.{normal-shaped, set-form}
 use Rattle.serialize_values.proofs.Plain.{one_value}
 use Rattle.serialize_values.proofs.put_values.Goals as goal
 
-pub returns-then-not-rule : goal.returns-then-not-rule
-returns-then-not-rule c = let args = c.args in
-    wrote-is (ap raws_text (sym (normal-unknown args.rule (read_identifier args.identifier.now) (values_at args.text.now args.values.now args.first args.count) c.if-not-rule.true))) c.put_raw.ensures
+pub returns-then-not-is_go : goal.returns-then-not-is_go
+returns-then-not-is_go c = let args = c.args in
+    wrote-is (ap raws_text (sym (normal-unknown args.rule (read_identifier args.identifier.now) (values_at args.text.now args.values.now args.first args.count) (sym c.is_go.ensures ∙ c.if-not-is_go.true)))) c.put_raw.ensures
 
 pub put_pair-requires : goal.put_pair-requires
 put_pair-requires c = (c.is_plain.ensures c.if-is_plain.true).1
@@ -23,13 +23,13 @@ returns-then-is_plain c = let args = c.args in
     wrote-is
     (ap raws_text
     (p.2 args.rule ∙ ap (form_by args.rule s.result) v
-    ∙ normal-shaped args.rule (read_identifier args.identifier.now) (values_at args.text.now args.values.now args.first args.count) c.if-not-rule.false s.ensures refl))
+    ∙ normal-shaped args.rule (read_identifier args.identifier.now) (values_at args.text.now args.values.now args.first args.count) (sym c.is_go.ensures ∙ c.if-not-is_go.false) s.ensures refl))
     c.put_pair.ensures
 
 pub returns-in-ManyPoints : goal.returns-in-ManyPoints
 returns-in-ManyPoints c = let args = c.args in
-    wrote-is (ap raws_text (set-form args.rule (values_at args.text.now args.values.now args.first args.count) ∙ normal-shaped args.rule (read_identifier args.identifier.now) (values_at args.text.now args.values.now args.first args.count) c.if-not-rule.false c.shape_of-shape.ensures c.in-ManyPoints.is)) c.put_set.ensures
+    wrote-is (ap raws_text (set-form args.rule (values_at args.text.now args.values.now args.first args.count) ∙ normal-shaped args.rule (read_identifier args.identifier.now) (values_at args.text.now args.values.now args.first args.count) (sym c.is_go.ensures ∙ c.if-not-is_go.false) c.shape_of-shape.ensures c.in-ManyPoints.is)) c.put_set.ensures
 
 pub returns : goal.returns
 returns c = let args = c.args in
-    wrote-is (ap raws_text (normal-shaped args.rule (read_identifier args.identifier.now) (values_at args.text.now args.values.now args.first args.count) c.if-not-rule.false c.shape_of-shape.ensures refl)) c.put_one.ensures
+    wrote-is (ap raws_text (normal-shaped args.rule (read_identifier args.identifier.now) (values_at args.text.now args.values.now args.first args.count) (sym c.is_go.ensures ∙ c.if-not-is_go.false) c.shape_of-shape.ensures refl)) c.put_one.ensures
