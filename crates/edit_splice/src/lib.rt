@@ -10,74 +10,18 @@ ghost use Rattle.edit_splice.specs.Splice.{pasted, cleared, fits_in, replaced};
 // Stores go on in steps of so many bytes where lent memory begins at one, as it mostly does.
 const STEP: usize = 16;
 
-// `new` copied to `at` and on.
-fn copy_in(buffer: &mut [u8], at: usize, new: &[u8])
-    requires { at + length new.now ≤ length buffer.old }
-    ensures { buffer.new ≡ paste buffer.old at new.now (length new.now) }
-{
-    let mut i: usize = 0;
-    while i < new.len() {
-        buffer[at + i] = new[i];
-        i += 1;
-    }
-}
-
-// `n` zeros from `at` on.
-fn zero_out(buffer: &mut [u8], at: usize, n: usize)
-    requires { at + n ≤ length buffer.old }
-    ensures { buffer.new ≡ paste buffer.old at (replicate n 0) n }
-{
-    let mut i: usize = 0;
-    while i < n {
-        buffer[at + i] = 0;
-        i += 1;
-    }
-}
-
-// `n` bytes moved to the left, the first one first.
-fn move_left(buffer: &mut [u8], from: usize, to: usize, n: usize)
-    requires { (to ≤ from) × (from + n ≤ length buffer.old) }
-    ensures { buffer.new ≡ paste buffer.old to (drop from buffer.old) n }
-{
-    let mut i: usize = 0;
-    while i < n {
-        buffer[to + i] = buffer[from + i];
-        i += 1;
-    }
-}
-
-// `n` bytes moved to the right, the last one first.
-fn move_right(buffer: &mut [u8], from: usize, to: usize, n: usize)
-    requires { (from ≤ to) × (to + n ≤ length buffer.old) }
-    ensures { buffer.new ≡ paste buffer.old to (drop from buffer.old) n }
-{
-    let mut k = n;
-    while 0 < k {
-        k -= 1;
-        buffer[to + k] = buffer[from + k];
-    }
-}
-
 // How many of `n` bytes from `at` on come before the next step.
 fn before_step(at: usize, n: usize) -> usize
     ensures { result ≤ n }
 {
-    let over = (STEP - at % STEP) % STEP;
-    if n < over {
-        return n;
-    }
-    over
+    n.min((STEP - at % STEP) % STEP)
 }
 
 // How many of `n` bytes up to `end` come behind the last step.
 fn behind_step(end: usize, n: usize) -> usize
     ensures { result ≤ n }
 {
-    let over = end % STEP;
-    if n < over {
-        return n;
-    }
-    over
+    n.min(end % STEP)
 }
 
 // `n` bytes moved to the left: up to a step, then the rest in steps. Bytes that stand there already stay.
@@ -89,8 +33,8 @@ fn close_up(buffer: &mut [u8], from: usize, to: usize, n: usize)
         return;
     }
     let head = before_step(to, n);
-    move_left(buffer, from, to, head);
-    move_left(buffer, from + head, to + head, n - head);
+    buffer.copy_within(from..from + head, to);
+    buffer.copy_within(from + head..from + n, to + head);
 }
 
 // `n` bytes moved to the right: those behind the last step, then the rest in steps.
@@ -100,8 +44,8 @@ fn open_up(buffer: &mut [u8], from: usize, to: usize, n: usize)
 {
     let tail = behind_step(to + n, n);
     let rest = n - tail;
-    move_right(buffer, from + rest, to + rest, tail);
-    move_right(buffer, from, to, rest);
+    buffer.copy_within(from + rest..from + n, to + rest);
+    buffer.copy_within(from..from + rest, to);
 }
 
 // The bytes from `start` to `end` of the first `used` replaced by `new`; bytes that this frees become 0.
@@ -114,12 +58,12 @@ fn swap_in(buffer: &mut [u8], used: usize, start: usize, end: usize, new: &[u8])
     let n = used - end;
     if to <= end {
         close_up(buffer, end, to, n);
-        zero_out(buffer, to + n, used - (to + n));
-        copy_in(buffer, start, new);
+        buffer[to + n..used].fill(0);
+        buffer[start..to].copy_from_slice(new);
         return;
     }
     open_up(buffer, end, to, n);
-    copy_in(buffer, start, new);
+    buffer[start..to].copy_from_slice(new);
 }
 
 // Whether `m` bytes may stand for a part of the first `used` of so many bytes. No sum is made: it could wrap.
