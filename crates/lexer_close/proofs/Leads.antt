@@ -1,5 +1,5 @@
 -- A scan for a closing bracket steps over plain bytes. Assumes nothing.
-use Rattle.lists.proofs.Prelude.{ℕ, zero, suc, ◌+◌, ◌≤◌, ◌<◌, ◌≡◌, refl, ap, sym, ◌∙◌, subst, Bool, true, ◌&&◌, not, List, arith, eqb, length, drop, get_or, not-true, eqb-true, eqb-false}
+use Rattle.lists.proofs.Prelude.{ℕ, zero, suc, ◌+◌, ◌≤◌, ◌<◌, ◌≡◌, refl, ap, sym, ◌∙◌, subst, Bool, true, ◌&&◌, not, List, arith, eqb, length, take, drop, get_or, get_or-take, get_or-drop, length-take, length-drop, not-true, eqb-true, eqb-false}
 use Rattle.lists.proofs.Tests.{and_both}
 use Rattle.lexer_close.proofs.Steps.{close-here, close-on}
 use Rattle.lexer_close.specs.Close.{close_from, close_at}
@@ -28,6 +28,15 @@ leads-plain (suc n) s i h p =
     let l = leads-plain n s i (omega (arith, h)) (λ k b. p k (omega (arith, b))) in
     let e : i + n + 1 ≡ i + suc n = omega arith in
     subst (LeadsTo s i) e (leads-on l (leads_one s (i + n) (omega (arith, h)) (p n (omega arith))))
+
+-- a block of n bytes
+pub leads-block : (m n : ℕ) (s : List ℕ) (i : ℕ) → m ≡ n → i + n ≤ length s
+    → ((k : ℕ) → k < length (take m (drop i s)) → closes_nothing (get_or (take m (drop i s)) k 0) ≡ true) → LeadsTo s i (i + n)
+leads-block m n s i e h p = leads-plain n s i h (λ k b.
+    let l : k < length (take m (drop i s)) = simp (length-take, length-drop) (omega arith) in
+    let b' : k < m = omega arith in
+    let v : get_or (take m (drop i s)) k 0 ≡ get_or s (i + k) 0 = get_or-take m (drop i s) k 0 b' ∙ get_or-drop i s k 0 in
+    ap closes_nothing (sym v) ∙ p k l)
 
 -- two plain bytes and a `]`
 pub close-pair : (s : List ℕ) (i : ℕ) → i + 3 ≤ length s → {a b : Bool} → a ≡ closes_nothing (get_or s i 0) → b ≡ closes_nothing (get_or s (i + 1) 0) → eqb (get_or s (i + 2) 0) 0x5d && (a && b) ≡ true → close_at s i ≡ At (i + 2)

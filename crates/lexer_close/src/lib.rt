@@ -6,6 +6,8 @@ mod runs; // runs.rt: runs of bytes that the scan steps over
 ghost use Rattle.std.specs.Prelude.{◌≡◌};
 ghost use Rattle.lexer_close.specs.Close.{close_at};
 
+pub use runs::is_pair;
+
 // Where a scan for a closing bracket ends.
 #[derive(Clone, Copy)]
 pub enum Close {
@@ -23,6 +25,7 @@ pub fn value_end(s: &[u8], from: usize) -> Close
     let mut i = runs::past_short(s, from);
     let mut escaped = false;
     let mut again = i;
+    // A loop: i moves by a byte, or past a run.
     loop {
         if s.len() <= i {
             break Close::Open;

@@ -11,14 +11,13 @@ fn is_plain(b: u8) -> bool
     (b != b']') & (b != b'\\')
 }
 
-// Are `n` bytes plain: no early way out, so that the compiler takes 16 at once.
-fn all_plain(s: &[u8], i: usize, n: usize) -> bool
-    requires { i + n ≤ length s.now }
-    ensures { result ≡ true → (k : ℕ) → k < n → closes_nothing (get_or s.now (i + k) 0) ≡ true }
+// Are all plain: no early way out, so that the compiler takes 16 at once.
+fn all_plain(block: &[u8]) -> bool
+    ensures { result ≡ true → (k : ℕ) → k < length block.now → closes_nothing (get_or block.now k 0) ≡ true }
 {
     let mut all = true;
-    for k in 0..n {
-        all = all & is_plain(s[i + k]);
+    for b in block {
+        all = all & is_plain(*b);
     }
     all
 }
@@ -28,18 +27,13 @@ pub fn past_short(s: &[u8], from: usize) -> usize
     requires { from ≤ length s.now }
     ensures { LeadsTo s.now from result }
 {
-    let mut stop = s.len();
-    if 16 < stop - from {
-        stop = from + 16;
-    }
-    let mut i = from;
-    while i < stop {
+    let stop = s.len().min(from + 16);
+    for i in from..stop {
         if !is_plain(s[i]) {
             return i;
         }
-        i += 1;
     }
-    i
+    stop
 }
 
 // Do two plain bytes and a `]` stand there.
@@ -55,17 +49,17 @@ pub fn is_pair(s: &[u8], i: usize) -> bool
     (s[i + 2] == b']') & (is_plain(s[i]) & is_plain(s[i + 1]))
 }
 
-// Past plain blocks of 64 bytes.
-fn past_wide(s: &[u8], from: usize) -> usize
-    requires { from ≤ length s.now }
-    ensures { LeadsTo s.now from result }
+// Past plain blocks of N bytes up to `stop`. A while: i moves by a block, and the last bytes make none.
+fn past_blocks<const N: usize>(s: &[u8], from: usize, stop: usize) -> usize
+    requires { (0 < N) × (from ≤ stop) × (stop ≤ length s.now) }
+    ensures { LeadsTo s.now from result × (result ≤ stop) }
 {
     let mut i = from;
-    while 64 <= s.len() - i {
-        if !all_plain(s, i, 64) {
+    while N <= stop - i {
+        if !all_plain(&s[i..i + N]) {
             return i;
         }
-        i += 64;
+        i += N;
     }
     i
 }
@@ -75,15 +69,10 @@ pub fn past_plain(s: &[u8], from: usize) -> usize
     requires { from ≤ length s.now }
     ensures { LeadsTo s.now from result }
 {
-    let mut i = from;
-    while 16 <= s.len() - i {
-        if 64 <= i - from {
-            return past_wide(s, i);
-        }
-        if !all_plain(s, i, 16) {
-            return i;
-        }
-        i += 16;
+    let stop = s.len().min(from + 64);
+    let i = past_blocks::<16>(s, from, stop);
+    if i - from < 64 {
+        return i;
     }
-    i
+    past_blocks::<64>(s, i, s.len())
 }
