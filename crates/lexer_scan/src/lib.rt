@@ -25,22 +25,19 @@ pub fn is_space(b: u8) -> bool
 pub fn skip_space(s: &[u8], from: usize) -> usize
     ensures { result ≡ skip_at s.now from }
 {
-    let mut i = from;
-    while i < s.len() {
+    for i in from..s.len() {
         if !is_space(s[i]) {
             return i;
         }
-        i += 1;
     }
-    i
+    s.len().max(from)
 }
 
 // The `[` that ends the identifier at `from`.
 pub fn ident_end(s: &[u8], from: usize) -> Ident
     ensures { result ≡ ident_at s.now from }
 {
-    let mut i = from;
-    while i < s.len() {
+    for i in from..s.len() {
         let b = s[i];
         if b == b'[' {
             return Ident::Opens(i);
@@ -48,7 +45,6 @@ pub fn ident_end(s: &[u8], from: usize) -> Ident
         if 128 <= b {
             return Ident::Foreign;
         }
-        i += 1;
     }
     Ident::Missing
 }
@@ -83,6 +79,7 @@ pub fn values_end(s: &[u8], from: usize) -> Close
     ensures { result ≡ values_end_at s.now from }
 {
     let mut i = from;
+    // A loop: i moves by a value.
     loop {
         if s.len() <= i {
             break Close::At(i);
