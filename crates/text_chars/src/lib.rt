@@ -36,7 +36,7 @@ pub fn is_white(c: u32) -> bool
 fn byte_at(s: &[u8], i: usize) -> u8
     ensures { result ≡ get_or s.now i 0 }
 {
-    if i < s.len() { s[i] } else { 0 }
+    s.get(i).copied().unwrap_or(0)
 }
 
 // `b` from `a` to `z`, and `c` from `low` to `high`.
@@ -85,7 +85,7 @@ fn four(b: u8, c: u8, d: u8, e: u8) -> bool
 fn above(b: u8, base: u8) -> u32
     ensures { result ≡ b - base }
 {
-    if b < base { 0 } else { (b - base) as u32 }
+    u32::from(b.saturating_sub(base))
 }
 
 // The bits so far, and those of one byte more.

@@ -42,14 +42,13 @@ fn marked(seen: Seen, white: bool, start: usize, end: usize) -> Seen
     }
 }
 
-// Are `n` bytes ASCII: no early way out, so that the compiler takes 16 at once.
-fn all_ascii(s: &[u8], i: usize, n: usize) -> bool
-    requires { i + n ≤ length s.now }
-    ensures { result ≡ true → (k : ℕ) → k < n → get_or s.now (i + k) 0 < 128 }
+// Are all ASCII: no early way out, so that the compiler takes 16 at once.
+fn all_ascii(block: &[u8]) -> bool
+    ensures { result ≡ true → (k : ℕ) → k < length block.now → get_or block.now k 0 < 128 }
 {
     let mut low = true;
-    for k in 0..n {
-        low = low & (s[i + k] < 128);
+    for b in block {
+        low = low & (*b < 128);
     }
     low
 }
@@ -59,7 +58,7 @@ fn plain_run(s: &[u8], i: usize, n: usize) -> usize
     requires { (i + n ≤ length s.now) × (2 ≤ n) }
     ensures { 0 < result → Plain (result - 1) s.now i }
 {
-    if !all_ascii(s, i, n) {
+    if !all_ascii(&s[i..i + n]) {
         return 0;
     }
     if 32 < s[i + n - 1] {
@@ -95,6 +94,7 @@ pub fn trim(text: &[u8]) -> Trimmed
     let mut seen = Seen { first: 0, last: 0 };
     let mut i = 0;
     let mut again = 0;
+    // A while: i moves by the width of a character, or past a run.
     while i < text.len() {
         if (0 < seen.last) & (again <= i) {
             let n = plain_at(text, i);
