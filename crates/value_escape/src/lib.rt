@@ -23,11 +23,9 @@ fn put_escaped(out: &mut [u8], at: usize, b: u8) -> usize
 fn put_text(text: &[u8], out: &mut [u8]) -> usize
     ensures { Wrote (escaped_text text.now) out.old 0 out.new result }
 {
-    let mut i: usize = 0;
     let mut to: usize = 0;
-    while i < text.len() {
-        to = put_escaped(out, to, text[i]);
-        i += 1;
+    for b in text {
+        to = put_escaped(out, to, *b);
     }
     to
 }

@@ -33,6 +33,7 @@ fn digits_at(s: &[u8], from: usize, minus: bool, most: u64) -> Number
     let mut at = from;
     let mut acc: u64 = 0;
     let mut any = false;
+    // A loop: `at` moves by what the next read byte takes.
     loop {
         match crate::read::next_read(s, at) {
             ReadStep::End => break,
@@ -63,21 +64,12 @@ fn digits_at(s: &[u8], from: usize, minus: bool, most: u64) -> Number
     }
 }
 
-// The largest bound whose minus still fits a u64.
-fn bound_of(most: u64) -> u64
-    ensures { result ≡ min most (2 ^ 64 - 2) }
-{
-    if most < 0xffff_ffff_ffff_fffe {
-        return most;
-    }
-    0xffff_ffff_ffff_fffe
-}
-
 // The number that a value reads as, at most `most`.
 pub fn decimal_within(s: &[u8], most: u64) -> Number
     ensures { result ≡ decimal_of (min most (2 ^ 64 - 2)) (read_value s.now) }
 {
-    let bound = bound_of(most);
+    // The largest bound whose minus still fits a u64.
+    let bound = most.min(0xffff_ffff_ffff_fffe);
     match crate::read::next_read(s, 0) {
         ReadStep::End => Number::Bad,
         ReadStep::Byte(b, next) => {

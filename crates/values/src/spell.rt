@@ -17,6 +17,7 @@ fn digits_of(n: u64) -> Digits
     let mut bytes = [0u8; 20];
     let mut i: usize = 20;
     let mut rest = n;
+    // A while: i is the answer too, where the digits begin.
     while 0 < i {
         i -= 1;
         bytes[i] = b'0' + (rest % 10) as u8;

@@ -8,4 +8,4 @@ returns-then-left-i c = let args = c.args in
 
 pub returns : goal.returns
 returns c = let args = c.args in
-    value-part args.text.now args.vals.now (args.first + args.i) (omega arith) c.wide-2.ensures c.wide.ensures c.least-end.ensures c.least-start.ensures
+    value-part args.text.now args.vals.now (args.first + args.i) (omega arith) c.wide-2.ensures c.wide.ensures c.min-end.ensures c.min-start.ensures
