@@ -143,9 +143,7 @@ pub fn link_nodes(t: &mut [u32], n: usize)
     if (NONE as usize) < n {
         return;
     }
-    let mut k = n;
-    while 0 < k {
-        k -= 1;
+    for k in (0..n).rev() {
         let at = k * NODE_STRIDE;
         let parent = t[at] as usize;
         if parent < n {
@@ -168,22 +166,17 @@ pub fn level_nodes(t: &mut [u32], n: usize)
     if (NONE as usize) < n {
         return;
     }
-    let mut k = 0;
     let mut last: u32 = 0;
-    while k < n {
-        let row = k;
-        k += 1;
+    for row in 0..n {
         let at = row * NODE_STRIDE;
         let parent = t[at] as usize;
-        if parent + 1 == row {
-            last += 1;
-            t[at + NODE_DEPTH] = last;
+        last = if parent + 1 == row {
+            last + 1
         } else if parent < row {
-            last = t[parent * NODE_STRIDE + NODE_DEPTH] + 1;
-            t[at + NODE_DEPTH] = last;
+            t[parent * NODE_STRIDE + NODE_DEPTH] + 1
         } else {
-            last = 0;
-            t[at + NODE_DEPTH] = 0;
-        }
+            0
+        };
+        t[at + NODE_DEPTH] = last;
     }
 }

@@ -4,6 +4,3 @@ use Rattle.tables.proofs.link_nodes.Given as goal
 
 abbrev pub invariant-loop-k : goal.invariant-loop-k
 invariant-loop-k l = (l.k ≤ l.n) × HasRows l.n l.initial.t × LinkedFrom l.n l.initial.t l.t l.k
-
-abbrev pub decreases-loop-k : goal.decreases-loop-k
-decreases-loop-k l = l.k
