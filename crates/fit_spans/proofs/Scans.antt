@@ -4,8 +4,6 @@ use Rattle.lexer_laws.proofs.Exactly.{CloseIs, close-is, close-exactly}
 use Rattle.lexer.specs.Closed.{closed}
 use Rattle.lexer_scan.specs.Scan.{ident_from}
 use Rattle.lexer_close.specs.Close.{close_at}
-use Rattle.lexer_close.specs.LocalsRun.{closes_nothing}
-use Rattle.lexer_close.proofs.Leads.{close-pair}
 use Rattle.lexer_close.specs.declared.Close.{Close}
 use Rattle.lexer_close.specs.declared.Close.TheVariants.{At, Open}
 use Rattle.lexer_scan.specs.declared.Ident.{Ident}
@@ -100,10 +98,3 @@ unfolding plain_name
 plain-one [] h = absurd (omega (arith, h))
 plain-one (b ∷ []) h = ap (λ (x : Bool). ltb b 0x80 && x) (sym (and-true (not (eqb b 0x5b))))
 plain-one (b ∷ d ∷ s) h = absurd (omega (arith, h))
-
--- two bytes that close nothing
-pub pair-closes : (t : List ℕ) (a e : ℕ) → e - a ≡ 2 → e < length t → {x y : Bool} → x ≡ closes_nothing (get_or t a 0) → y ≡ closes_nothing (get_or t (a + 1) 0)
-    → eqb (get_or t e 0) 0x5d && (x && y) ≡ true → close_at t a ≡ At e
-pair-closes t a e w l {x} {y} ex ey h =
-    let z : a + 2 ≡ e = omega (arith, w) in
-    subst (λ (k : ℕ). close_at t a ≡ At k) z (close-pair t a (omega arith) ex ey (ap (λ (k : ℕ). eqb (get_or t k 0) 0x5d && (x && y)) z ∙ h))

@@ -2,9 +2,6 @@
 #![tactic(auto)]
 
 ghost use Rattle.std.specs.Prelude.{◌≡◌, true, ◌&&◌, [], ◌∷◌, ℕ, ◌+◌, ◌*◌, ◌/◌, ◌<◌, ◌≤◌, leb, length, get_or};
-ghost use Rattle.lexer_close.specs.declared.Close.TheVariants.{At};
-ghost use Rattle.lexer_close.specs.Close.{close_at};
-ghost use Rattle.lexer_close.specs.LocalsRun.{closes_nothing};
 ghost use Rattle.tables.specs.Numbers.{text_limit};
 ghost use Rattle.tables.specs.Columns.{node_stride, property_stride, value_stride, name_from_at, name_to_at, first_val_at, val_count_at, val_from_at, val_to_at};
 ghost use Rattle.tables.specs.Each.{each, tabulate};
@@ -29,8 +26,7 @@ fn ranges_follow(
         && each n (λ k. leb least (get_or table.now (k * stride + count) 0))) }
 {
     let mut sum: usize = 0;
-    let mut k: usize = 0;
-    while k < n {
+    for k in 0..n {
         let begins = lists::wide(table[k * stride + first]);
         let has = lists::wide(table[k * stride + count]);
         if begins != sum {
@@ -43,7 +39,6 @@ fn ranges_follow(
             return false;
         }
         sum += has;
-        k += 1;
     }
     sum == total
 }
@@ -56,16 +51,16 @@ fn ranges_fit(nodes: &[u32], properties: &[u32], counts: tables::Counts) -> bool
     ranges_follow(
         nodes,
         tables::NODE_STRIDE,
-        3,
-        4,
+        tables::NODE_FIRST,
+        tables::NODE_COUNT,
         counts.nodes,
         counts.properties,
         0,
     ) & ranges_follow(
         properties,
         tables::PROPERTY_STRIDE,
-        2,
-        3,
+        tables::PROPERTY_FIRST,
+        tables::PROPERTY_COUNT,
         counts.properties,
         counts.values,
         1,
@@ -98,10 +93,8 @@ fn value_spans(values: &[u32], used: usize, from: usize, v: usize, m: usize) -> 
     requires { (v + m ≤ length values.now / value_stride) × (used ≤ text_limit) }
     ensures { Spanned used from (tabulate (val_span values.now) v m) result.ok result.next }
 {
-    let last = v + m;
-    let mut k = v;
     let mut next = from;
-    while k < last {
+    for k in v..v + m {
         let start = lists::wide(values[k * tables::VALUE_STRIDE]);
         let end = lists::wide(values[k * tables::VALUE_STRIDE + tables::VALUE_END]);
         let step = span_after(used, next, start, end);
@@ -109,7 +102,6 @@ fn value_spans(values: &[u32], used: usize, from: usize, v: usize, m: usize) -> 
             return step;
         }
         next = step.next;
-        k += 1;
     }
     Ascent {
         ok: true,
@@ -168,8 +160,7 @@ fn spans_right(text: &[u8], properties: &[u32], n: usize, values: &[u32]) -> boo
         && each n (name_right text.now properties.now)) }
 {
     let mut next: usize = 0;
-    let mut k: usize = 0;
-    while k < n {
+    for k in 0..n {
         let ascent = property_spans(properties, k, values, text.len(), next);
         if !ascent.ok {
             return false;
@@ -178,30 +169,8 @@ fn spans_right(text: &[u8], properties: &[u32], n: usize, values: &[u32]) -> boo
             return false;
         }
         next = ascent.next;
-        k += 1;
     }
     true
-}
-
-// Neither `]` nor a backslash.
-fn closes_nothing(b: u8) -> bool
-    ensures { result ≡ closes_nothing b }
-{
-    (b != b']') & (b != b'\\')
-}
-
-// Whether a value, which lies in the text, is two bytes that close nothing, with `]` behind them. Most are.
-fn is_pair(text: &[u8], start: usize, end: usize) -> bool
-    requires { start ≤ end }
-    ensures { result ≡ true → close_at text.now start ≡ At end }
-{
-    if end - start != 2 {
-        return false;
-    }
-    if text.len() <= end {
-        return false;
-    }
-    (text[end] == b']') & (closes_nothing(text[start]) & closes_nothing(text[start + 1]))
 }
 
 // Whether a value, which lies in the text, stands after `[` and before `]` and is closed: the scan from its start ends at its end.
@@ -215,7 +184,8 @@ fn is_boxed(text: &[u8], start: usize, end: usize) -> bool
     if text[start - 1] != b'[' {
         return false;
     }
-    if is_pair(text, start, end) {
+    // Most are two bytes.
+    if (end - start == 2) && lexer_close::is_pair(text, start) {
         return true;
     }
     match lexer_close::value_end(text, start) {
@@ -230,14 +200,12 @@ fn values_right(text: &[u8], values: &[u32], n: usize) -> bool
         × ((v : ℕ) → v < n → (val_from_at values.now v ≤ val_to_at values.now v) × (val_to_at values.now v ≤ length text.now)) }
     ensures { result ≡ each n (value_right text.now values.now) }
 {
-    let mut k = 0;
-    while k < n {
+    for k in 0..n {
         let start = lists::wide(values[k * tables::VALUE_STRIDE]);
         let end = lists::wide(values[k * tables::VALUE_STRIDE + tables::VALUE_END]);
         if !is_boxed(text, start, end) {
             return false;
         }
-        k += 1;
     }
     true
 }

@@ -1,4 +1,4 @@
-use Rattle.lists.proofs.Prelude.{refl, sym, ◌∙◌, eq-eqb}
+use Rattle.lists.proofs.Prelude.{◌+◌, ◌≡◌, refl, sym, ap, ◌∙◌, arith, eq-eqb}
 use Rattle.lexer_close.specs.declared.Close.TheVariants.{At}
 use Rattle.fit_spans.proofs.Scans.{boxed-none, boxed-other, boxed-is}
 use Rattle.fit_spans.proofs.is_boxed.Goals as goal
@@ -11,8 +11,10 @@ returns-then-text-start-ne91 c = let a = c.args in boxed-other a.text.now _ _ c.
 
 pub returns-then-is_pair : goal.returns-then-is_pair
 returns-then-is_pair c = let a = c.args in
+    let e : a.start + 2 ≡ a.end = omega arith in
     sym (eq-eqb a.end a.end refl)
-    ∙ boxed-is a.text.now a.start a.end c.requires.0 c.requires.1 c.if-start-eq0.false c.if-text-start-ne91.false (At a.end) (sym (c.is_pair.ensures c.if-is_pair.true))
+    ∙ boxed-is a.text.now a.start a.end c.requires.0 c.requires.1 c.if-start-eq0.false c.if-text-start-ne91.false (At a.end)
+    (sym (c.is_pair.ensures c.if-is_pair.true ∙ ap At e))
 
 pub returns-in-At : goal.returns-in-At
 returns-in-At c = let a = c.args in boxed-is a.text.now _ _ c.requires.0 c.requires.1 c.if-start-eq0.false c.if-text-start-ne91.false _ (sym c.in-At.is ∙ c.value_end.ensures)
