@@ -4,7 +4,7 @@
 ghost use Rattle.std.specs.Prelude.{◌≡◌, true, false, ◌&&◌, eqb};
 ghost use Rattle.lists.specs.Pick.{pick};
 ghost use Rattle.board_play.specs.Play.{Player, settable, playable};
-ghost use Rattle.board_play.specs.Steps.{sets, plays, one_if, sum_up_to};
+ghost use Rattle.board_play.specs.Steps.{sets, plays, one_if};
 ghost use Rattle.board_acts.specs.Acts.{set_sums, take_sums, set_counts, take_counts, BoardActIs};
 
 // Of one colour, how many stones were put on and taken off; also as a C caller sees them.
@@ -21,17 +21,6 @@ pub struct BoardState {
     pub black: Sums,
     pub white: Sums,
     pub settled: bool,
-}
-
-// A sum with n more, which stops at the greatest number.
-fn count(s: u64, n: u64) -> u64
-    ensures { result ≡ sum_up_to s n }
-{
-    let left = 0xffff_ffff_ffff_ffff - s;
-    if left < n {
-        return 0xffff_ffff_ffff_ffff;
-    }
-    s + n
 }
 
 // 1 where what is set differs from what stood there and `what` is the colour x, else 0.
@@ -61,8 +50,8 @@ fn lost_or_taken(x: u8, colour: u8, lost: usize, taken: usize) -> u64
 fn sums_set(sums: Sums, x: u8, colour: u8, stood: u8) -> Sums
     ensures { result ≡ set_sums x colour stood sums }
 {
-    let on = count(sums.on, counts_for(stood, colour, colour, x));
-    let off = count(sums.off, counts_for(stood, colour, stood, x));
+    let on = sums.on.saturating_add(counts_for(stood, colour, colour, x));
+    let off = sums.off.saturating_add(counts_for(stood, colour, stood, x));
     Sums { on: on, off: off }
 }
 
@@ -70,7 +59,8 @@ fn sums_set(sums: Sums, x: u8, colour: u8, stood: u8) -> Sums
 fn sums_taken(sums: Sums, x: u8, colour: u8, taken: usize, lost: usize) -> Sums
     ensures { result ≡ take_sums x colour taken lost sums }
 {
-    let off = count(sums.off, lost_or_taken(x, colour, lost, taken));
+    let more = lost_or_taken(x, colour, lost, taken);
+    let off = sums.off.saturating_add(more);
     Sums {
         on: sums.on,
         off: off,
@@ -104,17 +94,11 @@ fn count_taken(state: BoardState, colour: u8, taken: usize, lost: usize) -> Boar
 }
 
 // Whether that can be set at the place.
+#[tactic(auto, unfolding(board_play::specs::Play::settable))]
 fn can_set(columns: usize, rows: usize, p: usize, colour: u8) -> bool
     ensures { result ≡ settable columns rows colour p }
 {
-    (colour < 3) & (((p / 52 < columns) & (p % 52 < rows)) & (p < 2704))
-}
-
-// Whether a stone can be played at the place.
-fn can_play(columns: usize, rows: usize, p: usize, colour: u8) -> bool
-    ensures { result ≡ playable columns rows colour p }
-{
-    ((colour == 1) | (colour == 2)) & (((p / 52 < columns) & (p % 52 < rows)) & (p < 2704))
+    colour < 3 && board_take::on_board(p, columns, rows)
 }
 
 // Sets a point to empty, black or white; nothing changes where that cannot be set.
@@ -146,7 +130,7 @@ pub fn play_act(
 ) -> BoardState
     ensures { BoardActIs (playable columns rows colour p) columns rows (plays colour p) stones.old state stones.new result }
 {
-    if !can_play(columns, rows, p, colour) {
+    if !board_play::can_play(columns, rows, p, colour) {
         return state;
     }
     let settled = state.settled;
@@ -164,13 +148,7 @@ pub fn play_act(
 fn quiet(stood: u8, taken: usize, lost: usize) -> bool
     ensures { result ≡ true → (stood ≡ 0) × (taken ≡ 0) × (lost ≡ 0) }
 {
-    if stood != 0 {
-        return false;
-    }
-    if taken != 0 {
-        return false;
-    }
-    lost == 0
+    stood == 0 && taken == 0 && lost == 0
 }
 
 // The sums after a stone was played; where it was put on an empty point without taking any, at once.
@@ -202,7 +180,7 @@ pub fn play_settled(
     ensures { BoardActIs (playable columns rows colour p && state.settled) columns rows (plays colour p)
         stones.old state stones.new result }
 {
-    if !can_play(columns, rows, p, colour) {
+    if !board_play::can_play(columns, rows, p, colour) {
         return state;
     }
     let settled = state.settled;

@@ -9,7 +9,6 @@ ghost use Rattle.go_points.specs.Area.{letter_of};
 ghost use Rattle.go_points.specs.declared.Value.TheVariants.{Move};
 ghost use Rattle.parts.specs.Rows.{value_at};
 ghost use Rattle.parts_props.specs.Props.{identifier_at, property_at, properties_at};
-ghost use Rattle.board_groups.specs.Board.{on_board};
 ghost use Rattle.board_play.specs.Play.{Player};
 ghost use Rattle.board_play.specs.Steps.{sets};
 ghost use Rattle.board_node.specs.Node.{setup_colour, move_colour, sets_from, move_acts, setups_of, moves_of, all_setups, all_moves};
@@ -48,13 +47,6 @@ pub struct Turn {
 pub struct MoveSeen {
     pub colour: u8,
     pub place: usize,
-}
-
-// The place is a point of the board.
-fn on_board(columns: usize, rows: usize, p: usize) -> bool
-    ensures { result ≡ on_board columns rows p }
-{
-    ((p / 52 < columns) & (p % 52 < rows)) & (p < 2704)
 }
 
 // The colour that a setup property sets, or 3.
@@ -100,13 +92,7 @@ fn set_place(
     ensures { TurnIs columns rows (sets colour p ∷ []) seen.old stones.old state
         seen.new stones.new result.state result.refused }
 {
-    if !on_board(columns, rows, p) {
-        return Turn {
-            refused: true,
-            state: state,
-        };
-    }
-    if 2704 <= p {
+    if !board_take::on_board(p, columns, rows) {
         return Turn {
             refused: true,
             state: state,
@@ -141,19 +127,15 @@ fn set_places(
         seen.new stones.new result.state result.refused }
 {
     let mut then = state;
-    let mut p: usize = 0;
-    while p < 2704 {
-        if !marks[p] {
-            p += 1;
+    for (p, &marked) in marks.iter().enumerate() {
+        if !marked {
             continue;
         }
         let turn = set_place(stones, seen, then, columns, rows, p, colour);
-        let refused = turn.refused;
-        if refused {
+        if turn.refused {
             return turn;
         }
         then = turn.state;
-        p += 1;
     }
     Turn {
         refused: false,
@@ -210,17 +192,14 @@ fn set_rows(
         seen.old stones.old state seen.new stones.new result.state result.refused }
 {
     let mut then = state;
-    let mut p = first;
-    while p < to {
+    for p in first..to {
         let turn = set_row(
             stones, seen, then, columns, rows, text, properties, values, p,
         );
-        let refused = turn.refused;
-        if refused {
+        if turn.refused {
             return turn;
         }
         then = turn.state;
-        p += 1;
     }
     Turn {
         refused: false,
@@ -232,15 +211,13 @@ fn set_rows(
 fn setup_from(text: &[u8], properties: &[u32], first: usize, to: usize) -> usize
     ensures { (vl : List ℕ) → SetupsFrom (property_at text.now properties.now vl) first to result }
 {
-    let mut p = first;
-    while p < to {
+    for p in first..to {
         let identifier = parts_props::identifier_at(text, properties, p);
         if setup_colour(identifier) < 3 {
             return p;
         }
-        p += 1;
     }
-    p
+    first.max(to)
 }
 
 // Does the setup of the properties from row `first` up to row `to`, where nothing was set before.
@@ -293,7 +270,7 @@ fn play_move(
         };
     }
     let p = 52 * (x as usize) + (y as usize);
-    if !on_board(columns, rows, p) {
+    if !board_take::on_board(p, columns, rows) {
         return Turn {
             refused: true,
             state: state,
@@ -359,15 +336,12 @@ fn play_rows(
         stones.old state stones.new result.state result.refused }
 {
     let mut then = state;
-    let mut p = first;
-    while p < to {
+    for p in first..to {
         let turn = play_row(stones, then, columns, rows, text, properties, values, p);
-        let refused = turn.refused;
-        if refused {
+        if turn.refused {
             return turn;
         }
         then = turn.state;
-        p += 1;
     }
     Turn {
         refused: false,
@@ -495,16 +469,7 @@ fn unseen() -> MoveSeen
 fn seen_point(columns: usize, rows: usize, a: u8, b: u8, colour: u8) -> MoveSeen
     ensures { PointSeen columns rows colour (letter_of a) (letter_of b) result }
 {
-    if a < b'a' {
-        return unseen();
-    }
-    if b'z' < a {
-        return unseen();
-    }
-    if b < b'a' {
-        return unseen();
-    }
-    if b'z' < b {
+    if !a.is_ascii_lowercase() || !b.is_ascii_lowercase() {
         return unseen();
     }
     let i = (a - b'a') as usize;
@@ -603,16 +568,10 @@ fn idle_letter(b: u8) -> bool
 fn idle_pair(a: u8, b: u8) -> bool
     ensures { result ≡ true → Idle (read_identifier (a ∷ b ∷ [])) }
 {
-    if a <= b'A' {
+    if a == b'A' {
         return false;
     }
-    if b'Z' < a {
-        return false;
-    }
-    if b < b'A' {
-        return false;
-    }
-    b <= b'Z'
+    a.is_ascii_uppercase() && b.is_ascii_uppercase()
 }
 
 // Whether property p is seen to be neither setup nor a move.
@@ -642,12 +601,10 @@ fn idle_rows(text: &[u8], properties: &[u32], first: usize, to: usize) -> bool
     requires { first < to → to ≤ length properties.now / property_stride }
     ensures { result ≡ true → (p : ℕ) → first ≤ p → p < to → Idle (read_identifier (identifier_at text.now properties.now p)) }
 {
-    let mut p = first;
-    while p < to {
+    for p in first..to {
         if !idle_row(text, properties, p) {
             return false;
         }
-        p += 1;
     }
     true
 }

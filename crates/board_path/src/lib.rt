@@ -17,6 +17,7 @@ pub fn next_on(nodes: &[u32], at: usize, k: usize) -> usize
         return at;
     }
     let mut c = first;
+    // A loop: c follows the siblings.
     loop {
         let next = lists::wide(nodes[c * tables::NODE_STRIDE + tables::NODE_SIBLING]);
         if next <= c {

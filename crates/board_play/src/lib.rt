@@ -26,10 +26,11 @@ pub fn set_stone(stones: &mut [u8; 2704], p: usize, colour: u8) -> u8
 }
 
 // A stone can be played at the place.
-fn can_play(columns: usize, rows: usize, p: usize, colour: u8) -> bool
+#[tactic(auto, unfolding(crate::specs::Play::playable))]
+pub fn can_play(columns: usize, rows: usize, p: usize, colour: u8) -> bool
     ensures { result ≡ playable columns rows colour p }
 {
-    ((colour == 1) | (colour == 2)) & (((p / 52 < columns) & (p % 52 < rows)) & (p < 2704))
+    (colour == 1 || colour == 2) && board_take::on_board(p, columns, rows)
 }
 
 // Plays a stone, and looks for captures on the whole board; near the move where every stone is seen to have a liberty, since that is all then.

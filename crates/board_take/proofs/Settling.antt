@@ -1,10 +1,10 @@
 -- Every stone before a place has a liberty, and what is seen at that place. Assumes nothing.
-use Rattle.lists.proofs.Prelude.{ℕ, ◌+◌, ◌-◌, ◌/◌, ◌%◌, ◌<◌, ◌≤◌, Bool, true, false, ◌||◌, ◌⊎◌, inl, inr, ⊎_elim, ◌≡◌, refl, sym, ◌∙◌, subst, List, ltb, eqb, leb, leb-true, ltb-true, ltb-false, eqb-true, arith}
+use Rattle.lists.proofs.Prelude.{ℕ, ◌+◌, ◌*◌, ◌%◌, min, ◌<◌, ◌≤◌, Bool, true, false, ◌||◌, ◌⊎◌, inl, inr, ⊎_elim, ◌≡◌, refl, sym, ◌∙◌, subst, List, ltb, eqb, leb, leb-true, ltb-true, ltb-false, eqb-true, arith}
 use Rattle.lists.proofs.Tests.{and_both, same_or}
 use Rattle.lists.proofs.Pick.{pick-elim}
 use Rattle.board_groups.specs.Board.{at, on_board}
 use Rattle.board_groups.specs.Groups.{Stone, self, more, Liberty, Settled}
-use Rattle.board_groups.proofs.Beside.{On, board-on, beside-sym}
+use Rattle.board_groups.proofs.Beside.{On, board-on, on-board, beside-sym}
 use Rattle.board_groups.proofs.Others.{liberty-shared}
 use Rattle.board_take.specs.LocalsSides.{right_of, left_of, down_of, up_of, empty_at, held_at, Free}
 use Rattle.board_take.specs.LocalsShort.{SettledTo}
@@ -87,13 +87,18 @@ module _ (w h : ℕ) (b : List ℕ) where
     pub settled-lives : Liberty w h b (at b p) p → SettledTo w h b (p + 1)
     settled-lives y = settled-next (λ c z s. subst (λ (k : ℕ). Liberty w h b k p) s.is y)
 
-  -- at the end
-  pub settled-all : (p : ℕ) → SettledTo w h b p → 2704 ≤ p → (c : ℕ) → (c ≡ 0 → ⊥) → Settled w h b c
-  settled-all p x l c z q s = let k = (board-on w h q s.on).place in x q (omega arith) c z s
+  -- point (x, y), where both are below the sides of the board and below 52
+  pub settled-on : (x y : ℕ) → x < min w 52 → y < min h 52 → on_board w h (52 * x + y) ≡ true
+  settled-on x y i j = on-board w h (52 * x + y) (record { column = omega arith; row = omega arith; place = omega arith })
 
-  pub settled-columns : (p : ℕ) → SettledTo w h b p → w ≤ p / 52 → (c : ℕ) → (c ≡ 0 → ⊥) → Settled w h b c
-  settled-columns p x l c z q s = let k = (board-on w h q s.on).column in x q (omega arith) c z s
+  -- a column, once its rows are done
+  pub settled-column : (x y : ℕ) → min h 52 ≤ y → SettledTo w h b (52 * x + y) → SettledTo w h b (52 * (x + 1))
+  settled-column x y i t =
+      settled-off (52 * x + y) t (52 * (x + 1)) (λ q m n on. let k = (board-on w h q on).row in absurd (omega arith))
 
-  -- the rest of a column below the last row
-  pub settled-rows : (p : ℕ) → SettledTo w h b p → h ≤ p % 52 → SettledTo w h b (p + (52 - p % 52))
-  settled-rows p x l = settled-off p x (p + (52 - p % 52)) (λ q m n on. let k = (board-on w h q on).row in absurd (omega arith))
+  -- all, once the columns are done
+  pub settled-all : (x : ℕ) → min w 52 ≤ x → SettledTo w h b (52 * x) → (c : ℕ) → (c ≡ 0 → ⊥) → Settled w h b c
+  settled-all x i t c z q s =
+      let k = (board-on w h q s.on).column in
+      let l = (board-on w h q s.on).place in
+      t q (omega arith) c z s

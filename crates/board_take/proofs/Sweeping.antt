@@ -1,11 +1,11 @@
 -- Stones taken off one by one. Assumes nothing.
-use Rattle.lists.proofs.Prelude.{ℕ, ◌+◌, ◌<◌, ◌≤◌, Bool, true, false, true≢false, not, ◌&&◌, ◌⊎◌, inl, inr, ⊎_elim, ◌≡◌, refl, sym, ap, ◌∙◌, subst, List, length, get_or, set, eqb, arith, eqb-true, eq-eqb, not-true, length-set, get_or-set_same, get_or-set_other}
+use Rattle.lists.proofs.Prelude.{ℕ, ◌+◌, ◌<◌, ◌≤◌, Bool, true, false, true≢false, not, ◌&&◌, ◌⊎◌, inl, inr, ⊎_elim, ◌≡◌, refl, sym, ap, ◌∙◌, subst, List, length, take, length-take-le, get_or, get_or-take, set, eqb, arith, eqb-true, eq-eqb, not-true, length-set, get_or-set_same, get_or-set_other}
 use Rattle.lists.proofs.Tests.{and_both, same_or}
 use Rattle.board_groups.specs.Board.{at, on_board}
 use Rattle.board_groups.proofs.Beside.{board-on}
 use Rattle.board_groups.proofs.Count.{at-below, standing-off}
 use Rattle.board_take.specs.LocalsSides.{stands_at}
-use Rattle.board_take.specs.LocalsFlood.{Found, Unmarked, Swept}
+use Rattle.board_take.specs.LocalsFlood.{Found, Unmarked, Coloured, Swept}
 
 pub swept_none : (P : ℕ → Type 0) (c : ℕ) (b : List ℕ) → ((r : ℕ) → P r → ⊥) → Swept P c b b 0
 swept_none P c b f = record { as_long = refl; each = λ r. inr (f r, refl); many = omega arith }
@@ -94,3 +94,26 @@ module _ (c : ℕ) (b₀ b q : List ℕ) (n i : ℕ) (x : Swept (Found q i) c b�
     where
       gone : Found q i (get_or q i 0)
       gone = ⊎_elim (λ y. y.0) (λ y. absurd (f (y.1 ∙ e))) (x.each (get_or q i 0))
+
+-- the first n numbers of a queue, by themselves
+module _ (q : List ℕ) (n : ℕ) (l : n ≤ length q) where
+  pub part-length : length (take n q) ≡ n
+  part-length = length-take-le n q l
+
+  pub part-coloured : (b : List ℕ) (c : ℕ) → Coloured b q n c → Coloured b (take n q) (length (take n q)) c
+  part-coloured b c x k i =
+      let j : k < n = omega (arith, part-length) in
+      subst (λ (z : ℕ). (z < 2704) × (at b z ≡ c)) (sym (get_or-take n q k 0 j)) (x k j)
+
+  pub part-found : (k : ℕ) → k < length (take n q) → {r : ℕ} → get_or (take n q) k 0 ≡ r → Found q n r
+  part-found k i e =
+      let j : k < n = omega (arith, part-length) in
+      record { place = k; below = j; is = sym (get_or-take n q k 0 j) ∙ e }
+
+  pub part-swept : {c : ℕ} {b b' : List ℕ} {m : ℕ} → Swept (Found (take n q) (length (take n q))) c b b' m → Swept (Found q n) c b b' m
+  part-swept x =
+      swept_as x (Found q n)
+      (λ r f. part-found f.place f.below f.is)
+      (λ r f.
+      let j = f.below in
+      record { place = f.place; below = omega (arith, part-length); is = get_or-take n q f.place 0 j ∙ f.is })

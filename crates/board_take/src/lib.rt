@@ -52,64 +52,54 @@ fn up(p: usize) -> usize
 }
 
 // The place is on the board.
-fn on_board(p: usize, columns: usize, rows: usize) -> bool
+pub fn on_board(p: usize, columns: usize, rows: usize) -> bool
     ensures { result ≡ on_board columns rows p }
 {
     ((p / 52 < columns) & (p % 52 < rows)) & (p < 2704)
 }
 
 // The place is one, and empty.
+#[tactic(auto, unfolding(crate::specs::LocalsSides::colour_at))]
 fn empty_at(stones: &[u8; 2704], q: usize) -> bool
     ensures { result ≡ empty_at stones.now q }
 {
-    if q < 2704 {
-        return stones[q] == 0;
-    }
-    false
+    q < 2704 && stones[q] == 0
 }
 
 // The colour stands at the place in the next column.
+#[tactic(auto, unfolding(crate::specs::LocalsSides::right_of, crate::specs::LocalsSides::colour_at))]
 fn right_is(stones: &[u8; 2704], p: usize, x: usize, columns: usize, colour: u8) -> bool
     requires { (p < 2704) × (x ≡ p / 52) }
     ensures { result ≡ colour_at stones.now colour (right_of columns p) }
 {
-    if (x + 1 < columns) & (p + 52 < 2704) {
-        return stones[p + 52] == colour;
-    }
-    false
+    x + 1 < columns && p + 52 < 2704 && stones[p + 52] == colour
 }
 
 // The colour stands at the place in the column before.
+#[tactic(auto, unfolding(crate::specs::LocalsSides::left_of, crate::specs::LocalsSides::colour_at))]
 fn left_is(stones: &[u8; 2704], p: usize, colour: u8) -> bool
     requires { p < 2704 }
     ensures { result ≡ colour_at stones.now colour (left_of p) }
 {
-    if 52 <= p {
-        return stones[p - 52] == colour;
-    }
-    false
+    52 <= p && stones[p - 52] == colour
 }
 
 // The colour stands at the place in the next row.
+#[tactic(auto, unfolding(crate::specs::LocalsSides::down_of, crate::specs::LocalsSides::colour_at))]
 fn down_is(stones: &[u8; 2704], p: usize, y: usize, rows: usize, colour: u8) -> bool
     requires { (p < 2704) × (y ≡ p % 52) }
     ensures { result ≡ colour_at stones.now colour (down_of rows p) }
 {
-    if (y + 1 < rows) & (y + 1 < 52) {
-        return stones[p + 1] == colour;
-    }
-    false
+    y + 1 < rows && y + 1 < 52 && stones[p + 1] == colour
 }
 
 // The colour stands at the place in the row before.
+#[tactic(auto, unfolding(crate::specs::LocalsSides::up_of, crate::specs::LocalsSides::colour_at))]
 fn up_is(stones: &[u8; 2704], p: usize, y: usize, colour: u8) -> bool
     requires { (p < 2704) × (y ≡ p % 52) }
     ensures { result ≡ colour_at stones.now colour (up_of p) }
 {
-    if 0 < y {
-        return stones[p - 1] == colour;
-    }
-    false
+    0 < y && stones[p - 1] == colour
 }
 
 // A point beside p, which is (x, y), is empty.
@@ -211,6 +201,7 @@ fn grow(
 {
     let mut n = from;
     let mut i: usize = 0;
+    // A while: the queue grows under it.
     while i < n {
         let p = queue[i] as usize;
         if stops(stones, p, columns, rows, stop) {
@@ -260,22 +251,18 @@ fn seed(
         marks.old queue.old 0 marks.new queue.new result }
 {
     let mut n: usize = 0;
-    let mut p: usize = 0;
-    while p < 2704 {
+    for p in 0..2704 {
         n = push_free(stones, marks, queue, n, p, columns, rows, colour);
-        p += 1;
     }
     n
 }
 
 // A stone of the colour stands at p.
+#[tactic(auto, unfolding(crate::specs::LocalsSides::stands_at))]
 fn stands(stones: &[u8; 2704], p: usize, columns: usize, rows: usize, colour: u8) -> bool
     ensures { result ≡ stands_at columns rows stones.now colour p }
 {
-    if on_board(p, columns, rows) {
-        return stones[p] == colour;
-    }
-    false
+    on_board(p, columns, rows) && stones[p] == colour
 }
 
 // A stone of the colour stands at p and is not marked.
@@ -305,10 +292,7 @@ fn sweep(
     ensures { Swept (Unmarked columns rows stones.old colour marks.now) colour stones.old stones.new result }
 {
     let mut n: usize = 0;
-    let mut i: usize = 0;
-    while i < 2704 {
-        let p = i;
-        i += 1;
+    for p in 0..2704 {
         if goes(stones, marks, p, columns, rows, colour) {
             stones[p] = 0;
             n += 1;
@@ -317,16 +301,14 @@ fn sweep(
     n
 }
 
-// Takes off the stones of the colour at the first n places of the queue, and gives their number.
-fn clear(stones: &mut [u8; 2704], queue: &[u16; 2704], n: usize, colour: u8) -> usize
-    requires { (colour ≡ 0 → ⊥) × (n ≤ 2704) × Coloured stones.old queue.now n colour }
-    ensures { Swept (Found queue.now n) colour stones.old stones.new result × (result ≤ 2704) }
+// Takes off the stones of the colour at the places of a queue, and gives their number.
+fn clear(stones: &mut [u8; 2704], queue: &[u16], colour: u8) -> usize
+    requires { (colour ≡ 0 → ⊥) × (length queue.now ≤ 2704) × Coloured stones.old queue.now (length queue.now) colour }
+    ensures { Swept (Found queue.now (length queue.now)) colour stones.old stones.new result × (result ≤ 2704) }
 {
     let mut taken: usize = 0;
-    let mut i: usize = 0;
-    while i < n {
-        let p = queue[i] as usize;
-        i += 1;
+    for &place in queue {
+        let p = place as usize;
         if stones[p] == colour {
             stones[p] = 0;
             taken += 1;
@@ -394,6 +376,7 @@ fn lives(stones: &[u8; 2704], p: usize, columns: usize, rows: usize, colour: u8)
     let mut queue = [0u16; 32];
     let mut n = push_short(stones, &mut marks, &mut queue, 0, p, colour);
     let mut i: usize = 0;
+    // A while: the queue grows under it.
     while i < n {
         let q = queue[i] as usize;
         if free(stones, q, columns, rows) {
@@ -401,39 +384,6 @@ fn lives(stones: &[u8; 2704], p: usize, columns: usize, rows: usize, colour: u8)
         }
         i += 1;
         n = visit_short(stones, &mut marks, &mut queue, n, q, columns, rows, colour);
-    }
-    false
-}
-
-// Takes off the stones of the colour at the first n places of a short queue, and gives their number.
-fn clear_few(stones: &mut [u8; 2704], queue: &[u16; 32], n: usize, colour: u8) -> usize
-    requires { (colour ≡ 0 → ⊥) × (n ≤ 32) × Coloured stones.old queue.now n colour }
-    ensures { Swept (Found queue.now n) colour stones.old stones.new result × (result ≤ 2704) }
-{
-    let mut taken: usize = 0;
-    let mut i: usize = 0;
-    while i < n {
-        let p = queue[i] as usize;
-        i += 1;
-        if stones[p] == colour {
-            stones[p] = 0;
-            taken += 1;
-        }
-    }
-    taken
-}
-
-// Whether q is one of the first n numbers of a short queue.
-fn listed(queue: &[u16; 32], n: usize, q: u16) -> bool
-    requires { (length queue.now ≡ 32) × (n ≤ 32) }
-    ensures { result ≡ true → Found queue.now n q }
-{
-    let mut i: usize = 0;
-    while i < n {
-        if queue[i] == q {
-            return true;
-        }
-        i += 1;
     }
     false
 }
@@ -450,7 +400,7 @@ fn push_few(stones: &[u8; 2704], queue: &mut [u16; 32], n: usize, q: usize, colo
         return n;
     }
     let place = q as u16;
-    if listed(queue, n, place) {
+    if queue[..n].contains(&place) {
         return n;
     }
     if 32 <= n {
@@ -493,6 +443,7 @@ fn few(
 {
     let mut n = push_few(stones, queue, 0, p, colour);
     let mut i: usize = 0;
+    // A while: the queue grows under it.
     while i < n {
         if 12 < n {
             return 32;
@@ -571,7 +522,7 @@ fn take_long(stones: &mut [u8; 2704], columns: usize, rows: usize, p: usize, col
     if 2704 < r {
         return 0;
     }
-    clear(stones, &queue, r, colour)
+    clear(stones, &queue[..r], colour)
 }
 
 // The same, by a short search where that can say it.
@@ -590,7 +541,7 @@ fn take_short(stones: &mut [u8; 2704], columns: usize, rows: usize, p: usize, co
     if 32 <= n {
         return take_long(stones, columns, rows, p, colour);
     }
-    clear_few(stones, &queue, n, colour)
+    clear(stones, &queue[..n], colour)
 }
 
 // The same of a place that is a point of the board or none, where a stone of the colour stands there.
@@ -790,14 +741,11 @@ pub fn take_sides(
 }
 
 // The place is one, and empty or of the colour.
+#[tactic(auto, unfolding(crate::specs::LocalsSides::held_at))]
 fn held_at(stones: &[u8; 2704], q: usize, colour: u8) -> bool
     ensures { result ≡ held_at stones.now colour q }
 {
-    if q < 2704 {
-        let c = stones[q];
-        return (c == 0) | (c == colour);
-    }
-    false
+    q < 2704 && (stones[q] == 0 || stones[q] == colour)
 }
 
 // Whether p is empty, or beside an empty point, or beside a stone of its colour before it, where every stone before it has a liberty.
@@ -826,28 +774,20 @@ pub fn settled(stones: &[u8; 2704], columns: usize, rows: usize) -> bool
     ensures { SettledSeen columns rows stones.now result }
 {
     let mut left: usize = 32;
-    let mut p: usize = 0;
-    while p < 2704 {
-        if columns <= p / 52 {
-            return true;
+    for x in 0..columns.min(52) {
+        for y in 0..rows.min(52) {
+            let p = 52 * x + y;
+            if seen_at(stones, p, columns, rows) {
+                continue;
+            }
+            if left == 0 {
+                return false;
+            }
+            left -= 1;
+            if !lives(stones, p, columns, rows, stones[p]) {
+                return false;
+            }
         }
-        let y = p % 52;
-        if rows <= y {
-            p += 52 - y;
-            continue;
-        }
-        if seen_at(stones, p, columns, rows) {
-            p += 1;
-            continue;
-        }
-        if left == 0 {
-            return false;
-        }
-        left -= 1;
-        if !lives(stones, p, columns, rows, stones[p]) {
-            return false;
-        }
-        p += 1;
     }
     true
 }

@@ -1,9 +1,9 @@
-use Rattle.lists.proofs.Prelude.{◌-◌}
+use Rattle.lists.proofs.Prelude.{◌+◌, ◌*◌}
 use Rattle.board_take.specs.LocalsShort.{SettledTo}
 use Rattle.board_take.proofs.settled.Given as goal
 
-abbrev pub invariant-loop-p : goal.invariant-loop-p
-invariant-loop-p l = SettledTo l.columns l.rows l.stones l.p
+abbrev pub invariant-loop-x : goal.invariant-loop-x
+invariant-loop-x l = SettledTo l.columns l.rows l.stones (52 * l.x)
 
-abbrev pub decreases-loop-p : goal.decreases-loop-p
-decreases-loop-p l = 2704 - l.p
+abbrev pub invariant-loop-y : goal.invariant-loop-y
+invariant-loop-y l = SettledTo l.columns l.rows l.stones (52 * l.x + l.y)

@@ -1,15 +1,8 @@
 use Rattle.lists.proofs.Prelude.{◌∙◌, arith, sym}
 use Rattle.board_groups.proofs.Beside.{board-on}
-use Rattle.board_take.specs.LocalsSides.{stands_at}
 use Rattle.board_take.proofs.stands.Goals as goal
 
 pub bounds-stones-p : goal.bounds-stones-p
-bounds-stones-p c = let a = c.args in let l = (board-on a.columns a.rows a.p (sym c.on_board.ensures ∙ c.if-on_board.true)).place in omega arith
-
-pub returns-then-on_board : goal.returns-then-on_board
-unfolding stands_at
-returns-then-on_board c = rw (sym c.on_board.ensures ∙ c.if-on_board.true)
-
-pub returns : goal.returns
-unfolding stands_at
-returns c = rw (sym c.on_board.ensures ∙ c.if-on_board.false)
+bounds-stones-p c = let a = c.args in
+    let l = (board-on a.columns a.rows a.p (sym c.on_board.ensures ∙ c.if-on_board.true)).place in
+    omega arith

@@ -1,4 +1,5 @@
-use Rattle.lists.proofs.Prelude.{ℕ, arith, length-replicate}
+use Rattle.lists.proofs.Prelude.{ℕ, ◌<◌, ◌≤◌, length, arith, length-replicate}
+use Rattle.board_take.proofs.Sweeping.{part-length, part-coloured, part-swept}
 use Rattle.board_take.proofs.Taking.{takes-nothing}
 use Rattle.board_take.proofs.Listing.{few-coloured, few-takes}
 use Rattle.board_take.proofs.take_short.Goals as goal
@@ -18,8 +19,19 @@ take_long-requires c = c.requires
 pub returns-then-n-ge32 : goal.returns-then-n-ge32
 returns-then-n-ge32 c = c.take_long.ensures
 
-pub clear_few-requires : goal.clear_few-requires
-clear_few-requires c = let a = c.args in (c.requires.0, omega (arith, c.if-n-ge32.false), few-coloured a.columns a.rows a.stones.now a.colour a.p c.few-n.ensures c.requires.1 (omega (arith, c.if-n-eq0.false)) c.if-n-ge32.false)
+pub clear-requires : goal.clear-requires
+clear-requires c = let a = c.args in
+    let n = c.few-n.result in
+    let q = c.few-n.new.queue in
+    let l : n ≤ length q = omega (arith, c.few-n.ensures.long, c.if-n-ge32.false) in
+    let coloured = few-coloured a.columns a.rows a.stones.now a.colour a.p c.few-n.ensures c.requires.1 (omega (arith, c.if-n-eq0.false)) c.if-n-ge32.false in
+    (c.requires.0, omega (arith, part-length q n l, c.if-n-ge32.false), part-coloured q n l a.stones.now a.colour coloured)
 
 pub returns : goal.returns
-returns c = let a = c.args in (few-takes a.columns a.rows a.stones.now a.colour a.p c.few-n.ensures c.requires.1 (omega (arith, c.if-n-eq0.false)) c.if-n-ge32.false c.clear_few.ensures.0, c.clear_few.ensures.1)
+returns c = let a = c.args in
+    let n = c.few-n.result in
+    let q = c.few-n.new.queue in
+    let l : n ≤ length q = omega (arith, c.few-n.ensures.long, c.if-n-ge32.false) in
+    let swept = part-swept q n l c.clear.ensures.0 in
+    let some : 0 < n = omega (arith, c.if-n-eq0.false) in
+    (few-takes a.columns a.rows a.stones.now a.colour a.p c.few-n.ensures c.requires.1 some c.if-n-ge32.false swept, c.clear.ensures.1)
