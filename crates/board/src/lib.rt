@@ -191,6 +191,7 @@ fn play_run(
 {
     let mut at = from;
     let mut then = state;
+    // A while: at follows the nodes of the way.
     while at < k {
         let settled = then.settled;
         if !settled {
@@ -265,6 +266,7 @@ fn play_way(
     );
     let mut state = begun.state;
     let mut at = begun.at;
+    // A while: at follows the nodes of the way.
     while at < k {
         at = board_path::next_on(nodes, at, k);
         let turn = play_at(
@@ -317,9 +319,7 @@ fn tree_over(trees: &[u32], k: usize, n: usize) -> usize
     requires { n ≤ length trees.now / tree_stride }
     ensures { result ≡ tree_over trees.now k n }
 {
-    let mut t = n;
-    while 0 < t {
-        t -= 1;
+    for t in (0..n).rev() {
         if lists::wide(trees[t * tables::TREE_STRIDE]) <= k {
             return t;
         }
