@@ -26,8 +26,7 @@ fn set_fault(
     columns: usize,
     rows: usize,
 ) -> BoardFault {
-    let mut place: usize = 0;
-    while place < 2704 {
+    for place in 0..2704 {
         if marks[place] {
             if !on_board(columns, rows, place) {
                 return BoardFault::Off(place);
@@ -37,7 +36,6 @@ fn set_fault(
             }
             seen[place] = true;
         }
-        place += 1;
     }
     BoardFault::Nothing
 }
@@ -178,6 +176,7 @@ fn say_way(
     rows: usize,
 ) {
     let mut node = root;
+    // A while: node follows the nodes of the way.
     while node <= k {
         if say_node(text, nodes, properties, values, node, columns, rows) {
             return;
@@ -192,14 +191,10 @@ fn say_way(
 
 // The tree that has node k: the last whose root is not behind k.
 fn tree_over(counts: Counts, trees: &[u32], k: usize) -> usize {
-    let mut tree = counts.trees;
-    while 0 < tree {
-        tree -= 1;
-        if tree_cell(trees, tree, 0) <= k {
-            return tree;
-        }
-    }
-    0
+    (0..counts.trees)
+        .rev()
+        .find(|&tree| tree_cell(trees, tree, 0) <= k)
+        .unwrap_or(0)
 }
 
 // Of a record that is refused with 23 at node k: the node on the way, its point, and why.

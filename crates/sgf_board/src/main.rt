@@ -120,6 +120,7 @@ fn show_node(
 // The last node of the first tree's main line. A child's number is above its parent's.
 fn last_node(counts: Counts, trees: &[u32], nodes: &[u32]) -> usize {
     let mut node = rows::tree_cell(trees, 0, 0);
+    // A loop: node follows the first children.
     loop {
         let child = rows::node_cell(nodes, node, 1);
         if child <= node {
@@ -134,13 +135,7 @@ fn last_node(counts: Counts, trees: &[u32], nodes: &[u32]) -> usize {
 
 // The number so far, with a digit behind it; with anything else, or where it is above every node's, one million.
 fn number_behind(n: usize, b: u8) -> usize {
-    if b < b'0' {
-        return 1000000;
-    }
-    if b'9' < b {
-        return 1000000;
-    }
-    if 99999 < n {
+    if !b.is_ascii_digit() || 99999 < n {
         return 1000000;
     }
     n * 10 + ((b - b'0') as usize)
@@ -148,16 +143,10 @@ fn number_behind(n: usize, b: u8) -> usize {
 
 // The number that a word is; one million where it is none or above every node's.
 fn number_of(word: &[u8]) -> usize {
-    if word.len() == 0 {
+    if word.is_empty() {
         return 1000000;
     }
-    let mut n: usize = 0;
-    let mut at: usize = 0;
-    while at < word.len() {
-        n = number_behind(n, word[at]);
-        at += 1;
-    }
-    n
+    word.iter().fold(0, |n, &b| number_behind(n, b))
 }
 
 // The argument's bytes at the start of a room, and how many; none where it is missing or has more than there is room for.

@@ -52,11 +52,9 @@ fn edge(is_marked: bool, was_marked: bool) -> u8 {
 fn say_columns(columns: usize) {
     let mut line = io::buffer();
     let mut at = store_bytes::put_byte(&mut line, 0, b' ');
-    let mut x: usize = 0;
-    while x < columns {
+    for x in 0..columns {
         at = store_bytes::put_byte(&mut line, at, b' ');
         at = store_bytes::put_byte(&mut line, at, letter(x));
-        x += 1;
     }
     at = store_bytes::put_byte(&mut line, at, b'\n');
     io::write_all(1, tool::first(&line, at));
@@ -76,14 +74,12 @@ fn say_row(stones: &[u8; 2704], columns: usize, y: usize, mark: usize) {
     let mut line = io::buffer();
     let mut at = store_bytes::put_byte(&mut line, 0, letter(y));
     let mut was_marked = false;
-    let mut x: usize = 0;
-    while x < columns {
+    for x in 0..columns {
         let place = place_of(x, y);
         let is_marked = place == mark;
         at = store_bytes::put_byte(&mut line, at, edge(is_marked, was_marked));
         at = store_bytes::put_byte(&mut line, at, sign(stones, place));
         was_marked = is_marked;
-        x += 1;
     }
     io::write_all(1, tool::first(&line, at));
     say_end(was_marked);

@@ -1,8 +1,5 @@
-use Rattle.lists.proofs.Prelude.{◌≡◌, ◌-◌, length}
+use Rattle.lists.proofs.Prelude.{◌≡◌, length}
 use Rattle.sgf_board.proofs.picture.say_columns.Given as goal
 
 abbrev pub invariant-loop-x : goal.invariant-loop-x
 invariant-loop-x l = 4096 ≡ length l.line
-
-abbrev pub decreases-loop-x : goal.decreases-loop-x
-decreases-loop-x l = l.columns - l.x
