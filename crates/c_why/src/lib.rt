@@ -32,9 +32,9 @@ fn numbers(number: u32, fact: u32, detail: usize) -> Shown
     ensures { result ≡ record { number = number; fact = fact; detail = detail } }
 {
     Shown {
-        number: number,
-        fact: fact,
-        detail: detail,
+        number,
+        fact,
+        detail,
     }
 }
 
@@ -69,16 +69,16 @@ pub fn why_in_c(why: Why) -> SgfWhy
         Why::Accepted(counts, place) => SgfWhy {
             number: 0,
             fact: 0,
-            place: place,
+            place,
             detail: 0,
-            counts: counts,
+            counts,
         },
         Why::Refused(fact, place) => {
             let x = fact_in_c(fact);
             SgfWhy {
                 number: x.number,
                 fact: x.fact,
-                place: place,
+                place,
                 detail: x.detail,
                 counts: Counts {
                     trees: 0,

@@ -1,7 +1,7 @@
 // The first pass over the tokens: faults, splitting into slices, depth.
 #![tactic(auto)]
 
-ghost use Rattle.std.specs.Prelude.{◌≡◌, true, false, max, ltb};
+ghost use Rattle.std.specs.Prelude.{◌≡◌, true, false, ltb};
 ghost use Rattle.lists.specs.Pick.{pick};
 ghost use Rattle.lexer.specs.Token.{lex_at};
 ghost use Rattle.tables.specs.Numbers.{depth_limit};
@@ -38,13 +38,6 @@ struct Split {
     stop: Stop,
 }
 
-// The larger of two numbers.
-fn larger(a: usize, b: usize) -> usize
-    ensures { result ≡ max a b }
-{
-    if a < b { b } else { a }
-}
-
 // The tokens from a place on, split as far as an end at depth 0.
 fn split_tokens(s: &[u8], from: usize) -> Split
     ensures { SplitIs s.now (lex_at s.now from) result.depth result.deepest result.slices result.stop }
@@ -53,18 +46,19 @@ fn split_tokens(s: &[u8], from: usize) -> Split
     let mut depth: usize = 0;
     let mut deepest: usize = 0;
     let mut n: usize = 0;
+    // A loop: `at` moves by the token that it finds.
     loop {
         match lexer::next_token(s, at) {
             Step::Start(i) => {
                 at = i + 1;
                 depth += 1;
-                deepest = larger(deepest, depth);
+                deepest = deepest.max(depth);
             }
             Step::End(i) => {
                 if depth == 0 {
                     return Split {
                         depth: 0,
-                        deepest: deepest,
+                        deepest,
                         slices: n,
                         stop: Stop::End(i),
                     };
@@ -79,16 +73,16 @@ fn split_tokens(s: &[u8], from: usize) -> Split
             Step::Property(_, _, e) => at = e,
             Step::Refused(f, i) => {
                 return Split {
-                    depth: depth,
-                    deepest: deepest,
+                    depth,
+                    deepest,
                     slices: n,
                     stop: Stop::Fault(f, i),
                 };
             }
             Step::Done => {
                 return Split {
-                    depth: depth,
-                    deepest: deepest,
+                    depth,
+                    deepest,
                     slices: n,
                     stop: Stop::Done,
                 };
@@ -102,8 +96,9 @@ fn fault_or_end(s: &[u8], from: usize) -> Survey
     ensures { result ≡ survey_strict (lex_at s.now from).end (no UnexpectedGameTreeEnd) }
 {
     let mut at = from;
+    // A loop: `at` moves by the token that it finds.
     loop {
-        let stepped = lexer::Cursor { at: at }.next(s);
+        let stepped = lexer::Cursor { at }.next(s);
         let token = stepped.token;
         match token {
             Step::Refused(f, i) => return Survey::Refused(tables::fault_reason(f), i),

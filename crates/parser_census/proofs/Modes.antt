@@ -53,12 +53,3 @@ module _ {m : Mode} {b g : Bool} (vs : List Val) (eg : g ≡ b) where
 
   pub typed-other : m ≡ Typed → g ≡ false → Typed ≡ on_prop m b vs
   typed-other em ef = sym (ap (λ (z : Mode). on_prop z b vs) em ∙ ap (λ (z : Bool). pick z Odd Typed) (sym eg ∙ ef))
-
--- ---- behind the last token
-
-pub total-some : {m : Mode} → m ≡ Outside → (t n p v : ℕ) → (t ≡ 0 → ⊥) → Simple t n p v ≡ total m t n p v
-total-some {m} em t n p v h = go t h ∙ sym (ap (λ (z : Mode). total z t n p v) em)
-  where
-    go : (t : ℕ) → (t ≡ 0 → ⊥) → Simple t n p v ≡ total Outside t n p v
-    go zero h = absurd (h refl)
-    go (suc t) h = refl

@@ -42,14 +42,9 @@ fn on_start(mode: Mode) -> Mode
 {
     match mode {
         Mode::Outside => Mode::First,
-        Mode::First => Mode::Odd,
-        Mode::Root => Mode::Opened,
-        Mode::Typed => Mode::Opened,
-        Mode::Node => Mode::Opened,
-        Mode::Opened => Mode::Odd,
-        Mode::Bare => Mode::Opened,
+        Mode::Root | Mode::Typed | Mode::Node | Mode::Bare => Mode::Opened,
         Mode::Full => Mode::Full,
-        Mode::Odd => Mode::Odd,
+        Mode::First | Mode::Opened | Mode::Odd => Mode::Odd,
     }
 }
 
@@ -58,15 +53,9 @@ fn on_end(mode: Mode) -> Mode
     ensures { result ≡ on_end mode }
 {
     match mode {
-        Mode::Outside => Mode::Odd,
-        Mode::First => Mode::Odd,
-        Mode::Root => Mode::Full,
-        Mode::Typed => Mode::Full,
-        Mode::Node => Mode::Full,
+        Mode::Root | Mode::Typed | Mode::Node | Mode::Bare | Mode::Full => Mode::Full,
         Mode::Opened => Mode::Bare,
-        Mode::Bare => Mode::Full,
-        Mode::Full => Mode::Full,
-        Mode::Odd => Mode::Odd,
+        Mode::Outside | Mode::First | Mode::Odd => Mode::Odd,
     }
 }
 
@@ -75,15 +64,8 @@ fn on_last(mode: Mode) -> Mode
     ensures { result ≡ on_last mode }
 {
     match mode {
-        Mode::Outside => Mode::Odd,
-        Mode::First => Mode::Odd,
-        Mode::Root => Mode::Outside,
-        Mode::Typed => Mode::Outside,
-        Mode::Node => Mode::Outside,
-        Mode::Opened => Mode::Outside,
-        Mode::Bare => Mode::Outside,
-        Mode::Full => Mode::Outside,
-        Mode::Odd => Mode::Odd,
+        Mode::Outside | Mode::First | Mode::Odd => Mode::Odd,
+        _ => Mode::Outside,
     }
 }
 
@@ -92,15 +74,9 @@ fn on_node(mode: Mode) -> Mode
     ensures { result ≡ on_node mode }
 {
     match mode {
-        Mode::Outside => Mode::Odd,
+        Mode::Outside | Mode::Odd => Mode::Odd,
         Mode::First => Mode::Root,
-        Mode::Root => Mode::Node,
-        Mode::Typed => Mode::Node,
-        Mode::Node => Mode::Node,
-        Mode::Opened => Mode::Node,
-        Mode::Bare => Mode::Node,
-        Mode::Full => Mode::Node,
-        Mode::Odd => Mode::Odd,
+        _ => Mode::Node,
     }
 }
 
@@ -108,34 +84,14 @@ fn on_node(mode: Mode) -> Mode
 fn may_take(mode: Mode) -> bool
     ensures { result ≡ takes mode }
 {
-    match mode {
-        Mode::Outside => false,
-        Mode::First => false,
-        Mode::Root => true,
-        Mode::Typed => true,
-        Mode::Node => true,
-        Mode::Opened => false,
-        Mode::Bare => false,
-        Mode::Full => false,
-        Mode::Odd => false,
-    }
+    matches!(mode, Mode::Root | Mode::Typed | Mode::Node)
 }
 
 // Is something odd.
 fn is_odd(mode: Mode) -> bool
     ensures { result ≡ is_odd mode }
 {
-    match mode {
-        Mode::Outside => false,
-        Mode::First => false,
-        Mode::Root => false,
-        Mode::Typed => false,
-        Mode::Node => false,
-        Mode::Opened => false,
-        Mode::Bare => false,
-        Mode::Full => false,
-        Mode::Odd => true,
-    }
+    matches!(mode, Mode::Odd)
 }
 
 // Behind the last token.
@@ -143,20 +99,8 @@ fn add_up(mode: Mode, t: usize, n: usize, p: usize, v: usize) -> Census
     ensures { result ≡ total mode t n p v }
 {
     match mode {
-        Mode::Outside => {
-            if t == 0 {
-                return Census::Odd;
-            }
-            Census::Simple(t, n, p, v)
-        }
-        Mode::First => Census::Odd,
-        Mode::Root => Census::Odd,
-        Mode::Typed => Census::Odd,
-        Mode::Node => Census::Odd,
-        Mode::Opened => Census::Odd,
-        Mode::Bare => Census::Odd,
-        Mode::Full => Census::Odd,
-        Mode::Odd => Census::Odd,
+        Mode::Outside if t != 0 => Census::Simple(t, n, p, v),
+        _ => Census::Odd,
     }
 }
 
@@ -174,6 +118,7 @@ fn count_values(s: &[u8], from: usize) -> Counted
 {
     let mut i = from;
     let mut n: usize = 0;
+    // A loop: `i` moves by the value that it finds.
     loop {
         match lexer_scan::next_value(s, i) {
             ValueStep::Value(_, _, next) => {
@@ -208,17 +153,6 @@ fn is_short(s: &[u8], i: usize) -> bool
                     & ((32 < s[i + 5]) & (s[i + 5] != b'[')))))
 }
 
-// Is the identifier GM.
-fn is_gm(s: &[u8], i: usize, k: usize) -> bool
-    requires { (i ≤ k) × (k ≤ length s.now) }
-    ensures { result ≡ same (slice i k s.now) GM }
-{
-    if k - i != 2 {
-        return false;
-    }
-    (s[i] == b'G') & (s[i + 1] == b'M')
-}
-
 // Behind the root's game type, whose first `[` is at k.
 fn on_type(s: &[u8], k: usize) -> Mode
     ensures { result ≡ on_kind (game_vals (vals_at s.now k)) }
@@ -239,24 +173,19 @@ fn on_property(s: &[u8], mode: Mode, i: usize, k: usize) -> Mode
 {
     match mode {
         Mode::Root => {
-            if is_gm(s, i, k) {
+            if parser_game::is_gm(s, i, k) {
                 return on_type(s, k);
             }
             Mode::Root
         }
         Mode::Typed => {
-            if is_gm(s, i, k) {
+            if parser_game::is_gm(s, i, k) {
                 return Mode::Odd;
             }
             Mode::Typed
         }
         Mode::Node => Mode::Node,
-        Mode::Outside => Mode::Odd,
-        Mode::First => Mode::Odd,
-        Mode::Opened => Mode::Odd,
-        Mode::Bare => Mode::Odd,
-        Mode::Full => Mode::Odd,
-        Mode::Odd => Mode::Odd,
+        _ => Mode::Odd,
     }
 }
 
@@ -271,6 +200,7 @@ pub fn take_census(s: &[u8], from: usize) -> Census
     let mut n: usize = 0;
     let mut p: usize = 0;
     let mut v: usize = 0;
+    // A loop: `i` moves by the token that it finds.
     loop {
         if s.len() <= i {
             return add_up(mode, t, n, p, v);

@@ -1,5 +1,6 @@
 -- The game type that a property says: the identifier GM, exactly one value, a number, exactly `1`. Assumes nothing.
-use Rattle.lists.proofs.Prelude.{ℕ, suc, ◌+◌, ◌^◌, ◌≤◌, ◌-◌, ◌≡◌, refl, sym, ap, ◌∙◌, Bool, true, false, ◌&&◌, and-true, and-false, List, [], ◌∷◌, arith, add-one, length, get_or, take, drop, slice, take-add, drop_at, length-take-le, slice-cons, slice_empty, length-slice, eqb, eq-eqb, ne_eqb, pick}
+use Rattle.lists.proofs.Prelude.{ℕ, ◌+◌, ◌^◌, ◌≤◌, ◌-◌, ◌≡◌, refl, sym, ap, ◌∙◌, Bool, true, false, ◌&&◌, and-false, List, [], ◌∷◌, arith, length, take, drop, slice, length-slice, take-add, drop_at, length-take-le, eqb, eq-eqb, ne_eqb, pick}
+use Rattle.std.specs.Cmp.Lexicographic.{pointwise}
 use types.Run.{OneOf}
 use denote.Enum.Declared.{tag_of}
 use Rattle.lists.specs.Same.{same}
@@ -29,20 +30,15 @@ same_not a b (x ∷ []) h = and-false (eqb x a)
 same_not a b (x ∷ y ∷ []) h = absurd (h refl)
 same_not a b (x ∷ y ∷ z ∷ l) h = ap (λ (t : Bool). eqb x a && t) (and-false (eqb y b)) ∙ and-false (eqb x a)
 
-module _ (s : List ℕ) (i k : ℕ) (h : i ≤ k) (g : k ≤ length s) where
-  pub gm-not : (k - i ≡ 2 → ⊥) → false ≡ same (slice i k s) GM
-  gm-not n = sym (same_not 0x47 0x4d (slice i k s) (λ e. n (sym (length-slice i k s g) ∙ e)))
+pub gm-not : (s : List ℕ) (i k : ℕ) → i ≤ k → k ≤ length s → (k - i ≡ 2 → ⊥) → false ≡ same (slice i k s) GM
+gm-not s i k h g n = sym (same_not 0x47 0x4d (slice i k s) (λ e. n (sym (length-slice i k s g) ∙ e)))
 
-  pub gm-two : k - i ≡ 2 → (eqb (get_or s i 0) 0x47 && eqb (get_or s (i + 1) 0) 0x4d) ≡ same (slice i k s) GM
-  gm-two e =
-      let q : suc (suc i) ≡ k = omega arith in
-      let l : slice i k s ≡ get_or s i 0 ∷ get_or s (suc i) 0 ∷ [] =
-      slice-cons i k s 0 (omega arith) g
-      ∙ ap (λ (z : List ℕ). get_or s i 0 ∷ z)
-      (slice-cons (suc i) k s 0 (omega arith) g ∙ ap (λ (z : List ℕ). get_or s (suc i) 0 ∷ z) (ap (λ (z : ℕ). slice z k s) q ∙ slice_empty k s)) in
-      ap (λ (z : ℕ). eqb (get_or s i 0) 0x47 && eqb (get_or s z 0) 0x4d) (add-one i)
-      ∙ ap (λ (z : Bool). eqb (get_or s i 0) 0x47 && z) (sym (and-true (eqb (get_or s (suc i) 0) 0x4d)))
-      ∙ sym (ap (λ (z : List ℕ). same z GM) l)
+-- slices are compared element by element
+pub same-pointwise : (xs ys : List ℕ) → pointwise eqb xs ys ≡ same xs ys
+same-pointwise [] [] = refl
+same-pointwise [] (y ∷ ys) = refl
+same-pointwise (x ∷ xs) [] = refl
+same-pointwise (x ∷ xs) (y ∷ ys) = ap (λ (t : Bool). eqb x y && t) (same-pointwise xs ys)
 
 -- ---- a number; exactly `1`
 

@@ -78,18 +78,15 @@ fn conclude(s: &[u8], found: bool, k: usize) -> GameType
 }
 
 // Is the raw identifier exactly `GM`.
-fn is_gm(s: &[u8], i: usize, k: usize) -> bool
+pub fn is_gm(s: &[u8], i: usize, k: usize) -> bool
     requires { (i ≤ k) × (k ≤ length s.now) }
     ensures { result ≡ same (slice i k s.now) GM }
 {
-    if k - i != 2 {
-        return false;
-    }
-    (s[i] == b'G') & (s[i + 1] == b'M')
+    &s[i..k] == b"GM".as_slice()
 }
 
 // Behind the token at a place; where the slice or the text ends there, the text's end.
-fn behind(s: &[u8], from: usize) -> usize
+pub fn behind(s: &[u8], from: usize) -> usize
     ensures { (lex_at s.now result).toks ≡ behind_of (lex_at s.now from).toks }
 {
     match lexer::next_token(s, from) {
@@ -110,6 +107,7 @@ pub fn game_type(s: &[u8], from: usize) -> GameType
     let mut at = behind(s, second);
     let mut found = false;
     let mut k: usize = 0;
+    // A loop: `at` moves by the token that it finds.
     loop {
         let Step::Property(i, j, e) = lexer::next_token(s, at) else {
             break;

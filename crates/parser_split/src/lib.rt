@@ -39,7 +39,7 @@ fn plan_tokens(s: &[u8], from: usize, lenient: bool) -> Plan
 }
 
 // The slices of a text: the limit, UTF-8, trimming, the first pass over the tokens.
-fn plan_text(text: &[u8], lenient: bool) -> Plan
+pub fn plan_text(text: &[u8], lenient: bool) -> Plan
     ensures { result ≡ plan_text lenient text.now }
 {
     if tables::TEXT_LIMIT < text.len() {

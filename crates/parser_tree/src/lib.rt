@@ -89,6 +89,7 @@ fn take_values(s: &[u8], from: usize, v0: usize, vals: &mut [u32]) -> Taken
 {
     let mut i = from;
     let mut v = v0;
+    // A loop: `i` moves by the value that it finds.
     loop {
         match lexer_scan::next_value(s, i) {
             ValueStep::Value(a, e, next) => {
@@ -138,12 +139,13 @@ fn add(
 }
 
 // The place behind the slice in which so many trees are open.
-fn skip_slice(s: &[u8], from: usize, opened: usize) -> usize
+pub fn skip_slice(s: &[u8], from: usize, opened: usize) -> usize
     requires { (length s.now ≤ text_limit) × (from ≤ length s.now) × (opened ≤ depth_limit) }
     ensures { BehindIs true s.now from opened result }
 {
     let mut at = from;
     let mut depth = opened;
+    // A loop: `at` moves by the token that it finds.
     loop {
         match lexer::next_token(s, at) {
             Step::Start(i) => {
@@ -210,12 +212,12 @@ fn begin(at: usize, nodes: usize, props: usize, vals: usize) -> State
     ensures { result ≡ first_state at nodes props vals }
 {
     State {
-        at: at,
+        at,
         depth: 0,
         cur: NONE,
-        nodes: nodes,
-        props: props,
-        vals: vals,
+        nodes,
+        props,
+        vals,
         first: props,
         follows: false,
     }
@@ -251,6 +253,7 @@ fn walk_slice(
 {
     let mut stack = [0u32; 1024];
     let mut w = begin(from, base, p0, v0);
+    // A loop: `w.at` moves by the token that it finds.
     loop {
         match parser_step::look(s, lenient, base, w, &stack) {
             Act::Start(i) => {

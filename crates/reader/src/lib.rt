@@ -7,7 +7,6 @@ ghost use Rattle.std.specs.Prelude.{◌≡◌};
 ghost use Rattle.lexer.specs.Token.{lex_at};
 ghost use Rattle.parser.specs.Read as definition;
 ghost use Rattle.tables.specs.Lenient.{as_reading};
-ghost use Rattle.parser_split.specs.LocalsPlans.{plan_text};
 ghost use Rattle.parser_census.specs.LocalsCensus.{census_of};
 ghost use Rattle.reader.specs.Lent.{lent, rows_counted, ReadIs, LenientIs};
 ghost use Rattle.reader.specs.LocalsKnown.{known_by, known_of};
@@ -58,16 +57,6 @@ pub fn known_text(text: &[u8]) -> Known
     }
 }
 
-// Which slices of a text are read, strictly or leniently.
-fn plan_text(text: &[u8], lenient: bool) -> Plan
-    ensures { result ≡ plan_text lenient text.now }
-{
-    if lenient {
-        return parser_split::plan_lenient(text);
-    }
-    parser_split::plan_strict(text)
-}
-
 // Reads a text of which nothing is known.
 fn read_odd(
     text: &[u8],
@@ -82,7 +71,7 @@ fn read_odd(
         (lent trees.new nodes.new properties.new values.new)
         result }
 {
-    match plan_text(text, lenient) {
+    match parser_split::plan_text(text, lenient) {
         Plan::Refused(reason, place) => Reading::Refused(reason, place),
         Plan::Slices(first, last, count) => slices::read_slices(
             &text[..last],
@@ -219,7 +208,7 @@ pub fn read_lenient(
 fn count_odd(text: &[u8], lenient: bool) -> Reading
     ensures { result ≡ rows_counted (definition.read lenient text.now) }
 {
-    match plan_text(text, lenient) {
+    match parser_split::plan_text(text, lenient) {
         Plan::Refused(reason, place) => Reading::Refused(reason, place),
         Plan::Slices(first, last, count) => {
             slices::count_slices(&text[..last], first, count, lenient)

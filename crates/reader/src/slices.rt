@@ -67,8 +67,7 @@ fn read_trees(
     let mut n: usize = 0;
     let mut p: usize = 0;
     let mut v: usize = 0;
-    let mut k: usize = 0;
-    while k < count {
+    for k in 0..count {
         match type_unless(s, at, lenient, go) {
             GameType::Refused(reason) => return Total::Refused(reason),
             GameType::Is(game) => {
@@ -80,7 +79,6 @@ fn read_trees(
                         n = node;
                         p = property;
                         v = value;
-                        k += 1;
                     }
                 }
             }

@@ -42,8 +42,7 @@ fn in_slices(s: &[u8], from: usize, count: usize) -> Blamed
 {
     let mut at = from;
     let mut base: usize = 0;
-    let mut k: usize = 0;
-    while k < count {
+    for k in 0..count {
         match why_blame::game::in_game(s, at, k) {
             Blamed::By(fact, place) => return Blamed::By(fact, place),
             Blamed::No => {
@@ -58,7 +57,6 @@ fn in_slices(s: &[u8], from: usize, count: usize) -> Blamed
                         }
                         at = next;
                         base = n;
-                        k += 1;
                     }
                 }
             }

@@ -37,6 +37,7 @@ pub fn walk_slice(s: &[u8], from: usize, base: usize) -> TreeWalked
     let mut cur = NONE;
     let mut n = base;
     let mut follows = false;
+    // A loop: `at` moves by the token that it finds.
     loop {
         match lexer::next_token(s, at) {
             Step::Start(i) => {

@@ -22,41 +22,17 @@ enum FoundGm {
     Gm(usize, usize, usize),
 }
 
-// Behind the token at a place; where the slice or the text ends there, the text's end.
-fn behind(s: &[u8], from: usize) -> usize
-    ensures { (lex_at s.now result).toks ≡ behind_of (lex_at s.now from).toks }
-{
-    match lexer::next_token(s, from) {
-        Step::Start(i) => i + 1,
-        Step::Node(i) => i + 1,
-        Step::Property(_, _, e) => e,
-        Step::End(_) => s.len(),
-        Step::Refused(_, _) => s.len(),
-        Step::Done => s.len(),
-    }
-}
-
-// Is the raw identifier exactly `GM`.
-fn is_gm(s: &[u8], i: usize, k: usize) -> bool
-    requires { (i ≤ k) × (k ≤ length s.now) }
-    ensures { result ≡ same (slice i k s.now) GM }
-{
-    if k - i != 2 {
-        return false;
-    }
-    (s[i] == b'G') & (s[i + 1] == b'M')
-}
-
 // The first GM of the properties that stand from a place on.
 fn find_gm(s: &[u8], from: usize) -> FoundGm
     ensures { FoundIs s.now (lex_at s.now from).toks result }
 {
     let mut at = from;
+    // A loop: `at` moves by the token that it finds.
     loop {
         let Step::Property(i, k, e) = lexer::next_token(s, at) else {
             break;
         };
-        if is_gm(s, i, k) {
+        if parser_game::is_gm(s, i, k) {
             return FoundGm::Gm(i, k, e);
         }
         at = e;
@@ -70,6 +46,7 @@ fn count_values(s: &[u8], from: usize) -> usize
 {
     let mut i = from;
     let mut n: usize = 0;
+    // A loop: `i` moves by the value that it finds.
     loop {
         let ValueStep::Value(_, _, next) = lexer_scan::next_value(s, i) else {
             break;
@@ -100,8 +77,8 @@ fn in_values(s: &[u8], at: usize, k: usize) -> Blamed
 pub fn in_game(s: &[u8], from: usize, n: usize) -> Blamed
     ensures { result ≡ game_blame n (props_named GM (props (drop 2 (slice_from 0 (lex_at s.now from).toks)))) }
 {
-    let second = behind(s, from);
-    match find_gm(s, behind(s, second)) {
+    let second = parser_game::behind(s, from);
+    match find_gm(s, parser_game::behind(s, second)) {
         FoundGm::None => Blamed::No,
         FoundGm::Gm(i, k, e) => {
             match find_gm(s, e) {

@@ -45,14 +45,12 @@ pub enum Cutting {
 fn foreign_at(s: &[u8], from: usize) -> usize
     ensures { result ≡ foreign_from from (drop from s.now) }
 {
-    let mut i = from;
-    while i < s.len() {
-        if 128 <= s[i] {
+    for i in from..s.len() {
+        if !s[i].is_ascii() {
             return i;
         }
-        i += 1;
     }
-    i
+    from.max(s.len())
 }
 
 // The fault of the token that starts at a place: where its scan stops.

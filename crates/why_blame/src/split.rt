@@ -1,5 +1,5 @@
 // Splitting, explained.
-ghost use Rattle.std.specs.Prelude.{◌≡◌, true, false, max, ltb};
+ghost use Rattle.std.specs.Prelude.{◌≡◌, true, false, ltb};
 ghost use Rattle.lists.specs.Pick.{pick};
 ghost use Rattle.lexer.specs.Token.{lex_at};
 ghost use Rattle.tables.specs.Numbers.{depth_limit};
@@ -31,13 +31,6 @@ enum Ending {
     Broken(lexer::Fault, usize),
 }
 
-// The larger of two numbers.
-fn larger(a: usize, b: usize) -> usize
-    ensures { result ≡ max a b }
-{
-    if a < b { b } else { a }
-}
-
 // Where the depth came above the limit: as before, or here.
 fn first_deep(deepest: usize, depth: usize, deep: usize, here: usize) -> usize
     ensures { result ≡ pick (ltb depth_limit deepest) deep (pick (ltb depth_limit depth) here deep) }
@@ -59,23 +52,24 @@ fn split_tokens(s: &[u8], from: usize) -> BlameSplit
     let mut n: usize = 0;
     let mut behind = from;
     let mut deep: usize = 0;
+    // A loop: `at` moves by the token that it finds.
     loop {
         match lexer::next_token(s, at) {
             Step::Start(i) => {
                 at = i + 1;
                 depth += 1;
                 deep = first_deep(deepest, depth, deep, i);
-                deepest = larger(deepest, depth);
+                deepest = deepest.max(depth);
             }
             Step::End(i) => {
                 if depth == 0 {
                     return BlameSplit {
                         depth: 0,
-                        deepest: deepest,
+                        deepest,
                         slices: n,
-                        behind: behind,
-                        deep: deep,
-                        at: at,
+                        behind,
+                        deep,
+                        at,
                         beyond: true,
                     };
                 }
@@ -90,23 +84,23 @@ fn split_tokens(s: &[u8], from: usize) -> BlameSplit
             Step::Property(_, _, e) => at = e,
             Step::Refused(_, _) => {
                 return BlameSplit {
-                    depth: depth,
-                    deepest: deepest,
+                    depth,
+                    deepest,
                     slices: n,
-                    behind: behind,
-                    deep: deep,
-                    at: at,
+                    behind,
+                    deep,
+                    at,
                     beyond: false,
                 };
             }
             Step::Done => {
                 return BlameSplit {
-                    depth: depth,
-                    deepest: deepest,
+                    depth,
+                    deepest,
                     slices: n,
-                    behind: behind,
-                    deep: deep,
-                    at: at,
+                    behind,
+                    deep,
+                    at,
                     beyond: false,
                 };
             }
@@ -119,11 +113,11 @@ pub fn first_place(s: &[u8], from: usize, none: usize) -> usize
     ensures { result ≡ first_place none (lex_at s.now from).toks (lex_at s.now from).end }
 {
     match lexer::next_token(s, from) {
-        Step::Start(i) => i,
-        Step::End(i) => i,
-        Step::Node(i) => i,
-        Step::Property(i, _, _) => i,
-        Step::Refused(_, i) => i,
+        Step::Start(i)
+        | Step::End(i)
+        | Step::Node(i)
+        | Step::Property(i, _, _)
+        | Step::Refused(_, i) => i,
         Step::Done => none,
     }
 }
@@ -143,8 +137,9 @@ fn first_fault(s: &[u8], from: usize) -> Ending
     ensures { result ≡ ending_of (lex_at s.now from).end }
 {
     let mut at = from;
+    // A loop: `at` moves by the token that it finds.
     loop {
-        let stepped = lexer::Cursor { at: at }.next(s);
+        let stepped = lexer::Cursor { at }.next(s);
         let token = stepped.token;
         match token {
             Step::Refused(f, i) => return Ending::Broken(f, i),

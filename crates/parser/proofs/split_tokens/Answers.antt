@@ -18,7 +18,7 @@ pub loop-i-smaller-in-Start : goal.loop-i-smaller-in-Start
 loop-i-smaller-in-Start c = let w = (found_within c.args.s.now _ _ _ c.next_token.ensures c.in-Start.is) in omega arith
 
 pub loop-i-preserved-in-Start : goal.loop-i-preserved-in-Start
-loop-i-preserved-in-Start c = let w = (found_within c.args.s.now _ _ _ c.next_token.ensures c.in-Start.is) in split-start c.loop-i.invariant _ _ w.0 w.1 (meets c.args.s.now _ c.next_token.ensures c.in-Start.is) c.larger-deepest.ensures
+loop-i-preserved-in-Start c = let w = (found_within c.args.s.now _ _ _ c.next_token.ensures c.in-Start.is) in split-start c.loop-i.invariant _ _ w.0 w.1 (meets c.args.s.now _ c.next_token.ensures c.in-Start.is) c.max-deepest.ensures
 
 pub returns-then-depth-eq0 : goal.returns-then-depth-eq0
 returns-then-depth-eq0 c = let w = (found_within c.args.s.now _ _ _ c.next_token.ensures c.in-End.is) in split-stop c.args.s.now (subst (λ (d : ℕ). Splitting-at (length c.args.s.now) (lex_at c.args.s.now c.args.from) (lex_at c.args.s.now c.loop-i.at) c.loop-i.at d c.loop-i.deepest c.loop-i.n) c.if-depth-eq0.true c.loop-i.invariant) _ (meets c.args.s.now _ c.next_token.ensures c.in-End.is) (refl, w.1)

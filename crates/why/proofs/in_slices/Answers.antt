@@ -17,12 +17,6 @@ returns-in-Stopped c = searched-stop c.loop-k.invariant c.loop-k-test.true c.in_
 pub returns-then-n-base : goal.returns-then-n-base
 returns-then-n-base c = searched-empty c.loop-k.invariant c.loop-k-test.true c.in_game.ensures c.in-No.is c.walk_slice.ensures c.in-Tree.is c.if-n-base.true c.first_place.ensures
 
-pub overflow_add-k : goal.overflow_add-k
-overflow_add-k c = let t = c.loop-k-test.true in omega arith
-
-pub loop-k-smaller : goal.loop-k-smaller
-loop-k-smaller c = let t = c.loop-k-test.true in omega arith
-
 pub loop-k-preserved : goal.loop-k-preserved
 loop-k-preserved c = searching-more c.loop-k.invariant c.loop-k-test.true c.in_game.ensures c.in-No.is c.walk_slice.ensures c.in-Tree.is c.if-n-base.false
 

@@ -45,12 +45,6 @@ overflow_mul-k c = let r = c.loop-k.invariant.ready in let b = c.loop-k.invarian
 pub overflow_cast-n : goal.overflow_cast-n
 overflow_cast-n c = let r = c.loop-k.invariant.ready in let b = c.loop-k.invariant.below in omega arith
 
-pub overflow_add-k : goal.overflow_add-k
-overflow_add-k c = let t = c.loop-k-test.true in omega arith
-
-pub loop-k-smaller : goal.loop-k-smaller
-loop-k-smaller c = let t = c.loop-k-test.true in omega arith
-
 pub loop-k-preserved : goal.loop-k-preserved
 loop-k-preserved c = plant-more c.loop-k.invariant c.loop-k-test.true c.type_unless.ensures c.in-Is.is (walk-tree-as _ _ _ _ _ _ _ _ _ _ _ _ (told (plant-ready c.loop-k.invariant c.loop-k-test.true) _ _ _ _ _ _ c.walk_tree.ensures) c.in-Tree.is) c.put2.ensures.is
 

@@ -19,7 +19,7 @@ pub loop-i-smaller-in-Start : goal.loop-i-smaller-in-Start
 loop-i-smaller-in-Start c = let w = (found_within c.args.s.now _ _ _ c.next_token.ensures c.in-Start.is) in omega arith
 
 pub loop-i-preserved-in-Start : goal.loop-i-preserved-in-Start
-loop-i-preserved-in-Start c = let w = (found_within c.args.s.now _ _ _ c.next_token.ensures c.in-Start.is) in seen_start c.loop-i.invariant _ w.0 w.1 (meets c.args.s.now c.loop-i.at c.next_token.ensures c.in-Start.is) c.larger-deepest.ensures c.first_deep-deep.ensures
+loop-i-preserved-in-Start c = let w = (found_within c.args.s.now _ _ _ c.next_token.ensures c.in-Start.is) in seen_start c.loop-i.invariant _ w.0 w.1 (meets c.args.s.now c.loop-i.at c.next_token.ensures c.in-Start.is) c.max-deepest.ensures c.first_deep-deep.ensures
 
 pub returns-then-depth-eq0 : goal.returns-then-depth-eq0
 returns-then-depth-eq0 c = let w = (found_within c.args.s.now _ _ _ c.next_token.ensures c.in-End.is) in (subst (λ (d : ℕ). Seen c.args.s.now c.args.from c.loop-i.at d c.loop-i.deepest c.loop-i.n c.loop-i.behind c.loop-i.deep) c.if-depth-eq0.true c.loop-i.invariant, (refl, (_, (meets c.args.s.now c.loop-i.at c.next_token.ensures c.in-End.is))))
