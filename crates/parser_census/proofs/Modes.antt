@@ -7,10 +7,9 @@ use Rattle.parser.specs.Game.{Game, is, no_game, game_vals}
 use Rattle.parser_game.specs.LocalsGame.{type_of}
 use Rattle.parser_game.specs.declared.GameType.{GameType}
 use Rattle.parser_game.specs.declared.GameType.TheVariants.{Is, Refused}
-use Rattle.parser_census.specs.LocalsCensus.{on_kind, on_prop, total}
+use Rattle.parser_census.specs.LocalsCensus.{on_kind, on_prop}
 use Rattle.parser_census.specs.declared.Mode.{Mode}
-use Rattle.parser_census.specs.declared.Mode.TheVariants.{Outside, Root, Typed, Odd}
-use Rattle.parser_census.specs.declared.Census.TheVariants.{Simple}
+use Rattle.parser_census.specs.declared.Mode.TheVariants.{Root, Typed, Odd}
 
 -- ---- the root's game type
 

@@ -1,9 +1,13 @@
--- Digits and marks, counted. Assumes nothing.
-use Rattle.lists.proofs.Prelude.{ℕ, zero, suc, ◌+◌, ◌*◌, ◌/◌, ◌%◌, ◌≤◌, ◌<◌, ◌≡◌, refl, ap, ◌∙◌, Bool, true, false, List, [], ◌∷◌, arith, length, length-append, get_or, drop, ltb, pick}
+-- Digits, letters and marks, counted. Assumes nothing.
+use Rattle.lists.proofs.Prelude.{ℕ, zero, suc, ◌+◌, ◌*◌, ◌/◌, ◌%◌, ◌≤◌, ◌≡◌, refl, sym, ap, ◌∙◌, Bool, true, false, ◌&&◌, List, [], ◌∷◌, arith, length, leb, ltb, pick}
+use Rattle.std.specs.Prelude.{cond, count_by}
+use Rattle.std.specs.Char.{is_ascii_uppercase}
+use Rattle.std.proofs.lemmas.List.Recursion.{is_count_by}
+use Rattle.std.proofs.lemmas.List.Sums.{sum_by-cons}
+use Rattle.values.specs.Read.{read_identifier}
 use Rattle.values.specs.Decimal.{spell, decimal}
 use Rattle.go.specs.Normal.{point_text, points_from}
 use Rattle.serialize_values.specs.LocalsForm.{raws_text}
-use Rattle.serialize_values.proofs.Boxed.{points-next, points-end}
 
 -- ---- a number
 
@@ -21,45 +25,27 @@ pub digits-few : (n : ℕ) → length (decimal n) ≤ 20
 unfolding decimal
 digits-few n = let h = spell-length 20 n [] in omega arith
 
+-- ---- letters
+
+letter-step : (t : Bool) (b : ℕ) (l : List ℕ) → length (pick t (b ∷ l) l) ≡ cond t (1 + length l) (length l)
+letter-step true b l = omega arith
+letter-step false b l = refl
+
+pub letters-counted : (s : List ℕ) → length (read_identifier s) ≡ count_by is_ascii_uppercase s
+unfolding read_identifier
+letters-counted s =
+    is_count_by (λ (l : List ℕ). length (read_identifier l)) is_ascii_uppercase refl (λ b l. letter-step (leb 0x41 b && leb b 0x5a) b (read_identifier l)) s
+
 -- ---- marks
 
-point-length : (i : ℕ) (m : Bool) → length (raws_text (pick m (point_text i ∷ []) [])) ≡ pick m 4 0
+mark-step : (t : Bool) (i : ℕ) (r : List (List ℕ)) (n : ℕ) → length (raws_text r) ≡ n * 4 → length (raws_text (pick t (point_text i ∷ r) r)) ≡ (cond t 1 0 + n) * 4
 unfolding raws_text
-point-length i true = refl
-point-length i false = refl
+mark-step true i r n e = omega arith
+mark-step false i r n e = omega arith
 
-pub record Counting (marks : List Bool) (n i : ℕ) : Type 0 where
-  pub sum : n * 4 + length (raws_text (points_from i (drop i marks))) ≡ length (raws_text (points_from 0 marks))
-  pub low : n ≤ i
-  pub most : i ≤ 2704
-
-pub counting-first : (marks : List Bool) → Counting marks 0 0
-counting-first marks = record { sum = omega arith; low = omega arith; most = omega arith }
-
-module _ {marks : List Bool} {n i : ℕ} (y : Counting marks n i) where
-  module _ (l : length marks ≡ 2704) (h : i < 2704) {b : Bool} (e : get_or marks i false ≡ b) where
-    next-length : length (raws_text (points_from i (drop i marks))) ≡ pick b 4 0 + length (raws_text (points_from (i + 1) (drop (i + 1) marks)))
-    next-length =
-        ap length (points-next marks i (omega arith))
-        ∙ length-append (raws_text (pick (get_or marks i false) (point_text i ∷ []) [])) (raws_text (points_from (i + 1) (drop (i + 1) marks)))
-        ∙ ap (λ (z : ℕ). z + length (raws_text (points_from (i + 1) (drop (i + 1) marks)))) (point-length i (get_or marks i false) ∙ ap (λ (z : Bool). pick z 4 0) e)
-
-  pub counting-marked : length marks ≡ 2704 → i < 2704 → get_or marks i false ≡ true → Counting marks (n + 1) (i + 1)
-  counting-marked l h e =
-      let q = next-length l h e in
-      let su = y.sum in
-      let lo = y.low in
-      record { sum = omega arith; low = omega arith; most = omega arith }
-
-  pub counting-other : length marks ≡ 2704 → i < 2704 → get_or marks i false ≡ false → Counting marks n (i + 1)
-  counting-other l h e =
-      let q = next-length l h e in
-      let su = y.sum in
-      let lo = y.low in
-      record { sum = omega arith; low = omega arith; most = omega arith }
-
-  pub counting-end : length marks ≡ 2704 → 2704 ≤ i → n * 4 ≡ length (raws_text (points_from 0 marks))
-  counting-end l h =
-      let q : length (raws_text (points_from i (drop i marks))) ≡ 0 = ap length (points-end marks i (omega arith)) in
-      let su = y.sum in
-      omega arith
+pub marks-counted : (i : ℕ) (marks : List Bool) → length (raws_text (points_from i marks)) ≡ count_by (λ m. m) marks * 4
+unfolding points_from raws_text
+marks-counted i [] = refl
+marks-counted i (m ∷ ms) =
+    mark-step m i (points_from (suc i) ms) (count_by (λ b. b) ms) (marks-counted (suc i) ms)
+    ∙ ap (λ (n : ℕ). n * 4) (sym (sum_by-cons (λ (b : Bool). cond b 1 0) m ms))

@@ -21,16 +21,7 @@ use lexer_scan::ValueStep;
 fn count_letters(name: &[u8]) -> usize
     ensures { (result ≡ length (read_identifier name.now)) × (result ≤ length name.now) }
 {
-    let mut n: usize = 0;
-    let mut i: usize = 0;
-    while i < name.len() {
-        let b = name[i];
-        i += 1;
-        if (b'A' <= b) & (b <= b'Z') {
-            n += 1;
-        }
-    }
-    n
+    name.iter().filter(|b| b.is_ascii_uppercase()).count()
 }
 
 // The length of the values from k on in their brackets, as they are raw.
@@ -39,6 +30,7 @@ fn raw_length(s: &[u8], k: usize) -> usize
 {
     let mut n: usize = 0;
     let mut at = k;
+    // A loop: `at` moves by the value that it finds.
     loop {
         let ValueStep::Value(a, e, next) = lexer_scan::next_value(s, at) else {
             break;
@@ -54,16 +46,7 @@ fn count_marks(marks: &[bool; 2704]) -> usize
     requires { length marks.now ≡ 2704 }
     ensures { (result * 4 ≡ length (raws_text (points_from 0 marks.now))) × (result ≤ 2704) }
 {
-    let mut n: usize = 0;
-    let mut i: usize = 0;
-    while i < 2704 {
-        let marked = marks[i];
-        i += 1;
-        if marked {
-            n += 1;
-        }
-    }
-    n
+    marks.iter().filter(|marked| **marked).count()
 }
 
 // The length of a set whose values stand from k on: of its points, or of the raw values of what is none.
@@ -73,6 +56,7 @@ fn set_length(s: &[u8], k: usize) -> usize
 {
     let mut marks = [false; 2704];
     let mut at = k;
+    // A loop: `at` moves by the value that it finds.
     loop {
         let ValueStep::Value(a, e, next) = lexer_scan::next_value(s, at) else {
             break;

@@ -36,6 +36,7 @@ fn root_game(s: &[u8], from: usize) -> GameType
     let mut at = from;
     let mut found = false;
     let mut k: usize = 0;
+    // A loop: `at` moves by the token that it finds.
     loop {
         let Step::Property(i, j, e) = lexer::next_token(s, at) else {
             break;
@@ -85,6 +86,7 @@ fn root_size(s: &[u8], from: usize) -> RootSize
     let mut at = from;
     let mut found = false;
     let mut k: usize = 0;
+    // A loop: `at` moves by the token that it finds.
     loop {
         let Step::Property(i, j, e) = lexer::next_token(s, at) else {
             break;
@@ -167,6 +169,7 @@ pub fn root_rule(s: &[u8], from: usize) -> RootRule
     let mut g: usize = 0;
     let mut sized = false;
     let mut z: usize = 0;
+    // A loop: `at` moves by the token that it finds.
     loop {
         let Step::Property(i, j, e) = lexer::next_token(s, at) else {
             break;

@@ -1,7 +1,7 @@
 -- The list on top of the stack: empty or not. Assumes nothing.
-use Rattle.lists.proofs.Prelude.{ℕ, ◌+◌, ◌-◌, ◌≡◌, sym, ap, ◌∙◌, Bool, true, List, get_or, ltb, eq-eqb, ne_eqb, pick}
-use Rattle.tables.specs.Numbers.{none}
-use Rattle.parser_step.specs.LocalsActs.{stack_of, has_child, may_open}
+use Rattle.lists.proofs.Prelude.{ℕ, ◌+◌, ◌-◌, ◌≤◌, ◌≡◌, sym, ap, ◌∙◌, Bool, true, ◌&&◌, List, get_or, ltb, eq-eqb, ne_eqb, le-leb, pick}
+use Rattle.tables.specs.Numbers.{none, depth_limit}
+use Rattle.parser_step.specs.LocalsActs.{stack_of, has_child, may_open, may_start}
 use Rattle.parser_step.proofs.Stacks.{stack-none, stack-pop}
 
 pub may_none : (a : List ℕ) (d base n : ℕ) → d ≡ 0 → true ≡ may_open base n (stack_of a d)
@@ -16,3 +16,7 @@ module _ (base n x : ℕ) where
 
   pub child-node : (x ≡ none → ⊥) → {y : ℕ} → y ≡ x → ltb (y + 1) n ≡ has_child base n x
   child-node h e = ap (λ (z : ℕ). ltb (z + 1) n) e ∙ sym (ap (λ (z : Bool). pick z (ltb base n) (ltb (x + 1) n)) (ne_eqb x none h))
+
+-- a stack that is not too deep
+pub may-started : (a : List ℕ) (d base n : ℕ) → d ≤ depth_limit → {b : Bool} → b ≡ may_start base n d a → b ≡ may_open base n (stack_of a d)
+may-started a d base n h e = e ∙ ap (λ (z : Bool). z && may_open base n (stack_of a d)) (le-leb d depth_limit h)

@@ -3,7 +3,7 @@
 
 mod walk; // walk.rt: the tree of a slice
 
-ghost use Rattle.std.specs.Prelude.{◌≡◌, true, ◌+◌, ◌≤◌, max, length};
+ghost use Rattle.std.specs.Prelude.{◌≡◌, true, ◌≤◌, length};
 ghost use Rattle.lexer.specs.Token.{lex_at};
 ghost use Rattle.tables.specs.Numbers.{text_limit};
 ghost use Rattle.parser.specs.Split.{split_by_gametree};
@@ -55,17 +55,6 @@ fn put_cut(tree: usize, cut: bool, place: usize, e: usize, rows: &mut [u32]) -> 
     e
 }
 
-// The number behind the nodes of a tree, which has at least one.
-fn nodes_behind(base: usize, n: usize) -> usize
-    requires { base ≤ entry_limit }
-    ensures { result ≡ max (base + 1) n }
-{
-    if n <= base {
-        return base + 1;
-    }
-    n
-}
-
 // The entries of the tree of the slice that starts at a place.
 fn put_tree(
     s: &[u8],
@@ -84,7 +73,7 @@ fn put_tree(
     let next = put_cut(tree, w.cut, w.place, rooted, rows);
     Behind {
         at: w.next,
-        nodes: nodes_behind(base, w.nodes),
+        nodes: (base + 1).max(w.nodes),
         properties: w.properties,
         entries: next,
     }
@@ -95,11 +84,11 @@ fn tail_at(s: &[u8], at: usize) -> Tail
     ensures { TailIs (length s.now) (tail_of (lex_at s.now at).toks (lex_at s.now at).end) result }
 {
     match lexer::next_token(s, at) {
-        Step::Start(i) => Tail::At(i),
-        Step::End(i) => Tail::At(i),
-        Step::Node(i) => Tail::At(i),
-        Step::Property(i, _, _) => Tail::At(i),
-        Step::Refused(_, i) => Tail::At(i),
+        Step::Start(i)
+        | Step::End(i)
+        | Step::Node(i)
+        | Step::Property(i, _, _)
+        | Step::Refused(_, i) => Tail::At(i),
         Step::Done => Tail::None,
     }
 }
@@ -125,14 +114,12 @@ fn put_slices(s: &[u8], from: usize, count: usize, rows: &mut [u32]) -> usize
     let mut base: usize = 0;
     let mut p: usize = 0;
     let mut e: usize = 0;
-    let mut k: usize = 0;
-    while k < count {
+    for k in 0..count {
         let x = put_tree(s, at, k, base, p, e, rows);
         at = x.at;
         base = x.nodes;
         p = x.properties;
         e = x.entries;
-        k += 1;
     }
     put_tail(s, at, e, rows)
 }

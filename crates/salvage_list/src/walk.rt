@@ -4,9 +4,6 @@ ghost use Rattle.lexer.specs.Token.{lex_at};
 ghost use Rattle.lexer.specs.Step.{prop_at, vals_at};
 ghost use Rattle.lists.specs.Put.{PutWhole};
 ghost use Rattle.parser.specs.Game.{props, game_vals, game_props};
-ghost use Rattle.tables.specs.Numbers.{text_limit, depth_limit};
-ghost use Rattle.parser_tree.specs.LocalsTurns.{BehindIs};
-ghost use Rattle.parser_step.specs.LocalsActs.{stack_of, has_child, may_open};
 ghost use Rattle.salvage_mend.specs.Mend.{gms_among, gms_bad};
 ghost use Rattle.salvage_mend.specs.Changes.{prop_change};
 ghost use Rattle.salvage_list.specs.LocalsPuts.{entry_limit, EntriesPut, entry_kind};
@@ -102,6 +99,7 @@ fn bad_root(s: &[u8], from: usize) -> bool
     let mut at = from;
     let mut found = false;
     let mut k: usize = 0;
+    // A loop: `at` moves by the token that it finds.
     loop {
         let Step::Property(i, j, e) = lexer::next_token(s, at) else {
             break;
@@ -131,59 +129,6 @@ fn bad_node(s: &[u8], at: usize, first: bool) -> bool
     false
 }
 
-// Has the list of a node an element: the node after it exists.
-fn has_child(x: u32, base: usize, n: usize) -> bool
-    ensures { result ≡ has_child base n x }
-{
-    if x == NONE {
-        return base < n;
-    }
-    lists::wide(x) + 1 < n
-}
-
-// May a tree start: the list on top of the stack is not empty.
-fn may_open(stack: &[u32; 1024], depth: usize, base: usize, n: usize) -> bool
-    requires { depth ≤ 1024 }
-    ensures { result ≡ may_open base n (stack_of stack.now depth) }
-{
-    if depth == 0 {
-        return true;
-    }
-    has_child(stack[depth - 1], base, n)
-}
-
-// The place behind the slice in which so many trees are open.
-fn skip_slice(s: &[u8], from: usize, opened: usize) -> usize
-    requires { (length s.now ≤ text_limit) × (from ≤ length s.now) × (opened ≤ depth_limit) }
-    ensures { BehindIs true s.now from opened result }
-{
-    let mut at = from;
-    let mut depth = opened;
-    loop {
-        match lexer::next_token(s, at) {
-            Step::Start(i) => {
-                depth += 1;
-                at = i + 1;
-            }
-            Step::End(i) => {
-                if depth <= 1 {
-                    return i + 1;
-                }
-                depth -= 1;
-                at = i + 1;
-            }
-            Step::Node(i) => {
-                at = i + 1;
-            }
-            Step::Property(_, _, e) => {
-                at = e;
-            }
-            Step::Refused(_, _) => return at,
-            Step::Done => return at,
-        }
-    }
-}
-
 // The slice that starts at a place, its first node numbered `base`, its first property p0: the entries of its properties from e0 on.
 pub fn walk_slice(
     s: &[u8],
@@ -205,12 +150,13 @@ pub fn walk_slice(
     let mut bad = false;
     let mut p = p0;
     let mut e = e0;
+    // A loop: `at` moves by the token that it finds.
     loop {
         match lexer::next_token(s, at) {
             Step::Start(i) => {
-                if !may_open(&stack, depth, base, n) {
+                if !parser_step::may_open(&stack, depth, base, n) {
                     return Stood {
-                        next: skip_slice(s, at, depth),
+                        next: parser_tree::skip_slice(s, at, depth),
                         nodes: n,
                         properties: p,
                         entries: e,
@@ -259,7 +205,7 @@ pub fn walk_slice(
             Step::Property(i, k, next) => {
                 if !follows {
                     return Stood {
-                        next: skip_slice(s, at, depth),
+                        next: parser_tree::skip_slice(s, at, depth),
                         nodes: n,
                         properties: p,
                         entries: e,

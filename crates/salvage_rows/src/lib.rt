@@ -34,14 +34,12 @@ fn is_gm(text: &[u8], properties: &[u32], p: usize) -> bool
 fn next_gm(text: &[u8], properties: &[u32], from: usize, to: usize) -> usize
     ensures { NextGM text.now properties.now from to result }
 {
-    let mut p = from;
-    while p < to {
+    for p in from..to {
         if is_gm(text, properties, p) {
             return p;
         }
-        p += 1;
     }
-    p
+    from.max(to)
 }
 
 // The game type that the properties of `count` rows from `first` on say.

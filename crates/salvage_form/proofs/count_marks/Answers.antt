@@ -1,18 +1,11 @@
-use Rattle.lists.proofs.Prelude.{arith}
-use Rattle.salvage_form.proofs.Counted.{counting-first, counting-marked, counting-other, counting-end}
+use Rattle.lists.proofs.Prelude.{◌≡◌, Bool, rules, arith}
+use Rattle.std.specs.Prelude.{count_by}
+use Rattle.std.proofs.lemmas.List.Sums.{count_by-le-length}
+use Rattle.salvage_form.proofs.Counted.{marks-counted}
 use Rattle.salvage_form.proofs.count_marks.Goals as goal
 
-pub loop-i-init : goal.loop-i-init
-loop-i-init c = counting-first _
-
-pub overflow_add-n : goal.overflow_add-n
-overflow_add-n c = let lo = c.loop-i.invariant.low in let mo = c.loop-i.invariant.most in omega arith
-
-pub loop-i-preserved-then-marked : goal.loop-i-preserved-then-marked
-loop-i-preserved-then-marked c = counting-marked c.loop-i.invariant c.requires c.loop-i-test.true c.if-marked.true
-
-pub loop-i-preserved : goal.loop-i-preserved
-loop-i-preserved c = counting-other c.loop-i.invariant c.requires c.loop-i-test.true c.if-marked.false
-
 pub returns : goal.returns
-returns c = let lo = c.loop-i.invariant.low in let mo = c.loop-i.invariant.most in (counting-end c.loop-i.invariant c.requires c.loop-i-test.false, omega arith)
+returns c =
+    let marks = c.args.marks.now in
+    let e : c.count.result ≡ count_by (λ (m : Bool). m) marks = search rules in
+    (omega (arith, marks-counted 0 marks), omega (arith, count_by-le-length (λ (m : Bool). m) marks, c.told-marks))

@@ -1,5 +1,5 @@
 use Rattle.salvage_list.proofs.Slices.{listing-first, listing-few, listing-ready, listing-more, listing-end}
-use Rattle.lists.proofs.Prelude.{arith, ◌∙◌}
+use Rattle.lists.proofs.Prelude.{◌∙◌}
 use Rattle.salvage_list.proofs.put_slices.Goals as goal
 
 pub loop-k-init : goal.loop-k-init
@@ -7,12 +7,6 @@ loop-k-init c = listing-first _ c.requires
 
 pub put_tree-x-requires : goal.put_tree-x-requires
 put_tree-x-requires c = listing-ready c.loop-k.invariant c.loop-k-test.true
-
-pub overflow_add-k : goal.overflow_add-k
-overflow_add-k c = let t = c.loop-k-test.true in omega arith
-
-pub loop-k-smaller : goal.loop-k-smaller
-loop-k-smaller c = let t = c.loop-k-test.true in omega arith
 
 pub loop-k-preserved : goal.loop-k-preserved
 loop-k-preserved c = listing-more c.loop-k.invariant c.loop-k-test.true c.put_tree-x.ensures

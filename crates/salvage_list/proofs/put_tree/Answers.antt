@@ -8,11 +8,8 @@ put_root-rooted-requires c = let f = stood-few c.requires.0 c.walk_slice-w.ensur
 pub put_cut-next-requires : goal.put_cut-next-requires
 put_cut-next-requires c = let f = rooted-few c.requires.0 c.walk_slice-w.ensures c.args.tree c.put_root-rooted.ensures in let p = c.requires in let i = c.walk_slice-w.ensures.inside in let s = c.requires.0.short in (omega arith, omega arith, omega arith)
 
-pub nodes_behind-requires : goal.nodes_behind-requires
-nodes_behind-requires c = let p = c.requires.0.nodes in omega arith
-
 pub shape_of-rows : goal.shape_of-rows
 shape_of-rows c = c.put_cut-next.ensures.put.len ∙ c.put_root-rooted.ensures.put.len ∙ c.walk_slice-w.ensures.put.put.len
 
 pub returns : goal.returns
-returns c = tree-listed c.requires.0 c.walk_slice-w.ensures c.args.tree c.put_root-rooted.ensures c.put_cut-next.ensures c.nodes_behind.ensures
+returns c = tree-listed c.requires.0 c.walk_slice-w.ensures c.args.tree c.put_root-rooted.ensures c.put_cut-next.ensures c.max.ensures

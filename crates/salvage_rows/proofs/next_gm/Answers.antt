@@ -18,4 +18,4 @@ loop-p-preserved c = let a = c.args in
 pub returns : goal.returns
 returns c = let a = c.args in
     let l = c.loop-p in
-    searched-end a.text.now a.properties.now a.from a.to l.p l.invariant c.loop-p-test.false
+    searched-end a.text.now a.properties.now a.from a.to l.p l.invariant c.loop-p-test.false c.max.ensures

@@ -5,13 +5,11 @@ use Rattle.parser.proofs.Meets.{meets}
 use Rattle.lexer.proofs.Within.{found_within}
 use Rattle.lexer.specs.Token.{Lexed}
 use Rattle.lists.proofs.Prelude.{refl, ap, arith}
+use Rattle.salvage_list.proofs.Stacks.{may-started}
 use Rattle.salvage_list.proofs.walk.walk_slice.Goals as goal
 
 pub loop-i-init : goal.loop-i-init
 loop-i-init c = standing-first _ _ c.requires refl
-
-pub may_open-requires : goal.may_open-requires
-may_open-requires c = c.loop-i.invariant.go.deep
 
 pub skip_slice-requires : goal.skip_slice-requires
 skip_slice-requires c = (c.loop-i.invariant.go.short, c.loop-i.invariant.go.skip.inside, c.loop-i.invariant.go.deep)
@@ -20,7 +18,7 @@ pub shape_of-rows-then-not-may_open : goal.shape_of-rows-then-not-may_open
 shape_of-rows-then-not-may_open c = c.loop-i.invariant.has.puts.put.len
 
 pub returns-then-not-may_open : goal.returns-then-not-may_open
-returns-then-not-may_open c = let w = (found_within c.args.s.now _ _ _ c.next_token.ensures c.in-Start.is) in start-stops c.loop-i.invariant.go w.0 w.1 (meets c.args.s.now c.loop-i.at c.next_token.ensures c.in-Start.is) c.may_open.ensures c.if-not-may_open.true c.loop-i.invariant.has c.skip_slice.ensures
+returns-then-not-may_open c = let w = (found_within c.args.s.now _ _ _ c.next_token.ensures c.in-Start.is) in start-stops c.loop-i.invariant.go w.0 w.1 (meets c.args.s.now c.loop-i.at c.next_token.ensures c.in-Start.is) (may-started c.loop-i.stack c.loop-i.depth c.args.base c.loop-i.n c.loop-i.invariant.go.deep c.may_open.ensures) c.if-not-may_open.true c.loop-i.invariant.has c.skip_slice.ensures
 
 pub offset_bounds-stack-depth : goal.offset_bounds-stack-depth
 offset_bounds-stack-depth c = let d = c.loop-i.invariant.go.deep in omega arith
@@ -38,7 +36,7 @@ pub loop-i-smaller-in-Start : goal.loop-i-smaller-in-Start
 loop-i-smaller-in-Start c = let w = (found_within c.args.s.now _ _ _ c.next_token.ensures c.in-Start.is) in omega arith
 
 pub loop-i-preserved-in-Start : goal.loop-i-preserved-in-Start
-loop-i-preserved-in-Start c = let w = (found_within c.args.s.now _ _ _ c.next_token.ensures c.in-Start.is) in standing-start c.loop-i.invariant.go w.0 w.1 (meets c.args.s.now c.loop-i.at c.next_token.ensures c.in-Start.is) c.may_open.ensures c.if-not-may_open.false refl c.loop-i.invariant.has
+loop-i-preserved-in-Start c = let w = (found_within c.args.s.now _ _ _ c.next_token.ensures c.in-Start.is) in standing-start c.loop-i.invariant.go w.0 w.1 (meets c.args.s.now c.loop-i.at c.next_token.ensures c.in-Start.is) (may-started c.loop-i.stack c.loop-i.depth c.args.base c.loop-i.n c.loop-i.invariant.go.deep c.may_open.ensures) c.if-not-may_open.false refl c.loop-i.invariant.has
 
 pub overflow_add-result : goal.overflow_add-result
 overflow_add-result c = let w = (found_within c.args.s.now _ _ _ c.next_token.ensures c.in-End.is) in omega arith
