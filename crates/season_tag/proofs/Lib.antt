@@ -1,5 +1,4 @@
 pub mod Digits
-pub mod Halves
 pub mod Putting
 pub mod Tags
 pub mod Unique

@@ -1,21 +1,24 @@
-use Rattle.lists.proofs.Prelude.{arith}
-use Rattle.season_tag.proofs.Putting.{putting-first, putting-next, putting-end}
+use Rattle.lists.proofs.Prelude.{ℕ, suc, ◌-◌, ◌/◌, ◌%◌, ◌≡◌, subst, ap, ◌∙◌, arith}
+use Rattle.season_tag.specs.Hex.{hex_digit}
+use Rattle.season_tag.proofs.Putting.{Putting, putting-first, putting-next, putting-end, pow-four}
 use Rattle.season_tag.proofs.put_hex.Goals as goal
 
-pub loop-power-init : goal.loop-power-init
-loop-power-init c = let a = c.args in putting-first a.n a.out.now a.at (omega arith)
+pub loop-k-init : goal.loop-k-init
+loop-k-init c = let a = c.args in putting-first a.n a.out.now a.at (omega arith)
 
-pub loop-power-preserved : goal.loop-power-preserved
-loop-power-preserved c = let a = c.args in
-    let w = c.put_byte-next in
-    putting-next a.n a.out.now a.at c.loop-power.out c.loop-power.next c.loop-power.power c.loop-power.invariant (omega arith)
-    c.loop-power-test.true c.letter-b.result c.letter-b.ensures
-    w.new.out w.result w.ensures
+pub loop-k-preserved : goal.loop-k-preserved
+loop-k-preserved c = let a = c.args in
+    let l = c.loop-k in
+    let e : l.k ≡ suc (l.k - 1) = omega (arith, c.loop-k-test.true) in
+    let p = subst (λ (z : ℕ). Putting a.n a.out.now a.at l.out l.next z) e l.invariant in
+    putting-next _ _ _ p (omega (arith, c.well_formed)) (c.letter.ensures ∙ ap (λ (z : ℕ). hex_digit (a.n / z % 16)) (pow-four (l.k - 1)))
+    c.put_byte-next.ensures
 
 pub shape_of-out : goal.shape_of-out
-shape_of-out c = c.loop-power.invariant.len
+shape_of-out c = c.loop-k.invariant.len
 
 pub returns : goal.returns
 returns c = let a = c.args in
-    let l = c.loop-power in
-    putting-end a.n a.out.now a.at l.out l.next l.power l.invariant (omega arith) c.loop-power-test.false
+    let l = c.loop-k in
+    let e : l.k ≡ 0 = omega (arith, c.loop-k-test.false) in
+    putting-end (subst (λ (z : ℕ). Putting a.n a.out.now a.at l.out l.next z) e l.invariant)

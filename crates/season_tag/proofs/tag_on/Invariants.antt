@@ -1,9 +1,6 @@
-use Rattle.lists.proofs.Prelude.{◌-◌, ◌≡◌, length, drop}
+use Rattle.lists.proofs.Prelude.{◌≡◌, drop}
 use Rattle.season_tag.specs.Tag.{tag_from}
 use Rattle.season_tag.proofs.tag_on.Given as goal
 
-abbrev pub invariant-loop-i : goal.invariant-loop-i
-invariant-loop-i l = tag_from l.h (drop l.i l.s) ≡ tag_from l.initial.h l.s
-
-abbrev pub decreases-loop-i : goal.decreases-loop-i
-decreases-loop-i l = length l.s - l.i
+abbrev pub invariant-loop-b : goal.invariant-loop-b
+invariant-loop-b l = tag_from l.h (drop l.b-index l.s) ≡ tag_from l.initial.h l.s
