@@ -44,10 +44,7 @@ pub fn out_room() -> [u8; 400000]
 pub fn first(bytes: &[u8], n: usize) -> &[u8]
     ensures { result.now ≡ take n bytes.now }
 {
-    if bytes.len() < n {
-        return bytes;
-    }
-    &bytes[..n]
+    &bytes[..bytes.len().min(n)]
 }
 
 // Words and a number, and the place after them.
