@@ -127,25 +127,10 @@ fn is_point(text: &[u8], values: &[u32], first: usize, count: usize) -> bool
     if count != 1 {
         return false;
     }
-    let value = parts::value_at(text, values, first, 0);
-    if value.len() != 2 {
-        return false;
-    }
-    let a = value[0];
-    let b = value[1];
-    if a < b'a' {
-        return false;
-    }
-    if b's' < a {
-        return false;
-    }
-    if b < b'a' {
-        return false;
-    }
-    if b'z' < b {
-        return false;
-    }
-    true
+    matches!(
+        parts::value_at(text, values, first, 0),
+        [b'a'..=b's', b'a'..=b'z']
+    )
 }
 
 // What property p counts as in a tree with this rule.
@@ -181,18 +166,15 @@ fn add(moves: Moves, what: Played) -> Moves
     match what {
         Played::Black => Moves {
             black: moves.black + 1,
-            white: moves.white,
-            passes: moves.passes,
+            ..moves
         },
         Played::White => Moves {
-            black: moves.black,
             white: moves.white + 1,
-            passes: moves.passes,
+            ..moves
         },
         Played::Passed => Moves {
-            black: moves.black,
-            white: moves.white,
             passes: moves.passes + 1,
+            ..moves
         },
         Played::Nothing => moves,
     }
@@ -232,12 +214,10 @@ fn count_range(
 {
     let mut sum = moves;
     let mut first = tagged;
-    let mut p = from;
-    while p < to {
+    for p in from..to {
         first = tag_more(bytes, first);
         let what = played_at(rule, text, properties, values, p);
         sum = add(sum, what);
-        p += 1;
     }
     Counting {
         moves: sum,
@@ -288,15 +268,13 @@ fn count_moves(
         tag: season_tag::tag(&bytes[..0]),
     };
     let mut from: usize = 0;
-    let mut r: usize = 0;
-    while r < m {
+    for r in 0..m {
         let to = next_first(trees, m, nodes, r, n);
         let rule = fit_rule::rule_at(t, trees, nodes, properties, values, r);
         let more = count_range(rule, t, properties, values, from, to, moves, bytes, tagged);
         moves = more.moves;
         tagged = more.tagged;
         from = to;
-        r += 1;
     }
     Counting {
         moves: moves,

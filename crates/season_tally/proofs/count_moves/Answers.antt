@@ -26,9 +26,6 @@ count_range-more-requires c = let a = c.args in
     let u = rises (fit-clauses (memory a.text.now a.used a.counts a.trees.now a.nodes.now a.properties.now a.values.now) c.requires) l.r l.from l.moves w c.loop-r-test.true c.next_first-to.result c.next_first-to.ensures in
     (u.0, w.below, l.invariant.1)
 
-pub overflow_add-r : goal.overflow_add-r
-overflow_add-r c = let t = c.loop-r-test.true in let g = c.well_formed in omega (arith, t, g)
-
 pub loop-r-preserved : goal.loop-r-preserved
 loop-r-preserved c = let a = c.args in
     let l = c.loop-r in

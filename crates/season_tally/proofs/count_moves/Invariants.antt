@@ -1,4 +1,4 @@
-use Rattle.lists.proofs.Prelude.{◌-◌, ◌≡◌, true}
+use Rattle.lists.proofs.Prelude.{◌≡◌, true}
 use Rattle.tables.specs.declared.Counts.{Counts}
 use Rattle.tables.specs.Memory.{memory}
 use Rattle.fit.specs.Fit.{Fit}
@@ -11,6 +11,3 @@ abbrev pub invariant-loop-r : goal.invariant-loop-r
 invariant-loop-r l = ((c : Counts) → l.m ≡ c.trees → l.n ≡ c.properties → (h : Fit (memory l.text l.used c l.trees l.nodes l.properties l.values) ≡ true)
     → Walked (fit-clauses (memory l.text l.used c l.trees l.nodes l.properties l.values) h) l.r l.from l.moves)
     × TagsFirst l.bytes l.tagged
-
-abbrev pub decreases-loop-r : goal.decreases-loop-r
-decreases-loop-r l = l.m - l.r
