@@ -36,13 +36,12 @@ module _ (line : Line) (name : List ℕ) {out out1 : List ℕ} {at r : ℕ} wher
 module _ (sums out₀ : List ℕ) (at : ℕ) where
   -- the numbers before `number` are put
   pub record Numbering (out : List ℕ) (next number : ℕ) : Type 0 where
-    pub within : number ≤ 32
     pub len : length out ≡ length out₀
     pub below : next < 2 ^ 64
     pub rest : (out2 : List ℕ) (s : ℕ) → Wrote (refused_text number (32 - number) sums) out next out2 s → Wrote (refused_text 0 32 sums) out₀ at out2 s
 
   pub numbering-first : at < 2 ^ 64 → Numbering out₀ at 0
-  numbering-first h = record { within = omega arith; len = refl; below = h; rest = λ out2 s w. w }
+  numbering-first h = record { len = refl; below = h; rest = λ out2 s w. w }
 
   module _ (out : List ℕ) (next number : ℕ) (p : Numbering out next number) where
     pub numbering-next : length out₀ < 2 ^ 64 → number < 32 → {out1 : List ℕ} {r : ℕ} → Wrote (count_text number (get_or sums (6 + number) 0)) out next out1 r
@@ -52,7 +51,6 @@ module _ (sums out₀ : List ℕ) (at : ℕ) where
         let n = p.len in
         let e : 32 - number ≡ suc (32 - (number + 1)) = omega arith in
         record {
-          within = omega arith;
           len = wrote-length w ∙ p.len;
           below = let q = w.place in omega arith;
           rest = λ out2 s x.

@@ -1,4 +1,3 @@
 pub mod Columns
-pub mod Locals
 pub mod Report
 pub mod Totals

@@ -1,10 +1,10 @@
 -- Totals: the sums of lines, column by column.
-use Rattle.lists.specs.Prelude.{ℕ, Bool, true, false, List, [], leb, get_or, replicate, pick}
+use Rattle.lists.specs.Prelude.{ℕ, Bool, true, List, [], leb, get_or, replicate, pick}
 use Rattle.tables.specs.Each.{tabulate}
-use Rattle.std.specs.Prelude.{set, ◌+◌, ◌-◌, ◌^◌, ◌&&◌, ◌∷◌}
+use Rattle.std.specs.Prelude.{set, Option, Some, None, ◌+◌, ◌-◌, ◌^◌, ◌&&◌, ◌∷◌}
 use Rattle.season_totals.specs.declared.Line.{Line}
 use Rattle.season_totals.specs.declared.Line.TheVariants.{Unread, Refused, Counted}
-use Rattle.season_totals.specs.declared.Sum.{Sum}
+use Rattle.season_totals.specs.declared.Totals.{Totals}
 
 -- nothing counted in any of the 38 columns
 abbrev pub no_sums : List ℕ
@@ -30,9 +30,6 @@ abbrev pub small_sums : List ℕ → Bool
 small_sums [] = true
 small_sums (x ∷ xs) = leb x (2 ^ 64 - 1) && small_sums xs
 
--- the sums of both where each is below 2 ^ 64, else the first as they were
-unfoldable pub added_to : (xs ys : List ℕ) → Sum
-added_to xs ys =
-    pick (small_sums (plus_sums xs ys))
-    (record { fits = true; totals = record { sums = plus_sums xs ys } })
-    (record { fits = false; totals = record { sums = xs } })
+-- the sums of both, where each is below 2 ^ 64
+unfoldable pub added_to : (xs ys : List ℕ) → Option Totals
+added_to xs ys = pick (small_sums (plus_sums xs ys)) (Some (record { sums = plus_sums xs ys })) None

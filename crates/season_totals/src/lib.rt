@@ -4,7 +4,6 @@
 ghost use Rattle.std.specs.Prelude.{◌≡◌};
 ghost use Rattle.store_bytes.specs.LocalsWrote.{Wrote};
 ghost use Rattle.season_totals.specs.Totals.{line_sums, added_to};
-ghost use Rattle.season_totals.specs.Locals.{checked};
 ghost use Rattle.season_totals.specs.Report.{column, tally_text, named, line_text, count_text, refused_text, sums_text, totals_text};
 
 // What is counted in a record: trees, nodes, moves of each colour that are points, passes.
@@ -29,13 +28,6 @@ pub enum Line {
 #[derive(Clone, Copy)]
 pub struct Totals {
     pub sums: [u64; 38],
-}
-
-// Sums added, if they fit; else the first as they were.
-#[derive(Clone, Copy)]
-pub struct Sum {
-    pub fits: bool,
-    pub totals: Totals,
 }
 
 // What one line adds.
@@ -64,49 +56,15 @@ pub fn line_sums(line: Line) -> Totals
     }
 }
 
-// One column added, if the sum is below 2^64.
-#[derive(Clone, Copy)]
-enum CheckedSum {
-    Is(u64),
-    Over,
-}
-
-// The sum of two numbers, if it is below 2^64.
-fn plus(a: u64, b: u64) -> CheckedSum
-    ensures { result ≡ checked a b }
-{
-    if 0xffff_ffff_ffff_ffff - a < b {
-        return CheckedSum::Over;
-    }
-    CheckedSum::Is(a + b)
-}
-
 // The sums of two, column by column, where each is below 2^64.
-pub fn added(left: Totals, right: Totals) -> Sum
+pub fn added(left: Totals, right: Totals) -> Option<Totals>
     ensures { result ≡ added_to left.sums right.sums }
 {
-    let x = left.sums;
-    let y = right.sums;
-    let mut sums = [0u64; 38];
-    let mut i = 0;
-    while i < 38 {
-        match plus(x[i], y[i]) {
-            CheckedSum::Over => {
-                return Sum {
-                    fits: false,
-                    totals: left,
-                };
-            }
-            CheckedSum::Is(n) => {
-                sums[i] = n;
-            }
-        }
-        i += 1;
+    let mut sums = left.sums;
+    for i in 0..38 {
+        sums[i] = sums[i].checked_add(right.sums[i])?;
     }
-    Sum {
-        fits: true,
-        totals: Totals { sums: sums },
-    }
+    Some(Totals { sums })
 }
 
 // A tab and a number, and the place after them.
@@ -179,10 +137,8 @@ fn put_numbers(out: &mut [u8], at: usize, totals: Totals) -> usize
 {
     let sums = totals.sums;
     let mut next = at;
-    let mut number: usize = 0;
-    while number < 32 {
+    for number in 0..32 {
         next = put_refused(out, next, number as u64, sums[6 + number]);
-        number += 1;
     }
     next
 }

@@ -1,96 +1,45 @@
 // The line of a file.
+ghost use Rattle.std.specs.Prelude.{◌<◌, ◌^◌};
+
 use season_totals::Line;
 use std::fs::File;
 use std::io::Read;
 use std::os::fd::AsRawFd;
 
-// Rows, and bytes of a writing, that are enough for most texts of 8,192 bytes, in a sixth of the memory: of 2,048 nodes and properties, 4,096 values.
-fn most_node_rows() -> [u32; 12288] {
-    [0u32; 12288]
+// Of a text, in rows of trees, nodes, properties and values and bytes of a writing, so many of each; 14 where they are too few.
+fn line_in<const T: usize, const N: usize, const P: usize, const V: usize, const B: usize>(
+    text: &[u8],
+) -> Line
+    requires { (T < 2 ^ 32) × (N < 2 ^ 32) × (P < 2 ^ 32) × (V < 2 ^ 32) × (B < 2 ^ 32) }
+{
+    let mut trees = [0u32; T];
+    let mut nodes = [0u32; N];
+    let mut properties = [0u32; P];
+    let mut values = [0u32; V];
+    let mut out = [0u8; B];
+    season::line(
+        text,
+        &mut trees,
+        &mut nodes,
+        &mut properties,
+        &mut values,
+        &mut out,
+    )
 }
 
-// Of trees, 1,024.
-fn most_tree_rows() -> [u32; 2048] {
-    [0u32; 2048]
-}
-
-// Of properties, and of values.
-fn most_rows() -> [u32; 8192] {
-    [0u32; 8192]
-}
-
-// Of a writing.
-fn most_bytes() -> [u8; 16384] {
-    [0u8; 16384]
-}
-
-// Of a text, in these; 14 where they are too few.
+// In what is enough for most texts of 8,192 bytes, in a sixth of the memory: for 1,024 trees, 2,048 nodes and properties, 4,096 values.
 fn quick_line(text: &[u8]) -> Line {
-    let mut trees = most_tree_rows();
-    let mut nodes = most_node_rows();
-    let mut properties = most_rows();
-    let mut values = most_rows();
-    let mut out = most_bytes();
-    season::line(
-        text,
-        &mut trees,
-        &mut nodes,
-        &mut properties,
-        &mut values,
-        &mut out,
-    )
+    line_in::<2048, 12288, 8192, 8192, 16384>(text)
 }
 
-fn is_no_room(line: Line) -> bool {
-    match line {
-        Line::Unread => false,
-        Line::Refused(n) => n == 14,
-        Line::Counted(_, _) => false,
-    }
-}
-
-// Rows enough for any text of 8,192 bytes: of trees, properties and values.
-fn few_rows() -> [u32; 16384] {
-    [0u32; 16384]
-}
-
-// Of nodes, six numbers each.
-fn few_node_rows() -> [u32; 49152] {
-    [0u32; 49152]
-}
-
-// Of a text of at most 8,192 bytes, in a tenth of the rows.
+// In enough for any text of 8,192 bytes, a tenth of the rows of the largest.
 fn small_line(text: &[u8]) -> Line {
-    let mut trees = few_rows();
-    let mut nodes = few_node_rows();
-    let mut properties = few_rows();
-    let mut values = few_rows();
-    let mut out = tool::out_room();
-    season::line(
-        text,
-        &mut trees,
-        &mut nodes,
-        &mut properties,
-        &mut values,
-        &mut out,
-    )
+    line_in::<16384, 49152, 16384, 16384, 400000>(text)
 }
 
-// Of a text of at most 65,536 bytes.
+// In enough for any text of 65,536 bytes.
 fn large_line(text: &[u8]) -> Line {
-    let mut trees = tool::pair_rows();
-    let mut nodes = tool::node_rows();
-    let mut properties = tool::property_rows();
-    let mut values = tool::pair_rows();
-    let mut out = tool::out_room();
-    season::line(
-        text,
-        &mut trees,
-        &mut nodes,
-        &mut properties,
-        &mut values,
-        &mut out,
-    )
+    line_in::<65536, 393216, 131072, 65536, 400000>(text)
 }
 
 // Of an open file; one above 65,536 bytes is refused before it is read.
@@ -102,11 +51,10 @@ fn open_line(file: &File, text: &mut [u8]) -> Line {
     if 8192 < n {
         return large_line(tool::first(text, n));
     }
-    let line = quick_line(tool::first(text, n));
-    if is_no_room(line) {
-        return small_line(tool::first(text, n));
+    match quick_line(tool::first(text, n)) {
+        Line::Refused(14) => small_line(tool::first(text, n)),
+        line => line,
     }
-    line
 }
 
 // A folder opens, and the first read of it fails.

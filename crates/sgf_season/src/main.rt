@@ -9,7 +9,6 @@ mod reports; // reports.rt: the totals of a report
 ghost use Rattle.std.specs.Prelude.{◌≤◌, length};
 
 use lines::Stream;
-use reports::Report;
 use season_totals::{Line, Totals};
 use std::env::{Env, FillError};
 use std::fs::File;
@@ -17,33 +16,27 @@ use std::io::{ErrorKind, IsTerminal, Print};
 use std::os::fd::AsRawFd;
 use std::process::ExitCode;
 
-// How writing to standard output ended: all is there, nobody reads it any more, or it failed.
+// Why a season stops: nobody reads standard output any more, or the totals are not those of all.
 #[derive(Clone, Copy)]
-enum Said {
-    All,
+enum Ended {
     Unheard,
-    Failed,
+    Short,
 }
 
-// What was counted; whether every file was accepted; whether there is more to do; whether nobody reads standard output any more.
+// Why the totals of a report are not added: it is not read, it is no report, or a sum is beyond 2^64 - 1.
+#[derive(Clone, Copy)]
+enum NotAdded {
+    Unread,
+    NoReport,
+    Beyond,
+}
+
+// What was counted, and whether every file was accepted.
 #[derive(Clone, Copy)]
 struct Season {
     totals: Totals,
     files: u64,
     clean: bool,
-    going: bool,
-    unheard: bool,
-}
-
-// Nothing yet.
-fn begin() -> Season {
-    Season {
-        totals: Totals { sums: [0u64; 38] },
-        files: 0,
-        clean: true,
-        going: true,
-        unheard: false,
-    }
 }
 
 // Room for a line of the report, whose name has at most 4,095 bytes, and for the totals.
@@ -52,56 +45,27 @@ fn line_room() -> [u8; 8192] {
 }
 
 // Bytes to standard output.
-fn say(rt: &HostRuntime, bytes: &[u8]) -> Said {
+fn say(rt: &HostRuntime, bytes: &[u8]) -> Result<(), Ended> {
     match rt.write_all(bytes) {
-        Ok(()) => Said::All,
+        Ok(()) => Ok(()),
         Err(error) => match error.kind() {
-            ErrorKind::BrokenPipe => Said::Unheard,
-            _ => Said::Failed,
+            ErrorKind::BrokenPipe => Err(Ended::Unheard),
+            _ => Err(Ended::Short),
         },
     }
 }
 
-fn is_all(said: Said) -> bool {
-    match said {
-        Said::All => true,
-        Said::Unheard => false,
-        Said::Failed => false,
-    }
-}
-
-fn is_unheard(said: Said) -> bool {
-    match said {
-        Said::All => false,
-        Said::Unheard => true,
-        Said::Failed => false,
-    }
-}
-
-// The status of a program that a pipe without a reader ended, as a shell tells it; the system itself ends none of ours.
-fn unheard_status() -> ExitCode {
-    ExitCode::from(141u8)
-}
-
 // A line to standard output, in one piece.
-fn say_line(rt: &HostRuntime, line: Line, name: &[u8]) -> Said {
+fn say_line(rt: &HostRuntime, line: Line, name: &[u8]) -> Result<(), Ended> {
     let mut room = line_room();
     let n = season_totals::put_line(&mut room, 0, line, tool::first(name, 4095));
     say(rt, tool::first(&room, n))
 }
 
-fn say_totals(rt: &HostRuntime, totals: Totals) -> Said {
+fn say_totals(rt: &HostRuntime, totals: Totals) -> Result<(), Ended> {
     let mut room = line_room();
     let n = season_totals::put_totals(&mut room, 0, totals);
     say(rt, tool::first(&room, n))
-}
-
-fn is_counted(line: Line) -> bool {
-    match line {
-        Line::Unread => false,
-        Line::Refused(_) => false,
-        Line::Counted(_, _) => true,
-    }
 }
 
 // How many files there were, on a standard error that is a terminal while standard output is none.
@@ -118,77 +82,63 @@ fn tell(rt: &HostRuntime, files: u64, end: &[u8]) {
     io::write_all(2, end);
 }
 
-// One more; it stays where it is at the end of its numbers.
-fn one_more(n: u64) -> u64 {
-    if n == u64::MAX {
-        return n;
-    }
-    n + 1
-}
-
-// A line said and added.
-fn grow(rt: &HostRuntime, season: Season, line: Line, name: &[u8]) -> Season {
-    let said = say_line(rt, line, name);
-    let totals = season.totals;
-    let sum = season_totals::added(totals, season_totals::line_sums(line));
-    let sums = sum.totals;
-    let files = one_more(season.files);
-    if files % 64 == 0 {
-        tell(rt, files, b"");
-    }
-    Season {
-        totals: sums,
-        files: files,
-        clean: season.clean & is_counted(line),
-        going: is_all(said) & sum.fits,
-        unheard: is_unheard(said),
-    }
-}
-
-// One file more.
-fn take_file(rt: &HostRuntime, season: Season, name: &[u8]) -> Season {
-    grow(rt, season, files::file_line(rt, name), name)
-}
-
-// All names of standard input. A proved loop has to end, so its turns are counted down; fewer than 2^47 files have no sum of 2^64.
-fn take_names(rt: &HostRuntime, block: &mut [u8], name: &mut [u8]) -> Season {
-    let mut season = begin();
-    let mut input = rt.stdin();
-    let mut stream = lines::open();
-    let mut turns: u64 = 140737488355327;
-    while 0 < turns {
-        let taken = lines::take_line(&mut input, stream, block, name);
-        if !taken.some {
-            return season;
+impl Season {
+    // Nothing yet.
+    fn new() -> Season {
+        Season {
+            totals: Totals { sums: [0u64; 38] },
+            files: 0,
+            clean: true,
         }
-        let next = taken.stream;
-        stream = next;
-        season = take_file(rt, season, tool::first(name, taken.kept));
-        if !season.going {
-            return season;
-        }
-        turns -= 1;
     }
-    season
+
+    // One file more: its line said and added.
+    fn take_file(&mut self, rt: &HostRuntime, name: &[u8]) -> Result<(), Ended> {
+        let line = files::file_line(rt, name);
+        let said = say_line(rt, line, name);
+        self.files = self.files.saturating_add(1);
+        self.clean &= matches!(line, Line::Counted(_, _));
+        if self.files % 64 == 0 {
+            tell(rt, self.files, b"");
+        }
+        let sum = season_totals::added(self.totals, season_totals::line_sums(line));
+        self.totals = sum.unwrap_or(self.totals);
+        said?;
+        if sum.is_none() {
+            return Err(Ended::Short);
+        }
+        Ok(())
+    }
+
+    // All names of standard input. Fewer than 2^47 files have no sum of 2^64.
+    fn take_names(
+        &mut self,
+        rt: &HostRuntime,
+        block: &mut [u8],
+        name: &mut [u8],
+    ) -> Result<(), Ended> {
+        let mut input = rt.stdin();
+        let mut stream = Stream::new();
+        for _ in 0..140737488355327u64 {
+            let Some(kept) = stream.next_line(&mut input, block, name) else {
+                break;
+            };
+            self.take_file(rt, tool::first(name, kept))?;
+        }
+        Ok(())
+    }
 }
 
 // The argument's bytes at the start of a room, and how many; none where it is missing or has more than there is room for.
 fn argument(rt: &HostRuntime, i: usize, room: &mut [u8]) -> usize
     ensures { result ≤ length room.new }
 {
-    match rt.arg(i, room) {
-        Ok(n) => n,
-        Err(_) => 0,
-    }
+    rt.arg(i, room).unwrap_or(0)
 }
 
 fn has_argument(rt: &HostRuntime, i: usize) -> bool {
     let mut none = [0u8; 1];
-    match rt.arg(i, &mut none) {
-        Ok(_) => true,
-        Err(FillError::TooLong) => true,
-        Err(FillError::NotPresent) => false,
-    }
+    !matches!(rt.arg(i, &mut none), Err(FillError::NotPresent))
 }
 
 // How many there are, the program's name among them.
@@ -214,108 +164,85 @@ fn leave(rt: &HostRuntime, word: &[u8]) {
     io::write_all(file.as_raw_fd(), word);
 }
 
-fn leave_status(rt: &HostRuntime, season: Season, said: Said) -> ExitCode {
-    if is_unheard(said) {
-        return unheard_status();
+// The status of a program that a pipe without a reader ended, as a shell tells it, is 141; the system itself ends none of ours.
+fn leave_status(rt: &HostRuntime, clean: bool, ended: Result<(), Ended>) -> ExitCode {
+    match ended {
+        Err(Ended::Unheard) => {
+            return ExitCode::from(141u8);
+        }
+        Err(Ended::Short) => {
+            leave(rt, b"2");
+        }
+        Ok(()) => {
+            leave(rt, if clean { b"0" } else { b"1" });
+        }
     }
-    if !(season.going & is_all(said)) {
-        leave(rt, b"2");
-        return ExitCode::SUCCESS;
-    }
-    if !season.clean {
-        leave(rt, b"1");
-        return ExitCode::SUCCESS;
-    }
-    leave(rt, b"0");
     ExitCode::SUCCESS
 }
 
 fn count_season(rt: &HostRuntime) -> ExitCode {
     let mut block = io::large_buffer();
     let mut name = io::buffer();
-    let season = take_names(rt, &mut block, &mut name);
-    if season.unheard {
-        return unheard_status();
+    let mut season = Season::new();
+    let taken = season.take_names(rt, &mut block, &mut name);
+    if let Err(Ended::Unheard) = taken {
+        return leave_status(rt, season.clean, taken);
     }
     tell(rt, season.files, b"\n");
-    let totals = season.totals;
-    let said = say_totals(rt, totals);
-    leave_status(rt, season, said)
+    let said = say_totals(rt, season.totals);
+    leave_status(rt, season.clean, said.and(taken))
 }
 
 // What went wrong with which report.
-fn leave_report(rt: &HostRuntime, word: &[u8], i: u64) {
+fn leave_report(rt: &HostRuntime, why: NotAdded, i: u64) {
     let mut line = io::buffer();
-    let n = tool::put_count(&mut line, 0, word, i);
+    let n = match why {
+        NotAdded::Unread => tool::put_count(&mut line, 0, b"unread ", i),
+        NotAdded::NoReport => tool::put_count(&mut line, 0, b"no ", i),
+        NotAdded::Beyond => tool::put_count(&mut line, 0, b"beyond ", i),
+    };
     leave(rt, tool::first(&line, n));
 }
 
-// The totals with those of report i added, and whether that was possible.
+// The totals with those of report i added.
 fn add_report(
     rt: &HostRuntime,
     i: usize,
-    season: Season,
+    totals: Totals,
     block: &mut [u8],
     name: &mut [u8],
-) -> Season {
-    let totals = season.totals;
-    let stopped = Season {
-        totals: totals,
-        files: season.files,
-        clean: false,
-        going: false,
-        unheard: false,
-    };
+) -> Result<Totals, NotAdded> {
     let n = argument(rt, i, name);
     let Ok(path) = str::from_utf8(tool::first(name, n)) else {
-        leave_report(rt, b"unread ", i as u64);
-        return stopped;
+        return Err(NotAdded::Unread);
     };
     let Ok(mut file) = File::open(rt, path) else {
-        leave_report(rt, b"unread ", i as u64);
-        return stopped;
+        return Err(NotAdded::Unread);
     };
     if files::is_folder(&mut file) {
-        leave_report(rt, b"unread ", i as u64);
-        return stopped;
+        return Err(NotAdded::Unread);
     }
-    let report = reports::read_report(&mut file, block, name);
-    if report.phase != 2 {
-        leave_report(rt, b"no ", i as u64);
-        return stopped;
-    }
-    let sums = report.sums;
-    let sum = season_totals::added(totals, Totals { sums: sums });
-    if !sum.fits {
-        leave_report(rt, b"beyond ", i as u64);
-        return stopped;
-    }
-    let both = sum.totals;
-    Season {
-        totals: both,
-        files: season.files,
-        clean: season.clean,
-        going: true,
-        unheard: false,
-    }
+    let report = reports::read_report(&mut file, block, name).ok_or(NotAdded::NoReport)?;
+    season_totals::added(totals, report).ok_or(NotAdded::Beyond)
 }
 
 // The totals of all reports that the arguments name, from the second on.
 fn add_reports(rt: &HostRuntime, count: usize) -> ExitCode {
     let mut block = io::large_buffer();
     let mut name = io::buffer();
-    let mut season = begin();
-    let mut i: usize = 2;
-    while i < count {
-        season = add_report(rt, i, season, &mut block, &mut name);
-        if !season.going {
-            return ExitCode::SUCCESS;
+    let mut totals = Totals { sums: [0u64; 38] };
+    for i in 2..count {
+        match add_report(rt, i, totals, &mut block, &mut name) {
+            Ok(sum) => {
+                totals = sum;
+            }
+            Err(why) => {
+                leave_report(rt, why, i as u64);
+                return ExitCode::SUCCESS;
+            }
         }
-        i += 1;
     }
-    let totals = season.totals;
-    let said = say_totals(rt, totals);
-    leave_status(rt, season, said)
+    leave_status(rt, true, say_totals(rt, totals))
 }
 
 fn main(rt: HostRuntime) -> ExitCode {
