@@ -53,7 +53,7 @@ fn continues(b: u8) -> bool
     (0x80 <= b) & (b <= 0xBF)
 }
 
-// Table 3-7: its row of two bytes.
+// Table 3-7: its row of two bytes. A function for each width: their rows differ in number and in the second byte.
 fn two(b: u8, c: u8) -> bool
     ensures { result ≡ listed 2 (b ∷ c ∷ []) }
 {
@@ -96,7 +96,7 @@ fn joined(code: u32, b: u8) -> u32
     code * 64 + above(b, 0x80)
 }
 
-// The character that two bytes code.
+// The character that two bytes code. A function for each width: a loop over a slice would have to bound the bits so far.
 fn scalar2(b: u8, c: u8) -> u32
     ensures { result ≡ scalar (b ∷ c ∷ []) }
 {

@@ -125,6 +125,7 @@ fn next_text(s: &[u8], from: usize) -> ReadStep
     ensures { DisplaysAt format_text s.now from result }
 {
     let mut at = from;
+    // A loop: `at` moves past a break that is not shown.
     loop {
         let ReadStep::Byte(b, n) = values::read::next_read(s, at) else {
             return ReadStep::End;
@@ -197,6 +198,7 @@ fn put_shown(kind: Kind, raw: &[u8], out: &mut [u8]) -> usize
 {
     let mut at: usize = 0;
     let mut to: usize = 0;
+    // A loop: `at` moves by what the next shown byte takes.
     loop {
         let ReadStep::Byte(b, n) = next_shown(kind, raw, at) else {
             return to;
