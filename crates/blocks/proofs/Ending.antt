@@ -2,11 +2,6 @@
 use Rattle.lists.proofs.Prelude.{◌≡◌, sym, ap, ◌∙◌, ℕ, ◌+◌, ◌-◌, ◌*◌, ◌/◌, ◌≤◌, ◌<◌, Bool, true, false, List, ◌++◌, append_assoc, length, take, drop, replicate, ltb, pick, arith, paste, take_all, length-replicate, eq-eqb, ne_eqb, lt-ltb, le-ltb}
 use Rattle.lists.specs.Put.{put_at, PutWhole}
 use Rattle.tables.specs.Numbers.{text_limit}
-use Rattle.lexer.specs.Token.{finish}
-use Rattle.blocks_step.specs.declared.Utf8.{Utf8}
-use Rattle.blocks_step.specs.declared.Utf8.TheVariants.{Whole}
-use Rattle.blocks_step.specs.declared.Phase.{Phase}
-use Rattle.blocks_step.specs.Lean.{machine_of}
 use Rattle.blocks.specs.declared.BlocksKnown.{BlocksKnown}
 use Rattle.blocks.specs.declared.Closing.{Closing}
 use Rattle.blocks.specs.declared.Closing.TheVariants.{Refused, Rows, Last}
@@ -14,28 +9,12 @@ use Rattle.blocks.specs.declared.BlocksState.{BlocksState}
 use Rattle.blocks.specs.declared.Closed.{Closed}
 use Rattle.blocks.specs.State.{state_says}
 use Rattle.blocks.specs.Room.{token_row}
-use Rattle.blocks.specs.Close.{closing_by, closing_at, closing, cleared_rows, refused_at, accepted_with, closed_by, cells_by, closed_before, CloseIs}
+use Rattle.blocks.specs.Close.{closing, cleared_rows, refused_at, accepted_with, closed_by, cells_by, closed_before, CloseIs}
 
 module _ (k : BlocksKnown) where
   pub ends-long : text_limit < k.total → Refused 1 0 ≡ closing k
   unfolding closing
   ends-long h = rw (lt-ltb text_limit k.total h)
-
-  module _ (h : k.total ≤ text_limit) where
-    pub ends_at : (u : Utf8) → k.utf8 ≡ u → closing_at u k.kept k.held k.last ≡ closing k
-    unfolding closing
-    ends_at u e = rw (le-ltb text_limit k.total h) (ap (λ (z : Utf8). closing_at z k.kept k.held k.last) (sym e))
-
-    pub ends-blank : k.utf8 ≡ Whole → k.last ≡ 0 → Rows 0 ≡ closing k
-    ends-blank e l =
-        sym (ap (λ (z : Bool). pick z (Rows 0) (closing_by (finish (machine_of k.kept) k.last).end (finish (machine_of k.kept) k.last).toks k.held k.last)) (eq-eqb k.last 0 l))
-        ∙ ends_at Whole e
-
-    pub ends-ink : k.utf8 ≡ Whole → (k.last ≡ 0 → ⊥) → (p : Phase) → k.kept ≡ p → closing_by (finish (machine_of p) k.last).end (finish (machine_of p) k.last).toks k.held k.last ≡ closing k
-    ends-ink e l p q =
-        ap (λ (z : Phase). closing_by (finish (machine_of z) k.last).end (finish (machine_of z) k.last).toks k.held k.last) (sym q)
-        ∙ sym (ap (λ (z : Bool). pick z (Rows 0) (closing_by (finish (machine_of k.kept) k.last).end (finish (machine_of k.kept) k.last).toks k.held k.last)) (ne_eqb k.last 0 l))
-        ∙ ends_at Whole e
 
 -- zeros from a row on
 pub clears : (t : List ℕ) (first n : ℕ) → n ≡ length t / 3 * 3 - first * 3 → first ≤ length t / 3 → paste t (first * 3) (replicate n 0) n ≡ cleared_rows t first

@@ -1,7 +1,6 @@
 -- Bytes of a value, one by one and together. Assumes nothing.
-use Rattle.lists.proofs.Prelude.{◌≡◌, refl, sym, ap, ap₂, ◌∙◌, subst, ℕ, zero, suc, ◌+◌, ◌-◌, ◌≤◌, ◌<◌, arith, Bool, true, false, List, [], ◌∷◌, ◌++◌, length, take, drop, get_or, add-one, ne_eqb, ◌&&◌, not, eqb, ltb, ltb-true, eqb-false, not-true}
+use Rattle.lists.proofs.Prelude.{◌≡◌, refl, sym, ap, ap₂, ◌∙◌, subst, ℕ, zero, suc, ◌+◌, ◌-◌, ◌≤◌, ◌<◌, arith, Bool, true, false, List, [], ◌∷◌, ◌++◌, length, take, drop, get_or, add-one, ne_eqb}
 use Rattle.lists.proofs.Places.{drop-next}
-use Rattle.lists.proofs.Tests.{and_both}
 use Rattle.tables.specs.Numbers.{text_limit}
 use Rattle.text_chars.specs.White.{white}
 use Rattle.text_chars.proofs.White.{ascii-dark}
@@ -16,7 +15,7 @@ use Rattle.blocks_step.specs.Lean.{moves}
 use Rattle.blocks_step.proofs.Decoding.{bytes-ascii}
 use Rattle.blocks.specs.declared.BlocksKnown.{BlocksKnown}
 use Rattle.blocks.specs.Room.{Room, room, gone, with_tokens, goes, keeps, takes_byte, takes_all}
-use Rattle.blocks.specs.LocalsSteady.{PlainByte, PlainRun, PointByte, quiet_move}
+use Rattle.blocks.specs.LocalsSteady.{PlainByte, PlainRun, quiet_move}
 use Rattle.blocks.proofs.Taking.{took-ink, took-white}
 
 pub takes-append : (xs ys : List ℕ) (w : Room) → takes_all w (xs ++ ys) ≡ takes_all (takes_all w xs) ys
@@ -127,16 +126,3 @@ values-over (suc n) s i p k t a u l w h =
     ∙ ap (λ (z : Room). takes_all z (take (suc n) (drop (i + 1) s))) o.is
     ∙ values-over n s (i + 1) rest o.k' t a o.utf8 o.last o.now (omega (arith, o.total))
     ∙ ap (λ (z : BlocksKnown). room z t) (same-quiet k o.k' (suc (suc n)) (suc n) (Value a) (omega (arith, o.total)) o.count)
-
--- ---- the tests
-
-pub plain-test : (b : ℕ) → (ltb b 128 && (not (eqb b 93) && not (eqb b 92))) ≡ true → PlainByte b
-plain-test b h =
-    let x = and_both (ltb b 128) (not (eqb b 93) && not (eqb b 92)) h in
-    let y = and_both (not (eqb b 93)) (not (eqb b 92)) x.1 in
-    record { ascii = ltb-true b 128 x.0; closes = eqb-false b 93 (not-true (eqb b 93) y.0); escapes = eqb-false b 92 (not-true (eqb b 92) y.1) }
-
-pub point-test : (b : ℕ) → (ltb 32 b && (ltb b 128 && (not (eqb b 93) && not (eqb b 92)))) ≡ true → PointByte b
-point-test b h =
-    let x = and_both (ltb 32 b) (ltb b 128 && (not (eqb b 93) && not (eqb b 92))) h in
-    record { plain = plain-test b x.1; dark = ltb-true 32 b x.0 }

@@ -8,10 +8,8 @@ use Rattle.blocks_step.specs.declared.Utf8.TheVariants.{Whole}
 use Rattle.blocks_step.specs.declared.Phase.{Phase}
 use Rattle.blocks_step.specs.declared.Phase.TheVariants.{Value, After}
 use Rattle.blocks_step.specs.Lean.{moves}
-use Rattle.blocks.specs.declared.BlocksKnown.{BlocksKnown}
 use Rattle.blocks.specs.Room.{filled_with, rows_at, add_rows, Room, room, keeps, takes_byte, takes_all}
-use Rattle.blocks.specs.declared.Ran.{Ran}
-use Rattle.blocks.specs.LocalsSteady.{ValueRun, PairFrom, WhiteStays, quiet_move, steady_at, Steady, ran_to, RanIs}
+use Rattle.blocks.specs.LocalsSteady.{ValueRun, PairFrom, WhiteStays, quiet_move, steady_at}
 use Rattle.blocks.proofs.Taking.{went, took-ink, took-white}
 use Rattle.blocks.proofs.Quiets.{takes-append, silent-goes, ends-ascii, quietly, quiet-byte, values-over, take_next, value-silent, close-silent}
 
@@ -91,13 +89,3 @@ module _ (o l : ℕ) (p : Phase) (c : ℕ) (t bs : List ℕ) (i : ℕ) (q : Phas
       ∙ ap (λ (b : ℕ). takes_byte (at (o + 3) (Value s)) b) r.pair.closes
       ∙ steady-quiet (o + 3) (o + 3) (Value s) c t (omega arith) 93 (After s) (omega arith) (omega arith) (close-silent s (o + 3))
       ∙ ap₂ at e3 (sym r.past)
-
--- ---- in a block
-
-pub block-ran : (bs : List ℕ) (i : ℕ) (k k' : BlocksKnown) (t t' : List ℕ) (r : Ran) (z : Room) → Steady k → RanIs (steady_at k.total k.last k.now k.count) bs i t r t' → k' ≡ ran_to r
-    → takes_all (room k t) (drop i bs) ≡ z → takes_all (room k' t') (drop r.to bs) ≡ z
-block-ran bs i k k' t t' r z s q e y =
-    ap (λ (x : BlocksKnown). takes_all (room x t') (drop r.to bs)) e
-    ∙ q.rest
-    ∙ ap (λ (x : BlocksKnown). takes_all (room x t) (drop i bs)) (sym s.same)
-    ∙ y

@@ -1,5 +1,5 @@
 -- A row put, tokens put, a byte taken, by the tests of the code. Assumes nothing.
-use Rattle.lists.proofs.Prelude.{◌≡◌, refl, sym, ap, ap₂, ◌∙◌, ℕ, suc, ◌+◌, ◌*◌, ◌≤◌, ◌<◌, Bool, true, false, List, length, drop, get_or, leb, pick, add-one, eq-eqb, ne_eqb, leb-true, leb-false, lt-ltb, le-ltb, drop_of_length-le}
+use Rattle.lists.proofs.Prelude.{◌≡◌, refl, sym, ap, ap₂, ◌∙◌, ℕ, suc, ◌+◌, ◌*◌, ◌≤◌, ◌<◌, Bool, true, false, List, length, drop, get_or, leb, pick, add-one, eq-eqb, ne_eqb, leb-true, leb-false, lt-ltb, le-ltb}
 use Rattle.lists.proofs.Places.{drop-next}
 use Rattle.lists.specs.Put.{put_at, PutWhole}
 use Rattle.tables.specs.Numbers.{text_limit}
@@ -11,10 +11,6 @@ use Rattle.blocks_step.specs.declared.Moved.{Moved}
 use Rattle.blocks_step.specs.Decode.{decodes}
 use Rattle.blocks_step.specs.Lean.{moves}
 use Rattle.blocks.specs.declared.BlocksKnown.{BlocksKnown}
-use Rattle.blocks.specs.declared.BlocksState.{BlocksState}
-use Rattle.blocks.specs.declared.Blocked.{Blocked}
-use Rattle.blocks.specs.State.{state_says, state_of}
-use Rattle.blocks.specs.Block.{after_block, BlockIs}
 use Rattle.blocks.specs.Room.{Filled, filled_with, token_row, rows_at, counted_on, add_row, add_rows, Room, room, goes_back, gone, with_tokens, goes, keeps, settled, past_limit, takes_byte, takes_all}
 
 -- ---- rows
@@ -72,21 +68,3 @@ module _ (k : BlocksKnown) (t : List ℕ) (b : ℕ) where
 
 pub block_more : (bs : List ℕ) (i : ℕ) (w v z : Room) → i < length bs → v ≡ takes_byte w (get_or bs i 0) → takes_all w (drop i bs) ≡ z → takes_all v (drop (i + 1) bs) ≡ z
 block_more bs i w v z h e q = ap (λ (x : Room). takes_all x (drop (i + 1) bs)) e ∙ sym (ap (takes_all w) (drop-next bs i h)) ∙ q
-
--- number 0, and the state
-abbrev taken : BlocksState → Blocked
-taken s = record { number = 0; state = s }
-
-module _ (s : BlocksState) (bs t : List ℕ) where
-  pub blocked-after : (s.closed ≡ 0 → ⊥) → BlockIs s bs t (record { number = 20; state = s }) t
-  blocked-after h = record { answer = rw (ne_eqb s.closed 0 h); rows = rw (ne_eqb s.closed 0 h) }
-
-  pub blocked : s.closed ≡ 0 → (k : BlocksKnown) (t' : List ℕ) (k₀ : BlocksKnown) (i : ℕ) → length bs ≤ i → takes_all (room k t') (drop i bs) ≡ takes_all (room k₀ t) bs → k₀ ≡ state_says s
-      → (x : BlocksState) → x ≡ state_of k → BlockIs s bs t (record { number = 0; state = x }) t'
-  blocked h k t' k₀ i l e q x y =
-      let z : room k t' ≡ after_block s bs t =
-      sym (ap (takes_all (room k t')) (drop_of_length-le bs l)) ∙ e ∙ ap (λ (w : BlocksKnown). takes_all (room w t) bs) q in
-      record {
-        answer = rw (eq-eqb s.closed 0 h) (ap taken (y ∙ ap (λ (w : Room). state_of w.known) z));
-        rows = rw (eq-eqb s.closed 0 h) (ap (λ (w : Room). w.cells) z);
-      }

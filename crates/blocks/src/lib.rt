@@ -16,7 +16,7 @@ use blocks_step::{Char, Left, Phase, Tokens, Utf8};
 
 // What is known between two blocks, as numbers; all zero is the start.
 #[repr(C)]
-#[derive(Clone, Copy)]
+#[derive(Clone, Copy, Default)]
 pub struct BlocksState {
     pub total: u32,
     pub utf: u32,
@@ -82,8 +82,7 @@ fn utf8_from(u: Utf8) -> u32
 {
     match u {
         Utf8::Whole => 0,
-        Utf8::Within(_, from, _) => from,
-        Utf8::Bad(place) => place,
+        Utf8::Within(_, from, _) | Utf8::Bad(from) => from,
     }
 }
 
@@ -92,9 +91,8 @@ fn utf8_code(u: Utf8) -> u32
     ensures { result ≡ utf8_code u }
 {
     match u {
-        Utf8::Whole => 0,
+        Utf8::Whole | Utf8::Bad(_) => 0,
         Utf8::Within(_, _, code) => code,
-        Utf8::Bad(_) => 0,
     }
 }
 
@@ -118,81 +116,59 @@ fn phase_from(p: Phase) -> u32
 {
     match p {
         Phase::Between => 0,
-        Phase::Ident(from) => from,
-        Phase::Value(from) => from,
-        Phase::Escaped(from) => from,
-        Phase::After(from) => from,
-        Phase::Foreign(from) => from,
+        Phase::Ident(from)
+        | Phase::Value(from)
+        | Phase::Escaped(from)
+        | Phase::After(from)
+        | Phase::Foreign(from) => from,
     }
 }
 
 // What a number says of UTF-8; any other number: bad.
+#[tactic(auto, unfolding(crate::specs::State::utf8_by))]
 fn utf8_by(n: u32, from: u32, code: u32) -> Utf8
     ensures { result ≡ utf8_by n from code }
 {
-    if n == 0 {
-        return Utf8::Whole;
-    }
-    if n == 1 {
-        return Utf8::Within(Left::One, from, code);
-    }
-    if n == 2 {
-        return Utf8::Within(Left::TwoFromA0, from, code);
-    }
-    if n == 3 {
-        return Utf8::Within(Left::TwoTo9f, from, code);
-    }
-    if n == 4 {
-        return Utf8::Within(Left::Two, from, code);
-    }
-    if n == 5 {
-        return Utf8::Within(Left::ThreeFrom90, from, code);
-    }
-    if n == 6 {
-        return Utf8::Within(Left::Three, from, code);
-    }
-    if n == 7 {
-        return Utf8::Within(Left::ThreeTo8f, from, code);
-    }
-    Utf8::Bad(from)
+    let left = match n {
+        0 => return Utf8::Whole,
+        1 => Left::One,
+        2 => Left::TwoFromA0,
+        3 => Left::TwoTo9f,
+        4 => Left::Two,
+        5 => Left::ThreeFrom90,
+        6 => Left::Three,
+        7 => Left::ThreeTo8f,
+        _ => return Utf8::Bad(from),
+    };
+    Utf8::Within(left, from, code)
 }
 
 // What a number says of the token rules; any other number: a byte that is not ASCII in an identifier.
+#[tactic(auto, unfolding(crate::specs::State::phase_by))]
 fn phase_by(n: u32, from: u32) -> Phase
     ensures { result ≡ phase_by n from }
 {
-    if n == 0 {
-        return Phase::Between;
+    match n {
+        0 => Phase::Between,
+        1 => Phase::Ident(from),
+        2 => Phase::Value(from),
+        3 => Phase::Escaped(from),
+        4 => Phase::After(from),
+        _ => Phase::Foreign(from),
     }
-    if n == 1 {
-        return Phase::Ident(from);
-    }
-    if n == 2 {
-        return Phase::Value(from);
-    }
-    if n == 3 {
-        return Phase::Escaped(from);
-    }
-    if n == 4 {
-        return Phase::After(from);
-    }
-    Phase::Foreign(from)
 }
 
 // What the numbers of a state say.
 fn known_of(s: BlocksState) -> BlocksKnown
     ensures { result ≡ state_says s }
 {
-    let utf8 = utf8_by(s.utf, s.utf_from, s.code);
-    let now = phase_by(s.now, s.now_from);
-    let kept = phase_by(s.kept, s.kept_from);
     BlocksKnown {
         total: s.total,
-        utf8: utf8,
+        utf8: utf8_by(s.utf, s.utf_from, s.code),
         last: s.last,
-        now: now,
+        now: phase_by(s.now, s.now_from),
         count: s.count,
-        kept: kept,
+        kept: phase_by(s.kept, s.kept_from),
         held: s.held,
     }
 }
@@ -201,20 +177,17 @@ fn known_of(s: BlocksState) -> BlocksKnown
 fn state_of(k: BlocksKnown) -> BlocksState
     ensures { result ≡ state_of k }
 {
-    let u = k.utf8;
-    let now = k.now;
-    let kept = k.kept;
     BlocksState {
         total: k.total,
-        utf: utf8_number(u),
-        utf_from: utf8_from(u),
-        code: utf8_code(u),
+        utf: utf8_number(k.utf8),
+        utf_from: utf8_from(k.utf8),
+        code: utf8_code(k.utf8),
         last: k.last,
-        now: phase_number(now),
-        now_from: phase_from(now),
+        now: phase_number(k.now),
+        now_from: phase_from(k.now),
         count: k.count,
-        kept: phase_number(kept),
-        kept_from: phase_from(kept),
+        kept: phase_number(k.kept),
+        kept_from: phase_from(k.kept),
         held: k.held,
         closed: 0,
     }
@@ -226,16 +199,13 @@ fn state_of(k: BlocksKnown) -> BlocksState
 fn put3(t: &mut [u32], at: usize, kind: u32, from: u32, to: u32)
     ensures { PutWhole t.old at (kind ∷ from ∷ to ∷ []) t.new }
 {
-    if at < t.len() {
-        if 2 < t.len() - at {
-            t[at] = kind;
-            t[at + 1] = from;
-            t[at + 2] = to;
-        }
+    if at < t.len() && 2 < t.len() - at {
+        t[at..at + 3].copy_from_slice(&[kind, from, to]);
     }
 }
 
 // One row more is counted, up to the limit of the text.
+#[tactic(auto, unfolding(crate::specs::Room::counted_on))]
 fn counted_on(count: u32) -> u32
     ensures { result ≡ counted_on count }
 {
@@ -269,25 +239,19 @@ fn put_tokens(rows: &mut [u32], count: u32, at: u32, tokens: Tokens) -> u32
 // ---- one byte
 
 // The token rules go on, and UTF-8 stands so.
+#[tactic(auto, unfolding(crate::specs::Room::goes))]
 fn go_on(k: BlocksKnown, utf8: Utf8, b: u8, rows: &mut [u32]) -> BlocksKnown
     requires { k.total < text_limit }
     ensures { room result rows.new ≡ goes utf8 (room k rows.old) b }
 {
     let at = k.total;
-    let now = k.now;
-    let kept = k.kept;
-    let m = blocks_step::token_next(now, at, b);
-    let tokens = m.tokens;
-    let next = m.next;
-    let count = put_tokens(rows, k.count, at, tokens);
+    let moved = blocks_step::token_next(k.now, at, b);
     BlocksKnown {
         total: at + 1,
-        utf8: utf8,
-        last: k.last,
-        now: next,
-        count: count,
-        kept: kept,
-        held: k.held,
+        utf8,
+        now: moved.next,
+        count: put_tokens(rows, k.count, at, moved.tokens),
+        ..k
     }
 }
 
@@ -296,47 +260,28 @@ fn take_byte(k: BlocksKnown, b: u8, rows: &mut [u32]) -> BlocksKnown
     ensures { room result rows.new ≡ takes_byte (room k rows.old) b }
 {
     let at = k.total;
-    let utf8 = k.utf8;
-    let kept = k.kept;
     if LIMIT <= at {
-        let now = k.now;
         return BlocksKnown {
             total: LIMIT + 1,
-            utf8: utf8,
-            last: k.last,
-            now: now,
-            count: k.count,
-            kept: kept,
-            held: k.held,
+            ..k
         };
     }
-    match blocks_step::utf8_next(utf8, at, b) {
-        Char::Ended(white) => {
-            if white {
-                if k.last == 0 {
-                    return BlocksKnown {
-                        total: at + 1,
-                        utf8: Utf8::Whole,
-                        last: k.last,
-                        now: kept,
-                        count: k.held,
-                        kept: kept,
-                        held: k.held,
-                    };
-                }
-                return go_on(k, Utf8::Whole, b, rows);
-            }
+    match blocks_step::utf8_next(k.utf8, at, b) {
+        Char::Ended(true) if k.last == 0 => BlocksKnown {
+            total: at + 1,
+            utf8: Utf8::Whole,
+            now: k.kept,
+            count: k.held,
+            ..k
+        },
+        Char::Ended(true) => go_on(k, Utf8::Whole, b, rows),
+        Char::Ended(false) => {
             let g = go_on(k, Utf8::Whole, b, rows);
-            let stands = g.utf8;
-            let now = g.now;
             BlocksKnown {
-                total: g.total,
-                utf8: stands,
                 last: g.total,
-                now: now,
-                count: g.count,
-                kept: now,
+                kept: g.now,
                 held: g.count,
+                ..g
             }
         }
         Char::Goes(stands) => go_on(k, stands, b, rows),
@@ -345,15 +290,21 @@ fn take_byte(k: BlocksKnown, b: u8, rows: &mut [u32]) -> BlocksKnown
 
 // ---- bytes of a value together
 
-// Are `n` bytes ASCII, and none of them `]` or a backslash: no early way out, so that the compiler takes 16 at once.
+// ASCII, and neither `]` nor a backslash.
+fn is_plain(b: u8) -> bool
+    ensures { result ≡ true → PlainByte b }
+{
+    (b < 128) & (b != b']') & (b != b'\\')
+}
+
+// Are `n` bytes so: no early way out, so that the compiler takes 16 at once.
 fn all_plain(s: &[u8], i: usize, n: usize) -> bool
     requires { i + n ≤ length s.now }
     ensures { result ≡ true → (j : ℕ) → j < n → PlainByte (get_or s.now (i + j) 0) }
 {
     let mut plain = true;
-    for j in 0..n {
-        let b = s[i + j];
-        plain = plain & ((b < 128) & ((b != 93) & (b != 92)));
+    for &b in &s[i..i + n] {
+        plain = plain & is_plain(b);
     }
     plain
 }
@@ -383,31 +334,23 @@ fn value_run(stands: Phase, bytes: &[u8], i: usize) -> u32
     requires { i ≤ length bytes.now }
     ensures { (result ≤ 64) × (0 < result → ValueRun stands bytes.now i result) }
 {
-    match stands {
-        Phase::Value(_) => {
-            let some = plain_run(bytes, i, 16);
-            if some == 0 {
-                return plain_run(bytes, i, 8);
-            }
-            let wide = plain_run(bytes, i, 64);
-            if wide == 0 {
-                return some;
-            }
-            wide
-        }
-        Phase::Between => 0,
-        Phase::Ident(_) => 0,
-        Phase::Escaped(_) => 0,
-        Phase::After(_) => 0,
-        Phase::Foreign(_) => 0,
+    let Phase::Value(_) = stands else {
+        return 0;
+    };
+    match plain_run(bytes, i, 16) {
+        0 => plain_run(bytes, i, 8),
+        some => match plain_run(bytes, i, 64) {
+            0 => some,
+            wide => wide,
+        },
     }
 }
 
-// ASCII, no white space, and neither `]` nor a backslash.
+// Such a byte, and no white space.
 fn is_point(b: u8) -> bool
     ensures { result ≡ true → PointByte b }
 {
-    (32 < b) & ((b < 128) & ((b != 93) & (b != 92)))
+    (b' ' < b) & is_plain(b)
 }
 
 // Do two such bytes and a `]` stand behind the byte at `i`.
@@ -415,10 +358,7 @@ fn is_pair(s: &[u8], i: usize) -> bool
     requires { i < length s.now }
     ensures { result ≡ true → PairAt s.now i }
 {
-    if s.len() - i < 4 {
-        return false;
-    }
-    (s[i + 3] == 93) & (is_point(s[i + 1]) & is_point(s[i + 2]))
+    s.len() - i >= 4 && s[i + 3] == b']' && is_point(s[i + 1]) && is_point(s[i + 2])
 }
 
 // A value of two such bytes, where a `[` opens one.
@@ -434,99 +374,10 @@ fn pair_run(stands: Phase, bytes: &[u8], i: usize) -> Pair
     ensures { PairIs stands bytes.now i result }
 {
     match stands {
-        Phase::Ident(start) => {
-            if is_pair(bytes, i) {
-                return Pair::Past(Phase::After(start));
-            }
-            Pair::Other
+        Phase::Ident(start) | Phase::After(start) if is_pair(bytes, i) => {
+            Pair::Past(Phase::After(start))
         }
-        Phase::After(start) => {
-            if is_pair(bytes, i) {
-                return Pair::Past(Phase::After(start));
-            }
-            Pair::Other
-        }
-        Phase::Between => Pair::Other,
-        Phase::Value(_) => Pair::Other,
-        Phase::Escaped(_) => Pair::Other,
-        Phase::Foreign(_) => Pair::Other,
-    }
-}
-
-// ---- one ASCII byte that is no white space
-
-// Where the token rules stand then.
-fn ink_next(stands: Phase, at: u32, b: u8) -> Phase
-    requires { (32 < b) × (b < 128) }
-    ensures { result ≡ (moves stands at b).next }
-{
-    match stands {
-        Phase::Value(start) => {
-            if b == b']' {
-                return Phase::After(start);
-            }
-            if b == b'\\' {
-                return Phase::Escaped(start);
-            }
-            Phase::Value(start)
-        }
-        Phase::Ident(start) => {
-            if b == b'[' {
-                return Phase::Value(start);
-            }
-            Phase::Ident(start)
-        }
-        Phase::Between => {
-            if blocks_step::kind(b) != 0 {
-                return Phase::Between;
-            }
-            if b == b'[' {
-                return Phase::Value(at);
-            }
-            Phase::Ident(at)
-        }
-        Phase::After(start) => {
-            if b == b'[' {
-                return Phase::Value(start);
-            }
-            if blocks_step::kind(b) != 0 {
-                return Phase::Between;
-            }
-            Phase::Ident(at)
-        }
-        Phase::Escaped(start) => Phase::Value(start),
-        Phase::Foreign(start) => Phase::Foreign(start),
-    }
-}
-
-// The rows of the tokens that it completes.
-fn ink_rows(stands: Phase, at: u32, b: u8, count: u32, rows: &mut [u32]) -> u32
-    requires { (32 < b) × (b < 128) × (at < text_limit) }
-    ensures { filled_with result rows.new ≡ add_rows (filled_with count rows.old) (rows_at (moves stands at b).tokens at) }
-{
-    match stands {
-        Phase::Between => {
-            let kind = blocks_step::kind(b);
-            if kind == 0 {
-                return count;
-            }
-            put_row(rows, count, kind, at, at + 1)
-        }
-        Phase::After(start) => {
-            if b == b'[' {
-                return count;
-            }
-            let more = put_row(rows, count, 4, start, at);
-            let kind = blocks_step::kind(b);
-            if kind == 0 {
-                return more;
-            }
-            put_row(rows, more, kind, at, at + 1)
-        }
-        Phase::Ident(_) => count,
-        Phase::Value(_) => count,
-        Phase::Escaped(_) => count,
-        Phase::Foreign(_) => count,
+        _ => Pair::Other,
     }
 }
 
@@ -534,14 +385,7 @@ fn ink_rows(stands: Phase, at: u32, b: u8, count: u32, rows: &mut [u32]) -> u32
 fn holds_white(stands: Phase) -> bool
     ensures { result ≡ true → WhiteStays stands }
 {
-    match stands {
-        Phase::Escaped(_) => false,
-        Phase::Between => true,
-        Phase::Ident(_) => true,
-        Phase::Value(_) => true,
-        Phase::After(_) => true,
-        Phase::Foreign(_) => true,
-    }
+    !matches!(stands, Phase::Escaped(_))
 }
 
 // ---- ASCII bytes
@@ -560,26 +404,10 @@ pub struct Ran {
 fn is_steady(k: BlocksKnown) -> bool
     ensures { result ≡ true → Steady k }
 {
-    if k.last == 0 {
+    let Utf8::Whole = k.utf8 else {
         return false;
-    }
-    if k.held != k.count {
-        return false;
-    }
-    let now = k.now;
-    let kept = k.kept;
-    if phase_number(now) != phase_number(kept) {
-        return false;
-    }
-    if phase_from(now) != phase_from(kept) {
-        return false;
-    }
-    let u = k.utf8;
-    match u {
-        Utf8::Whole => true,
-        Utf8::Within(_, _, _) => false,
-        Utf8::Bad(_) => false,
-    }
+    };
+    (k.last != 0) & (k.held == k.count) & (k.now == k.kept)
 }
 
 // Takes ASCII bytes from there on: values of two bytes and runs within a value together, white space where it changes nothing.
@@ -601,6 +429,7 @@ fn steady_run(
     let mut ink = last;
     let mut n = count;
     let mut again = from;
+    // A while: i moves by one byte, by a pair's four or by the length of a run.
     while i < bytes.len() {
         if LIMIT - 64 < place {
             break;
@@ -637,8 +466,9 @@ fn steady_run(
             }
             break;
         }
-        n = ink_rows(p, place, b, n, rows);
-        p = ink_next(p, place, b);
+        let moved = blocks_step::token_next(p, place, b);
+        n = put_tokens(rows, n, place, moved.tokens);
+        p = moved.next;
         i += 1;
         place += 1;
         ink = place;
@@ -653,17 +483,17 @@ fn steady_run(
 }
 
 // What is known there.
+#[tactic(auto, unfolding(crate::specs::LocalsSteady::steady_at))]
 fn known_there(r: Ran) -> BlocksKnown
     ensures { result ≡ ran_to r }
 {
-    let stands = r.stands;
     BlocksKnown {
         total: r.total,
         utf8: Utf8::Whole,
         last: r.last,
-        now: stands,
+        now: r.stands,
         count: r.count,
-        kept: stands,
+        kept: r.stands,
         held: r.count,
     }
 }
@@ -680,16 +510,14 @@ fn run_on(k: BlocksKnown, bytes: &[u8], from: usize, rows: &mut [u32]) -> Went
     requires { from ≤ length bytes.now }
     ensures { WentIs k bytes.now from rows.old result rows.new }
 {
-    if is_steady(k) {
-        let stands = k.now;
-        let ran = steady_run(stands, k.total, k.last, k.count, bytes, from, rows);
-        let known = known_there(ran);
-        return Went {
-            to: ran.to,
-            known: known,
-        };
+    if !is_steady(k) {
+        return Went { to: from, known: k };
     }
-    Went { to: from, known: k }
+    let ran = steady_run(k.now, k.total, k.last, k.count, bytes, from, rows);
+    Went {
+        to: ran.to,
+        known: known_there(ran),
+    }
 }
 
 // The same, and one byte more where there is one.
@@ -698,15 +526,12 @@ fn step_on(k: BlocksKnown, bytes: &[u8], from: usize, rows: &mut [u32]) -> Went
     ensures { (from < result.to) × WentIs k bytes.now from rows.old result rows.new }
 {
     let went = run_on(k, bytes, from, rows);
-    let to = went.to;
-    if bytes.len() <= to {
+    if bytes.len() <= went.to {
         return went;
     }
-    let known = went.known;
-    let next = take_byte(known, bytes[to], rows);
     Went {
-        to: to + 1,
-        known: next,
+        to: went.to + 1,
+        known: take_byte(went.known, bytes[went.to], rows),
     }
 }
 
@@ -725,23 +550,19 @@ pub fn block(state: BlocksState, bytes: &[u8], rows: &mut [u32]) -> Blocked
     ensures { BlockIs state bytes.now rows.old result rows.new }
 {
     if state.closed != 0 {
-        return Blocked {
-            number: 20,
-            state: state,
-        };
+        return Blocked { number: 20, state };
     }
-    let mut k = known_of(state);
-    let mut i = 0;
-    while i < bytes.len() {
-        let went = step_on(k, bytes, i, rows);
-        let known = went.known;
-        k = known;
-        i = went.to;
+    let mut went = Went {
+        to: 0,
+        known: known_of(state),
+    };
+    // A while: each step says how far it went.
+    while went.to < bytes.len() {
+        went = step_on(went.known, bytes, went.to, rows);
     }
-    let s = state_of(k);
     Blocked {
         number: 0,
-        state: s,
+        state: state_of(went.known),
     }
 }
 
@@ -756,30 +577,25 @@ pub enum Closing {
 }
 
 // How the tokens end, after the last character that is no white space.
+#[tactic(auto, unfolding(crate::specs::Close::closing))]
 fn closing_of(k: BlocksKnown) -> Closing
     ensures { result ≡ closing k }
 {
     if LIMIT < k.total {
         return Closing::Refused(1, 0);
     }
-    let u = k.utf8;
-    match u {
-        Utf8::Within(_, from, _) => Closing::Refused(2, from),
-        Utf8::Bad(place) => Closing::Refused(2, place),
-        Utf8::Whole => {
-            if k.last == 0 {
-                return Closing::Rows(0);
-            }
-            let kept = k.kept;
-            match kept {
-                Phase::Between => Closing::Rows(k.held),
-                Phase::Ident(from) => Closing::Refused(3, from),
-                Phase::Value(from) => Closing::Refused(5, from),
-                Phase::Escaped(from) => Closing::Refused(5, from),
-                Phase::After(from) => Closing::Last(k.held, from, k.last),
-                Phase::Foreign(from) => Closing::Refused(4, from),
-            }
-        }
+    if let Utf8::Within(_, from, _) | Utf8::Bad(from) = k.utf8 {
+        return Closing::Refused(2, from);
+    }
+    if k.last == 0 {
+        return Closing::Rows(0);
+    }
+    match k.kept {
+        Phase::Between => Closing::Rows(k.held),
+        Phase::Ident(from) => Closing::Refused(3, from),
+        Phase::Value(from) | Phase::Escaped(from) => Closing::Refused(5, from),
+        Phase::After(from) => Closing::Last(k.held, from, k.last),
+        Phase::Foreign(from) => Closing::Refused(4, from),
     }
 }
 
@@ -788,14 +604,8 @@ fn clear(rows: &mut [u32], first: usize)
     requires { first ≤ length rows.old / 3 }
     ensures { rows.new ≡ cleared_rows rows.old first }
 {
-    let at = first * 3;
     let end = rows.len() / 3 * 3;
-    let n = end - at;
-    let mut i: usize = 0;
-    while i < n {
-        rows[at + i] = 0;
-        i += 1;
-    }
+    rows[first * 3..end].fill(0);
 }
 
 // The number and place, the number of tokens, and that it is closed.
@@ -812,20 +622,7 @@ pub struct Closed {
 fn shut(s: BlocksState) -> BlocksState
     ensures { result ≡ shut_of s }
 {
-    BlocksState {
-        total: s.total,
-        utf: s.utf,
-        utf_from: s.utf_from,
-        code: s.code,
-        last: s.last,
-        now: s.now,
-        now_from: s.now_from,
-        count: s.count,
-        kept: s.kept,
-        kept_from: s.kept_from,
-        held: s.held,
-        closed: 1,
-    }
+    BlocksState { closed: 1, ..s }
 }
 
 // What is refused leaves no row.
@@ -833,12 +630,11 @@ fn refuse(state: BlocksState, number: u32, place: u32, rows: &mut [u32]) -> Clos
     ensures { (result ≡ refused_at state number place) × (rows.new ≡ cleared_rows rows.old 0) }
 {
     clear(rows, 0);
-    let s = shut(state);
     Closed {
-        number: number,
+        number,
         place: lists::wide(place),
         tokens: 0,
-        state: s,
+        state: shut(state),
     }
 }
 
@@ -846,12 +642,11 @@ fn refuse(state: BlocksState, number: u32, place: u32, rows: &mut [u32]) -> Clos
 fn accept(state: BlocksState, tokens: usize) -> Closed
     ensures { result ≡ accepted_with state tokens }
 {
-    let s = shut(state);
     Closed {
         number: 0,
         place: 0,
-        tokens: tokens,
-        state: s,
+        tokens,
+        state: shut(state),
     }
 }
 
@@ -864,7 +659,7 @@ pub fn close(state: BlocksState, rows: &mut [u32]) -> Closed
             number: 20,
             place: 0,
             tokens: 0,
-            state: state,
+            state,
         };
     }
     let room = rows.len() / 3;

@@ -2,7 +2,6 @@
 #![tactic(auto)]
 
 ghost use Rattle.std.specs.Prelude.{◌≡◌, ◌-◌, ◌*◌, ◌+◌, ◌%◌};
-ghost use Rattle.text_chars.specs.White.{within};
 ghost use Rattle.text_utf8.specs.Text.{holds};
 ghost use Rattle.blocks_step.specs.Decode.{range_of, decodes};
 ghost use Rattle.blocks_step.specs.Lean.{kind_of, property_phase, moves};
@@ -39,69 +38,42 @@ fn fits(left: Left, b: u8) -> bool
     ensures { result ≡ holds (range_of left) b }
 {
     match left {
-        Left::One => (0x80 <= b) & (b <= 0xBF),
-        Left::TwoFromA0 => (0xA0 <= b) & (b <= 0xBF),
-        Left::TwoTo9f => (0x80 <= b) & (b <= 0x9F),
-        Left::Two => (0x80 <= b) & (b <= 0xBF),
-        Left::ThreeFrom90 => (0x90 <= b) & (b <= 0xBF),
-        Left::Three => (0x80 <= b) & (b <= 0xBF),
-        Left::ThreeTo8f => (0x80 <= b) & (b <= 0x8F),
+        Left::One | Left::Two | Left::Three => matches!(b, 0x80..=0xBF),
+        Left::TwoFromA0 => matches!(b, 0xA0..=0xBF),
+        Left::TwoTo9f => matches!(b, 0x80..=0x9F),
+        Left::ThreeFrom90 => matches!(b, 0x90..=0xBF),
+        Left::ThreeTo8f => matches!(b, 0x80..=0x8F),
     }
-}
-
-// Is the byte in a range.
-fn ranges(low: u8, high: u8, b: u8) -> bool
-    ensures { result ≡ within low high b }
-{
-    (low <= b) & (b <= high)
-}
-
-// What a byte has above `base`.
-fn over(b: u8, base: u8) -> u32
-    ensures { result ≡ b - base }
-{
-    if b < base { 0 } else { (b - base) as u32 }
 }
 
 // The bits so far, and those of one byte more.
 fn shifted(code: u32, b: u8) -> u32
     ensures { result ≡ code % 32768 * 64 + (b - 0x80) }
 {
-    (code % 32768) * 64 + over(b, 0x80)
+    (code % 32768) * 64 + u32::from(b.saturating_sub(0x80))
 }
 
 // The first byte of a character.
+#[tactic(auto, unfolding(crate::specs::Decode::decodes))]
 fn first_byte(at: u32, b: u8) -> Char
     ensures { result ≡ decodes Utf8.Whole at b }
 {
-    if b <= 0x7F {
-        return Char::Ended(text_chars::is_white(b as u32));
-    }
-    if ranges(0xC2, 0xDF, b) {
-        return Char::Goes(Utf8::Within(Left::One, at, over(b, 0xC0)));
-    }
-    if b == 0xE0 {
-        return Char::Goes(Utf8::Within(Left::TwoFromA0, at, over(b, 0xE0)));
-    }
-    if b == 0xED {
-        return Char::Goes(Utf8::Within(Left::TwoTo9f, at, over(b, 0xE0)));
-    }
-    if ranges(0xE1, 0xEF, b) {
-        return Char::Goes(Utf8::Within(Left::Two, at, over(b, 0xE0)));
-    }
-    if b == 0xF0 {
-        return Char::Goes(Utf8::Within(Left::ThreeFrom90, at, over(b, 0xF0)));
-    }
-    if ranges(0xF1, 0xF3, b) {
-        return Char::Goes(Utf8::Within(Left::Three, at, over(b, 0xF0)));
-    }
-    if b == 0xF4 {
-        return Char::Goes(Utf8::Within(Left::ThreeTo8f, at, over(b, 0xF0)));
-    }
-    Char::Goes(Utf8::Bad(at))
+    let (left, base) = match b {
+        0x00..=0x7F => return Char::Ended(text_chars::is_white(u32::from(b))),
+        0xC2..=0xDF => (Left::One, 0xC0),
+        0xE0 => (Left::TwoFromA0, 0xE0),
+        0xED => (Left::TwoTo9f, 0xE0),
+        0xE1..=0xEF => (Left::Two, 0xE0),
+        0xF0 => (Left::ThreeFrom90, 0xF0),
+        0xF1..=0xF3 => (Left::Three, 0xF0),
+        0xF4 => (Left::ThreeTo8f, 0xF0),
+        _ => return Char::Goes(Utf8::Bad(at)),
+    };
+    Char::Goes(Utf8::Within(left, at, u32::from(b - base)))
 }
 
 // A later byte of a character that began at `from`.
+#[tactic(auto, unfolding(crate::specs::Decode::decodes))]
 fn later_byte(left: Left, from: u32, code: u32, at: u32, b: u8) -> Char
     ensures { result ≡ decodes (Utf8.Within left from code) at b }
 {
@@ -111,16 +83,17 @@ fn later_byte(left: Left, from: u32, code: u32, at: u32, b: u8) -> Char
     let bits = shifted(code, b);
     match left {
         Left::One => Char::Ended(text_chars::is_white(bits)),
-        Left::TwoFromA0 => Char::Goes(Utf8::Within(Left::One, from, bits)),
-        Left::TwoTo9f => Char::Goes(Utf8::Within(Left::One, from, bits)),
-        Left::Two => Char::Goes(Utf8::Within(Left::One, from, bits)),
-        Left::ThreeFrom90 => Char::Goes(Utf8::Within(Left::Two, from, bits)),
-        Left::Three => Char::Goes(Utf8::Within(Left::Two, from, bits)),
-        Left::ThreeTo8f => Char::Goes(Utf8::Within(Left::Two, from, bits)),
+        Left::TwoFromA0 | Left::TwoTo9f | Left::Two => {
+            Char::Goes(Utf8::Within(Left::One, from, bits))
+        }
+        Left::ThreeFrom90 | Left::Three | Left::ThreeTo8f => {
+            Char::Goes(Utf8::Within(Left::Two, from, bits))
+        }
     }
 }
 
 // UTF-8 and one byte more, at a place.
+#[tactic(auto, unfolding(crate::specs::Decode::decodes))]
 pub fn utf8_next(stands: Utf8, at: u32, b: u8) -> Char
     ensures { result ≡ decodes stands at b }
 {
@@ -133,7 +106,7 @@ pub fn utf8_next(stands: Utf8, at: u32, b: u8) -> Char
 
 // Where the token rules stand between two bytes: between tokens; in the identifier of the property that starts at a place, in a value of it,
 // there after a backslash, after a value; or it met a byte that is not ASCII in its identifier.
-#[derive(Clone, Copy)]
+#[derive(Clone, Copy, PartialEq, Eq)]
 pub enum Phase {
     Between,
     Ident(u32),
@@ -160,80 +133,69 @@ pub struct Moved {
 }
 
 // The kind of a token of one byte; 0 is none.
+#[tactic(auto, unfolding(crate::specs::Lean::kind_of))]
 pub fn kind(b: u8) -> u32
     ensures { result ≡ kind_of b }
 {
-    if b == b'(' {
-        return 1;
+    match b {
+        b'(' => 1,
+        b')' => 2,
+        b';' => 3,
+        _ => 0,
     }
-    if b == b')' {
-        return 2;
-    }
-    if b == b';' {
-        return 3;
-    }
-    0
 }
 
 // A byte that starts a property, or goes on with its identifier.
+#[tactic(auto, unfolding(crate::specs::Lean::property_phase))]
 fn identifies(start: u32, b: u8) -> Phase
     ensures { result ≡ property_phase start b }
 {
-    if b == b'[' {
-        return Phase::Value(start);
+    match b {
+        b'[' => Phase::Value(start),
+        0x80.. => Phase::Foreign(start),
+        _ => Phase::Ident(start),
     }
-    if 0x80 <= b {
-        return Phase::Foreign(start);
-    }
-    Phase::Ident(start)
 }
 
 // A byte between tokens.
+#[tactic(auto, unfolding(crate::specs::Lean::moves, crate::specs::Lean::kind_of, crate::specs::Lean::property_phase))]
 fn begin(at: u32, b: u8) -> Moved
     ensures { result ≡ moves Phase.Between at b }
 {
-    let k = kind(b);
-    if k != 0 {
-        return Moved {
-            tokens: Tokens::Single(k),
-            next: Phase::Between,
-        };
-    }
-    if lexer_scan::is_space(b) {
-        return Moved {
+    match kind(b) {
+        0 if lexer_scan::is_space(b) => Moved {
             tokens: Tokens::Silent,
             next: Phase::Between,
-        };
-    }
-    Moved {
-        tokens: Tokens::Silent,
-        next: identifies(at, b),
+        },
+        0 => Moved {
+            tokens: Tokens::Silent,
+            next: identifies(at, b),
+        },
+        k => Moved {
+            tokens: Tokens::Single(k),
+            next: Phase::Between,
+        },
     }
 }
 
 // A byte of a value.
+#[tactic(auto, unfolding(crate::specs::Lean::moves))]
 fn value_byte(start: u32, at: u32, b: u8) -> Moved
     ensures { result ≡ moves (Phase.Value start) at b }
 {
-    if b == b']' {
-        return Moved {
-            tokens: Tokens::Silent,
-            next: Phase::After(start),
-        };
-    }
-    if b == b'\\' {
-        return Moved {
-            tokens: Tokens::Silent,
-            next: Phase::Escaped(start),
-        };
-    }
+    let next = match b {
+        b']' => Phase::After(start),
+        b'\\' => Phase::Escaped(start),
+        _ => Phase::Value(start),
+    };
     Moved {
         tokens: Tokens::Silent,
-        next: Phase::Value(start),
+        next,
     }
 }
 
 // A byte after a value.
+#[tactic(auto, unfolding(crate::specs::Lean::moves, crate::specs::Lean::kind_of, crate::specs::Lean::property_phase))]
 fn behind(start: u32, at: u32, b: u8) -> Moved
     ensures { result ≡ moves (Phase.After start) at b }
 {
@@ -249,38 +211,33 @@ fn behind(start: u32, at: u32, b: u8) -> Moved
             next: Phase::Value(start),
         };
     }
-    let k = kind(b);
-    if k != 0 {
-        return Moved {
+    match kind(b) {
+        0 => Moved {
+            tokens: Tokens::Property(start),
+            next: identifies(at, b),
+        },
+        k => Moved {
             tokens: Tokens::Both(start, k),
             next: Phase::Between,
-        };
-    }
-    Moved {
-        tokens: Tokens::Property(start),
-        next: identifies(at, b),
+        },
     }
 }
 
 // The token rules and one byte more, at a place.
+#[tactic(auto, unfolding(crate::specs::Lean::moves, crate::specs::Lean::property_phase))]
 pub fn token_next(stands: Phase, at: u32, b: u8) -> Moved
     ensures { result ≡ moves stands at b }
 {
-    match stands {
-        Phase::Value(start) => value_byte(start, at, b),
-        Phase::Between => begin(at, b),
-        Phase::After(start) => behind(start, at, b),
-        Phase::Ident(start) => Moved {
-            tokens: Tokens::Silent,
-            next: identifies(start, b),
-        },
-        Phase::Escaped(start) => Moved {
-            tokens: Tokens::Silent,
-            next: Phase::Value(start),
-        },
-        Phase::Foreign(start) => Moved {
-            tokens: Tokens::Silent,
-            next: Phase::Foreign(start),
-        },
+    let next = match stands {
+        Phase::Value(start) => return value_byte(start, at, b),
+        Phase::Between => return begin(at, b),
+        Phase::After(start) => return behind(start, at, b),
+        Phase::Ident(start) => identifies(start, b),
+        Phase::Escaped(start) => Phase::Value(start),
+        Phase::Foreign(start) => Phase::Foreign(start),
+    };
+    Moved {
+        tokens: Tokens::Silent,
+        next,
     }
 }

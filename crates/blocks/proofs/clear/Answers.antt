@@ -1,13 +1,13 @@
 use Rattle.blocks.proofs.Ending.{clears}
-use Rattle.lists.proofs.Paste.{paste_none, paste_more, paste-done}
-use Rattle.lists.proofs.Prelude.{sym, ◌∙◌, ◌-◌, ◌/◌, ◌*◌, refl, arith, length, length-replicate, get_or-replicate}
+use Rattle.std.proofs.lemmas.Slice.{put_mid-paste}
+use Rattle.lists.proofs.Prelude.{ℕ, sym, ap, ◌∙◌, ◌-◌, ◌/◌, ◌*◌, refl, arith, length, drop, replicate, length-drop, length-take-le, length-replicate}
 use Rattle.blocks.proofs.clear.Goals as goal
 
-pub loop-i-init : goal.loop-i-init
-loop-i-init c = paste_none _ _ _ _ (omega arith) (simp length-replicate (omega arith))
-
-pub loop-i-preserved : goal.loop-i-preserved
-loop-i-preserved c = paste_more c.loop-i.invariant c.loop-i-test.true (sym (get_or-replicate _ _ _ _ c.loop-i-test.true))
-
 pub returns : goal.returns
-returns c = paste-done c.loop-i.invariant c.loop-i-test.false ∙ clears c.args.rows.now c.args.first (length c.args.rows.now / 3 * 3 - c.args.first * 3) refl c.requires
+returns c =
+    let t = c.args.rows.now in
+    let a = c.args.first * 3 in
+    let n = length t / 3 * 3 - a in
+    let e = length-take-le n (drop a t) (omega (arith, length-drop a t)) in
+    put_mid-paste _ _ _ _ (replicate n 0) n (c.fill.ensures.after (λ y e. e) ∙ ap (λ (m : ℕ). replicate m 0) e) refl (sym (length-replicate n 0))
+    ∙ clears t c.args.first n refl c.requires

@@ -1,24 +1,13 @@
 use Rattle.blocks.proofs.Inks.{steady-known}
-use Rattle.lists.proofs.Prelude.{false≢true, sym, ◌∙◌}
+use Rattle.lists.proofs.Tests.{and_both}
+use Rattle.lists.proofs.Prelude.{◌≡◌, ◌&&◌, not, true, eqb, eqb-true, eqb-false, not-true, rules}
 use Rattle.blocks.proofs.is_steady.Goals as goal
 
-pub returns-then-k-eq0 : goal.returns-then-k-eq0
-returns-then-k-eq0 c = λ e. absurd (false≢true e)
-
-pub returns-then-k : goal.returns-then-k
-returns-then-k c = λ e. absurd (false≢true e)
-
-pub returns-then-phase_number : goal.returns-then-phase_number
-returns-then-phase_number c = λ e. absurd (false≢true e)
-
-pub returns-then-phase_from : goal.returns-then-phase_from
-returns-then-phase_from c = λ e. absurd (false≢true e)
-
-pub returns-in-Whole : goal.returns-in-Whole
-returns-in-Whole c = λ e. steady-known c.args.k c.if-k-eq0.false c.if-k.false (sym c.phase_number.ensures ∙ c.if-phase_number.false ∙ c.phase_number-2.ensures) (sym c.phase_from.ensures ∙ c.if-phase_from.false ∙ c.phase_from-2.ensures) c.in-Whole.is
-
-pub returns-in-Within : goal.returns-in-Within
-returns-in-Within c = λ e. absurd (false≢true e)
-
-pub returns-in-Bad : goal.returns-in-Bad
-returns-in-Bad c = λ e. absurd (false≢true e)
+pub returns : goal.returns
+returns c = λ e.
+    let k = c.args.k in
+    let x = and_both (not (eqb k.last 0) && eqb k.held k.count) c.eq.result e in
+    let y = and_both (not (eqb k.last 0)) (eqb k.held k.count) x.0 in
+    let u : c.eq.result ≡ true = x.1 in
+    let h : k.now ≡ k.kept = search (rules, u, c.eq.ensures) in
+    steady-known k (eqb-false k.last 0 (not-true (eqb k.last 0) y.0)) (eqb-true k.held k.count y.1) h c.in-Whole.is

@@ -1,10 +1,12 @@
 use Rattle.blocks.proofs.Steadies.{block-part, block-part-by, steady-white, steady-ink, steady-values, steady-pair}
 use Rattle.blocks.proofs.Taking.{block_more}
 use Rattle.blocks.specs.LocalsSteady.{PairIs, steady_at}
-use Rattle.blocks.specs.Room.{room}
+use Rattle.blocks.specs.Room.{filled_with, rows_at, add_rows, room}
+use Rattle.tables.specs.Numbers.{text_limit}
 use Rattle.blocks.specs.declared.Pair.{Pair}
+use Rattle.blocks_step.specs.declared.Moved.{Moved}
 use Rattle.lists.proofs.Tests.{and_both}
-use Rattle.lists.proofs.Prelude.{arith, ◌+◌, refl, sym, ◌∙◌, subst, get_or}
+use Rattle.lists.proofs.Prelude.{arith, ◌+◌, ◌<◌, refl, sym, ap, ◌∙◌, subst, get_or}
 use Rattle.blocks.proofs.steady_run.Goals as goal
 
 pub loop-i-init : goal.loop-i-init
@@ -46,17 +48,27 @@ overflow_add-place-then-is_space-holds_white c = omega (arith, c.if-place.false)
 pub loop-i-preserved-then-is_space-holds_white : goal.loop-i-preserved-then-is_space-holds_white
 loop-i-preserved-then-is_space-holds_white c = (let w = and_both c.is_space.result c.holds_white.result c.if-is_space-holds_white.true in (c.loop-i.invariant.0, omega (arith, c.loop-i.invariant.1), omega (arith, c.loop-i-test.true), c.loop-i.invariant.3, block_more c.args.bytes.now c.loop-i.i (room (steady_at c.loop-i.place c.loop-i.ink c.loop-i.p c.loop-i.n) c.loop-i.rows) (room (steady_at (c.loop-i.place + 1) c.loop-i.ink c.loop-i.p c.loop-i.n) c.loop-i.rows) _ c.loop-i-test.true (sym (steady-white c.loop-i.place c.loop-i.ink c.loop-i.p c.loop-i.n c.loop-i.rows (omega (arith, c.if-place.false)) (get_or c.args.bytes.now c.loop-i.i 0) c.loop-i.invariant.3 (sym c.is_space.ensures ∙ w.0) (c.holds_white.ensures w.1))) c.loop-i.invariant.4))
 
-pub ink_rows-n-requires : goal.ink_rows-n-requires
-ink_rows-n-requires c = (c.if-b-le32.false, c.if-b-ge128.false, omega (arith, c.if-place.false))
-
-pub ink_next-p-requires : goal.ink_next-p-requires
-ink_next-p-requires c = (c.if-b-le32.false, c.if-b-ge128.false)
+pub put_tokens-n-requires : goal.put_tokens-n-requires
+put_tokens-n-requires c = omega (arith, c.if-place.false)
 
 pub overflow_add-place-in-loop-i : goal.overflow_add-place-in-loop-i
 overflow_add-place-in-loop-i c = omega (arith, c.if-place.false)
 
 pub loop-i-preserved : goal.loop-i-preserved
-loop-i-preserved c = (omega arith, omega (arith, c.loop-i.invariant.1), omega (arith, c.loop-i-test.true), omega arith, block_more c.args.bytes.now c.loop-i.i (room (steady_at c.loop-i.place c.loop-i.ink c.loop-i.p c.loop-i.n) c.loop-i.rows) _ _ c.loop-i-test.true (sym (steady-ink c.loop-i.place c.loop-i.ink c.loop-i.p c.loop-i.n c.loop-i.rows (omega (arith, c.if-place.false)) (get_or c.args.bytes.now c.loop-i.i 0) c.if-b-le32.false c.if-b-ge128.false c.ink_rows-n.result _ c.ink_next-p.result c.ink_rows-n.ensures c.ink_next-p.ensures)) c.loop-i.invariant.4)
+loop-i-preserved c =
+    let l = c.loop-i in
+    let bs = c.args.bytes.now in
+    let b = get_or bs l.i 0 in
+    let m = c.token_next-moved.ensures in
+    let t = c.put_tokens-n.ensures ∙ ap (λ (z : Moved). add_rows (filled_with l.n l.rows) (rows_at z.tokens l.place)) m in
+    let h : l.place < text_limit = omega (arith, c.if-place.false) in
+    let s = sym (steady-ink l.place l.ink l.p l.n l.rows h b c.if-b-le32.false c.if-b-ge128.false _ _ _ t (ap (λ (z : Moved). z.next) m)) in (
+      omega arith,
+      omega (arith, l.invariant.1),
+      omega (arith, c.loop-i-test.true),
+      omega arith,
+      block_more bs l.i (room (steady_at l.place l.ink l.p l.n) l.rows) _ _ c.loop-i-test.true s l.invariant.4,
+    )
 
 pub returns-after-loop-i : goal.returns-after-loop-i
 returns-after-loop-i c = record { low = c.loop-i.invariant.1; high = c.loop-i.invariant.2; rest = c.loop-i.invariant.4 }

@@ -9,17 +9,17 @@ pub returns-then-at-ge-LIMIT : goal.returns-then-at-ge-LIMIT
 unfolding past_limit
 returns-then-at-ge-LIMIT c = took-past c.args.k c.args.rows.now c.args.b c.if-at-ge-LIMIT.true
 
-pub returns-then-k-eq0 : goal.returns-then-k-eq0
+pub returns-in-Ended-true : goal.returns-in-Ended-true
 unfolding goes_back
-returns-then-k-eq0 c = ap (λ (z : ℕ). room (record { total = z; utf8 = Whole; last = c.args.k.last; now = c.args.k.kept; count = c.args.k.held; kept = c.args.k.kept; held = c.args.k.held }) c.args.rows.now) (add-one c.args.k.total)
-    ∙ took-back c.args.k c.args.rows.now c.args.b c.if-at-ge-LIMIT.false c.in-Ended.white c.if-white.true (sym c.in-Ended.is ∙ c.utf8_next.ensures) c.if-k-eq0.true
+returns-in-Ended-true c = ap (λ (z : ℕ). room (record { total = z; utf8 = Whole; last = c.args.k.last; now = c.args.k.kept; count = c.args.k.held; kept = c.args.k.kept; held = c.args.k.held }) c.args.rows.now) (add-one c.args.k.total)
+    ∙ took-back c.args.k c.args.rows.now c.args.b c.if-at-ge-LIMIT.false c.in-Ended-true.field-0 c.in-Ended-true.field-0-test (sym c.in-Ended-true.is ∙ c.utf8_next.ensures) c.if-k-eq0.true
 
-pub returns-then-white : goal.returns-then-white
-returns-then-white c = c.go_on.ensures ∙ took-white c.args.k c.args.rows.now c.args.b c.if-at-ge-LIMIT.false c.in-Ended.white c.if-white.true (sym c.in-Ended.is ∙ c.utf8_next.ensures) c.if-k-eq0.false
+pub returns-in-Ended-true-2 : goal.returns-in-Ended-true-2
+returns-in-Ended-true-2 c = c.go_on.ensures ∙ took-white c.args.k c.args.rows.now c.args.b c.if-at-ge-LIMIT.false c.in-Ended-true.field-0 c.in-Ended-true.field-0-test (sym c.in-Ended-true.is ∙ c.utf8_next.ensures) c.if-k-eq0.false
 
-pub returns-else-white : goal.returns-else-white
+pub returns-in-Ended-false : goal.returns-in-Ended-false
 unfolding keeps
-returns-else-white c = ap keeps c.go_on-g.ensures ∙ took-ink c.args.k c.args.rows.now c.args.b c.if-at-ge-LIMIT.false c.in-Ended.white c.if-white.false (sym c.in-Ended.is ∙ c.utf8_next.ensures)
+returns-in-Ended-false c = ap keeps c.go_on-g.ensures ∙ took-ink c.args.k c.args.rows.now c.args.b c.if-at-ge-LIMIT.false c.in-Ended-false.field-0 c.in-Ended-false.field-0-test (sym c.in-Ended-false.is ∙ c.utf8_next.ensures)
 
 pub returns-in-Goes : goal.returns-in-Goes
 returns-in-Goes c = c.go_on-in-Goes.ensures ∙ took c.args.k c.args.rows.now c.args.b c.if-at-ge-LIMIT.false (Goes c.in-Goes.stands) (sym c.in-Goes.is ∙ c.utf8_next.ensures)
