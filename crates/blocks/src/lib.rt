@@ -381,6 +381,44 @@ fn pair_run(stands: Phase, bytes: &[u8], i: usize) -> Pair
     }
 }
 
+// ---- one ASCII byte that is no white space
+// Apart from `blocks_step::token_next`: by that function here game text took a third longer, and missed the aim of docs/BENCHMARKS.md.
+
+// Where the token rules stand then.
+#[tactic(auto, unfolding(blocks_step::specs::Lean::moves, blocks_step::specs::Lean::kind_of, blocks_step::specs::Lean::property_phase, lexer_scan::specs::Scan::space))]
+fn ink_next(stands: Phase, at: u32, b: u8) -> Phase
+    requires { (32 < b) × (b < 128) }
+    ensures { result ≡ (moves stands at b).next }
+{
+    match (stands, b) {
+        (Phase::Value(start), b']') => Phase::After(start),
+        (Phase::Value(start), b'\\') => Phase::Escaped(start),
+        (Phase::Ident(start) | Phase::After(start), b'[') => Phase::Value(start),
+        (Phase::Between | Phase::After(_), b'(' | b')' | b';') => Phase::Between,
+        (Phase::Between, b'[') => Phase::Value(at),
+        (Phase::Between | Phase::After(_), _) => Phase::Ident(at),
+        (Phase::Escaped(start), _) => Phase::Value(start),
+        _ => stands,
+    }
+}
+
+// The rows of the tokens that it completes.
+#[tactic(auto, unfolding(blocks_step::specs::Lean::moves, blocks_step::specs::Lean::kind_of, blocks_step::specs::Lean::property_phase, lexer_scan::specs::Scan::space))]
+fn ink_rows(stands: Phase, at: u32, b: u8, count: u32, rows: &mut [u32]) -> u32
+    requires { (32 < b) × (b < 128) × (at < text_limit) }
+    ensures { filled_with result rows.new ≡ add_rows (filled_with count rows.old) (rows_at (moves stands at b).tokens at) }
+{
+    let count = match stands {
+        Phase::Between => count,
+        Phase::After(start) if b != b'[' => put_row(rows, count, 4, start, at),
+        _ => return count,
+    };
+    match blocks_step::kind(b) {
+        0 => count,
+        kind => put_row(rows, count, kind, at, at + 1),
+    }
+}
+
 // Does white space leave the token rules as they stand: not after a backslash.
 fn holds_white(stands: Phase) -> bool
     ensures { result ≡ true → WhiteStays stands }
@@ -466,9 +504,8 @@ fn steady_run(
             }
             break;
         }
-        let moved = blocks_step::token_next(p, place, b);
-        n = put_tokens(rows, n, place, moved.tokens);
-        p = moved.next;
+        n = ink_rows(p, place, b, n, rows);
+        p = ink_next(p, place, b);
         i += 1;
         place += 1;
         ink = place;

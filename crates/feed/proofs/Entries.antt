@@ -69,6 +69,19 @@ module _ (w : List ℕ) where
   unfolding listing
   listing-count c n e = ap (entries_by w) e
 
+  -- where k of `count` corrections are read
+  pub listing-begin : (count n : ℕ) → numeral_at w 0 ≡ Is count n → listing w ≡ entries_from w (count - 0) 0 n
+  listing-begin count n e =
+      let z : count ≡ count - 0 = omega arith in
+      listing-count count n e ∙ ap (λ (d : ℕ). entries_from w d 0 n) z
+
+  pub listed-next : (count k low at v a e : ℕ) → k < count → entry_at w low at ≡ One v a e
+      → entries_from w (count - k) low at ≡ one-listed v a e (entries_from w (count - (k + 1)) (v + 1) e)
+  listed-next count k low at v a e h q =
+      let p : 0 < count - k = omega arith in
+      let z : count - k - 1 ≡ count - (k + 1) = omega arith in
+      listed-one (count - k) low at v a e p q ∙ ap (λ (d : ℕ). one-listed v a e (entries_from w d (v + 1) e)) z
+
 -- ---- a value among them
 
 pub found_none : (k : ℕ) → found_in [] k ≡ Nowhere

@@ -53,51 +53,37 @@ pub fn next_at(feed: &[u8], low: usize, at: usize) -> Next
 pub fn is_feed(feed: &[u8]) -> bool
     ensures { result ≡ (listing feed.now).whole }
 {
-    match feed_numerals::read_numeral(feed, 0) {
-        Numeral::Broken => false,
-        Numeral::Is(count, n) => {
-            let mut left = count;
-            let mut low: usize = 0;
-            let mut at = n;
-            while 0 < left {
-                match next_at(feed, low, at) {
-                    Next::Malformed => return false,
-                    Next::One(value, _, to) => {
-                        low = value + 1;
-                        at = to;
-                        left -= 1;
-                    }
-                }
-            }
-            at == feed.len()
-        }
+    let Numeral::Is(count, mut at) = feed_numerals::read_numeral(feed, 0) else {
+        return false;
+    };
+    let mut low: usize = 0;
+    for _ in 0..count {
+        let Next::One(value, _, to) = next_at(feed, low, at) else {
+            return false;
+        };
+        low = value + 1;
+        at = to;
     }
+    at == feed.len()
 }
 
 // Where the new bytes of value k stand, among the corrections before the first fault.
 pub fn find(feed: &[u8], k: usize) -> Found
     ensures { result ≡ found_in (listing feed.now).entries k }
 {
-    match feed_numerals::read_numeral(feed, 0) {
-        Numeral::Broken => Found::Nowhere,
-        Numeral::Is(count, n) => {
-            let mut left = count;
-            let mut low: usize = 0;
-            let mut at = n;
-            while 0 < left {
-                match next_at(feed, low, at) {
-                    Next::Malformed => return Found::Nowhere,
-                    Next::One(value, from, to) => {
-                        if value == k {
-                            return Found::At(from, to);
-                        }
-                        low = value + 1;
-                        at = to;
-                        left -= 1;
-                    }
-                }
-            }
-            Found::Nowhere
+    let Numeral::Is(count, mut at) = feed_numerals::read_numeral(feed, 0) else {
+        return Found::Nowhere;
+    };
+    let mut low: usize = 0;
+    for _ in 0..count {
+        let Next::One(value, from, to) = next_at(feed, low, at) else {
+            return Found::Nowhere;
+        };
+        if value == k {
+            return Found::At(from, to);
         }
+        low = value + 1;
+        at = to;
     }
+    Found::Nowhere
 }

@@ -35,6 +35,7 @@ pub fn reach(values: &[u32], n: usize, feed: &[u8], s: Along, first: usize) -> A
     ensures { (first ≤ result.due) × Tallied values.now feed.now n result × Uncorrected feed.now first result.due }
 {
     let mut t = s;
+    // A while: the feed says which value comes next.
     while t.due < first {
         let old = size_of(values, t.due);
         t = along::pass(feed, n, t, old);
@@ -79,6 +80,7 @@ pub fn move_properties(properties: &mut [u32], p: usize, values: &[u32], n: usiz
 {
     let mut s = along::begin(feed, n);
     let mut k: usize = 0;
+    // A while: k moves by the identifiers that a stretch holds.
     while k < p {
         let first = properties[k * tables::PROPERTY_STRIDE + tables::PROPERTY_FIRST];
         s = reach(values, n, feed, s, lists::wide(first));
@@ -94,6 +96,7 @@ pub fn move_values(values: &mut [u32], n: usize, feed: &[u8])
 {
     let mut s = along::begin(feed, n);
     let mut k: usize = 0;
+    // A while: the feed says which value comes next.
     while s.due < n {
         let v = s.due;
         let at = v * tables::VALUE_STRIDE;

@@ -55,21 +55,18 @@ pub fn rewrite(
     let n = counts.values;
     let mut length = used;
     let mut s = along::begin(feed, n);
+    // A while, twice: the feed says which value comes next.
     while s.due < n {
         let old = rows::size_of(values, s.due);
         let start = rows::start_of(values, s.due) - s.shrunk;
-        let from = s.from;
-        let to = s.to;
-        length = put_shorter(text, length, start, old, &feed[from..to]);
+        length = put_shorter(text, length, start, old, &feed[s.from..s.to]);
         s = along::pass(feed, n, s, old);
     }
     let mut t = along::begin(feed, n);
     while t.due < n {
         let old = rows::size_of(values, t.due);
         let start = rows::start_of(values, t.due) - t.shrunk + t.grown;
-        let from = t.from;
-        let to = t.to;
-        length = put_longer(text, length, start, old, &feed[from..to]);
+        length = put_longer(text, length, start, old, &feed[t.from..t.to]);
         t = along::pass(feed, n, t, old);
     }
 }

@@ -76,24 +76,15 @@ fn owner_from(properties: &[u32], n: usize, from: usize, k: usize) -> usize
     requires { (n ≤ length properties.now / property_stride) × Behind properties.now n from k }
     ensures { Behind properties.now n result k × Holds properties.now n result k }
 {
-    let mut p = from;
-    while p < n {
+    for p in from..n {
         let at = p * tables::PROPERTY_STRIDE;
-        let first = wide(properties[at + tables::PROPERTY_FIRST]);
-        let count = wide(properties[at + tables::PROPERTY_COUNT]);
+        let first = lists::wide(properties[at + tables::PROPERTY_FIRST]);
+        let count = lists::wide(properties[at + tables::PROPERTY_COUNT]);
         if k < first + count {
             return p;
         }
-        p += 1;
     }
-    p
-}
-
-// A cell as a number whose sum with another cannot wrap.
-fn wide(cell: u32) -> usize
-    ensures { (result ≡ cell) × (result < 2 ^ 32) }
-{
-    cell as usize
+    n
 }
 
 // Whether property p, where there is one, has the raw identifier `GM`.
@@ -105,8 +96,8 @@ fn is_game_type(text: &[u8], properties: &[u32], n: usize, p: usize) -> bool
         return false;
     }
     let at = p * tables::PROPERTY_STRIDE;
-    let start = wide(properties[at]);
-    let end = wide(properties[at + tables::PROPERTY_END]);
+    let start = lists::wide(properties[at]);
+    let end = lists::wide(properties[at + tables::PROPERTY_END]);
     edit_answer::is_gm(&text[start..end])
 }
 
@@ -130,33 +121,26 @@ fn judge_all(text: &[u8], properties: &[u32], n: usize, total: usize, feed: &[u8
     ensures { result ≡ corrections_judged text.now (tabulate (prop_row properties.now) 0 n) total feed.now
         (listing feed.now).entries }
 {
-    match feed_numerals::read_numeral(feed, 0) {
-        Numeral::Broken => Checked::Passed,
-        Numeral::Is(count, size) => {
-            let mut left = count;
-            let mut low: usize = 0;
-            let mut at = size;
-            let mut p: usize = 0;
-            while 0 < left {
-                match feed::next_at(feed, low, at) {
-                    Next::Malformed => return Checked::Passed,
-                    Next::One(value, from, to) => {
-                        let owner = owner_from(properties, n, p, value);
-                        let fixed = is_game_type(text, properties, n, owner);
-                        let answer = judge_one(value < total, fixed, &feed[from..to], from);
-                        if let Checked::Refused(refusal, place) = answer {
-                            return Checked::Refused(refusal, place);
-                        }
-                        low = value + 1;
-                        at = to;
-                        left -= 1;
-                        p = owner;
-                    }
-                }
-            }
-            Checked::Passed
+    let Numeral::Is(count, mut at) = feed_numerals::read_numeral(feed, 0) else {
+        return Checked::Passed;
+    };
+    let mut low: usize = 0;
+    let mut p: usize = 0;
+    for _ in 0..count {
+        let Next::One(value, from, to) = feed::next_at(feed, low, at) else {
+            return Checked::Passed;
+        };
+        let owner = owner_from(properties, n, p, value);
+        let fixed = is_game_type(text, properties, n, owner);
+        let answer = judge_one(value < total, fixed, &feed[from..to], from);
+        if let Checked::Refused(refusal, place) = answer {
+            return Checked::Refused(refusal, place);
         }
+        low = value + 1;
+        at = to;
+        p = owner;
     }
+    Checked::Passed
 }
 
 // Whether a feed may be applied to a record, but for the length of the text.

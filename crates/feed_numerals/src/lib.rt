@@ -12,26 +12,18 @@ pub enum Numeral {
     Broken,
 }
 
-// A byte as a number.
-fn wide(b: u8) -> usize
-    ensures { (result ≡ b) × (result ≤ 255) }
-{
-    b as usize
-}
-
 // The number that stands at a place: below 2^28, if there is one.
 pub fn read_numeral(s: &[u8], at: usize) -> Numeral
     ensures { (result ≡ numeral_at s.now at) × Below numeral_limit result }
 {
     let mut value: usize = 0;
     let mut weight: usize = 1;
-    let mut size: usize = 0;
     let mut place = at;
-    while size < 4 {
+    for size in 0..4 {
         if s.len() <= place {
             return Numeral::Broken;
         }
-        let b = wide(s[place]);
+        let b = usize::from(s[place]);
         if b < 0x80 {
             if (size != 0) & (b == 0) {
                 return Numeral::Broken;
@@ -40,7 +32,6 @@ pub fn read_numeral(s: &[u8], at: usize) -> Numeral
         }
         value += weight * (b - 0x80);
         weight *= 0x80;
-        size += 1;
         place += 1;
     }
     Numeral::Broken
@@ -50,16 +41,12 @@ pub fn read_numeral(s: &[u8], at: usize) -> Numeral
 pub fn numeral_size(n: usize) -> usize
     ensures { result ≡ length (spelled n) }
 {
-    if n < 0x80 {
-        return 1;
+    match n {
+        0..=0x7F => 1,
+        0x80..=0x3FFF => 2,
+        0x4000..=0x1F_FFFF => 3,
+        _ => 4,
     }
-    if n < 0x4000 {
-        return 2;
-    }
-    if n < 0x20_0000 {
-        return 3;
-    }
-    4
 }
 
 // The bytes of a number, and the place after them.
@@ -68,14 +55,12 @@ pub fn put_numeral(out: &mut [u8], at: usize, n: usize) -> usize
 {
     let mut rest = n;
     let mut next = at;
-    let mut groups: usize = 4;
-    while 0 < groups {
+    for _ in 0..4usize {
         if rest < 0x80 {
             return store_bytes::put_byte(out, next, rest as u8);
         }
         next = store_bytes::put_byte(out, next, (0x80 + rest % 0x80) as u8);
         rest /= 0x80;
-        groups -= 1;
     }
     next
 }

@@ -5,5 +5,6 @@ use Rattle.blocks.proofs.holds_white.Goals as goal
 
 pub returns : goal.returns
 returns c = elim c.match-matches.branch [
-  in-Escaped w ↦ λ e. grind (arith, e, w.matches-is)
-  | in_default w ↦ λ e. white-stays c.args.stands w.in_default.not-Escaped ]
+  | in-Escaped w ↦ λ e. grind (arith, e, w.matches-is)
+  | in_default w ↦ λ e. white-stays c.args.stands w.in_default.not-Escaped
+]

@@ -11,7 +11,8 @@ returns-in-Ident c =
       pair = c.is_pair.ensures c.if-is_pair.true;
       start = s;
       opens = λ o. elim c.in-Ident.is [
-        inl e ↦ ap (λ (p : Phase). moves p o 91) e ∙ ident-opens s o 91 refl
-        | inr e ↦ ap (λ (p : Phase). moves p o 91) e ∙ after-again o 91 (omega arith) s refl ];
+        | inl e ↦ ap (λ (p : Phase). moves p o 91) e ∙ ident-opens s o 91 refl
+        | inr e ↦ ap (λ (p : Phase). moves p o 91) e ∙ after-again o 91 (omega arith) s refl
+      ];
       past = refl;
     }

@@ -48,8 +48,11 @@ overflow_add-place-then-is_space-holds_white c = omega (arith, c.if-place.false)
 pub loop-i-preserved-then-is_space-holds_white : goal.loop-i-preserved-then-is_space-holds_white
 loop-i-preserved-then-is_space-holds_white c = (let w = and_both c.is_space.result c.holds_white.result c.if-is_space-holds_white.true in (c.loop-i.invariant.0, omega (arith, c.loop-i.invariant.1), omega (arith, c.loop-i-test.true), c.loop-i.invariant.3, block_more c.args.bytes.now c.loop-i.i (room (steady_at c.loop-i.place c.loop-i.ink c.loop-i.p c.loop-i.n) c.loop-i.rows) (room (steady_at (c.loop-i.place + 1) c.loop-i.ink c.loop-i.p c.loop-i.n) c.loop-i.rows) _ c.loop-i-test.true (sym (steady-white c.loop-i.place c.loop-i.ink c.loop-i.p c.loop-i.n c.loop-i.rows (omega (arith, c.if-place.false)) (get_or c.args.bytes.now c.loop-i.i 0) c.loop-i.invariant.3 (sym c.is_space.ensures ∙ w.0) (c.holds_white.ensures w.1))) c.loop-i.invariant.4))
 
-pub put_tokens-n-requires : goal.put_tokens-n-requires
-put_tokens-n-requires c = omega (arith, c.if-place.false)
+pub ink_rows-n-requires : goal.ink_rows-n-requires
+ink_rows-n-requires c = (c.if-b-le32.false, c.if-b-ge128.false, omega (arith, c.if-place.false))
+
+pub ink_next-p-requires : goal.ink_next-p-requires
+ink_next-p-requires c = (c.if-b-le32.false, c.if-b-ge128.false)
 
 pub overflow_add-place-in-loop-i : goal.overflow_add-place-in-loop-i
 overflow_add-place-in-loop-i c = omega (arith, c.if-place.false)
@@ -59,10 +62,8 @@ loop-i-preserved c =
     let l = c.loop-i in
     let bs = c.args.bytes.now in
     let b = get_or bs l.i 0 in
-    let m = c.token_next-moved.ensures in
-    let t = c.put_tokens-n.ensures ∙ ap (λ (z : Moved). add_rows (filled_with l.n l.rows) (rows_at z.tokens l.place)) m in
     let h : l.place < text_limit = omega (arith, c.if-place.false) in
-    let s = sym (steady-ink l.place l.ink l.p l.n l.rows h b c.if-b-le32.false c.if-b-ge128.false _ _ _ t (ap (λ (z : Moved). z.next) m)) in (
+    let s = sym (steady-ink l.place l.ink l.p l.n l.rows h b c.if-b-le32.false c.if-b-ge128.false _ _ _ c.ink_rows-n.ensures c.ink_next-p.ensures) in (
       omega arith,
       omega (arith, l.invariant.1),
       omega (arith, c.loop-i-test.true),

@@ -3,46 +3,46 @@ use Rattle.feed_numerals.specs.Numeral.{numeral_limit}
 use Rattle.feed.specs.Feed.{Listing, entries_from}
 use Rattle.feed.specs.LocalsNext.{Lies}
 use Rattle.feed.specs.Find.{found_in}
-use Rattle.feed.proofs.Entries.{found_none, found_here, found-later, listed-end, listed-fault, listed-one, listing-fault, listing-count}
+use Rattle.feed.proofs.Entries.{found_none, found_here, found-later, listed-end, listed-fault, listed-next, listing-fault, listing-begin}
 use Rattle.feed.specs.declared.Next.TheVariants.{One}
 use Rattle.feed.proofs.find.Goals as goal
 
-pub loop-left-init : goal.loop-left-init
-loop-left-init c = let w = c.args.feed.now in
+pub loop-init : goal.loop-init
+loop-init c = let w = c.args.feed.now in
     let k = c.args.k in
-    ap (λ (x : Listing). found_in x.entries k) (listing-count w c.in-Is.count c.in-Is.n (sym c.read_numeral.ensures.0 ∙ c.in-Is.is))
+    ap (λ (x : Listing). found_in x.entries k) (listing-begin w c.in-Is.count c.in-Is.at (sym c.read_numeral.ensures.0 ∙ c.in-Is.is))
 
-pub returns-in-Malformed : goal.returns-in-Malformed
-returns-in-Malformed c = let w = c.args.feed.now in
+pub returns-in_default-next_at : goal.returns-in_default-next_at
+returns-in_default-next_at c = let w = c.args.feed.now in
     let k = c.args.k in
-    let l = c.loop-left in
-    sym (l.invariant ∙ ap (λ (x : Listing). found_in x.entries k) (listed-fault w l.left l.low l.at c.loop-left-test.true (sym c.next_at.ensures.0 ∙ c.in-Malformed.is)) ∙ found_none k)
+    let l = c.loop in
+    sym (l.invariant ∙ ap (λ (x : Listing). found_in x.entries k) (listed-fault w (c.in-Is.count - l.counter) l.low l.at (omega (arith, c.loop-test.true)) (sym c.next_at.ensures.0 ∙ c.in_default-next_at.is)) ∙ found_none k)
 
 pub returns-then-value-k : goal.returns-then-value-k
 returns-then-value-k c = let w = c.args.feed.now in
     let k = c.args.k in
-    let l = c.loop-left in
-    sym (l.invariant ∙ ap (λ (x : Listing). found_in x.entries k) (listed-one w l.left l.low l.at c.in-One.value c.in-One.from c.in-One.to c.loop-left-test.true (sym c.next_at.ensures.0 ∙ c.in-One.is)) ∙ found_here c.in-One.value c.in-One.from c.in-One.to k (entries_from w (l.left - 1) (c.in-One.value + 1) c.in-One.to).entries c.if-value-k.true)
+    let l = c.loop in
+    sym (l.invariant ∙ ap (λ (x : Listing). found_in x.entries k) (listed-next w c.in-Is.count l.counter l.low l.at c.in-One.value c.in-One.from c.in-One.to c.loop-test.true (sym c.next_at.ensures.0 ∙ c.in-One.is)) ∙ found_here c.in-One.value c.in-One.from c.in-One.to k (entries_from w (c.in-Is.count - (l.counter + 1)) (c.in-One.value + 1) c.in-One.to).entries c.if-value-k.true)
 
 pub overflow_add-low : goal.overflow_add-low
 overflow_add-low c = let w = c.args.feed.now in
-    let m : Lies w c.loop-left.low numeral_limit (One c.in-One.value c.in-One.from c.in-One.to) = subst (Lies w c.loop-left.low numeral_limit) c.in-One.is c.next_at.ensures.1 in
+    let m : Lies w c.loop.low numeral_limit (One c.in-One.value c.in-One.from c.in-One.to) = subst (Lies w c.loop.low numeral_limit) c.in-One.is c.next_at.ensures.1 in
     omega (arith, m.1)
 
-pub loop-left-preserved : goal.loop-left-preserved
-loop-left-preserved c = let w = c.args.feed.now in
+pub loop-preserved : goal.loop-preserved
+loop-preserved c = let w = c.args.feed.now in
     let k = c.args.k in
-    let l = c.loop-left in
-    l.invariant ∙ ap (λ (x : Listing). found_in x.entries k) (listed-one w l.left l.low l.at c.in-One.value c.in-One.from c.in-One.to c.loop-left-test.true (sym c.next_at.ensures.0 ∙ c.in-One.is)) ∙ found-later c.in-One.value c.in-One.from c.in-One.to k (entries_from w (l.left - 1) (c.in-One.value + 1) c.in-One.to).entries c.if-value-k.false
+    let l = c.loop in
+    l.invariant ∙ ap (λ (x : Listing). found_in x.entries k) (listed-next w c.in-Is.count l.counter l.low l.at c.in-One.value c.in-One.from c.in-One.to c.loop-test.true (sym c.next_at.ensures.0 ∙ c.in-One.is)) ∙ found-later c.in-One.value c.in-One.from c.in-One.to k (entries_from w (c.in-Is.count - (l.counter + 1)) (c.in-One.value + 1) c.in-One.to).entries c.if-value-k.false
 
-pub returns-in-Broken : goal.returns-in-Broken
-returns-in-Broken c = let w = c.args.feed.now in
+pub returns-in_default : goal.returns-in_default
+returns-in_default c = let w = c.args.feed.now in
     let k = c.args.k in
-    sym (ap (λ (x : Listing). found_in x.entries k) (listing-fault w (sym c.read_numeral.ensures.0 ∙ c.in-Broken.is)) ∙ found_none k)
+    sym (ap (λ (x : Listing). found_in x.entries k) (listing-fault w (sym c.read_numeral.ensures.0 ∙ c.in_default.is)) ∙ found_none k)
 
-pub returns-after-loop-left : goal.returns-after-loop-left
-returns-after-loop-left c = let w = c.args.feed.now in
+pub returns : goal.returns
+returns c = let w = c.args.feed.now in
     let k = c.args.k in
-    let l = c.loop-left in
-    let z : l.left ≡ 0 = omega (arith, c.loop-left-test.false) in
-    sym (l.invariant ∙ ap (λ (x : Listing). found_in x.entries k) (listed-end w l.left l.low l.at z) ∙ found_none k)
+    let l = c.loop in
+    let z : (c.in-Is.count - l.counter) ≡ 0 = omega (arith, c.loop-test.false) in
+    sym (l.invariant ∙ ap (λ (x : Listing). found_in x.entries k) (listed-end w (c.in-Is.count - l.counter) l.low l.at z) ∙ found_none k)

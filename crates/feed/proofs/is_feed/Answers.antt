@@ -1,36 +1,36 @@
-use Rattle.lists.proofs.Prelude.{◌≡◌, sym, ap, ◌∙◌, subst, arith}
+use Rattle.lists.proofs.Prelude.{◌-◌, ◌≡◌, sym, ap, ◌∙◌, subst, arith}
 use Rattle.feed_numerals.specs.Numeral.{numeral_limit}
 use Rattle.feed.specs.Feed.{Listing}
 use Rattle.feed.specs.LocalsNext.{Lies}
-use Rattle.feed.proofs.Entries.{listed-end, listed-fault, listed-one, listing-fault, listing-count}
+use Rattle.feed.proofs.Entries.{listed-end, listed-fault, listed-next, listing-fault, listing-begin}
 use Rattle.feed.specs.declared.Next.TheVariants.{One}
 use Rattle.feed.proofs.is_feed.Goals as goal
 
-pub loop-left-init : goal.loop-left-init
-loop-left-init c = let w = c.args.feed.now in
-    ap (λ (x : Listing). x.whole) (listing-count w c.in-Is.count c.in-Is.n (sym c.read_numeral.ensures.0 ∙ c.in-Is.is))
+pub loop-init : goal.loop-init
+loop-init c = let w = c.args.feed.now in
+    ap (λ (x : Listing). x.whole) (listing-begin w c.in-Is.count c.in-Is.at (sym c.read_numeral.ensures.0 ∙ c.in-Is.is))
 
-pub returns-in-Malformed : goal.returns-in-Malformed
-returns-in-Malformed c = let w = c.args.feed.now in
-    let l = c.loop-left in
-    sym (l.invariant ∙ ap (λ (x : Listing). x.whole) (listed-fault w l.left l.low l.at c.loop-left-test.true (sym c.next_at.ensures.0 ∙ c.in-Malformed.is)))
+pub returns-in_default-next_at : goal.returns-in_default-next_at
+returns-in_default-next_at c = let w = c.args.feed.now in
+    let l = c.loop in
+    sym (l.invariant ∙ ap (λ (x : Listing). x.whole) (listed-fault w (c.in-Is.count - l.counter) l.low l.at (omega (arith, c.loop-test.true)) (sym c.next_at.ensures.0 ∙ c.in_default-next_at.is)))
 
 pub overflow_add-low : goal.overflow_add-low
 overflow_add-low c = let w = c.args.feed.now in
-    let m : Lies w c.loop-left.low numeral_limit (One c.in-One.value c.in-One.field-1 c.in-One.to) = subst (Lies w c.loop-left.low numeral_limit) c.in-One.is c.next_at.ensures.1 in
+    let m : Lies w c.loop.low numeral_limit (One c.in-One.value c.in-One.field-1 c.in-One.to) = subst (Lies w c.loop.low numeral_limit) c.in-One.is c.next_at.ensures.1 in
     omega (arith, m.1)
 
-pub loop-left-preserved : goal.loop-left-preserved
-loop-left-preserved c = let w = c.args.feed.now in
-    let l = c.loop-left in
-    l.invariant ∙ ap (λ (x : Listing). x.whole) (listed-one w l.left l.low l.at c.in-One.value c.in-One.field-1 c.in-One.to c.loop-left-test.true (sym c.next_at.ensures.0 ∙ c.in-One.is))
+pub loop-preserved : goal.loop-preserved
+loop-preserved c = let w = c.args.feed.now in
+    let l = c.loop in
+    l.invariant ∙ ap (λ (x : Listing). x.whole) (listed-next w c.in-Is.count l.counter l.low l.at c.in-One.value c.in-One.field-1 c.in-One.to c.loop-test.true (sym c.next_at.ensures.0 ∙ c.in-One.is))
 
-pub returns-in-Broken : goal.returns-in-Broken
-returns-in-Broken c = let w = c.args.feed.now in
-    sym (ap (λ (x : Listing). x.whole) (listing-fault w (sym c.read_numeral.ensures.0 ∙ c.in-Broken.is)))
+pub returns-in_default : goal.returns-in_default
+returns-in_default c = let w = c.args.feed.now in
+    sym (ap (λ (x : Listing). x.whole) (listing-fault w (sym c.read_numeral.ensures.0 ∙ c.in_default.is)))
 
-pub returns-after-loop-left : goal.returns-after-loop-left
-returns-after-loop-left c = let w = c.args.feed.now in
-    let l = c.loop-left in
-    let z : l.left ≡ 0 = omega (arith, c.loop-left-test.false) in
-    sym (l.invariant ∙ ap (λ (x : Listing). x.whole) (listed-end w l.left l.low l.at z))
+pub returns : goal.returns
+returns c = let w = c.args.feed.now in
+    let l = c.loop in
+    let z : (c.in-Is.count - l.counter) ≡ 0 = omega (arith, c.loop-test.false) in
+    sym (l.invariant ∙ ap (λ (x : Listing). x.whole) (listed-end w (c.in-Is.count - l.counter) l.low l.at z))

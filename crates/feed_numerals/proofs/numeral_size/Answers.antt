@@ -1,14 +1,15 @@
 use Rattle.feed_numerals.proofs.Spelling.{size-1, size-2, size-3, size-4}
+use Rattle.lists.proofs.Prelude.{arith}
 use Rattle.feed_numerals.proofs.numeral_size.Goals as goal
 
-pub returns-then-n-lt128 : goal.returns-then-n-lt128
-returns-then-n-lt128 c = size-1 c.args.n c.if-n-lt128.true
+pub returns-in-0-to-127 : goal.returns-in-0-to-127
+returns-in-0-to-127 c = size-1 c.args.n (omega arith)
 
-pub returns-then-n-lt16384 : goal.returns-then-n-lt16384
-returns-then-n-lt16384 c = size-2 c.args.n c.if-n-lt128.false c.if-n-lt16384.true
+pub returns-in-128-to-16383 : goal.returns-in-128-to-16383
+returns-in-128-to-16383 c = size-2 c.args.n (omega arith) (omega arith)
 
-pub returns-then-n-lt2097152 : goal.returns-then-n-lt2097152
-returns-then-n-lt2097152 c = size-3 c.args.n c.if-n-lt16384.false c.if-n-lt2097152.true
+pub returns-in-16384-to-2097151 : goal.returns-in-16384-to-2097151
+returns-in-16384-to-2097151 c = size-3 c.args.n (omega arith) (omega arith)
 
-pub returns : goal.returns
-returns c = size-4 c.args.n c.if-n-lt2097152.false
+pub returns-in_default : goal.returns-in_default
+returns-in_default c = size-4 c.args.n (omega arith)
