@@ -11,24 +11,15 @@ pub struct BlockNumber {
 // The number of at most three digits at the head of a line.
 pub fn number_at(line: &[u8]) -> BlockNumber {
     let mut value: usize = 0;
-    let mut i: usize = 0;
-    while i < line.len() {
-        let b = line[i];
-        if b < 48 {
-            break;
+    for (i, &b) in line.iter().enumerate() {
+        if !b.is_ascii_digit() || 99 < value {
+            return BlockNumber { value, end: i };
         }
-        if 57 < b {
-            break;
-        }
-        if 99 < value {
-            break;
-        }
-        value = value * 10 + (b - 48) as usize;
-        i += 1;
+        value = value * 10 + usize::from(b - b'0');
     }
     BlockNumber {
-        value: value,
-        end: i,
+        value,
+        end: line.len(),
     }
 }
 
@@ -37,14 +28,12 @@ fn first_at(s: &[u8], at: usize, b: u8) -> usize
     requires { at ≤ length s.now }
     ensures { (at ≤ result) × (result ≤ length s.now) }
 {
-    let mut i = at;
-    while i < s.len() {
+    for i in at..s.len() {
         if s[i] == b {
-            break;
+            return i;
         }
-        i += 1;
     }
-    i
+    s.len()
 }
 
 // The first line feed from `at` on, or the end.
@@ -67,19 +56,11 @@ pub fn word_end(s: &[u8], at: usize) -> usize
 fn digit_of(b: u8) -> u8
     ensures { result ≤ 16 }
 {
-    if b < 48 {
-        return 16;
+    match b {
+        b'0'..=b'9' => b - b'0',
+        b'a'..=b'f' => b - b'a' + 10,
+        _ => 16,
     }
-    if b < 58 {
-        return b - 48;
-    }
-    if b < 97 {
-        return 16;
-    }
-    if b < 103 {
-        return b - 87;
-    }
-    16
 }
 
 // The byte that the two hex digits at a place spell; 256 where there are none.
@@ -107,16 +88,14 @@ fn byte_at(line: &[u8], at: usize) -> u32
 pub fn decode(word: &[u8], bytes: &mut [u8]) -> usize
     ensures { result ≤ length bytes.new }
 {
-    let mut n = 0;
-    while n < bytes.len() {
+    for n in 0..bytes.len() {
         let b = byte_at(word, n * 2);
         if b == 256 {
-            break;
+            return n;
         }
         bytes[n] = b as u8;
-        n += 1;
     }
-    n
+    bytes.len()
 }
 
 // As many bytes as there is room for, all of them the one that the digits behind the first byte of a word spell.
@@ -127,10 +106,6 @@ pub fn fill(word: &[u8], bytes: &mut [u8]) -> usize
     if b == 256 {
         return 0;
     }
-    let mut n = 0;
-    while n < bytes.len() {
-        bytes[n] = b as u8;
-        n += 1;
-    }
-    n
+    bytes.fill(b as u8);
+    bytes.len()
 }

@@ -10,62 +10,37 @@ use blocks::BlocksState;
 use line::{decode, fill, line_end, number_at, word_end};
 use say::{say_blocked, say_closed, say_numbers};
 
-// The start: all zero.
-fn start() -> BlocksState {
-    BlocksState {
-        total: 0,
-        utf: 0,
-        utf_from: 0,
-        code: 0,
-        last: 0,
-        now: 0,
-        now_from: 0,
-        count: 0,
-        kept: 0,
-        kept_from: 0,
-        held: 0,
-        closed: 0,
-    }
-}
-
 // A block.
 fn on_block(state: BlocksState, bytes: &[u8], rows: &mut [u32]) -> BlocksState {
     let taken = blocks::block(state, bytes, rows);
     say_blocked(taken.number);
-    let known = taken.state;
-    known
+    taken.state
 }
 
 // The close.
 fn on_close(state: BlocksState, rows: &mut [u32]) -> BlocksState {
     let answer = blocks::close(state, rows);
     say_closed(answer.number, answer.place, answer.tokens);
-    let known = answer.state;
-    known
+    answer.state
 }
 
 // A word of a line.
 fn on_word(word: &[u8], state: BlocksState, rows: &mut [u32]) -> BlocksState {
-    if word.len() < 1 {
-        return state;
-    }
-    let what = word[0];
-    if what == b'.' {
-        return on_close(state, rows);
-    }
     let mut bytes = io::buffer();
-    if what == b'x' {
-        let n = fill(word, &mut bytes);
-        return on_block(state, &bytes[..n], rows);
-    }
-    let n = decode(word, &mut bytes);
+    let n = match word.first() {
+        None => return state,
+        Some(b'.') => return on_close(state, rows),
+        Some(b'x') => fill(word, &mut bytes),
+        Some(_) => decode(word, &mut bytes),
+    };
     on_block(state, &bytes[..n], rows)
 }
 
 // The words of a line from a place on.
 fn on_words(line: &[u8], from: usize, rows: &mut [u32]) {
-    let mut state = start();
+    let mut state = BlocksState::default();
     let mut at = from;
+    // A while: at moves by the length of a word.
     while at < line.len() {
         let end = word_end(line, at);
         state = on_word(&line[at..end], state, rows);
@@ -83,22 +58,22 @@ fn on_lent(line: &[u8], from: usize, lent: usize, rows: &mut [u32]) {
 }
 
 fn on_line(line: &[u8]) {
-    if line.len() < 1 {
-        return;
+    match line.first() {
+        None => {}
+        Some(b'#') => {
+            io::write_all(1, line);
+        }
+        Some(_) => {
+            let lent = number_at(line);
+            let mut rows = [7u32; 64];
+            on_lent(line, lent.end, lent.value, &mut rows);
+        }
     }
-    if line[0] == b'#' {
-        io::write_all(1, line);
-        return;
-    }
-    let k = number_at(line);
-    let from = k.end;
-    let lent = k.value;
-    let mut rows = [7u32; 64];
-    on_lent(line, from, lent, &mut rows);
 }
 
 fn run(s: &[u8]) {
     let mut at: usize = 0;
+    // A while: at moves by the length of a line.
     while at < s.len() {
         let end = line_end(s, at);
         on_line(&s[at..end]);

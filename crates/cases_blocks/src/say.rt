@@ -34,7 +34,7 @@ fn say_next(n: u32) {
 // The lent numbers behind a bar.
 pub fn say_numbers(rows: &[u32]) {
     say_bar();
-    for i in 0..rows.len() {
-        say_next(rows[i]);
+    for &n in rows {
+        say_next(n);
     }
 }

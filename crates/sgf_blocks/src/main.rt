@@ -19,19 +19,12 @@ fn say_refused(number: u32, place: usize) {
 }
 
 fn say_kind(kind: u32) {
-    if kind == 1 {
-        io::write_all(1, b"start ");
-        return;
+    match kind {
+        1 => io::write_all(1, b"start "),
+        2 => io::write_all(1, b"end "),
+        3 => io::write_all(1, b"node "),
+        _ => io::write_all(1, b"property "),
     }
-    if kind == 2 {
-        io::write_all(1, b"end ");
-        return;
-    }
-    if kind == 3 {
-        io::write_all(1, b"node ");
-        return;
-    }
-    io::write_all(1, b"property ");
 }
 
 // The row of three numbers, where it is there.
@@ -46,31 +39,8 @@ fn say_row(row: &[u32]) {
 
 // So many rows, as many as there are.
 fn say_rows(rows: &[u32], tokens: usize) {
-    let mut k: usize = 0;
-    while k < rows.len() / 3 {
-        if tokens <= k {
-            return;
-        }
-        say_row(&rows[k * 3..]);
-        k += 1;
-    }
-}
-
-// The start: all zero.
-fn start() -> BlocksState {
-    BlocksState {
-        total: 0,
-        utf: 0,
-        utf_from: 0,
-        code: 0,
-        last: 0,
-        now: 0,
-        now_from: 0,
-        count: 0,
-        kept: 0,
-        kept_from: 0,
-        held: 0,
-        closed: 0,
+    for row in rows.chunks_exact(3).take(tokens) {
+        say_row(row);
     }
 }
 
@@ -84,17 +54,13 @@ fn token_rows() -> [u32; 196608]
 // Takes standard input, 4,096 bytes at a time; one block more than the longest text has suffices.
 fn take_input(rows: &mut [u32]) -> BlocksState {
     let mut block = io::buffer();
-    let mut state = start();
-    let mut left: usize = 257;
-    while 0 < left {
+    let mut state = BlocksState::default();
+    for _ in 0..257 {
         let n = io::read_full(0, &mut block);
         if n == 0 {
             break;
         }
-        let taken = blocks::block(state, &block[..n], rows);
-        let known = taken.state;
-        state = known;
-        left -= 1;
+        state = blocks::block(state, &block[..n], rows).state;
     }
     state
 }

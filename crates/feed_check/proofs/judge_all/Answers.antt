@@ -88,7 +88,7 @@ loop-preserved c = let a = c.args in
     let is = f.ensures ∙ game-type-is a.properties.now a.n a.text.now c.in-One.value o.result o.ensures.0 o.ensures.1 in
     let e = listed-next a.feed.now c.in-Is.count l.counter l.low l.at c.in-One.value c.in-One.from c.in-One.to c.loop-test.true (sym c.next_at.ensures.0 ∙ c.in-One.is) in
     let s = sym (ap (λ (z : List ℕ). tested_by (ltb c.in-One.value a.total) f.result (bytes_judged c.in-One.from (trimmed z) (closed z))) (part_slice c.in-One.from c.in-One.to a.feed.now)) ∙ sym c.judge_one-answer.ensures in (
-      l.invariant.0 ∙ ap (λ (y : Listing). corrections_judged a.text.now (tabulate (prop_row a.properties.now) 0 a.n) a.total a.feed.now y.entries) e ∙ judged-passed a.text.now (tabulate (prop_row a.properties.now) 0 a.n) a.total a.feed.now x next f.result is (s ∙ c.in_default-judge_one.is),
+      l.invariant.0 ∙ ap (λ (y : Listing). corrections_judged a.text.now (tabulate (prop_row a.properties.now) 0 a.n) a.total a.feed.now y.entries) e ∙ judged-passed a.text.now (tabulate (prop_row a.properties.now) 0 a.n) a.total a.feed.now x next f.result is (s ∙ c.in_default-answer.is),
       behind-later a.properties.now a.n o.result c.in-One.value (c.in-One.value + 1) o.ensures.0 (omega arith),
     )
 
