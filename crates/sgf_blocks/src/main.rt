@@ -19,12 +19,13 @@ fn say_refused(number: u32, place: usize) {
 }
 
 fn say_kind(kind: u32) {
-    match kind {
-        1 => io::write_all(1, b"start "),
-        2 => io::write_all(1, b"end "),
-        3 => io::write_all(1, b"node "),
-        _ => io::write_all(1, b"property "),
-    }
+    let name = match kind {
+        1 => b"start ".as_slice(),
+        2 => b"end ".as_slice(),
+        3 => b"node ".as_slice(),
+        _ => b"property ".as_slice(),
+    };
+    io::write_all(1, name);
 }
 
 // The row of three numbers, where it is there.

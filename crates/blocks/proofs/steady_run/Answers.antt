@@ -1,12 +1,11 @@
 use Rattle.blocks.proofs.Steadies.{block-part, block-part-by, steady-white, steady-ink, steady-values, steady-pair}
 use Rattle.blocks.proofs.Taking.{block_more}
 use Rattle.blocks.specs.LocalsSteady.{PairIs, steady_at}
-use Rattle.blocks.specs.Room.{filled_with, rows_at, add_rows, room}
+use Rattle.blocks.specs.Room.{room}
 use Rattle.tables.specs.Numbers.{text_limit}
 use Rattle.blocks.specs.declared.Pair.{Pair}
-use Rattle.blocks_step.specs.declared.Moved.{Moved}
 use Rattle.lists.proofs.Tests.{and_both}
-use Rattle.lists.proofs.Prelude.{arith, ◌+◌, ◌<◌, refl, sym, ap, ◌∙◌, subst, get_or}
+use Rattle.lists.proofs.Prelude.{arith, ◌+◌, ◌<◌, refl, sym, ◌∙◌, subst, get_or}
 use Rattle.blocks.proofs.steady_run.Goals as goal
 
 pub loop-i-init : goal.loop-i-init
