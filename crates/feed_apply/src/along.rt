@@ -30,29 +30,43 @@ fn seek(
     ensures { Stands feed.now n result × Uncorrected feed.now low result.due × (low ≤ result.due)
         × (result.grown ≡ grown) × (result.shrunk ≡ shrunk) }
 {
-    let none = Along {
-        left: 0,
-        due: n,
-        from: at,
-        to: at,
-        grown,
-        shrunk,
-    };
     if left == 0 {
-        return none;
+        return Along {
+            left: 0,
+            due: n,
+            from: at,
+            to: at,
+            grown: grown,
+            shrunk: shrunk,
+        };
     }
     match feed::next_at(feed, low, at) {
-        Next::Malformed => none,
+        Next::Malformed => Along {
+            left: 0,
+            due: n,
+            from: at,
+            to: at,
+            grown: grown,
+            shrunk: shrunk,
+        },
         Next::One(value, from, to) => {
             if n <= value {
-                return none;
+                return Along {
+                    left: 0,
+                    due: n,
+                    from: at,
+                    to: at,
+                    grown: grown,
+                    shrunk: shrunk,
+                };
             }
             Along {
                 left: left - 1,
                 due: value,
-                from,
-                to,
-                ..none
+                from: from,
+                to: to,
+                grown: grown,
+                shrunk: shrunk,
             }
         }
     }
@@ -75,7 +89,24 @@ pub fn pass(feed: &[u8], n: usize, s: Along, old: usize) -> Along
         × (result.grown ≡ s.grown + (s.to - s.from - old)) × (result.shrunk ≡ s.shrunk + (old - (s.to - s.from))) }
 {
     let size = s.to - s.from;
-    let grown = s.grown + size.saturating_sub(old);
-    let shrunk = s.shrunk + old.saturating_sub(size);
-    seek(feed, n, s.left, s.due + 1, s.to, grown, shrunk)
+    if size <= old {
+        return seek(
+            feed,
+            n,
+            s.left,
+            s.due + 1,
+            s.to,
+            s.grown,
+            s.shrunk + (old - size),
+        );
+    }
+    seek(
+        feed,
+        n,
+        s.left,
+        s.due + 1,
+        s.to,
+        s.grown + (size - old),
+        s.shrunk,
+    )
 }

@@ -59,14 +59,18 @@ pub fn rewrite(
     while s.due < n {
         let old = rows::size_of(values, s.due);
         let start = rows::start_of(values, s.due) - s.shrunk;
-        length = put_shorter(text, length, start, old, &feed[s.from..s.to]);
+        let from = s.from;
+        let to = s.to;
+        length = put_shorter(text, length, start, old, &feed[from..to]);
         s = along::pass(feed, n, s, old);
     }
     let mut t = along::begin(feed, n);
     while t.due < n {
         let old = rows::size_of(values, t.due);
         let start = rows::start_of(values, t.due) - t.shrunk + t.grown;
-        length = put_longer(text, length, start, old, &feed[t.from..t.to]);
+        let from = t.from;
+        let to = t.to;
+        length = put_longer(text, length, start, old, &feed[from..to]);
         t = along::pass(feed, n, t, old);
     }
 }
