@@ -318,6 +318,7 @@ fn clear(stones: &mut [u8; 2704], queue: &[u16], colour: u8) -> usize
 }
 
 // Puts a place on a short queue where a stone of the colour stands there, its mark is free and there is room; two places may share a mark.
+// Apart from push: shared marks and no room for all, so it promises less.
 fn push_short(
     stones: &[u8; 2704],
     marks: &mut [bool; 64],
@@ -348,6 +349,7 @@ fn push_short(
 }
 
 // Puts the stones of the colour beside p on a short queue, as long as there is room.
+// Apart from visit: each queue has its own relation to what was on it before.
 fn visit_short(
     stones: &[u8; 2704],
     marks: &mut [bool; 64],
@@ -389,6 +391,7 @@ fn lives(stones: &[u8; 2704], p: usize, columns: usize, rows: usize, colour: u8)
 }
 
 // Puts a place on a short queue where a stone of the colour stands there and it is not on it, as long as there is room.
+// Apart from push_short: no marks, and it promises that nothing is left out where there is room.
 fn push_few(stones: &[u8; 2704], queue: &mut [u16; 32], n: usize, q: usize, colour: u8) -> usize
     requires { (length queue.old ≡ 32) × (n ≤ 32) }
     ensures { FewGrew (Here stones.now colour q) queue.old n queue.new result }
@@ -411,6 +414,7 @@ fn push_few(stones: &[u8; 2704], queue: &mut [u16; 32], n: usize, q: usize, colo
 }
 
 // Puts the stones of the colour beside p on a short queue, as long as there is room.
+// Apart from visit_short: as push_few is from push_short.
 fn visit_few(
     stones: &[u8; 2704],
     queue: &mut [u16; 32],
