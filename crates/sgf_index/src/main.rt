@@ -4,10 +4,8 @@
 // Words, and spaces up to a width.
 fn say(words: &[u8], width: usize) {
     io::write_all(1, words);
-    let mut column = words.len();
-    while column < width {
+    for _ in words.len()..width {
         io::write_all(1, b" ");
-        column += 1;
     }
 }
 
@@ -78,22 +76,16 @@ fn say_row(identifier: &[u8]) {
 
 // Identifiers of two letters, by their first one.
 fn say_rows(a: u8) {
-    let mut b = b'A';
-    while b <= b'Z' {
+    for b in b'A'..=b'Z' {
         say_row(&[a, b]);
-        b += 1;
     }
 }
 
 fn main() {
-    let mut one = b'A';
-    while one <= b'Z' {
+    for one in b'A'..=b'Z' {
         say_row(&[one]);
-        one += 1;
     }
-    let mut first = b'A';
-    while first <= b'Z' {
+    for first in b'A'..=b'Z' {
         say_rows(first);
-        first += 1;
     }
 }
