@@ -183,29 +183,6 @@ fn show_lenient(text: &[u8]) {
     }
 }
 
-fn wide(b: u8) -> u32 {
-    b as u32
-}
-
-// The byte at a place; 256 behind the last.
-fn byte_at(bytes: &[u8], at: usize) -> u32 {
-    if bytes.len() <= at {
-        return 256;
-    }
-    wide(bytes[at])
-}
-
-fn is_word(given: &[u8], word: &[u8]) -> bool {
-    let mut at = 0;
-    while at < word.len() {
-        if byte_at(given, at) != byte_at(word, at) {
-            return false;
-        }
-        at += 1;
-    }
-    given.len() == word.len()
-}
-
 // The argument's bytes at the start of a room, and how many; none where it is missing or has more than there is room for.
 fn argument(rt: &HostRuntime, i: usize, room: &mut [u8]) -> usize
     ensures { result ≤ length room.new }
@@ -237,7 +214,7 @@ fn is_lenient(rt: &HostRuntime) -> bool {
     }
     let mut word = io::buffer();
     let n = argument(rt, 1, &mut word);
-    is_word(&word[..n], b"--lenient")
+    &word[..n] == b"--lenient".as_slice()
 }
 
 fn main(rt: HostRuntime) {

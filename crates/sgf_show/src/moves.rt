@@ -14,12 +14,8 @@ enum Play {
 
 // The one letter of an identifier that is a move's.
 fn colour(identifier: &[u8]) -> u8 {
-    let mut i = 0;
-    while i < identifier.len() {
-        if identifier[i] == b'B' {
-            return b'B';
-        }
-        i += 1;
+    if identifier.contains(&b'B') {
+        return b'B';
     }
     b'W'
 }
@@ -54,14 +50,11 @@ fn played(rule: u32, text: &[u8], properties: &[u32], values: &[u32], property: 
     played_by(rule, &text[start..end], text, values, first, count)
 }
 
-// 1 for a move, else 0.
-fn move_count(rule: u32, text: &[u8], properties: &[u32], values: &[u32], property: usize) -> usize
-    ensures { result ≤ 1 }
-{
-    match played(rule, text, properties, values, property) {
-        Play::Nothing => 0,
-        _ => 1,
-    }
+fn is_move(rule: u32, text: &[u8], properties: &[u32], values: &[u32], property: usize) -> bool {
+    !matches!(
+        played(rule, text, properties, values, property),
+        Play::Nothing
+    )
 }
 
 // How many properties from one to another are moves.
@@ -73,13 +66,9 @@ pub fn count_moves(
     from: usize,
     to: usize,
 ) -> usize {
-    let mut n = 0;
-    let mut property = from;
-    while property < to {
-        n += move_count(rule, text, properties, values, property);
-        property += 1;
-    }
-    n
+    (from..to)
+        .filter(|&property| is_move(rule, text, properties, values, property))
+        .count()
 }
 
 fn say_letter(coordinate: u8) {
@@ -155,6 +144,7 @@ pub fn say_main_line(
 ) {
     let mut column = 0;
     let mut node = root;
+    // A while: node goes down to its first child.
     while node < end {
         column = say_node(rule, text, nodes, properties, values, node, column);
         let child = node_cell(nodes, node, 1);

@@ -27,22 +27,12 @@ pub fn node_cell(nodes: &[u32], node: usize, column: usize) -> usize
     wide(tables::NONE)
 }
 
-fn larger(a: usize, b: usize) -> usize {
-    if a < b {
-        return b;
-    }
-    a
-}
-
 // The greatest depth of the nodes from one to another.
 pub fn greatest_depth(nodes: &[u32], root: usize, end: usize) -> usize {
-    let mut greatest = 0;
-    let mut node = root;
-    while node < end {
-        greatest = larger(greatest, node_cell(nodes, node, 5));
-        node += 1;
-    }
-    greatest
+    (root..end)
+        .map(|node| node_cell(nodes, node, 5))
+        .max()
+        .unwrap_or(0)
 }
 
 pub fn property_cell(properties: &[u32], property: usize, column: usize) -> usize

@@ -17,25 +17,11 @@ fn section_of(text: &[u8], properties: &[u32], property: usize) -> u32 {
     ff4_index::entry_of(&text[start..end]).section
 }
 
-// 1 for a property of this section, else 0.
-fn one_of(text: &[u8], properties: &[u32], property: usize, section: u32) -> usize
-    ensures { result ≤ 1 }
-{
-    if section_of(text, properties, property) == section {
-        return 1;
-    }
-    0
-}
-
 // How many properties from one to another are of this section.
 fn count_section(text: &[u8], properties: &[u32], from: usize, to: usize, section: u32) -> usize {
-    let mut n = 0;
-    let mut property = from;
-    while property < to {
-        n += one_of(text, properties, property, section);
-        property += 1;
-    }
-    n
+    (from..to)
+        .filter(|&property| section_of(text, properties, property) == section)
+        .count()
 }
 
 // A section's words and its count, if it has any, behind what stands on the line; whether something stands there then.

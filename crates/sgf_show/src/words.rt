@@ -80,15 +80,9 @@ fn say_spot(text: &[u8], place: usize)
 {
     let mut line = 1;
     let mut column = 1;
-    let mut i = 0;
-    while i < place {
-        if text.len() <= i {
-            break;
-        }
-        let b = text[i];
+    for &b in &text[..place.min(text.len())] {
         line = line_behind(b, line);
         column = column_behind(b, column);
-        i += 1;
     }
     say_count(b" (line ", line);
     say_count(b", column ", column);

@@ -1,5 +1,0 @@
-use Rattle.lists.proofs.Prelude.{◌-◌, length}
-use Rattle.sgf_show.proofs.is_word.Given as goal
-
-abbrev pub decreases-loop-at : goal.decreases-loop-at
-decreases-loop-at l = length l.word - l.at
