@@ -4,39 +4,21 @@
 use feed::Next;
 use feed_numerals::Numeral;
 
-// A part of a feed, as much of it as there is.
-fn part<'a>(feed: &'a [u8], from: usize, to: usize) -> &'a [u8] {
-    if feed.len() < to {
-        return &feed[..0];
-    }
-    if to < from {
-        return &feed[..0];
-    }
-    &feed[from..to]
-}
-
-// The least number that may follow.
-fn behind(value: usize) -> usize {
-    if value < 268435456 {
-        return value + 1;
-    }
-    value
-}
-
 fn show(feed: &[u8], count: usize, size: usize) {
-    let mut left = count;
     let mut low: usize = 0;
     let mut at = size;
-    while 0 < left {
-        if let Next::One(value, from, to) = feed::next_at(feed, low, at) {
-            io::print_decimal(1, value as u64);
-            io::write_all(1, b" ");
-            io::write_all(1, part(feed, from, to));
-            io::write_all(1, b"\n");
-            low = behind(value);
-            at = to;
+    for _ in 0..count {
+        let Next::One(value, from, to) = feed::next_at(feed, low, at) else {
+            return;
+        };
+        io::print_decimal(1, value as u64);
+        io::write_all(1, b" ");
+        if let Some(bytes) = feed.get(from..to) {
+            io::write_all(1, bytes);
         }
-        left -= 1;
+        io::write_all(1, b"\n");
+        low = value.saturating_add(1);
+        at = to;
     }
 }
 
