@@ -1,18 +1,14 @@
 // Standard input, a line `K BYTES` for each correction, as a feed; a line that is none, and a number too large for a feed, are said in one line.
 #![tactic(auto)]
 
-ghost use Rattle.std.specs.Prelude.{◌≤◌};
-
 use feed::make::Made;
 
 // The first line feed from a place on; the end where there is none.
 fn line_end(text: &[u8], at: usize) -> usize {
-    let mut end = at;
-    while end < text.len() {
+    for end in at..text.len() {
         if text[end] == b'\n' {
             return end;
         }
-        end += 1;
     }
     text.len()
 }
@@ -28,44 +24,23 @@ fn line_next(text: &[u8], at: usize) -> usize {
 
 // The first byte from a place on that is no digit.
 fn digits_end(text: &[u8], at: usize) -> usize {
-    let mut end = at;
-    while end < text.len() {
-        if text[end] < b'0' {
+    for end in at..text.len() {
+        if !text[end].is_ascii_digit() {
             return end;
         }
-        if b'9' < text[end] {
-            return end;
-        }
-        end += 1;
     }
     text.len()
-}
-
-fn digit(b: u8) -> usize
-    ensures { result ≤ 255 }
-{
-    if b < b'0' {
-        return 0;
-    }
-    (b - b'0') as usize
 }
 
 // The number that digits spell; one that is too large for a feed where it is.
 fn number_at(text: &[u8], at: usize) -> usize {
     let mut value: usize = 0;
-    let mut i = at;
-    while i < text.len() {
-        if text[i] < b'0' {
+    for i in at..text.len() {
+        let b = text[i];
+        if !b.is_ascii_digit() || 268435456 <= value {
             return value;
         }
-        if b'9' < text[i] {
-            return value;
-        }
-        if 268435456 <= value {
-            return value;
-        }
-        value = value * 10 + digit(text[i]);
-        i += 1;
+        value = value * 10 + usize::from(b - b'0');
     }
     value
 }
@@ -116,11 +91,10 @@ enum Lines {
 }
 
 fn checked(text: &[u8]) -> Lines {
-    let mut left = text.len();
     let mut at: usize = 0;
     let mut low: usize = 0;
     let mut count: usize = 0;
-    while 0 < left {
+    for _ in 0..text.len() {
         if text.len() <= at {
             return Lines::Good(count);
         }
@@ -146,7 +120,6 @@ fn checked(text: &[u8]) -> Lines {
         low = value + 1;
         at = line_next(text, at);
         count += 1;
-        left -= 1;
     }
     Lines::Good(count)
 }
@@ -174,12 +147,10 @@ fn write_line(text: &[u8], at: usize) {
 
 fn make(text: &[u8], count: usize) {
     write_count(count);
-    let mut left = count;
     let mut at: usize = 0;
-    while 0 < left {
+    for _ in 0..count {
         write_line(text, at);
         at = line_next(text, at);
-        left -= 1;
     }
 }
 

@@ -1,4 +1,0 @@
-use Rattle.sgf_feed.proofs.checked.Given as goal
-
-abbrev pub decreases-loop-left : goal.decreases-loop-left
-decreases-loop-left l = l.left

@@ -1,5 +1,0 @@
-use Rattle.lists.proofs.Prelude.{◌-◌, length}
-use Rattle.sgf_feed.proofs.number_at.Given as goal
-
-abbrev pub decreases-loop-i : goal.decreases-loop-i
-decreases-loop-i l = length l.text - l.i
