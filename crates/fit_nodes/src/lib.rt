@@ -14,6 +14,7 @@ fn on_path(nodes: &[u32], from: usize, p: usize) -> bool
     ensures { result ≡ on_path nodes.now from p }
 {
     let mut j = from;
+    // A while: j goes on with its parent's number.
     while p < j {
         let parent = nodes[j * tables::NODE_STRIDE];
         if parent == tables::NONE {
@@ -64,21 +65,18 @@ fn rows_right(trees: &[u32], m: usize, nodes: &[u32], n: usize) -> bool
         && each n (parent_right nodes.now) && each n (depth_right nodes.now)) }
 {
     let mut r = 0;
-    let mut k = 0;
-    while k < n {
-        let at = k;
-        k += 1;
-        if !parent_right(nodes, at) {
+    for k in 0..n {
+        if !parent_right(nodes, k) {
             return false;
         }
-        if !depth_right(nodes, at) {
+        if !depth_right(nodes, k) {
             return false;
         }
-        if nodes[at * tables::NODE_STRIDE] == tables::NONE {
+        if nodes[k * tables::NODE_STRIDE] == tables::NONE {
             if r == m {
                 return false;
             }
-            if lists::wide(trees[r * tables::TREE_STRIDE]) != at {
+            if lists::wide(trees[r * tables::TREE_STRIDE]) != k {
                 return false;
             }
             r += 1;
@@ -112,6 +110,7 @@ fn climb(nodes: &[u32], n: usize, k: usize, p: u32) -> bool
     if j == lists::wide(p) {
         return true;
     }
+    // A loop: j goes on with its parent's number.
     loop {
         let parent = nodes[j * tables::NODE_STRIDE];
         let sibling = nodes[j * tables::NODE_STRIDE + tables::NODE_SIBLING];
@@ -136,20 +135,18 @@ fn kin_right(nodes: &[u32], n: usize) -> bool
     if n == 0 {
         return true;
     }
-    let mut k: usize = 1;
-    while k < n {
+    for k in 1..n {
         if !child_right(nodes, n, k - 1) {
             return false;
         }
         if !climb(nodes, n, k, nodes[k * tables::NODE_STRIDE]) {
             return false;
         }
-        k += 1;
     }
-    if !child_right(nodes, n, k - 1) {
+    if !child_right(nodes, n, n - 1) {
         return false;
     }
-    climb(nodes, n, k, tables::NONE)
+    climb(nodes, n, n, tables::NONE)
 }
 
 // Whether the game types of `n` trees are 0 or 1.
@@ -157,12 +154,10 @@ fn games_right(trees: &[u32], n: usize) -> bool
     requires { n ≤ length trees.now / tree_stride }
     ensures { result ≡ each n (game_right trees.now) }
 {
-    let mut k = 0;
-    while k < n {
+    for k in 0..n {
         if 1 < trees[k * tables::TREE_STRIDE + tables::TREE_GAME] {
             return false;
         }
-        k += 1;
     }
     true
 }
