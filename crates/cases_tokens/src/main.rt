@@ -104,6 +104,7 @@ fn say_value(text: &[u8], at: usize) -> usize {
 
 fn say_values(text: &[u8], opens: usize) {
     let mut at = opens;
+    // A while: each value says where the next one may open.
     while at <= text.len() {
         let next = say_value(text, at);
         if next <= at {
@@ -165,6 +166,7 @@ fn say_next(text: &[u8], at: usize) -> usize {
 
 fn say_tokens(text: &[u8], first: usize) {
     let mut at = first;
+    // A while: each token says where the next one begins.
     while at <= text.len() {
         let next = say_next(text, at);
         if next <= at {
@@ -214,6 +216,7 @@ fn line_end(s: &[u8], at: usize) -> usize
 
 fn run(s: &[u8]) {
     let mut at = 0;
+    // A while: at moves by the length of a line.
     while at < s.len() {
         let end = line_end(s, at);
         say(&s[at..end]);

@@ -62,6 +62,7 @@ fn say_next(text: &[u8], at: usize) -> usize {
 
 fn say_tokens(text: &[u8], first: usize) {
     let mut at = first;
+    // A while: each token says where the next one begins.
     while at <= text.len() {
         let next = say_next(text, at);
         if next <= at {
