@@ -382,7 +382,7 @@ fn pair_run(stands: Phase, bytes: &[u8], i: usize) -> Pair
 }
 
 // ---- one ASCII byte that is no white space
-// Apart from `blocks_step::token_next`: by that function here game text took a third longer, and missed the aim of docs/BENCHMARKS.md.
+// Apart from `blocks_step::token_next`: by that function here game text took a third longer (the aim: docs/BENCHMARKS.md, Blocks).
 
 // Where the token rules stand then.
 #[tactic(auto, unfolding(blocks_step::specs::Lean::moves, blocks_step::specs::Lean::kind_of, blocks_step::specs::Lean::property_phase, lexer_scan::specs::Scan::space))]
