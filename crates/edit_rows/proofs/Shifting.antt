@@ -7,7 +7,7 @@ use Rattle.tables.specs.Flat.{flat_props, flat_vals}
 use Rattle.tables.specs.Each.{tabulate}
 use Rattle.tables.proofs.Cases.{below_or}
 use Rattle.store_numbers.proofs.Stores.{row_put}
-use Rattle.edit_rows.specs.LocalsShift.{place_added, prop_added, val_added, names_before, names_shifted}
+use Rattle.edit_rows.specs.LocalsShift.{place_added, prop_added, val_added, names_before, names_shifted, row_moved}
 use Rattle.edit_rows.proofs.Putting.{length-props-run, length-vals-run, props-next, vals-next, ahead, put-keep}
 
 -- nothing put, wherever
@@ -19,13 +19,12 @@ nowhere t at = let e : at + 0 ≡ at = omega arith in sym (ap (λ (m : ℕ). tak
 module _ (pr : List ℕ) (k left by : ℕ) where
   pub record NamesMoving (t : List ℕ) (i : ℕ) : Type 0 where
     pub room : left ≤ length pr / 4 - k
-    pub within : i ≤ left
     pub len : length t ≡ length pr
     pub is : t ≡ names_shifted by k i pr
 
   pub names-none : left ≤ length pr / 4 - k → NamesMoving pr 0
   unfolding tabulate
-  names-none h = record { room = h; within = omega arith; len = refl; is = nowhere pr (k * 4) }
+  names-none h = record { room = h; len = refl; is = nowhere pr (k * 4) }
 
   module _ {t : List ℕ} {i : ℕ} (x : NamesMoving t i) (h : i < left) where
     names-put : PutIs pr (k * 4) (flat_props (tabulate (prop_added by pr) k i)) t
@@ -54,10 +53,14 @@ module _ (pr : List ℕ) (k left by : ℕ) where
         let v = put-more names-put u (omega arith) in
         record {
           room = r;
-          within = omega arith;
           len = v.len;
           is = subst (λ (z : List ℕ). set (set t n a) (n + 1) b ≡ put_at pr (k * 4) z) (sym (props-next (prop_added by pr) k i)) (v.put (subst (λ (z : List ℕ). k * 4 + length z ≤ length pr) (props-next (prop_added by pr) k i) (omega arith)));
         }
+
+    -- the row moved
+    pub names_moved : {u : List ℕ} → u ≡ row_moved by ((k + i) * 4) t → NamesMoving u (i + 1)
+    names_moved {u} e =
+        subst (λ (z : List ℕ). NamesMoving z (i + 1)) (sym e) (names_more (ap (place_added by) name-from) (ap (place_added by) (name-cell 1)))
 
 -- ---- how many
 
@@ -125,13 +128,12 @@ added-change by up down place h l b = omega arith
 module _ (vl : List ℕ) (k left by : ℕ) where
   pub record ValuesMoving (t : List ℕ) (i : ℕ) : Type 0 where
     pub room : left ≤ length vl / 2 - k
-    pub within : i ≤ left
     pub len : length t ≡ length vl
     pub is : t ≡ put_at vl (k * 2) (flat_vals (tabulate (val_added by vl) k i))
 
   pub values-none : left ≤ length vl / 2 - k → ValuesMoving vl 0
   unfolding tabulate
-  values-none h = record { room = h; within = omega arith; len = refl; is = nowhere vl (k * 2) }
+  values-none h = record { room = h; len = refl; is = nowhere vl (k * 2) }
 
   module _ {t : List ℕ} {i : ℕ} (x : ValuesMoving t i) (h : i < left) where
     values-put : PutIs vl (k * 2) (flat_vals (tabulate (val_added by vl) k i)) t
@@ -158,7 +160,11 @@ module _ (vl : List ℕ) (k left by : ℕ) where
         let v = put-more values-put u (omega arith) in
         record {
           room = r;
-          within = omega arith;
           len = v.len;
           is = subst (λ (z : List ℕ). set (set t n a) (n + 1) b ≡ put_at vl (k * 2) z) (sym (vals-next (val_added by vl) k i)) (v.put (subst (λ (z : List ℕ). k * 2 + length z ≤ length vl) (vals-next (val_added by vl) k i) (omega arith)));
         }
+
+    -- the row moved
+    pub values_moved : {u : List ℕ} → u ≡ row_moved by ((k + i) * 2) t → ValuesMoving u (i + 1)
+    values_moved {u} e =
+        subst (λ (z : List ℕ). ValuesMoving z (i + 1)) (sym e) (values-more (ap (place_added by) value-from) (ap (place_added by) (value_cell 1)))

@@ -1,6 +1,6 @@
 -- A stretch of property or value rows with one number added to every place.
-use Rattle.std.specs.Prelude.{◌+◌, ◌-◌, ◌*◌, ◌/◌, ◌%◌, ◌^◌}
-use Rattle.lists.specs.Prelude.{ℕ, zero, suc, min, List, length, ltb, pick}
+use Rattle.std.specs.Prelude.{set, ◌+◌, ◌-◌, ◌*◌, ◌/◌, ◌%◌, ◌^◌}
+use Rattle.lists.specs.Prelude.{ℕ, zero, suc, min, List, length, get_or, ltb, pick}
 use Rattle.lists.specs.Put.{put_at}
 use Rattle.tables.specs.Columns.{property_stride, value_stride, name_from_at, name_to_at, first_val_at, val_count_at, val_from_at, val_to_at}
 use Rattle.tables.specs.Each.{tabulate}
@@ -10,6 +10,10 @@ use Rattle.tables.specs.Rows.{PropRow, ValRow}
 -- a number with another added, as far as 32 bits hold it
 abbrev pub place_added : (by x : ℕ) → ℕ
 place_added by x = (x + by) % 2 ^ 32
+
+-- the two places at the start of a row moved
+abbrev pub row_moved : (by at : ℕ) → List ℕ → List ℕ
+row_moved by at t = set (set t at (place_added by (get_or t at 0))) (at + 1) (place_added by (get_or t (at + 1) 0))
 
 -- property p's row, its identifier moved
 abbrev pub prop_added : (by : ℕ) → List ℕ → ℕ → PropRow
