@@ -6,18 +6,18 @@ use Rattle.parts.specs.Rows.{values_at}
 use Rattle.go.specs.Value.{go_value}
 use Rattle.go.specs.declared.value.GoValue.{GoValue}
 use Rattle.tables.specs.Columns.{name_from_at, name_to_at, first_val_at, val_count_at}
-use Rattle.ask_value.specs.declared.Accessed.{Accessed}
-use Rattle.ask_value.specs.declared.Accessed.TheVariants.{Part}
 use Rattle.fit_spans.proofs.Lists.{part_slice}
 use Rattle.ask.specs.Ask.{display_raw, display_raw_in, display, display_in}
 use Rattle.ask.specs.Locals.{name_at}
+use Rattle.std.specs.Prelude.{Result, Ok}
+use Rattle.tables.specs.declared.Reason.{Reason}
 
-module _ (t out : List ℕ) (kind : Kind) {a e : ℕ} {x : Accessed} (h : x ≡ Part a e) where
+module _ (t out : List ℕ) (kind : Kind) {a e : ℕ} {x : Result (ℕ × ℕ) Reason} (h : x ≡ Ok (a, e)) where
   pub part-shown : display_raw kind (take (e - a) (drop a t)) out ≡ display t x kind out
-  part-shown = ap (λ (z : List ℕ). display_raw kind z out) (part_slice a e t) ∙ ap (λ (z : Accessed). display t z kind out) (sym h)
+  part-shown = ap (λ (z : List ℕ). display_raw kind z out) (part_slice a e t) ∙ ap (λ (z : Result (ℕ × ℕ) Reason). display t z kind out) (sym h)
 
   pub part-shown-in : display_raw_in kind (take (e - a) (drop a t)) out ≡ display_in t x kind out
-  part-shown-in = ap (λ (z : List ℕ). display_raw_in kind z out) (part_slice a e t) ∙ ap (λ (z : Accessed). display_in t z kind out) (sym h)
+  part-shown-in = ap (λ (z : List ℕ). display_raw_in kind z out) (part_slice a e t) ∙ ap (λ (z : Result (ℕ × ℕ) Reason). display_in t z kind out) (sym h)
 
 -- the Go value of property p, whose row is read into a, e, f, n
 pub go-is : (kind : ℕ) (t pr vl : List ℕ) (p : ℕ) {a e f n : ℕ} → a ≡ name_from_at pr p → e ≡ name_to_at pr p → f ≡ first_val_at pr p → n ≡ val_count_at pr p

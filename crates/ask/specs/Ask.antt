@@ -1,12 +1,10 @@
 -- What a record in memory answers by number: how a value is displayed, and the Go value of a property.
-use Rattle.std.specs.Prelude.{◌-◌, ◌≡◌, ◌∷◌}
+use Rattle.std.specs.Prelude.{◌-◌, ◌≡◌, ◌∷◌, Option, Some, None, Result, Ok, Err}
 use Rattle.lists.specs.Prelude.{ℕ, List, [], ltb, length, get_or, slice, pick}
 use Rattle.lexer.specs.Token.{Prop}
 use Rattle.values.specs.Read.{read_value, read_identifier}
 use Rattle.value_display.specs.Display.{display_text, displayed, displayed_in}
 use Rattle.value_display.specs.declared.Kind.{Kind}
-use Rattle.value_display.specs.declared.Displayed.{Displayed}
-use Rattle.value_display.specs.declared.Displayed.TheVariants.{Length, NoRoom}
 use Rattle.go.specs.Value.{unmarked, go_value}
 use Rattle.go.specs.declared.value.GoValue.{GoValue}
 use Rattle.go_points.specs.declared.Value.TheVariants.{Other}
@@ -19,21 +17,15 @@ use Rattle.ask_value.specs.Access.{accessed}
 use Rattle.fit.specs.Fit.{Fit}
 use Rattle.fit.specs.Record.{raws_of, record_in}
 use Rattle.fit_rule.specs.Rule.{rule_of}
-use Rattle.ask_value.specs.declared.Accessed.{Accessed}
-use Rattle.ask_value.specs.declared.Accessed.TheVariants.{Part, Refused}
-use Rattle.ask.specs.declared.DisplayAnswer.{DisplayAnswer}
-use Rattle.ask.specs.declared.DisplayAnswer.TheVariants.{DisplayLength, NoDisplay}
-use Rattle.ask.specs.declared.Refusal.{Refusal}
-use Rattle.ask.specs.declared.Refusal.TheVariants.{Not, Because}
 use Rattle.ask.specs.declared.GoAnswer.{GoAnswer}
 
 -- the length of what is displayed, or 14 (SCOPE 45)
-abbrev pub display_for : Displayed → DisplayAnswer
-display_for (Length n) = DisplayLength n
-display_for NoRoom = NoDisplay reason.NoRoom
+abbrev pub display_for : Option ℕ → Result ℕ Reason
+display_for (Some n) = Ok n
+display_for None = Err reason.NoRoom
 
 -- a raw value displayed in the bytes lent
-abbrev pub display_raw : Kind → (raw out : List ℕ) → DisplayAnswer
+abbrev pub display_raw : Kind → (raw out : List ℕ) → Result ℕ Reason
 display_raw kind raw out = display_for (displayed (display_text kind (read_value raw)) out)
 
 -- these bytes then
@@ -41,17 +33,17 @@ abbrev pub display_raw_in : Kind → (raw out : List ℕ) → List ℕ
 display_raw_in kind raw out = displayed_in (display_text kind (read_value raw)) out
 
 -- the display of a value that is accessed: 19, 16, then 14 (SCOPE 47, 65)
-abbrev pub display : List ℕ → Accessed → Kind → (out : List ℕ) → DisplayAnswer
-display t (Part a e) kind out = display_raw kind (slice a e t) out
-display t (Refused r) kind out = NoDisplay r
+abbrev pub display : List ℕ → Result (ℕ × ℕ) Reason → Kind → (out : List ℕ) → Result ℕ Reason
+display t (Ok (a, e)) kind out = display_raw kind (slice a e t) out
+display t (Err r) kind out = Err r
 
 -- the lent bytes then; a refusal changes none
-abbrev pub display_in : List ℕ → Accessed → Kind → (out : List ℕ) → List ℕ
-display_in t (Part a e) kind out = display_raw_in kind (slice a e t) out
-display_in t (Refused r) kind out = out
+abbrev pub display_in : List ℕ → Result (ℕ × ℕ) Reason → Kind → (out : List ℕ) → List ℕ
+display_in t (Ok (a, e)) kind out = display_raw_in kind (slice a e t) out
+display_in t (Err r) kind out = out
 
 -- the display of value k: the answer and the lent bytes
-pub record DisplayIs (m : Memory) (k : ℕ) (kind : Kind) (out out' : List ℕ) (r : DisplayAnswer) : Type 0 where
+pub record DisplayIs (m : Memory) (k : ℕ) (kind : Kind) (out out' : List ℕ) (r : Result ℕ Reason) : Type 0 where
   pub is : r ≡ display m.text (accessed m k) kind out
   pub bytes : out' ≡ display_in m.text (accessed m k) kind out
 
@@ -70,11 +62,11 @@ go_at (t ∷ ts) p = let n = length (all_props t.nodes) in pick (ltb p n) (go_of
 
 -- a Go value that is given
 abbrev pub given : GoValue → GoAnswer
-given g = record { refusal = Not; go = g }
+given g = record { refusal = None; go = g }
 
 -- "other" and no points (SCOPE 66)
 abbrev pub refuses : Reason → GoAnswer
-refuses r = record { refusal = Because r; go = unmarked Other }
+refuses r = record { refusal = Some r; go = unmarked Other }
 
 -- 19 where the tables don't fit the text; then 16 where p is not below the count; else the Go value of property p (SCOPE 47, 50, 66, 97)
 unfoldable pub go_answer : Memory → ℕ → GoAnswer
@@ -84,6 +76,6 @@ go_answer m p =
     (refuses reason.NotFitting)
 
 -- its number
-abbrev pub refusal_number : Refusal → ℕ
-refusal_number Not = 0
-refusal_number (Because r) = number_of r
+abbrev pub refusal_number : Option Reason → ℕ
+refusal_number None = 0
+refusal_number (Some r) = number_of r

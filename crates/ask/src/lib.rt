@@ -11,27 +11,19 @@ ghost use Rattle.tables.specs.Columns.{first_val_at, val_count_at};
 ghost use Rattle.tables.specs.Memory.{memory};
 ghost use Rattle.tables.specs.LocalsNames.{NameHeld};
 
-use ask_value::Accessed;
 use go::value::GoValue;
 use go_points::Value;
 use tables::{Counts, Reason};
-use value_display::{Displayed, Kind};
-
-// A display: its number of bytes, or why it is refused.
-#[derive(Clone, Copy)]
-pub enum DisplayAnswer {
-    DisplayLength(usize),
-    NoDisplay(Reason),
-}
+use value_display::Kind;
 
 // What a raw value shows, put into the output.
-fn display_raw(kind: Kind, raw: &[u8], out: &mut [u8]) -> DisplayAnswer
+fn display_raw(kind: Kind, raw: &[u8], out: &mut [u8]) -> Result<usize, Reason>
     ensures value { result ≡ display_raw kind raw.now out.old }
     ensures out_after { out.new ≡ display_raw_in kind raw.now out.old }
 {
     match value_display::display(kind, raw, out) {
-        Displayed::Length(n) => DisplayAnswer::DisplayLength(n),
-        Displayed::NoRoom => DisplayAnswer::NoDisplay(Reason::NoRoom),
+        Some(n) => Ok(n),
+        None => Err(Reason::NoRoom),
     }
 }
 
@@ -47,28 +39,21 @@ pub fn display(
     k: usize,
     kind: Kind,
     out: &mut [u8],
-) -> DisplayAnswer
+) -> Result<usize, Reason>
     ensures { DisplayIs
         (memory text.now used counts trees.now nodes.now properties.now values.now)
         k kind out.old out.new result }
 {
     match ask_value::access(text, used, counts, trees, nodes, properties, values, k) {
-        Accessed::Part(start, end) => display_raw(kind, &text[start..end], out),
-        Accessed::Refused(reason) => DisplayAnswer::NoDisplay(reason),
+        Ok((start, end)) => display_raw(kind, &text[start..end], out),
+        Err(reason) => Err(reason),
     }
 }
 
-// Why a Go value is not given, if it is not.
-#[derive(Clone, Copy)]
-pub enum Refusal {
-    Not,
-    Because(Reason),
-}
-
-// A Go value; "other" and no points where it is refused.
+// A Go value, and why it is refused, if it is: then it is "other" with no points.
 #[derive(Drop)]
 pub struct GoAnswer {
-    pub refusal: Refusal,
+    pub refusal: Option<Reason>,
     pub go: GoValue,
 }
 
@@ -78,7 +63,7 @@ fn refused(reason: Reason) -> GoAnswer
 {
     let none = [false; 2704];
     GoAnswer {
-        refusal: Refusal::Because(reason),
+        refusal: Some(reason),
         go: GoValue {
             value: Value::Other,
             marks: none,
@@ -140,7 +125,7 @@ pub fn go_value(
     let rule = fit_rule::rule_at(used_text, trees, nodes, properties, values, tree);
     let go = value_of(rule, used_text, properties, values, p);
     GoAnswer {
-        refusal: Refusal::Not,
+        refusal: None,
         go: go,
     }
 }

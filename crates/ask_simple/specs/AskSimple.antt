@@ -1,5 +1,5 @@
 -- What a record in memory answers by number: the simple value of a property.
-use Rattle.std.specs.Prelude.{◌-◌, ◌∷◌}
+use Rattle.std.specs.Prelude.{◌-◌, ◌∷◌, Result, Ok, Err}
 use Rattle.lists.specs.Prelude.{ℕ, List, [], ltb, length, get_or, pick}
 use Rattle.lexer.specs.Token.{Prop}
 use Rattle.values.specs.Read.{read_identifier}
@@ -12,8 +12,7 @@ use Rattle.tables.specs.declared.Reason.TheVariants.{NoSuchNumber, NotFitting}
 use Rattle.fit.specs.Fit.{Fit}
 use Rattle.fit.specs.Record.{raws_of, record_in}
 use Rattle.ask.specs.Ask.{no_prop}
-use Rattle.ask_simple.specs.declared.SimpleAnswer.{SimpleAnswer}
-use Rattle.ask_simple.specs.declared.SimpleAnswer.TheVariants.{Given, NoSimple}
+use Rattle.tables.specs.declared.Reason.{Reason}
 
 -- the simple value of a property of a tree with game type k, 0 for Go
 abbrev pub simple_of_prop : (k : ℕ) → Prop → Simple
@@ -27,8 +26,8 @@ simple_at (t ∷ ts) p =
     pick (ltb p n) (simple_of_prop t.game (get_or (all_props t.nodes) p no_prop)) (simple_at ts (p - n))
 
 -- 19 where the tables don't fit the text; then 16 where p is not below the count; else the simple value of property p (SCOPE 235)
-unfoldable pub simple_answer : Memory → ℕ → SimpleAnswer
+unfoldable pub simple_answer : Memory → ℕ → Result Simple Reason
 simple_answer m p =
     pick (Fit m)
-    (pick (ltb p m.counts.properties) (Given (simple_at (record_in m) p)) (NoSimple NoSuchNumber))
-    (NoSimple NotFitting)
+    (pick (ltb p m.counts.properties) (Ok (simple_at (record_in m) p)) (Err NoSuchNumber))
+    (Err NotFitting)

@@ -14,13 +14,6 @@ ghost use Rattle.ask_simple.specs.AskSimple.{simple_answer};
 use ff4_values::Simple;
 use tables::{Counts, Reason};
 
-// A simple value, or why it is not given.
-#[derive(Clone, Copy)]
-pub enum SimpleAnswer {
-    Given(Simple),
-    NoSimple(Reason),
-}
-
 // The game type of the tree that has property p: of the last whose root's first property is not behind it.
 fn game_of(trees: &[u32], m: usize, nodes: &[u32], p: usize) -> u32
     requires { Rooted m trees.now nodes.now }
@@ -60,17 +53,17 @@ pub fn simple_value(
     properties: &[u32],
     values: &[u32],
     p: usize,
-) -> SimpleAnswer
+) -> Result<Simple, Reason>
     ensures { result ≡ simple_answer
         (memory text.now used counts trees.now nodes.now properties.now values.now) p }
 {
     if !fit::fits(text, used, counts, trees, nodes, properties, values) {
-        return SimpleAnswer::NoSimple(Reason::NotFitting);
+        return Err(Reason::NotFitting);
     }
     if counts.properties <= p {
-        return SimpleAnswer::NoSimple(Reason::NoSuchNumber);
+        return Err(Reason::NoSuchNumber);
     }
     let game = game_of(trees, counts.trees, nodes, p);
     let simple = value_of(game, &text[..used], properties, values, p);
-    SimpleAnswer::Given(simple)
+    Ok(simple)
 }

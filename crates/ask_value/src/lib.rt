@@ -1,27 +1,21 @@
 // The value accessor: value k of a text whose tables fit.
 #![tactic(auto)]
 
-ghost use Rattle.std.specs.Prelude.{◌≡◌, ◌/◌, ◌<◌, length};
+ghost use Rattle.std.specs.Prelude.{◌≡◌, ◌/◌, ◌<◌, length, Ok};
 ghost use Rattle.tables.specs.Columns.{value_stride, val_from_at, val_to_at};
 ghost use Rattle.tables.specs.Memory.{memory};
-ghost use Rattle.ask_value.specs.declared.Accessed.TheVariants.{Part};
 ghost use Rattle.ask_value.specs.Access.{accessed, raw_value};
 
-// A value's part of the text, or why there is none.
-#[derive(Clone, Copy)]
-pub enum Accessed {
-    Part(usize, usize),
-    Refused(tables::Reason),
-}
+use tables::Reason;
 
 // The part of value k.
-fn part_of(values: &[u32], k: usize) -> Accessed
+fn part_of(values: &[u32], k: usize) -> Result<(usize, usize), Reason>
     requires { k < length values.now / value_stride }
-    ensures { result ≡ Part (val_from_at values.now k) (val_to_at values.now k) }
+    ensures { result ≡ Ok (val_from_at values.now k, val_to_at values.now k) }
 {
     let start = lists::wide(values[k * tables::VALUE_STRIDE]);
     let end = lists::wide(values[k * tables::VALUE_STRIDE + tables::VALUE_END]);
-    Accessed::Part(start, end)
+    Ok((start, end))
 }
 
 // Where value k stands, or why it is refused.
@@ -34,15 +28,15 @@ pub fn access(
     properties: &[u32],
     values: &[u32],
     k: usize,
-) -> Accessed
+) -> Result<(usize, usize), Reason>
     ensures { result ≡ accessed
         (memory text.now used counts trees.now nodes.now properties.now values.now) k }
 {
     if !fit::fits(text, used, counts, trees, nodes, properties, values) {
-        return Accessed::Refused(tables::Reason::NotFitting);
+        return Err(tables::Reason::NotFitting);
     }
     if counts.values <= k {
-        return Accessed::Refused(tables::Reason::NoSuchNumber);
+        return Err(tables::Reason::NoSuchNumber);
     }
     part_of(values, k)
 }
@@ -62,7 +56,7 @@ pub fn value<'a>(
         (memory text.now used counts trees.now nodes.now properties.now values.now) k }
 {
     match access(text, used, counts, trees, nodes, properties, values, k) {
-        Accessed::Part(start, end) => &text[start..end],
-        Accessed::Refused(_) => &text[..0],
+        Ok((start, end)) => &text[start..end],
+        Err(_) => &text[..0],
     }
 }

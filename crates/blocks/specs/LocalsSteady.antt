@@ -1,5 +1,5 @@
 -- ASCII bytes taken together, where the token rules and the rows stand as after the last character that is no white space.
-use Rattle.std.specs.Prelude.{◌+◌, ◌-◌, ◌≤◌, ◌<◌, ◌≡◌}
+use Rattle.std.specs.Prelude.{◌+◌, ◌-◌, ◌≤◌, ◌<◌, ◌≡◌, Option, Some, None}
 use Rattle.lists.specs.Prelude.{ℕ, true, List, length, drop, get_or}
 use Rattle.lexer_scan.specs.Scan.{space}
 use Rattle.blocks_step.specs.declared.Utf8.TheVariants.{Whole}
@@ -9,8 +9,6 @@ use Rattle.blocks_step.specs.declared.Tokens.TheVariants.{Silent}
 use Rattle.blocks_step.specs.declared.Moved.{Moved}
 use Rattle.blocks_step.specs.Lean.{moves}
 use Rattle.blocks.specs.declared.BlocksKnown.{BlocksKnown}
-use Rattle.blocks.specs.declared.Pair.{Pair}
-use Rattle.blocks.specs.declared.Pair.TheVariants.{Past, Other}
 use Rattle.blocks.specs.declared.Ran.{Ran}
 use Rattle.blocks.specs.declared.Went.{Went}
 use Rattle.blocks.specs.Room.{room, takes_all}
@@ -62,9 +60,9 @@ pub record PairFrom (p : Phase) (s : List ℕ) (i : ℕ) (q : Phase) : Type 0 wh
   pub past : q ≡ After start
 
 -- it does so where the answer says it
-abbrev pub PairIs : Phase → List ℕ → ℕ → Pair → Type 0
-PairIs p s i (Past q) = PairFrom p s i q
-PairIs p s i Other = Unit {0}
+abbrev pub PairIs : Phase → List ℕ → ℕ → Option Phase → Type 0
+PairIs p s i (Some q) = PairFrom p s i q
+PairIs p s i None = Unit {0}
 
 -- white space leaves the token rules as they stand
 abbrev pub WhiteStays : Phase → Type 0

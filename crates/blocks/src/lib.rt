@@ -195,15 +195,6 @@ fn state_of(k: BlocksKnown) -> BlocksState
 
 // ---- rows
 
-// Three numbers put from a place on, where there is room for all.
-fn put3(t: &mut [u32], at: usize, kind: u32, from: u32, to: u32)
-    ensures { PutWhole t.old at (kind ∷ from ∷ to ∷ []) t.new }
-{
-    if at < t.len() && 2 < t.len() - at {
-        t[at..at + 3].copy_from_slice(&[kind, from, to]);
-    }
-}
-
 // One row more is counted, up to the limit of the text.
 #[tactic(auto, unfolding(crate::specs::Room::counted_on))]
 fn counted_on(count: u32) -> u32
@@ -216,7 +207,7 @@ fn counted_on(count: u32) -> u32
 fn put_row(rows: &mut [u32], count: u32, kind: u32, from: u32, to: u32) -> u32
     ensures { filled_with result rows.new ≡ add_row (filled_with count rows.old) (token_row kind from to) }
 {
-    put3(rows, lists::wide(count) * 3, kind, from, to);
+    store_numbers::put(rows, lists::wide(count) * 3, [kind, from, to]);
     counted_on(count)
 }
 
@@ -361,23 +352,16 @@ fn is_pair(s: &[u8], i: usize) -> bool
     s.len() - i >= 4 && s[i + 3] == b']' && is_point(s[i + 1]) && is_point(s[i + 2])
 }
 
-// A value of two such bytes, where a `[` opens one.
-#[derive(Clone, Copy)]
-pub enum Pair {
-    Past(Phase),
-    Other,
-}
-
 // Is the `[` at `i` one of a value of two such bytes.
-fn pair_run(stands: Phase, bytes: &[u8], i: usize) -> Pair
+fn pair_run(stands: Phase, bytes: &[u8], i: usize) -> Option<Phase>
     requires { i < length bytes.now }
     ensures { PairIs stands bytes.now i result }
 {
     match stands {
         Phase::Ident(start) | Phase::After(start) if is_pair(bytes, i) => {
-            Pair::Past(Phase::After(start))
+            Some(Phase::After(start))
         }
-        _ => Pair::Other,
+        _ => None,
     }
 }
 
@@ -474,7 +458,7 @@ fn steady_run(
         }
         let b = bytes[i];
         if b == b'[' {
-            if let Pair::Past(q) = pair_run(p, bytes, i) {
+            if let Some(q) = pair_run(p, bytes, i) {
                 p = q;
                 i += 4;
                 place += 4;
@@ -715,7 +699,7 @@ pub fn close(state: BlocksState, rows: &mut [u32]) -> Closed
             if room <= n {
                 return refuse(state, 14, 0, rows);
             }
-            put3(rows, n * 3, 4, from, to);
+            store_numbers::put(rows, n * 3, [4, from, to]);
             clear(rows, n + 1);
             accept(state, n + 1)
         }

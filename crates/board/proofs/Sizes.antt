@@ -9,10 +9,10 @@ use Rattle.values.proofs.Bounds.{Within, decimal-within}
 use Rattle.parts_props.specs.Props.{Property}
 use Rattle.go_size.specs.Size.{has_colon, before_colon, behind_colon, plus_of, side_of, pair_of, size_of}
 use Rattle.go_size.specs.Root.{sizes_in, root_size, size_of_values, size_by, size_in}
-use Rattle.go_size.specs.declared.Size.{Size}
 use Rattle.go_size.specs.declared.RootSize.{RootSize}
 use Rattle.board.specs.Answer.{columns_by, rows_by}
 use Rattle.board.specs.Locals.{SidesRight}
+use Rattle.std.specs.Prelude.{Option}
 
 -- the sides that a size has
 abbrev pub Small : RootSize → Type 0
@@ -30,13 +30,13 @@ side-small v = plus-small (decimal_of 52 v) (decimal-within 52 v)
 pair_small : (x y : ℕ) → x ≤ 52 → y ≤ 52 → Small (root_size (pair_of x y))
 unfolding pair_of
 pair_small x y a b =
-    pick-elim (λ (z : Size). Small (root_size z)) (eqb x 0 || eqb y 0) (λ e. record { columns = omega arith; rows = omega arith })
+    pick-elim (λ (z : Option (ℕ × ℕ)). Small (root_size z)) (eqb x 0 || eqb y 0) (λ e. record { columns = omega arith; rows = omega arith })
     (λ e. record { columns = omega arith; rows = omega arith })
 
 one-small : (v : List ℕ) → Small (root_size (size_of v))
 unfolding size_of
 one-small v =
-    pick-elim (λ (z : Size). Small (root_size z)) (has_colon v)
+    pick-elim (λ (z : Option (ℕ × ℕ)). Small (root_size z)) (has_colon v)
     (λ e. pair_small (side_of (before_colon v)) (side_of (behind_colon v)) (side-small (before_colon v)) (side-small (behind_colon v)))
     (λ e. pair_small (side_of v) (side_of v) (side-small v) (side-small v))
 

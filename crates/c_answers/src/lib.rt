@@ -7,14 +7,9 @@ ghost use Rattle.go.specs.Value.{unmarked};
 ghost use Rattle.ask.specs.Ask.{display_for};
 ghost use Rattle.c_answers.specs.Structs.{reading_in_c, span_in_c, display_in_c, figures_in_c, go_in_c, writing_in_c, edit_in_c};
 
-use ask::DisplayAnswer;
-use ask_value::Accessed;
-use edit_answer::Edited;
 use go::value::GoValue;
 use go_points::Value;
-use serialize::Written;
-use tables::{Counts, Lenient, Reading, Reason};
-use value_display::Displayed;
+use tables::{Counts, LenientRefusal, Reason, Refusal};
 
 // Number 0 and the counts of used rows; or the number of a refusal and its place, the counts 0. In both cases the settings that were ignored.
 #[repr(C)]
@@ -27,20 +22,20 @@ pub struct SgfReading {
 }
 
 // A reading, and the settings that were ignored.
-pub fn reading_in_c(ignored: u32, reading: Reading) -> SgfReading
+pub fn reading_in_c(ignored: u32, reading: Result<Counts, Refusal<Reason>>) -> SgfReading
     ensures { result ≡ reading_in_c ignored reading }
 {
     match reading {
-        Reading::Accepted(c) => SgfReading {
+        Ok(c) => SgfReading {
             number: 0,
             ignored: ignored,
             place: 0,
             counts: c,
         },
-        Reading::Refused(reason, place) => SgfReading {
-            number: tables::number(reason),
+        Err(refused) => SgfReading {
+            number: u32::from(refused.reason),
             ignored: ignored,
-            place: place,
+            place: refused.place,
             counts: Counts {
                 trees: 0,
                 nodes: 0,
@@ -52,15 +47,41 @@ pub fn reading_in_c(ignored: u32, reading: Reading) -> SgfReading
 }
 
 // A lenient reading, and the settings that were ignored.
-pub fn lenient_in_c(ignored: u32, lenient: Lenient) -> SgfReading
+pub fn lenient_in_c(ignored: u32, lenient: Result<Counts, LenientRefusal>) -> SgfReading
     ensures { result ≡ reading_in_c ignored (as_reading lenient) }
 {
     match lenient {
-        Lenient::Accepted(c) => reading_in_c(ignored, Reading::Accepted(c)),
-        Lenient::TextTooLong => reading_in_c(ignored, Reading::Refused(Reason::TextTooLong, 0)),
-        Lenient::NotUtf8(place) => reading_in_c(ignored, Reading::Refused(Reason::NotUtf8, place)),
-        Lenient::TooDeep => reading_in_c(ignored, Reading::Refused(Reason::TooDeep, 0)),
-        Lenient::NoRoom => reading_in_c(ignored, Reading::Refused(Reason::NoRoom, 0)),
+        Ok(c) => reading_in_c(ignored, Ok(c)),
+        Err(refused) => match refused {
+            LenientRefusal::TextTooLong => reading_in_c(
+                ignored,
+                Err(Refusal {
+                    reason: Reason::TextTooLong,
+                    place: 0,
+                }),
+            ),
+            LenientRefusal::NotUtf8(place) => reading_in_c(
+                ignored,
+                Err(Refusal {
+                    reason: Reason::NotUtf8,
+                    place,
+                }),
+            ),
+            LenientRefusal::TooDeep => reading_in_c(
+                ignored,
+                Err(Refusal {
+                    reason: Reason::TooDeep,
+                    place: 0,
+                }),
+            ),
+            LenientRefusal::NoRoom => reading_in_c(
+                ignored,
+                Err(Refusal {
+                    reason: Reason::NoRoom,
+                    place: 0,
+                }),
+            ),
+        },
     }
 }
 
@@ -75,18 +96,18 @@ pub struct SgfSpan {
 }
 
 // A value that is accessed.
-pub fn span_in_c(accessed: Accessed) -> SgfSpan
+pub fn span_in_c(accessed: Result<(usize, usize), Reason>) -> SgfSpan
     ensures { result ≡ span_in_c accessed }
 {
     match accessed {
-        Accessed::Part(a, e) => SgfSpan {
+        Ok((a, e)) => SgfSpan {
             number: 0,
             reserved: 0,
             from: a,
             to: e,
         },
-        Accessed::Refused(reason) => SgfSpan {
-            number: tables::number(reason),
+        Err(reason) => SgfSpan {
+            number: u32::from(reason),
             reserved: 0,
             from: 0,
             to: 0,
@@ -104,17 +125,17 @@ pub struct SgfDisplay {
 }
 
 // A display.
-pub fn display_in_c(shown: DisplayAnswer) -> SgfDisplay
+pub fn display_in_c(shown: Result<usize, Reason>) -> SgfDisplay
     ensures { result ≡ display_in_c shown }
 {
     match shown {
-        DisplayAnswer::DisplayLength(n) => SgfDisplay {
+        Ok(n) => SgfDisplay {
             number: 0,
             reserved: 0,
             length: n,
         },
-        DisplayAnswer::NoDisplay(reason) => SgfDisplay {
-            number: tables::number(reason),
+        Err(reason) => SgfDisplay {
+            number: u32::from(reason),
             reserved: 0,
             length: 0,
         },
@@ -122,16 +143,16 @@ pub fn display_in_c(shown: DisplayAnswer) -> SgfDisplay
 }
 
 // A raw value displayed without a record.
-pub fn value_in_c(displayed: Displayed) -> SgfDisplay
+pub fn value_in_c(displayed: Option<usize>) -> SgfDisplay
     ensures { result ≡ display_in_c (display_for displayed) }
 {
     match displayed {
-        Displayed::Length(n) => SgfDisplay {
+        Some(n) => SgfDisplay {
             number: 0,
             reserved: 0,
             length: n,
         },
-        Displayed::NoRoom => SgfDisplay {
+        None => SgfDisplay {
             number: 14,
             reserved: 0,
             length: 0,
@@ -259,17 +280,17 @@ pub struct SgfWriting {
 }
 
 // A writing.
-pub fn writing_in_c(written: Written) -> SgfWriting
+pub fn writing_in_c(written: Result<usize, Reason>) -> SgfWriting
     ensures { result ≡ writing_in_c written }
 {
     match written {
-        Written::Wrote(n) => SgfWriting {
+        Ok(n) => SgfWriting {
             number: 0,
             reserved: 0,
             length: n,
         },
-        Written::Refused(reason) => SgfWriting {
-            number: tables::number(reason),
+        Err(reason) => SgfWriting {
+            number: u32::from(reason),
             reserved: 0,
             length: 0,
         },
@@ -288,21 +309,21 @@ pub struct SgfEdit {
 }
 
 // An edit of a record with these counts.
-pub fn edit_in_c(c: Counts, edited: Edited) -> SgfEdit
+pub fn edit_in_c(c: Counts, edited: Result<usize, Refusal<Reason>>) -> SgfEdit
     ensures { result ≡ edit_in_c c edited }
 {
     match edited {
-        Edited::Changed(n) => SgfEdit {
+        Ok(n) => SgfEdit {
             number: 0,
             reserved: 0,
             place: 0,
             used: n,
             counts: c,
         },
-        Edited::Refused(reason, place) => SgfEdit {
-            number: tables::number(reason),
+        Err(refused) => SgfEdit {
+            number: u32::from(refused.reason),
             reserved: 0,
-            place: place,
+            place: refused.place,
             used: 0,
             counts: Counts {
                 trees: 0,

@@ -5,31 +5,31 @@ use Rattle.lists.proofs.Once.{once_is}
 use Rattle.tables.specs.Memory.{Memory}
 use Rattle.feed.specs.Feed.{listing}
 use Rattle.feed.specs.Find.{found_in}
-use Rattle.feed.specs.declared.Found.{Found}
-use Rattle.feed.specs.declared.make.Made.{Made}
 use Rattle.feed_check.specs.Check.{feed_checked}
-use Rattle.feed_check.specs.declared.Checked.{Checked}
 use Rattle.feed_value.specs.Look.{looked_up}
 use Rattle.feed_value.specs.declared.Looked.{Looked}
 use Rattle.tables.specs.declared.Counts.{Counts}
-use Rattle.feed_apply.specs.declared.Applied.{Applied}
 use Rattle.c_answers.specs.declared.SgfEdit.{SgfEdit}
 use Rattle.c_answers.specs.declared.SgfWriting.{SgfWriting}
 use Rattle.c_feed.specs.Parts.{part_in_c, found_in_c, check_in_c, made_in_c, PutInC, applied_in_c, CorrectInC}
+use Rattle.std.specs.Prelude.{Option, Result, ⊤}
+use Rattle.feed_check.specs.declared.FeedRefusal.{FeedRefusal}
+use Rattle.feed.specs.declared.make.MakeFault.{MakeFault}
+use Rattle.tables.specs.declared.Refusal.{Refusal}
 
 pub part-in-c-once : (x : Looked) → Once (λ r. r ≡ part_in_c x)
 part-in-c-once x = once_is (part_in_c x)
 
-pub found-in-c-once : (x : Found) → Once (λ r. r ≡ found_in_c x)
+pub found-in-c-once : (x : Option (ℕ × ℕ)) → Once (λ r. r ≡ found_in_c x)
 found-in-c-once x = once_is (found_in_c x)
 
-pub check-in-c-once : (x : Checked) → Once (λ r. r ≡ check_in_c x)
+pub check-in-c-once : (x : Result ⊤ (Refusal FeedRefusal)) → Once (λ r. r ≡ check_in_c x)
 check-in-c-once x = once_is (check_in_c x)
 
-pub made-in-c-once : (x : Made) → Once (λ r. r ≡ made_in_c x)
+pub made-in-c-once : (x : Result ℕ MakeFault) → Once (λ r. r ≡ made_in_c x)
 made-in-c-once x = once_is (made_in_c x)
 
-pub applied-in-c-once : (c : Counts) (x : Applied) → Once (λ r. r ≡ applied_in_c c x)
+pub applied-in-c-once : (c : Counts) (x : Result ℕ (Refusal FeedRefusal)) → Once (λ r. r ≡ applied_in_c c x)
 applied-in-c-once c x = once_is (applied_in_c c x)
 
 -- of the exported functions

@@ -5,12 +5,10 @@ ghost use Rattle.std.specs.Prelude.{◌≡◌};
 ghost use Rattle.c_feed.specs.Parts.{part_in_c, found_in_c, check_in_c, made_in_c, applied_in_c};
 
 use c_answers::{SgfEdit, SgfWriting};
-use feed::Found;
-use feed::make::Made;
-use feed_apply::Applied;
-use feed_check::Checked;
+use feed::make::MakeFault;
+use feed_check::FeedRefusal;
 use feed_value::Looked;
-use tables::Counts;
+use tables::{Counts, Refusal};
 
 // Number 0, whether the bytes stand in the record (source 0) or in the feed (1), and their span there; or the number of a refusal and its place, all else 0.
 #[repr(C)]
@@ -52,7 +50,7 @@ pub fn part_in_c(looked: Looked) -> SgfPart
             to: e,
         },
         Looked::Refused(refusal, place) => SgfPart {
-            number: feed_check::feed_number(refusal),
+            number: u32::from(refusal),
             source: 0,
             place: place,
             from: 0,
@@ -62,18 +60,18 @@ pub fn part_in_c(looked: Looked) -> SgfPart
 }
 
 // A value that is looked for in a feed.
-pub fn found_in_c(found: Found) -> SgfPart
+pub fn found_in_c(found: Option<(usize, usize)>) -> SgfPart
     ensures { result ≡ found_in_c found }
 {
     match found {
-        Found::At(a, e) => SgfPart {
+        Some((a, e)) => SgfPart {
             number: 0,
             source: 1,
             place: 0,
             from: a,
             to: e,
         },
-        Found::Nowhere => SgfPart {
+        None => SgfPart {
             number: 0,
             source: 0,
             place: 0,
@@ -84,62 +82,64 @@ pub fn found_in_c(found: Found) -> SgfPart
 }
 
 // A feed that is checked.
-pub fn check_in_c(checked: Checked) -> SgfCheck
+pub fn check_in_c(checked: Result<(), Refusal<FeedRefusal>>) -> SgfCheck
     ensures { result ≡ check_in_c checked }
 {
     match checked {
-        Checked::Passed => SgfCheck {
+        Ok(()) => SgfCheck {
             number: 0,
             reserved: 0,
             place: 0,
         },
-        Checked::Refused(refusal, place) => SgfCheck {
-            number: feed_check::feed_number(refusal),
+        Err(refused) => SgfCheck {
+            number: u32::from(refused.reason),
             reserved: 0,
-            place: place,
+            place: refused.place,
         },
     }
 }
 
 // A part of a feed that is made.
-pub fn made_in_c(made: Made) -> SgfWriting
+pub fn made_in_c(made: Result<usize, MakeFault>) -> SgfWriting
     ensures { result ≡ made_in_c made }
 {
     match made {
-        Made::Bytes(n) => SgfWriting {
+        Ok(n) => SgfWriting {
             number: 0,
             reserved: 0,
             length: n,
         },
-        Made::TooLarge => SgfWriting {
-            number: 24,
-            reserved: 0,
-            length: 0,
-        },
-        Made::NoRoom => SgfWriting {
-            number: 14,
-            reserved: 0,
-            length: 0,
+        Err(fault) => match fault {
+            MakeFault::TooLarge => SgfWriting {
+                number: 24,
+                reserved: 0,
+                length: 0,
+            },
+            MakeFault::NoRoom => SgfWriting {
+                number: 14,
+                reserved: 0,
+                length: 0,
+            },
         },
     }
 }
 
 // A feed applied to a record with these counts.
-pub fn applied_in_c(c: Counts, applied: Applied) -> SgfEdit
+pub fn applied_in_c(c: Counts, applied: Result<usize, Refusal<FeedRefusal>>) -> SgfEdit
     ensures { result ≡ applied_in_c c applied }
 {
     match applied {
-        Applied::Changed(n) => SgfEdit {
+        Ok(n) => SgfEdit {
             number: 0,
             reserved: 0,
             place: 0,
             used: n,
             counts: c,
         },
-        Applied::Refused(refusal, place) => SgfEdit {
-            number: feed_check::feed_number(refusal),
+        Err(refused) => SgfEdit {
+            number: u32::from(refused.reason),
             reserved: 0,
-            place: place,
+            place: refused.place,
             used: 0,
             counts: Counts {
                 trees: 0,

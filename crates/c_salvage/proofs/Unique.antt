@@ -7,21 +7,24 @@ use Rattle.parser.specs.Read.{read_lenient}
 use Rattle.salvage_list.specs.ListRows.{text_changes}
 use Rattle.salvage_laws.specs.Result.{salvage_of}
 use Rattle.salvage.specs.Salvage.{SalvageIs, tables_left, list_left, bytes_left}
-use Rattle.salvage.specs.declared.SalvageAnswer.{SalvageAnswer}
 use Rattle.c_salvage.specs.SalvageInC.{salvage_in_c, SalvageInC}
 use Rattle.c_salvage.specs.declared.SgfSalvage.{SgfSalvage}
+use Rattle.std.specs.Prelude.{Result}
+use Rattle.tables.specs.declared.Counts.{Counts}
+use Rattle.tables.specs.declared.Reason.{Reason}
+use Rattle.tables.specs.declared.Refusal.{Refusal}
 
-pub salvage-once : (t : List ℕ) (before x y : Lent) (list k l out v w : List ℕ) (r s : SalvageAnswer)
+pub salvage-once : (t : List ℕ) (before x y : Lent) (list k l out v w : List ℕ) (r s : Result (Counts × ℕ × ℕ) (Refusal Reason))
     → SalvageIs t before x list k out v r → SalvageIs t before y list l out w s → (r ≡ s) × (x ≡ y) × (k ≡ l) × (v ≡ w)
 salvage-once t before x y list k l out v w r s f g =
     let e : r ≡ s = f.answer ∙ sym g.answer in (
       e,
-      f.tables ∙ ap (λ (z : SalvageAnswer). tables_left z (read_lenient t) before) e ∙ sym g.tables,
-      f.changes ∙ ap (λ (z : SalvageAnswer). list_left z (text_changes t) list) e ∙ sym g.changes,
-      f.bytes ∙ ap (λ (z : SalvageAnswer). bytes_left z (salvage_of (read_lenient t)) out) e ∙ sym g.bytes,
+      f.tables ∙ ap (λ (z : Result (Counts × ℕ × ℕ) (Refusal Reason)). tables_left z (read_lenient t) before) e ∙ sym g.tables,
+      f.changes ∙ ap (λ (z : Result (Counts × ℕ × ℕ) (Refusal Reason)). list_left z (text_changes t) list) e ∙ sym g.changes,
+      f.bytes ∙ ap (λ (z : Result (Counts × ℕ × ℕ) (Refusal Reason)). bytes_left z (salvage_of (read_lenient t)) out) e ∙ sym g.bytes,
     )
 
-pub salvage-in-c-once : (s : SalvageAnswer) → Once (λ (r : SgfSalvage). r ≡ salvage_in_c s)
+pub salvage-in-c-once : (s : Result (Counts × ℕ × ℕ) (Refusal Reason)) → Once (λ (r : SgfSalvage). r ≡ salvage_in_c s)
 salvage-in-c-once s = once_is (salvage_in_c s)
 
 pub salvage-c-once : (t : List ℕ) (before x y : Lent) (list k l out v w : List ℕ) (r s : SgfSalvage)

@@ -5,8 +5,7 @@ ghost use Rattle.std.specs.Prelude.{◌≡◌};
 ghost use Rattle.reader.specs.Lent.{lent};
 ghost use Rattle.c_salvage.specs.SalvageInC.{salvage_in_c, SalvageInC};
 
-use salvage::SalvageAnswer;
-use tables::Counts;
+use tables::{Counts, Reason, Refusal};
 
 // Number 0, how many bytes and changes were written and the counts of the tables; or the number of a refusal and its place, all else 0.
 #[repr(C)]
@@ -21,11 +20,11 @@ pub struct SgfSalvage {
 }
 
 // A salvage.
-pub fn salvage_in_c(answer: SalvageAnswer) -> SgfSalvage
+pub fn salvage_in_c(answer: Result<(Counts, usize, usize), Refusal<Reason>>) -> SgfSalvage
     ensures { result ≡ salvage_in_c answer }
 {
     match answer {
-        SalvageAnswer::Done(counts, length, changes) => SgfSalvage {
+        Ok((counts, length, changes)) => SgfSalvage {
             number: 0,
             reserved: 0,
             place: 0,
@@ -33,10 +32,10 @@ pub fn salvage_in_c(answer: SalvageAnswer) -> SgfSalvage
             changes: changes,
             counts: counts,
         },
-        SalvageAnswer::Refused(reason, place) => SgfSalvage {
-            number: tables::number(reason),
+        Err(refused) => SgfSalvage {
+            number: u32::from(refused.reason),
             reserved: 0,
-            place: place,
+            place: refused.place,
             length: 0,
             changes: 0,
             counts: Counts {

@@ -4,10 +4,10 @@ use Rattle.tables.specs.Numbers.{number_of}
 use Rattle.ff4_index.specs.declared.Entry.{Entry}
 use Rattle.ff4_values.specs.declared.Simple.{Simple}
 use Rattle.ff4_values.specs.declared.Simple.TheVariants.{Other, Invalid, Nothing, Normal, Emphasized, Black, White, Plus, Minus}
-use Rattle.ask_simple.specs.declared.SimpleAnswer.{SimpleAnswer}
-use Rattle.ask_simple.specs.declared.SimpleAnswer.TheVariants.{Given, NoSimple}
 use Rattle.c_simple.specs.declared.SgfEntry.{SgfEntry}
 use Rattle.c_simple.specs.declared.SgfSimple.{SgfSimple}
+use Rattle.std.specs.Prelude.{Result, Ok, Err}
+use Rattle.tables.specs.declared.Reason.{Reason}
 
 -- what FF[4] lists of a property, or all 0
 abbrev pub entry_in_c : Entry → SgfEntry
@@ -30,6 +30,6 @@ simple_in_c (Plus n) = simple_struct 5 0 n
 simple_in_c (Minus n) = simple_struct 5 1 n
 
 -- a refusal: its number, all else 0
-abbrev pub simple_answer_in_c : SimpleAnswer → SgfSimple
-simple_answer_in_c (Given s) = simple_in_c s
-simple_answer_in_c (NoSimple r) = record { number = number_of r; kind = 0; negative = 0; reserved = 0; size = 0 }
+abbrev pub simple_answer_in_c : Result Simple Reason → SgfSimple
+simple_answer_in_c (Ok s) = simple_in_c s
+simple_answer_in_c (Err r) = record { number = number_of r; kind = 0; negative = 0; reserved = 0; size = 0 }

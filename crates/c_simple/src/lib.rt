@@ -4,9 +4,9 @@
 ghost use Rattle.std.specs.Prelude.{◌≡◌};
 ghost use Rattle.c_simple.specs.InC.{entry_in_c, simple_struct, simple_in_c, simple_answer_in_c};
 
-use ask_simple::SimpleAnswer;
 use ff4_index::Entry;
 use ff4_values::Simple;
+use tables::Reason;
 
 // What FF[4] lists of a property; all 0 where it does not list it.
 #[repr(C)]
@@ -85,13 +85,13 @@ pub fn simple_in_c(simple: Simple) -> SgfSimple
 }
 
 // A simple value, or the number of a refusal and all else 0.
-pub fn simple_answer_in_c(answer: SimpleAnswer) -> SgfSimple
+pub fn simple_answer_in_c(answer: Result<Simple, Reason>) -> SgfSimple
     ensures { result ≡ simple_answer_in_c answer }
 {
     match answer {
-        SimpleAnswer::Given(simple) => simple_in_c(simple),
-        SimpleAnswer::NoSimple(reason) => SgfSimple {
-            number: tables::number(reason),
+        Ok(simple) => simple_in_c(simple),
+        Err(reason) => SgfSimple {
+            number: u32::from(reason),
             kind: OTHER,
             negative: 0,
             reserved: 0,

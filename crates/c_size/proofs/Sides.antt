@@ -9,8 +9,8 @@ use Rattle.values.proofs.Bounds.{Within, decimal-within}
 use Rattle.parts_props.specs.Props.{Property}
 use Rattle.go_size.specs.Size.{has_colon, before_colon, behind_colon, plus_of, side_of, pair_of, size_of}
 use Rattle.go_size.specs.Root.{sizes_in, root_size, size_of_values, size_by, size_in}
-use Rattle.go_size.specs.declared.Size.{Size}
 use Rattle.c_size.specs.Locals.{SmallSides}
+use Rattle.std.specs.Prelude.{Option}
 
 plus-small : (n : Number) → Within 52 n → plus_of n ≤ 52
 plus-small N.Bad h = omega arith
@@ -23,12 +23,12 @@ side-small v = plus-small (decimal_of 52 v) (decimal-within 52 v)
 
 pair_small : (x y : ℕ) → x ≤ 52 → y ≤ 52 → SmallSides (root_size (pair_of x y))
 unfolding pair_of
-pair_small x y p q = pick-elim (λ (s : Size). SmallSides (root_size s)) (eqb x 0 || eqb y 0) (λ e. tt) (λ e. (p, q))
+pair_small x y p q = pick-elim (λ (s : Option (ℕ × ℕ)). SmallSides (root_size s)) (eqb x 0 || eqb y 0) (λ e. tt) (λ e. (p, q))
 
 one-small : (v : List ℕ) → SmallSides (root_size (size_of v))
 unfolding size_of
 one-small v =
-    pick-elim (λ (s : Size). SmallSides (root_size s)) (has_colon v)
+    pick-elim (λ (s : Option (ℕ × ℕ)). SmallSides (root_size s)) (has_colon v)
     (λ e. pair_small (side_of (before_colon v)) (side_of (behind_colon v)) (side-small (before_colon v)) (side-small (behind_colon v)))
     (λ e. pair_small (side_of v) (side_of v) (side-small v) (side-small v))
 

@@ -57,7 +57,7 @@ fn refused(reason: Reason) -> SgfSize
     ensures { result ≡ no_size_in_c (number_of reason) }
 {
     SgfSize {
-        number: tables::number(reason),
+        number: u32::from(reason),
         kind: 0,
         columns: 0,
         rows: 0,

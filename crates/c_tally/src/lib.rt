@@ -7,7 +7,7 @@ ghost use Rattle.season_tally.specs.Tally.{tally_answer};
 ghost use Rattle.c_tally.specs.TallyInC.{tally_in_c, tally_or_number};
 ghost use Rattle.c_tally.specs.LineInC.{LineInC};
 
-use season_tally::{TallyAnswer, WrittenTally};
+use season_totals::Tally;
 use tables::{Counts, Reason};
 
 // A number; trees, nodes, moves of each colour without passes, passes.
@@ -24,11 +24,11 @@ pub struct SgfTally {
 }
 
 // An answer, shown.
-fn in_c(answer: TallyAnswer) -> SgfTally
+fn in_c(answer: Option<Tally>) -> SgfTally
     ensures { result ≡ tally_in_c answer }
 {
     match answer {
-        TallyAnswer::Tallied(tally) => SgfTally {
+        Some(tally) => SgfTally {
             number: 0,
             reserved: 0,
             trees: tally.trees,
@@ -37,8 +37,8 @@ fn in_c(answer: TallyAnswer) -> SgfTally
             white: tally.white,
             passes: tally.passes,
         },
-        TallyAnswer::NotFitting => SgfTally {
-            number: tables::number(Reason::NotFitting),
+        None => SgfTally {
+            number: u32::from(Reason::NotFitting),
             reserved: 0,
             trees: 0,
             nodes: 0,
@@ -96,8 +96,8 @@ pub fn line(
         out.old out.new result }
 {
     match season_tally::write_tally(text, used, counts, trees, nodes, properties, values, out) {
-        WrittenTally::Undone(reason) => SgfLine {
-            number: tables::number(reason),
+        Err(reason) => SgfLine {
+            number: u32::from(reason),
             reserved: 0,
             length: 0,
             trees: 0,
@@ -107,7 +107,7 @@ pub fn line(
             passes: 0,
             tag: 0,
         },
-        WrittenTally::Done(n, counted, tag) => SgfLine {
+        Ok((n, counted, tag)) => SgfLine {
             number: 0,
             reserved: 0,
             length: n,

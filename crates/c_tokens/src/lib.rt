@@ -99,7 +99,7 @@ pub fn token(text: &[u8], at: usize) -> SgfToken
             opens: k,
             to: e,
         },
-        Step::Refused(f, i) => faulty(lexer::number(f), i),
+        Step::Refused(f, i) => faulty(u32::from(f), i),
         Step::Done => single(0, at, at),
     }
 }

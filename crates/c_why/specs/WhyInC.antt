@@ -4,10 +4,11 @@ use Rattle.tables.specs.Numbers.{number_of}
 use Rattle.why_blame.specs.Numbered.{fact_reason}
 use Rattle.why_blame.specs.declared.Fact.{Fact}
 use Rattle.why_blame.specs.declared.Fact.TheVariants.{Length, BadSequence, NoBracket, Foreign, NotClosed, EndBeyond, StaysOpen, NoNode, NoEnd, TooDeep, EmptyList, SecondGm, Stray, GmValues, GmNumber}
-use Rattle.why.specs.declared.Why.{Why}
-use Rattle.why.specs.declared.Why.TheVariants.{Accepted, Refused}
 use Rattle.c_why.specs.declared.Shown.{Shown}
 use Rattle.c_why.specs.declared.SgfWhy.{SgfWhy}
+use Rattle.std.specs.Prelude.{Result, Ok, Err}
+use Rattle.tables.specs.declared.Counts.{Counts}
+use Rattle.tables.specs.declared.Refusal.{Refusal}
 
 -- the fact's own number, from 1 on in the order of the refusals' numbers, and the number in it, else 0 (SCOPE 271)
 abbrev pub shown_as : (number fact detail : ℕ) → Shown
@@ -32,8 +33,8 @@ shown_fact (GmValues n) = shown_as (number_of (fact_reason (GmValues n))) 14 n
 shown_fact GmNumber = shown_as (number_of (fact_reason GmNumber)) 15 0
 
 -- accepted: the place of the first token in no slice and the counts; refused: the fact's numbers, its place, and no counts
-abbrev pub why_in_c : Why → SgfWhy
-why_in_c (Accepted c q) = record { number = 0; fact = 0; place = q; detail = 0; counts = c }
-why_in_c (Refused f p) =
-    let s = shown_fact f in
-    record { number = s.number; fact = s.fact; place = p; detail = s.detail; counts = record { trees = 0; nodes = 0; properties = 0; values = 0 } }
+abbrev pub why_in_c : Result (Counts × ℕ) (Refusal Fact) → SgfWhy
+why_in_c (Ok (c, q)) = record { number = 0; fact = 0; place = q; detail = 0; counts = c }
+why_in_c (Err e) =
+    let s = shown_fact e.reason in
+    record { number = s.number; fact = s.fact; place = e.place; detail = s.detail; counts = record { trees = 0; nodes = 0; properties = 0; values = 0 } }

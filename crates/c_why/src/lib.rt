@@ -4,8 +4,7 @@
 ghost use Rattle.std.specs.Prelude.{◌≡◌};
 ghost use Rattle.c_why.specs.WhyInC.{shown_fact, why_in_c};
 
-use tables::Counts;
-use why::Why;
+use tables::{Counts, Refusal};
 use why_blame::Fact;
 
 // The number of a refusal, the fact's own number, and the number in it.
@@ -62,23 +61,23 @@ pub fn fact_in_c(fact: Fact) -> Shown
 }
 
 // An explanation.
-pub fn why_in_c(why: Why) -> SgfWhy
+pub fn why_in_c(why: Result<(Counts, usize), Refusal<Fact>>) -> SgfWhy
     ensures { result ≡ why_in_c why }
 {
     match why {
-        Why::Accepted(counts, place) => SgfWhy {
+        Ok((counts, place)) => SgfWhy {
             number: 0,
             fact: 0,
             place,
             detail: 0,
             counts,
         },
-        Why::Refused(fact, place) => {
-            let x = fact_in_c(fact);
+        Err(refused) => {
+            let x = fact_in_c(refused.reason);
             SgfWhy {
                 number: x.number,
                 fact: x.fact,
-                place,
+                place: refused.place,
                 detail: x.detail,
                 counts: Counts {
                     trees: 0,

@@ -5,11 +5,10 @@ mod history; // history.rt: what is kept
 mod line; // line.rt: the input
 mod say; // say.rt: the output
 
-use edit_answer::Edited;
 use history::{bytes_of, keep, value_of};
 use line::{line_end, load, number_at};
 use say::{say_record, say_refused};
-use tables::{Counts, Reading};
+use tables::{Counts, Reason, Refusal};
 
 // What is used of the lent memory; how many edits are done, and how many are known, those that were undone among them.
 #[derive(Clone, Copy)]
@@ -54,11 +53,11 @@ fn on_text(
 ) -> Used {
     let n = load(line, 2, text);
     match reader::read_strict(&text[..n], trees, nodes, properties, values) {
-        Reading::Refused(reason, place) => {
-            say_refused(tables::number(reason), place);
+        Err(Refusal { reason, place }) => {
+            say_refused(u32::from(reason), place);
             nothing()
         }
-        Reading::Accepted(counts) => {
+        Ok(counts) => {
             let used = used_of(n, counts, 0, 0);
             say_record(text, used, properties, values);
             used
@@ -68,7 +67,7 @@ fn on_text(
 
 // An edit, as it was answered: accepted, so many are done and known; a refused one goes on with what was used before it.
 fn on_answer(
-    answer: Edited,
+    answer: Result<usize, Refusal<Reason>>,
     used: Used,
     done: usize,
     known: usize,
@@ -77,11 +76,11 @@ fn on_answer(
     values: &[u32],
 ) -> Used {
     match answer {
-        Edited::Refused(reason, place) => {
-            say_refused(tables::number(reason), place);
+        Err(Refusal { reason, place }) => {
+            say_refused(u32::from(reason), place);
             used
         }
-        Edited::Changed(n) => {
+        Ok(n) => {
             let now = used_of(n, used.counts, done, known);
             say_record(text, now, properties, values);
             now

@@ -2,7 +2,6 @@
 use Rattle.lists.proofs.Prelude.{ℕ, ◌<◌, Bool, true, false, List, ◌⊎◌, inl, inr, ⊎_elim, ◌≡◌, refl, sym, ap, ◌∙◌, subst⁻¹, arith, ltb, length, lt-ltb, le-ltb, le-leb, lt-leb, pick}
 use Rattle.value_display.specs.Display.{displayed}
 use Rattle.value_display.specs.declared.Kind.{Kind}
-use Rattle.value_display.specs.declared.Displayed.TheVariants.{Length, NoRoom as Full}
 use Rattle.tables.specs.Columns.{val_from_at, val_to_at}
 use Rattle.tables.specs.Memory.{Memory}
 use Rattle.tables.specs.Numbers.{number_of}
@@ -12,11 +11,8 @@ use Rattle.tables.proofs.Cases.{either-bool, below_or}
 use Rattle.fit.specs.Fit.{Fit}
 use Rattle.fit.specs.Record.{record_in}
 use Rattle.ask_value.specs.Access.{accessed}
-use Rattle.ask_value.specs.declared.Accessed.{Accessed}
-use Rattle.ask_value.specs.declared.Accessed.TheVariants.{Part, Refused}
 use Rattle.ask.specs.Ask as ask
 use Rattle.ask.specs.declared.GoAnswer.{GoAnswer}
-use Rattle.ask.specs.declared.DisplayAnswer.TheVariants.{DisplayLength, NoDisplay}
 use Rattle.c_answers.specs.Structs.{span_in_c, display_in_c}
 use Rattle.c_answers.specs.declared.SgfDisplay.{SgfDisplay}
 use Rattle.c_answers.specs.declared.SgfGoValue.{SgfGoValue}
@@ -27,6 +23,7 @@ use Rattle.demands.specs.Lists.{OneOf, fits_numbers, access_numbers, display_num
 use Rattle.demands.proofs.Listed.{one_of}
 use Rattle.demands.proofs.Numbers.{exactly}
 use Rattle.demands.proofs.Refusals.{display-leaves}
+use Rattle.std.specs.Prelude.{Some, None, Result, Ok, Err}
 
 -- ---- do tables fit
 
@@ -69,21 +66,21 @@ module _ (m : Memory) (count k n : ℕ) (zero-if : Answered m count k → n ≡ 
 -- ---- value access
 
 module _ (m : Memory) (k : ℕ) where
-  abbrev Span : Accessed
-  Span = Part (val_from_at m.values k) (val_to_at m.values k)
+  abbrev Span : Result (ℕ × ℕ) Reason
+  Span = Ok (val_from_at m.values k, val_to_at m.values k)
 
   accessed-asked : Answered m m.counts.values k → accessed m k ≡ Span
   unfolding accessed
   accessed-asked a =
-      ap (λ (b : Bool). pick b (pick (ltb k m.counts.values) Span (Refused NoSuchNumber)) (Refused NotFitting)) a.fits
-      ∙ ap (λ (b : Bool). pick b Span (Refused NoSuchNumber)) (lt-ltb k m.counts.values a.below)
+      ap (λ (b : Bool). pick b (pick (ltb k m.counts.values) Span (Err NoSuchNumber)) (Err NotFitting)) a.fits
+      ∙ ap (λ (b : Bool). pick b Span (Err NoSuchNumber)) (lt-ltb k m.counts.values a.below)
 
-  accessed-unasked : {x : Reason} → Unanswered m m.counts.values k x → accessed m k ≡ Refused x
+  accessed-unasked : {x : Reason} → Unanswered m m.counts.values k x → accessed m k ≡ Err x
   unfolding accessed
-  accessed-unasked (misfit f) = ap (λ (b : Bool). pick b (pick (ltb k m.counts.values) Span (Refused NoSuchNumber)) (Refused NotFitting)) f
+  accessed-unasked (misfit f) = ap (λ (b : Bool). pick b (pick (ltb k m.counts.values) Span (Err NoSuchNumber)) (Err NotFitting)) f
   accessed-unasked (beyond f l) =
-      ap (λ (b : Bool). pick b (pick (ltb k m.counts.values) Span (Refused NoSuchNumber)) (Refused NotFitting)) f
-      ∙ ap (λ (b : Bool). pick b Span (Refused NoSuchNumber)) (le-ltb k m.counts.values l)
+      ap (λ (b : Bool). pick b (pick (ltb k m.counts.values) Span (Err NoSuchNumber)) (Err NotFitting)) f
+      ∙ ap (λ (b : Bool). pick b Span (Err NoSuchNumber)) (le-ltb k m.counts.values l)
 
   module _ (r : SgfSpan) (s : r ≡ span_in_c (accessed m k)) where
     span-zero : Answered m m.counts.values k → r.number ≡ 0
@@ -104,18 +101,18 @@ module _ (m : Memory) (k : ℕ) where
     abbrev D : List ℕ
     D = display_of m k kind
 
-    displays-answer : Displays m k kind (length out) → ask.display m.text (accessed m k) kind out ≡ DisplayLength (length D)
+    displays-answer : Displays m k kind (length out) → ask.display m.text (accessed m k) kind out ≡ Ok (length D)
     unfolding displayed
     displays-answer x =
-        ap (λ (a : Accessed). ask.display m.text a kind out) (accessed-asked x.asked)
-        ∙ ap (λ (b : Bool). ask.display_for (pick b (Length (length D)) Full)) (le-leb (length D) (length out) x.long)
+        ap (λ (a : Result (ℕ × ℕ) Reason). ask.display m.text a kind out) (accessed-asked x.asked)
+        ∙ ap (λ (b : Bool). ask.display_for (pick b (Some (length D)) None)) (le-leb (length D) (length out) x.long)
 
-    undisplayed-answer : {x : Reason} → Undisplayed m k kind (length out) x → ask.display m.text (accessed m k) kind out ≡ NoDisplay x
+    undisplayed-answer : {x : Reason} → Undisplayed m k kind (length out) x → ask.display m.text (accessed m k) kind out ≡ Err x
     unfolding displayed
-    undisplayed-answer (unanswered u) = ap (λ (a : Accessed). ask.display m.text a kind out) (accessed-unasked u)
+    undisplayed-answer (unanswered u) = ap (λ (a : Result (ℕ × ℕ) Reason). ask.display m.text a kind out) (accessed-unasked u)
     undisplayed-answer (full a l) =
-        ap (λ (z : Accessed). ask.display m.text z kind out) (accessed-asked a)
-        ∙ ap (λ (b : Bool). ask.display_for (pick b (Length (length D)) Full)) (lt-leb (length D) (length out) l)
+        ap (λ (z : Result (ℕ × ℕ) Reason). ask.display m.text z kind out) (accessed-asked a)
+        ∙ ap (λ (b : Bool). ask.display_for (pick b (Some (length D)) None)) (lt-leb (length D) (length out) l)
 
     display-decided : Displays m k kind (length out) ⊎ ((x : Reason) × Undisplayed m k kind (length out) x)
     display-decided =

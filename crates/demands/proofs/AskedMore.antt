@@ -13,14 +13,11 @@ use Rattle.fit.specs.Fit.{Fit}
 use Rattle.fit.specs.Record.{record_in}
 use Rattle.fit.proofs.RootRows.{same-equal}
 use Rattle.season_tally.specs.Tally.{tally_of, tally_answer}
-use Rattle.season_tally.specs.declared.TallyAnswer.TheVariants.{Tallied, NotFitting as NotTallied}
 use Rattle.c_tally.specs.TallyInC.{tally_in_c, tally_or_number}
 use Rattle.c_tally.specs.declared.SgfTally.{SgfTally}
 use Rattle.ff4_values.specs.declared.Simple.{Simple}
 use Rattle.ff4_values.specs.declared.Simple.TheVariants.{Other, Invalid, Nothing, Normal, Emphasized, Black, White, Plus, Minus}
 use Rattle.ask_simple.specs.AskSimple.{simple_at, simple_answer}
-use Rattle.ask_simple.specs.declared.SimpleAnswer.{SimpleAnswer}
-use Rattle.ask_simple.specs.declared.SimpleAnswer.TheVariants.{Given, NoSimple}
 use Rattle.c_simple.specs.InC.{simple_in_c, simple_answer_in_c}
 use Rattle.c_simple.specs.declared.SgfSimple.{SgfSimple}
 use Rattle.c_size.specs.SizeInC.{size_in_c}
@@ -30,17 +27,18 @@ use Rattle.demands.specs.Lists.{OneOf, fits_numbers, access_numbers}
 use Rattle.demands.proofs.Asked.{asked-exactly, asked-listed}
 use Rattle.demands.proofs.Listed.{one_of}
 use Rattle.demands.proofs.Numbers.{exactly}
+use Rattle.std.specs.Prelude.{Some, None, Result, Ok, Err}
 
 -- ---- sgf_tally
 
 module _ (m : Memory) (r : SgfTally) (s : r ≡ tally_or_number m) where
-  pub tallied : Fit m ≡ true → r ≡ tally_in_c (Tallied (tally_of (record_in m)))
+  pub tallied : Fit m ≡ true → r ≡ tally_in_c (Some (tally_of (record_in m)))
   unfolding tally_answer
-  tallied f = s ∙ ap (λ (b : Bool). tally_in_c (pick b (Tallied (tally_of (record_in m))) NotTallied)) f
+  tallied f = s ∙ ap (λ (b : Bool). tally_in_c (pick b (Some (tally_of (record_in m))) None)) f
 
-  untallied : Fit m ≡ false → r ≡ tally_in_c NotTallied
+  untallied : Fit m ≡ false → r ≡ tally_in_c None
   unfolding tally_answer
-  untallied f = s ∙ ap (λ (b : Bool). tally_in_c (pick b (Tallied (tally_of (record_in m))) NotTallied)) f
+  untallied f = s ∙ ap (λ (b : Bool). tally_in_c (pick b (Some (tally_of (record_in m))) None)) f
 
   pub tally-exactly : Exactly r.number (Fit m ≡ true) (λ x. (x ≡ NotFitting) × (Fit m ≡ false))
   tally-exactly =
@@ -52,7 +50,7 @@ module _ (m : Memory) (r : SgfTally) (s : r ≡ tally_or_number m) where
       either-bool (Fit m) (λ f. subst⁻¹ (OneOf fits_numbers) (ap (λ (z : SgfTally). z.number) (tallied f)) (one_of fits_numbers 0 refl))
       (λ f. subst⁻¹ (OneOf fits_numbers) (ap (λ (z : SgfTally). z.number) (untallied f)) (one_of fits_numbers 19 refl))
 
-  pub tally-zeros : 0 < r.number → r ≡ tally_in_c NotTallied
+  pub tally-zeros : 0 < r.number → r ≡ tally_in_c None
   tally-zeros l = either-bool (Fit m) (λ f. absurd (omega (arith, l, ap (λ (z : SgfTally). z.number) (tallied f)))) untallied
 
 -- ---- sgf_simple_value, sgf_simple_property
@@ -69,26 +67,26 @@ simple-number (Plus n) = refl
 simple-number (Minus n) = refl
 
 module _ (m : Memory) (p : ℕ) (r : SgfSimple) (s : r ≡ simple_answer_in_c (simple_answer m p)) where
-  abbrev given : SimpleAnswer
-  given = Given (simple_at (record_in m) p)
+  abbrev given : Result Simple Reason
+  given = Ok (simple_at (record_in m) p)
 
   simple-asked : Answered m m.counts.properties p → r.number ≡ 0
   unfolding simple_answer
   simple-asked a =
       ap (λ (z : SgfSimple). z.number) s
-      ∙ ap (λ (b : Bool). (simple_answer_in_c (pick b (pick (ltb p m.counts.properties) given (NoSimple NoSuchNumber)) (NoSimple NotFitting))).number) a.fits
-      ∙ ap (λ (b : Bool). (simple_answer_in_c (pick b given (NoSimple NoSuchNumber))).number) (lt-ltb p m.counts.properties a.below)
+      ∙ ap (λ (b : Bool). (simple_answer_in_c (pick b (pick (ltb p m.counts.properties) given (Err NoSuchNumber)) (Err NotFitting))).number) a.fits
+      ∙ ap (λ (b : Bool). (simple_answer_in_c (pick b given (Err NoSuchNumber))).number) (lt-ltb p m.counts.properties a.below)
       ∙ simple-number (simple_at (record_in m) p)
 
   simple-unasked : (x : Reason) → Unanswered m m.counts.properties p x → r.number ≡ number_of x
   unfolding simple_answer
   simple-unasked x (misfit f) =
       ap (λ (z : SgfSimple). z.number) s
-      ∙ ap (λ (b : Bool). (simple_answer_in_c (pick b (pick (ltb p m.counts.properties) given (NoSimple NoSuchNumber)) (NoSimple NotFitting))).number) f
+      ∙ ap (λ (b : Bool). (simple_answer_in_c (pick b (pick (ltb p m.counts.properties) given (Err NoSuchNumber)) (Err NotFitting))).number) f
   simple-unasked x (beyond f l) =
       ap (λ (z : SgfSimple). z.number) s
-      ∙ ap (λ (b : Bool). (simple_answer_in_c (pick b (pick (ltb p m.counts.properties) given (NoSimple NoSuchNumber)) (NoSimple NotFitting))).number) f
-      ∙ ap (λ (b : Bool). (simple_answer_in_c (pick b given (NoSimple NoSuchNumber))).number) (le-ltb p m.counts.properties l)
+      ∙ ap (λ (b : Bool). (simple_answer_in_c (pick b (pick (ltb p m.counts.properties) given (Err NoSuchNumber)) (Err NotFitting))).number) f
+      ∙ ap (λ (b : Bool). (simple_answer_in_c (pick b given (Err NoSuchNumber))).number) (le-ltb p m.counts.properties l)
 
   pub simple-exactly : Exactly r.number (Answered m m.counts.properties p) (Unanswered m m.counts.properties p)
   simple-exactly = asked-exactly m m.counts.properties p r.number simple-asked simple-unasked

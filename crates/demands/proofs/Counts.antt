@@ -2,8 +2,6 @@
 use Rattle.lists.proofs.Prelude.{ℕ, Bool, true, false, List, [], ◌∷◌, ◌++◌, ◌⊎◌, inl, inr, ◌≡◌, refl, sym, ap, ◌∙◌, subst⁻¹, arith, pick}
 use Rattle.lists.proofs.Tests.{same_or}
 use Rattle.tables.specs.Rows.{tables, counts_of}
-use Rattle.tables.specs.declared.Reading.{Reading}
-use Rattle.tables.specs.declared.Reading.TheVariants.{Accepted as Counted, Refused as NotRead}
 use Rattle.tables.specs.declared.Reason.{Reason}
 use Rattle.tables.specs.declared.Reason.TheVariants.{NoRoom}
 use Rattle.tables.proofs.Cases.{either-bool}
@@ -20,6 +18,10 @@ use Rattle.demands.specs.When.{Exactly}
 use Rattle.demands.proofs.Accepts.{upto-12}
 use Rattle.demands.proofs.Numbers.{exactly}
 use Rattle.demands.proofs.Readings.{strict-listed, lenient-listed}
+use Rattle.std.specs.Prelude.{Result, Ok, Err}
+use Rattle.tables.specs.Refusals.{refusal}
+use Rattle.tables.specs.declared.Counts.{Counts}
+use Rattle.tables.specs.declared.Refusal.{Refusal}
 
 -- ---- a reading without tables
 
@@ -49,17 +51,17 @@ module _ (len : Bool) (t : List ℕ) (q : SgfReading) (s : q ≡ reading_in_c 0 
   -- ---- beside a reading into any tables
 
   module _ {i : ℕ} (before after : Lent) (r : SgfReading) (u : ReadInC i (read len t) before after r) where
-    as-shown : (x : Reading) → answers (read len t) before ≡ x → q ≡ reading_in_c 0 x → SameAnswer q r
+    as-shown : (x : Result Counts (Refusal Reason)) → answers (read len t) before ≡ x → q ≡ reading_in_c 0 x → SameAnswer q r
     as-shown x e f = go x (u.is ∙ ap (reading_in_c i) e) f
       where
-        go : (x : Reading) → r ≡ reading_in_c i x → q ≡ reading_in_c 0 x → SameAnswer q r
-        go (Counted c) a b =
+        go : (x : Result Counts (Refusal Reason)) → r ≡ reading_in_c i x → q ≡ reading_in_c 0 x → SameAnswer q r
+        go (Ok c) a b =
             record {
               number = ap (λ (z : SgfReading). z.number) b ∙ sym (ap (λ (z : SgfReading). z.number) a);
               place = ap (λ (z : SgfReading). z.place) b ∙ sym (ap (λ (z : SgfReading). z.place) a);
               counts = ap counts_read b ∙ sym (ap counts_read a);
             }
-        go (NotRead y p) a b =
+        go (Err e) a b =
             record {
               number = ap (λ (z : SgfReading). z.number) b ∙ sym (ap (λ (z : SgfReading). z.number) a);
               place = ap (λ (z : SgfReading). z.place) b ∙ sym (ap (λ (z : SgfReading). z.place) a);
@@ -70,13 +72,13 @@ module _ (len : Bool) (t : List ℕ) (q : SgfReading) (s : q ≡ reading_in_c 0 
     count-as-read n = go (read len t) refl
       where
         go : (a : Answer) → read len t ≡ a → SameAnswer q r
-        go (refused x p) e = as-shown (NotRead x p) (ap (λ (a : Answer). answers a before) e) (counted (refused x p) e)
+        go (refused x p) e = as-shown (Err (refusal x p)) (ap (λ (a : Answer). answers a before) e) (counted (refused x p) e)
         go (accepted ts) e =
             either-bool (roomy (tables ts) before)
-            (λ f. as-shown (Counted (counts_of (tables ts))) (ap (λ (a : Answer). answers a before) e ∙ rw f) (counted (accepted ts) e))
+            (λ f. as-shown (Ok (counts_of (tables ts))) (ap (λ (a : Answer). answers a before) e ∙ rw f) (counted (accepted ts) e))
             (λ f.
             absurd (n (ap (λ (z : SgfReading). z.number) u.is ∙ ap (λ (a : Answer). (reading_in_c i (answers a before)).number) e
-            ∙ ap (λ (b : Bool). (reading_in_c i (pick b (Counted (counts_of (tables ts))) (NotRead NoRoom 0))).number) f)))
+            ∙ ap (λ (b : Bool). (reading_in_c i (pick b (Ok (counts_of (tables ts))) (Err (refusal NoRoom 0)))).number) f)))
 
     pub count-for-room : r.number ≡ 14 → q.number ≡ 0
     count-for-room h = go (read len t) refl

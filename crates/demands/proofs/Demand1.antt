@@ -10,7 +10,6 @@ use Rattle.go.specs.declared.value.GoValue.{GoValue}
 use Rattle.value_display.specs.declared.Kind.{Kind}
 use Rattle.tables.specs.Memory.{Memory}
 use Rattle.tables.specs.Numbers.{number_of}
-use Rattle.tables.specs.declared.Reading.TheVariants.{Refused}
 use Rattle.tables.specs.declared.Reason.{Reason}
 use Rattle.tables.specs.declared.Reason.TheVariants.{NotUtf8, NotFitting}
 use Rattle.fit.specs.Fit.{Fit}
@@ -18,11 +17,8 @@ use Rattle.ask_value.specs.Access.{accessed}
 use Rattle.parser.specs.Read.{Answer, read, read_strict}
 use Rattle.reader.specs.Lent.{Lent, ReadIs}
 use Rattle.ask.specs.Ask.{DisplayIs, go_answer}
-use Rattle.ask.specs.declared.DisplayAnswer.TheVariants.{NoDisplay}
 use Rattle.serialize.specs.Form.{WriteIs}
-use Rattle.serialize.specs.declared.Written.TheVariants as written
 use Rattle.edit_answer.specs.Answer.{outcome_of}
-use Rattle.edit_answer.specs.declared.Edited.TheVariants as edited
 use Rattle.edit.specs.Lent.{EditIs}
 use Rattle.c_answers.specs.Structs.{span_in_c, go_in_c, no_counts}
 use Rattle.c_answers.specs.declared.SgfDisplay.{SgfDisplay}
@@ -47,6 +43,8 @@ use Rattle.demands.proofs.Readings as reading
 use Rattle.demands.proofs.Refusals.{reading-leaves, edit-leaves, display-leaves}
 use Rattle.demands.proofs.Texts as texts
 use Rattle.demands.proofs.Written as writing
+use Rattle.std.specs.Prelude.{Err}
+use Rattle.tables.specs.Refusals.{refusal}
 -- when the definition refuses, number by number, in the scope's words: strict 1 to 12, lenient 1, 2, 9; no reason has the number 13
 pub use Rattle.reader_exactly.proofs.Exactly.{strict-1, strict-2, strict-3, strict-4, strict-5, strict-6}
 pub use Rattle.reader_exactly.proofs.Exactly.{strict-7, strict-8, strict-9, strict-10, strict-11, strict-12}
@@ -183,18 +181,18 @@ property-numbers g r e = ap (λ (z : SgfGoValue). z.number) e
 -- ---- what a refusal leaves, of the functions below these
 
 -- a refused reading leaves every number of the four tables
-pub reading-refused : (len : Bool) (t : List ℕ) (before after : Lent) (r : Reason) (p : ℕ) → ReadIs (read len t) before after (Refused r p) → after ≡ before
+pub reading-refused : (len : Bool) (t : List ℕ) (before after : Lent) (r : Reason) (p : ℕ) → ReadIs (read len t) before after (Err (refusal r p)) → after ≡ before
 reading-refused len t before after r p x = reading-leaves (read len t) before after r p x.answer x.tables
 
 -- a refused edit leaves every byte of the buffer and every number of the tables
-pub edit-refused : (m m' : Memory) (k : ℕ) (new : List ℕ) (r : Reason) (p : ℕ) → EditIs m m' k new (edited.Refused r p) → m' ≡ m
+pub edit-refused : (m m' : Memory) (k : ℕ) (new : List ℕ) (r : Reason) (p : ℕ) → EditIs m m' k new (Err (refusal r p)) → m' ≡ m
 edit-refused m m' k new r p x = edit-leaves (outcome_of m k new) m m' r p x.answer x.memory
 
 module _ (m : Memory) (out out' : List ℕ) (r : Reason) where
   -- a refused writing leaves every byte of the output
-  pub writing-refused : WriteIs m out out' (written.Refused r) → out' ≡ out
+  pub writing-refused : WriteIs m out out' (Err r) → out' ≡ out
   writing-refused x = x.bytes
 
   -- a refused display too
-  pub display-refused : (k : ℕ) (kind : Kind) → DisplayIs m k kind out out' (NoDisplay r) → out' ≡ out
+  pub display-refused : (k : ℕ) (kind : Kind) → DisplayIs m k kind out out' (Err r) → out' ≡ out
   display-refused k kind x = display-leaves m.text (accessed m k) kind out out' r x.is x.bytes

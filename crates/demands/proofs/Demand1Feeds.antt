@@ -4,8 +4,6 @@ use Rattle.tables.specs.Memory.{Memory}
 use Rattle.c_answers.specs.Structs.{no_counts}
 use Rattle.c_answers.specs.declared.SgfEdit.{SgfEdit}
 use Rattle.c_answers.specs.declared.SgfWriting.{SgfWriting}
-use Rattle.feed.specs.declared.Found.{Found}
-use Rattle.feed.specs.declared.Found.TheVariants.{At, Nowhere}
 use Rattle.feed_check.specs.Check.{feed_checked}
 use Rattle.feed_value.specs.Look.{looked_up}
 use Rattle.c_feed.specs.Parts.{part_in_c, found_in_c, check_in_c, PutInC, CorrectInC}
@@ -16,6 +14,7 @@ use Rattle.demands.specs.Requests.{Only, OnlyAt, FeedBecause, LookBecause, Apply
 use Rattle.demands.proofs.Fed as fed
 use Rattle.demands.proofs.FedInto as into
 use Rattle.demands.proofs.FedApplied as applied
+use Rattle.std.specs.Prelude.{Option, Some, None}
 -- sgf_correct: any other number than 0 leaves every byte of the buffer and every number of the tables
 pub use Rattle.c_feed.proofs.Corrected.{correct-refused}
 -- sgf_feed_find answers as sgf_corrected where sgf_feed_check gives 0
@@ -43,9 +42,9 @@ module _ (m : Memory) (w : List ℕ) where
   correct-zeros = applied.apply-zeros m w
 
 -- sgf_feed_find: 0
-pub find-number : (x : Found) (r : SgfPart) → r ≡ found_in_c x → r.number ≡ 0
-find-number (At a e) r h = ap (λ (z : SgfPart). z.number) h
-find-number Nowhere r h = ap (λ (z : SgfPart). z.number) h
+pub find-number : (x : Option (ℕ × ℕ)) (r : SgfPart) → r ≡ found_in_c x → r.number ≡ 0
+find-number (Some (a, e)) r h = ap (λ (z : SgfPart). z.number) h
+find-number None r h = ap (λ (z : SgfPart). z.number) h
 
 module _ (held : Bool) (bytes out out' : List ℕ) (r : SgfWriting) (s : PutInC held bytes out out' r) where
   -- sgf_feed_begin and sgf_feed_add: 24, 14

@@ -1,8 +1,7 @@
 -- Demand 1 of sgf_read_lenient: its numbers are 0, 1, 2, 9 and 14, each exactly when, and what a refusal leaves; passed on by Demand1. Assumes nothing.
 use Rattle.lists.proofs.Prelude.{ℕ, ◌<◌, true, List, ◌≡◌, refl}
 use Rattle.tables.specs.Lenient.{as_reading, lenient_number}
-use Rattle.tables.specs.declared.Lenient.{Lenient}
-use Rattle.tables.specs.declared.Lenient.TheVariants.{Accepted, TextTooLong, NotUtf8, TooDeep, NoRoom}
+use Rattle.tables.specs.declared.LenientRefusal.TheVariants.{TextTooLong, NotUtf8, TooDeep, NoRoom}
 use Rattle.parser.specs.Read.{read_lenient}
 use Rattle.reader.specs.Lent.{Lent}
 use Rattle.c_answers.specs.Structs.{reading_in_c, no_counts}
@@ -13,6 +12,9 @@ use Rattle.demands.specs.Lists.{OneOf, lenient_numbers}
 use Rattle.demands.specs.Settings.{Ignores}
 use Rattle.demands.specs.When.{Exactly, ReadsInto, Unread}
 use Rattle.demands.proofs.Readings as reading
+use Rattle.std.specs.Prelude.{Result, Ok, Err}
+use Rattle.tables.specs.declared.Counts.{Counts}
+use Rattle.tables.specs.declared.LenientRefusal.{LenientRefusal}
 
 module _ {i : ℕ} (t : List ℕ) (before after : Lent) (r : SgfReading) (s : ReadInC i (read_lenient t) before after r) where
   -- 0 exactly where the text reads as a record whose rows are lent; each number, with its place, exactly where the definition refuses so, or, 14, rows are too few
@@ -37,9 +39,9 @@ pub lenient-ignored : (settings : ℕ) (t : List ℕ) (before after : Lent) (r :
 lenient-ignored settings t = reading.settings-ignored settings (read_lenient t)
 
 -- the list is the type: each case of a lenient answer is shown with its number
-pub lenient-case : (i : ℕ) (l : Lenient) → (reading_in_c i (as_reading l)).number ≡ lenient_number l
-lenient-case i (Accepted c) = refl
-lenient-case i TextTooLong = refl
-lenient-case i (NotUtf8 p) = refl
-lenient-case i TooDeep = refl
-lenient-case i NoRoom = refl
+pub lenient-case : (i : ℕ) (l : Result Counts LenientRefusal) → (reading_in_c i (as_reading l)).number ≡ lenient_number l
+lenient-case i (Ok c) = refl
+lenient-case i (Err TextTooLong) = refl
+lenient-case i (Err (NotUtf8 p)) = refl
+lenient-case i (Err TooDeep) = refl
+lenient-case i (Err NoRoom) = refl

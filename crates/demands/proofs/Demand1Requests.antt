@@ -20,7 +20,6 @@ use Rattle.c_why.specs.WhyInC.{why_in_c}
 use Rattle.c_why.specs.declared.SgfWhy.{SgfWhy}
 use Rattle.why_says.specs.Clear.{Clear, LenientClear}
 use Rattle.why_says.proofs.Laws as why
-use Rattle.season_tally.specs.declared.TallyAnswer.TheVariants.{NotFitting as NotTallied}
 use Rattle.season_tag.specs.Tag.{tag_of}
 use Rattle.c_tally.specs.TallyInC.{tally_in_c, tally_or_number}
 use Rattle.c_tally.specs.LineInC.{no_line_in_c, LineInC}
@@ -41,6 +40,7 @@ use Rattle.demands.proofs.AskedMore as asked
 use Rattle.demands.proofs.Counts as count
 use Rattle.demands.proofs.Explained as told
 use Rattle.demands.proofs.Lined as line
+use Rattle.std.specs.Prelude.{None}
 -- sgf_board: 19, 21, 22, 23, and all else 0 where it is refused; sgf_board_next: 23, or the number of the board given
 pub use Rattle.board_laws.proofs.Exactly.{board-exactly, board-zeros, next-exactly}
 -- sgf_entry: a section exactly where FF[4] lists the read identifier, whatever its length
@@ -104,7 +104,7 @@ module _ (m : Memory) (r : SgfTally) (s : r ≡ tally_or_number m) where
   tally-numbers = asked.tally-listed m r s
 
   -- refused: all else is 0
-  pub tally-zeros : 0 < r.number → r ≡ tally_in_c NotTallied
+  pub tally-zeros : 0 < r.number → r ≡ tally_in_c None
   tally-zeros = asked.tally-zeros m r s
 
 module _ (m : Memory) (out out' : List ℕ) (r : SgfLine) (s : LineInC m out out' r) where

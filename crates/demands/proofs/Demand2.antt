@@ -13,8 +13,6 @@ use Rattle.tables.specs.Numbers.{depth_limit, text_limit}
 use Rattle.tables.specs.Record.{Tree, all_nodes, all_props}
 use Rattle.tables.specs.Rows.{tables, counts_of}
 use Rattle.tables.specs.declared.Counts.{Counts}
-use Rattle.tables.specs.declared.Reading.{Reading}
-use Rattle.tables.specs.declared.Reading.TheVariants.{Accepted, Refused}
 use Rattle.tables.specs.declared.Reason.TheVariants.{TextTooLong, TooDeep, NoRoom}
 use Rattle.fit.specs.Fit.{Fit}
 use Rattle.fit.specs.Record.{raws_of, record_of, rows_in, record_in}
@@ -27,9 +25,6 @@ use Rattle.ask.specs.Ask.{go_answer}
 use Rattle.go.specs.Value.{is_go}
 use Rattle.serialize.specs.Form as form
 use Rattle.serialize.specs.Form.{writing, WriteIs}
-use Rattle.serialize.specs.declared.Written.{Written}
-use Rattle.serialize.specs.declared.Written.TheVariants as written
-use Rattle.serialize.specs.declared.Written.TheVariants.{Wrote}
 use Rattle.serialize_laws.specs.Alike.{AlikeProp, Alike, OneSet, Among}
 use Rattle.serialize_laws.specs.Back.{Named, BeginsAll, placeless_tree}
 use Rattle.serialize_laws.specs.Depth.{depth_of}
@@ -48,6 +43,10 @@ use Rattle.demands.proofs.Exported as exported
 use Rattle.demands.proofs.ExportedAgain as again
 use Rattle.demands.proofs.RoundTrip as trip
 use Rattle.demands.proofs.Writings as writings
+use Rattle.std.specs.Prelude.{Result, Ok, Err}
+use Rattle.tables.specs.Refusals.{refusal}
+use Rattle.tables.specs.declared.Reason.{Reason}
+use Rattle.tables.specs.declared.Refusal.{Refusal}
 -- what strict reading accepts, lenient reading accepts with the same record; the numbers of sgf_write and of the second sgf_read_strict, by room
 pub use Rattle.demands.proofs.Demand2Exported.{lenient-accepts-more, exported-more, exported-full, exported-first, exported-second}
 -- in tables that fit, as readings leave them, a root has depth 0 and any other node its parent's plus 1, so none is above its node's number; the depths of small texts
@@ -61,10 +60,10 @@ same-written = one.same-written
 
 -- two texts that are read as such records, strictly or not, by any two machines
 module _ (len len' : Bool) (t u : List ℕ) (before after before' after' : Lent) (c c' : Counts)
-    (x : ReadIs (read len t) before after (Accepted c)) (y : ReadIs (read len' u) before' after' (Accepted c'))
+    (x : ReadIs (read len t) before after (Ok c)) (y : ReadIs (read len' u) before' after' (Ok c'))
     (ts us : List Tree) (e : read len t ≡ accepted ts) (e' : read len' u ≡ accepted us) (a : Alike ts us) where
   -- what both write is the same bytes
-  pub readings-written : (out out₁ out' out₁' : List ℕ) (n n' : ℕ) → WriteIs (holding t c after) out out₁ (Wrote n) → WriteIs (holding u c' after') out' out₁' (Wrote n')
+  pub readings-written : (out out₁ out' out₁' : List ℕ) (n n' : ℕ) → WriteIs (holding t c after) out out₁ (Ok n) → WriteIs (holding u c' after') out' out₁' (Ok n')
       → (n ≡ n') × (take n out₁ ≡ take n' out₁')
   readings-written = writings.readings-written len t before after c x len' u before' after' c' y ts us e e' a
 
@@ -82,7 +81,7 @@ exported-written = exported.one-writing
 
 -- so do any two memories that hold such records
 pub memories-written : (m m' : Memory) → Alike (record_in m) (record_in m') → (out out₁ out' out₁' : List ℕ) (n n' : ℕ)
-    → WriteIs m out out₁ (Wrote n) → WriteIs m' out' out₁' (Wrote n') → (n ≡ n') × (take n out₁ ≡ take n' out₁')
+    → WriteIs m out out₁ (Ok n) → WriteIs m' out' out₁' (Ok n') → (n ≡ n') × (take n out₁ ≡ take n' out₁')
 memories-written = writings.one-writing
 
 -- properties of one set of points are alike
@@ -100,7 +99,7 @@ written-alike = aside.written-alike
 
 -- ---- an accepted reading, strict or lenient
 
-module _ (len : Bool) (t : List ℕ) (before after : Lent) (c : Counts) (x : ReadIs (read len t) before after (Accepted c)) where
+module _ (len : Bool) (t : List ℕ) (before after : Lent) (c : Counts) (x : ReadIs (read len t) before after (Ok c)) where
   -- the counts given back are the lengths of the tables of the record that the definition reads
   pub counts-read : (ts : List Tree) × (read len t ≡ accepted ts) × (c ≡ counts_of (tables ts))
   counts-read = counts-are-lengths len t before after c x
@@ -114,40 +113,40 @@ module _ (len : Bool) (t : List ℕ) (before after : Lent) (c : Counts) (x : Rea
   reading-denotes = read-rows len t before after c x
 
   -- what the writer makes of these tables is the writing of that record
-  pub reading-written : (out out' : List ℕ) (n : ℕ) → WriteIs (holding t c after) out out' (Wrote n) → (ts : List Tree) × (read len t ≡ accepted ts) × (take n out' ≡ writing ts)
+  pub reading-written : (out out' : List ℕ) (n : ℕ) → WriteIs (holding t c after) out out' (Ok n) → (ts : List Tree) × (read len t ≡ accepted ts) × (take n out' ≡ writing ts)
   reading-written = writings.bytes-written len t before after c x
 
 -- ---- read, write, read, write: a strict reading of a text whose trees each begin with `(` and whose raw identifiers are uppercase, not empty
 
-module _ (t : List ℕ) (before after : Lent) (k : Counts) (x : ReadIs (read_strict t) before after (Accepted k))
+module _ (t : List ℕ) (before after : Lent) (k : Counts) (x : ReadIs (read_strict t) before after (Ok k))
     (b : BeginsAll t) (nm : All Named (all_props (all_nodes (record_in (holding t k after))))) where
   -- the writer writes it where the output has room, and refuses it with 14 where it has not: never 19 or 15
-  pub named-writes : (out out' : List ℕ) (r : Written) → WriteIs (holding t k after) out out' r
+  pub named-writes : (out out' : List ℕ) (r : Result ℕ Reason) → WriteIs (holding t k after) out out' r
       → (length (writing (record_in (holding t k after))) ≤ length out
-      → (r ≡ Wrote (length (writing (record_in (holding t k after))))) × (out' ≡ writing (record_in (holding t k after)) ++ drop (length (writing (record_in (holding t k after)))) out))
-      × (length out < length (writing (record_in (holding t k after))) → (r ≡ written.Refused NoRoom) × (out' ≡ out))
+      → (r ≡ Ok (length (writing (record_in (holding t k after))))) × (out' ≡ writing (record_in (holding t k after)) ++ drop (length (writing (record_in (holding t k after)))) out))
+      × (length out < length (writing (record_in (holding t k after))) → (r ≡ Err NoRoom) × (out' ≡ out))
   named-writes = trip.named-writes t before after k x b nm
 
-  module _ (out out' : List ℕ) (n : ℕ) (w : WriteIs (holding t k after) out out' (Wrote n)) (l : n ≤ text_limit) where
+  module _ (out out' : List ℕ) (n : ℕ) (w : WriteIs (holding t k after) out out' (Ok n)) (l : n ≤ text_limit) where
     -- n bytes within the text limit: a strict reading of them is 9 where they are too deep
-    pub deep-nine : depth_limit < depth_of (take n out') → (before₂ after₂ : Lent) (r : Reading) → ReadIs (read_strict (take n out')) before₂ after₂ r → r ≡ Refused TooDeep 0
+    pub deep-nine : depth_limit < depth_of (take n out') → (before₂ after₂ : Lent) (r : Result Counts (Refusal Reason)) → ReadIs (read_strict (take n out')) before₂ after₂ r → r ≡ Err (refusal TooDeep 0)
     deep-nine = trip.deep-nine t before after k x b nm out out' n w l
 
     -- and only there
-    pub nine-deep : (before₂ after₂ : Lent) (p : ℕ) → ReadIs (read_strict (take n out')) before₂ after₂ (Refused TooDeep p) → depth_limit < depth_of (take n out')
+    pub nine-deep : (before₂ after₂ : Lent) (p : ℕ) → ReadIs (read_strict (take n out')) before₂ after₂ (Err (refusal TooDeep p)) → depth_limit < depth_of (take n out')
     nine-deep = trip.nine-deep t before after k x b nm out out' n w l
 
     module _ (s : depth_of (take n out') ≤ depth_limit) where
       -- within the depth it is accepted where the tables have room, which tables for n bytes have
-      pub read_again : (before₂ after₂ : Lent) (r : Reading) → ReadIs (read_strict (take n out')) before₂ after₂ r → Lends (strict_rows n) before₂ → (k₂ : Counts) × (r ≡ Accepted k₂)
+      pub read_again : (before₂ after₂ : Lent) (r : Result Counts (Refusal Reason)) → ReadIs (read_strict (take n out')) before₂ after₂ r → Lends (strict_rows n) before₂ → (k₂ : Counts) × (r ≡ Ok k₂)
       read_again before₂ after₂ r y h = (_, trip.room-enough t before after k x b nm out out' n w l s before₂ after₂ r y h)
 
       -- it reads as a record, and is accepted, with its counts, where tables have room for these, else 14
-      pub read-room : (ts : List Tree) × (read_strict (take n out') ≡ accepted ts) × ((before₂ after₂ : Lent) (r : Reading) → ReadIs (read_strict (take n out')) before₂ after₂ r
-          → (has_room (counts_of (tables ts)) before₂ ≡ true → r ≡ Accepted (counts_of (tables ts))) × (has_room (counts_of (tables ts)) before₂ ≡ false → r ≡ Refused NoRoom 0))
+      pub read-room : (ts : List Tree) × (read_strict (take n out') ≡ accepted ts) × ((before₂ after₂ : Lent) (r : Result Counts (Refusal Reason)) → ReadIs (read_strict (take n out')) before₂ after₂ r
+          → (has_room (counts_of (tables ts)) before₂ ≡ true → r ≡ Ok (counts_of (tables ts))) × (has_room (counts_of (tables ts)) before₂ ≡ false → r ≡ Err (refusal NoRoom 0)))
       read-room = (_, trip.reads-again t before after k x b nm out out' n w l s, trip.room-exactly t before after k x b nm out out' n w l s)
 
-      module _ (before₂ after₂ : Lent) (k₂ : Counts) (y : ReadIs (read_strict (take n out')) before₂ after₂ (Accepted k₂)) where
+      module _ (before₂ after₂ : Lent) (k₂ : Counts) (y : ReadIs (read_strict (take n out')) before₂ after₂ (Ok k₂)) where
         -- with the same trees, game types, parents, identifiers and Go values, and other values as they were raw
         pub same-record : Pairs SameTree (record_in (holding t k after)) (record_in (holding (take n out') k₂ after₂))
         same-record = trip.same-record t before after k x b nm out out' n w l s before₂ after₂ k₂ y
@@ -161,17 +160,17 @@ module _ (t : List ℕ) (before after : Lent) (k : Counts) (x : ReadIs (read_str
         same-go = trip.same-go t before after k x b nm out out' n w l s before₂ after₂ k₂ y
 
         -- and the writer leaves the same bytes
-        pub writes_again : (out₂ out₂' : List ℕ) (r : Written) → WriteIs (holding (take n out') k₂ after₂) out₂ out₂' r → n ≤ length out₂ → (r ≡ Wrote n) × (take n out₂' ≡ take n out')
+        pub writes_again : (out₂ out₂' : List ℕ) (r : Result ℕ Reason) → WriteIs (holding (take n out') k₂ after₂) out₂ out₂' r → n ≤ length out₂ → (r ≡ Ok n) × (take n out₂' ≡ take n out')
         writes_again = trip.writes_again t before after k x b nm out out' n w l s before₂ after₂ k₂ y
 
 -- ---- all of this is so of the exported functions: number 0 is acceptance with what the struct shows
 
 -- a reading, strict or lenient
-pub exported-reads : {i : ℕ} (len : Bool) (t : List ℕ) (before after : Lent) (a : SgfReading) → ReadInC i (read len t) before after a → a.number ≡ 0 → ReadIs (read len t) before after (Accepted (counts_read a))
+pub exported-reads : {i : ℕ} (len : Bool) (t : List ℕ) (before after : Lent) (a : SgfReading) → ReadInC i (read len t) before after a → a.number ≡ 0 → ReadIs (read len t) before after (Ok (counts_read a))
 exported-reads len t = exported.shown-accepted (read len t)
 
 -- a writing
-pub exported-writes : (m : Memory) (out out' : List ℕ) (r : SgfWriting) → WriteInC m out out' r → r.number ≡ 0 → WriteIs m out out' (Wrote r.length)
+pub exported-writes : (m : Memory) (out out' : List ℕ) (r : SgfWriting) → WriteInC m out out' r → r.number ≡ 0 → WriteIs m out out' (Ok r.length)
 exported-writes = exported.shown-wrote
 
 -- read, write, read, write, under the scope's premises
@@ -190,7 +189,7 @@ module _ {i i₂ : ℕ} (t : List ℕ) (before after : Lent) (a : SgfReading) (x
   exported-again = again.again t before after a x z b nm out out' r w v l before₂ after₂ a₂ x₂
 
 -- a text beyond the limit, whatever it is, is 1: a writing as well
-pub long-one : (len : Bool) (t : List ℕ) (before after : Lent) (r : Reading) → text_limit < length t → ReadIs (read len t) before after r → r ≡ Refused TextTooLong 0
+pub long-one : (len : Bool) (t : List ℕ) (before after : Lent) (r : Result Counts (Refusal Reason)) → text_limit < length t → ReadIs (read len t) before after r → r ≡ Err (refusal TextTooLong 0)
 long-one = trip.long-one
 
 -- the same of the definitions alone

@@ -8,16 +8,12 @@ use Rattle.tables.specs.Memory.{Memory}
 use Rattle.tables.specs.Numbers.{text_limit}
 use Rattle.tables.specs.Rows.{tables, counts_of}
 use Rattle.tables.specs.declared.Counts.{Counts}
-use Rattle.tables.specs.declared.Reading.{Reading}
-use Rattle.tables.specs.declared.Reading.TheVariants.{Accepted}
 use Rattle.tables.specs.declared.Reason.{Reason}
 use Rattle.fit.specs.Fit.{Fit}
 use Rattle.fit.specs.Record.{rows_of, rows_in, text_in}
 use Rattle.parser.specs.Game.{GM}
 use Rattle.parser.specs.Read.{read_strict}
 use Rattle.reader.specs.Lent.{Lent, ReadIs}
-use Rattle.edit_answer.specs.declared.Edited.{Edited}
-use Rattle.edit_answer.specs.declared.Edited.TheVariants.{Changed, Refused}
 use Rattle.edit.specs.Lent.{EditIs}
 use Rattle.c_answers.specs.declared.SgfEdit.{SgfEdit}
 use Rattle.c_answers.specs.declared.SgfReading.{SgfReading}
@@ -36,11 +32,14 @@ use Rattle.demands.proofs.CallsShown.{calls-shown}
 use Rattle.demands.proofs.Edited as edited
 use Rattle.demands.proofs.Editing as editing
 use Rattle.demands.proofs.Rereadings as again
+use Rattle.std.specs.Prelude.{Result, Ok, Err}
+use Rattle.tables.specs.Refusals.{refusal}
+use Rattle.tables.specs.declared.Refusal.{Refusal}
 
 module _ (m : Memory) where
   -- memory as an accepted strict reading of the used text leaves it: the tables fit, and their rows are the record's
   pub reading-fresh : (before : Lent) → m.used ≤ length m.text
-      → ReadIs (read_strict (text_in m)) before (tables_in m) (Accepted m.counts) → Fresh m
+      → ReadIs (read_strict (text_in m)) before (tables_in m) (Ok m.counts) → Fresh m
   reading-fresh = again.read-fresh m
 
   -- the same of sgf_read_strict: number 0, and the counts that it gives back
@@ -65,8 +64,8 @@ module _ (m : Memory) where
     edits-fresh xs m' = again.calls-fresh m m' xs f
 
     -- a strict reading of the used bytes into tables with room is accepted, with the same counts, and leaves the same cells
-    pub fresh-reading : (before after : Lent) (r : Reading) → has_room m.counts before ≡ true → ReadIs (read_strict (text_in m)) before after r
-        → (r ≡ Accepted m.counts) × SameCells m.counts after (tables_in m)
+    pub fresh-reading : (before after : Lent) (r : Result Counts (Refusal Reason)) → has_room m.counts before ≡ true → ReadIs (read_strict (text_in m)) before after r
+        → (r ≡ Ok m.counts) × SameCells m.counts after (tables_in m)
     fresh-reading = again.reread m f
 
     -- the same of sgf_read_strict
@@ -75,8 +74,8 @@ module _ (m : Memory) where
     shown-reading = again.reread-shown m f
 
     -- the caller's own tables have room, and a reading into them leaves every number
-    pub own-reading : (after : Lent) (r : Reading) → ReadIs (read_strict (text_in m)) (tables_in m) after r
-        → (r ≡ Accepted m.counts) × (after ≡ tables_in m)
+    pub own-reading : (after : Lent) (r : Result Counts (Refusal Reason)) → ReadIs (read_strict (text_in m)) (tables_in m) after r
+        → (r ≡ Ok m.counts) × (after ≡ tables_in m)
     own-reading = again.reread-own m f
 
 -- memory without tables holds no reading, whatever its cells would read as
@@ -85,18 +84,18 @@ bare-not-fresh = bare.bare-not-fresh
 
 -- ---- of any memory that fits, whatever reading it is of
 
-module _ (m m' : Memory) (k : ℕ) (new : List ℕ) (r : Edited) (s : EditIs m m' k new r) where
+module _ (m m' : Memory) (k : ℕ) (new : List ℕ) (r : Result ℕ (Refusal Reason)) (s : EditIs m m' k new r) where
   -- an edit that nothing forbids is accepted; bytes before the value stay, the new ones stand there, those behind follow, freed ones are 0;
   -- places before the value stay, those behind it move by the change in length
-  pub edit-accepted : Allowed m k new → (r ≡ Changed (new_length m k (length new))) × Edits m k new m'
+  pub edit-accepted : Allowed m k new → (r ≡ Ok (new_length m k (length new))) × Edits m k new m'
   edit-accepted = edited.edit-accepts m m' k new r s
 
   -- and no other is
-  pub edit-accepted-only : (n : ℕ) → r ≡ Changed n → Allowed m k new × (n ≡ new_length m k (length new))
+  pub edit-accepted-only : (n : ℕ) → r ≡ Ok n → Allowed m k new × (n ≡ new_length m k (length new))
   edit-accepted-only = edited.edit-accepted-only m m' k new r s
 
   -- each of 19, 16, 17, 2, 18, 1, 14 exactly when the scope says, in this order, with the place
-  pub edit-refused-exactly : (x : Reason) (p : ℕ) → (r ≡ Refused x p) ↔ Forbidden m k new x p
+  pub edit-refused-exactly : (x : Reason) (p : ℕ) → (r ≡ Err (refusal x p)) ↔ Forbidden m k new x p
   edit-refused-exactly = edited.edit-refuses m m' k new r s
 
 -- the same of sgf_edit; when it is refused: Demand1's edit-exactly
@@ -122,7 +121,7 @@ shown-run m m' xs f k = calls-run m m' xs f (calls-shown k)
 
 module _ (m : Memory) where
   -- an accepted strict reading leaves such rows
-  pub reading-reads : (before : Lent) → ReadIs (read_strict (text_in m)) before (tables_in m) (Accepted m.counts) → Reads (edit.text_rows m)
+  pub reading-reads : (before : Lent) → ReadIs (read_strict (text_in m)) before (tables_in m) (Ok m.counts) → Reads (edit.text_rows m)
   reading-reads = again.read-reads m
 
   module _ (f : Reads (edit.text_rows m)) where
@@ -135,6 +134,6 @@ module _ (m : Memory) where
     counts-reads = code.counts-reads m f
 
     -- whatever tables it is read into, an accepted reading has these rows
-    pub reads-rows : (before after : Lent) (k : Counts) → ReadIs (read_strict (text_in m)) before after (Accepted k)
+    pub reads-rows : (before after : Lent) (k : Counts) → ReadIs (read_strict (text_in m)) before after (Ok k)
         → rows_of k after.trees after.nodes after.props after.vals ≡ rows_in m
     reads-rows = again.reread-rows m f

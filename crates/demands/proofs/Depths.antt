@@ -8,7 +8,6 @@ use Rattle.tables.specs.Memory.{Memory}
 use Rattle.tables.specs.Numbers.{none}
 use Rattle.tables.specs.Rows.{NodeRow, depths, tables}
 use Rattle.tables.specs.declared.Counts.{Counts}
-use Rattle.tables.specs.declared.Reading.TheVariants.{Accepted}
 use Rattle.tables.proofs.Cases.{below_or}
 use Rattle.tables.proofs.Depths.{depths-root, depths-child}
 use Rattle.tables.proofs.Each.{each_at}
@@ -26,6 +25,7 @@ use Rattle.sgf.specs.ReadInC.{ReadInC}
 use Rattle.demands.specs.Cells.{counts_read}
 use Rattle.demands.specs.Holding.{holding}
 use Rattle.demands.proofs.Exported.{shown-accepted}
+use Rattle.std.specs.Prelude.{Ok}
 use Prim.Native.String.{String}
 
 -- ---- tables that fit
@@ -64,7 +64,7 @@ abbrev pub Deep : List ℕ → ℕ → Type 0
 Deep nd k = (parent_at nd k ≡ none → depth_at nd k ≡ 0) × ((parent_at nd k ≡ none → ⊥) → depth_at nd k ≡ suc (depth_at nd (parent_at nd k)))
 
 -- so it is of the tables that it leaves
-pub reading-depths : (len : Bool) (t : List ℕ) (before after : Lent) (c : Counts) → ReadIs (read len t) before after (Accepted c) → (k : ℕ) → k < c.nodes
+pub reading-depths : (len : Bool) (t : List ℕ) (before after : Lent) (c : Counts) → ReadIs (read len t) before after (Ok c) → (k : ℕ) → k < c.nodes
     → Deep after.nodes k
 reading-depths len t before after c x k l =
     let f = read_fits len t before after c x in

@@ -4,8 +4,6 @@ use Rattle.tables.specs.Memory.{Memory}
 use Rattle.tables.specs.Numbers.{number_of}
 use Rattle.tables.specs.declared.Reason.{Reason}
 use Rattle.edit_answer.specs.Answer.{outcome_of}
-use Rattle.edit_answer.specs.declared.Edited.{Edited}
-use Rattle.edit_answer.specs.declared.Edited.TheVariants.{Changed, Refused}
 use Rattle.edit.specs.Lent.{EditIs}
 use Rattle.c_answers.specs.Structs.{edit_in_c, no_counts}
 use Rattle.c_answers.specs.declared.SgfEdit.{SgfEdit}
@@ -19,17 +17,20 @@ use Rattle.demands.specs.Lists.{OneOf, edit_numbers}
 use Rattle.demands.proofs.Listed.{one_of}
 use Rattle.demands.proofs.Numbers.{exactly}
 use Rattle.demands.proofs.Refusals.{edit-leaves}
+use Rattle.std.specs.Prelude.{Result, Ok, Err}
+use Rattle.tables.specs.Refusals.{refusal}
+use Rattle.tables.specs.declared.Refusal.{Refusal}
 
 -- ---- the edit
 
-module _ (m m' : Memory) (k : ℕ) (new : List ℕ) (r : Edited) (s : EditIs m m' k new r) where
-  pub edit-accepts : Allowed m k new → (r ≡ Changed (new_length m k (length new))) × Edits m k new m'
+module _ (m m' : Memory) (k : ℕ) (new : List ℕ) (r : Result ℕ (Refusal Reason)) (s : EditIs m m' k new r) where
+  pub edit-accepts : Allowed m k new → (r ≡ Ok (new_length m k (length new))) × Edits m k new m'
   edit-accepts a = (s.answer ∙ allowed-given m k new a, allowed-leaves m k new a m' s.memory)
 
-  pub edit-accepted-only : (n : ℕ) → r ≡ Changed n → Allowed m k new × (n ≡ new_length m k (length new))
+  pub edit-accepted-only : (n : ℕ) → r ≡ Ok n → Allowed m k new × (n ≡ new_length m k (length new))
   edit-accepted-only n e = given-allowed m k new n (sym s.answer ∙ e)
 
-  pub edit-refuses : (x : Reason) (p : ℕ) → (r ≡ Refused x p) ↔ Forbidden m k new x p
+  pub edit-refuses : (x : Reason) (p : ℕ) → (r ≡ Err (refusal x p)) ↔ Forbidden m k new x p
   edit-refuses x p = ((λ e. given-forbidden m k new x p (sym s.answer ∙ e)), (λ f. s.answer ∙ forbidden-given m k new f))
 
 -- ---- as it is exported
@@ -47,10 +48,10 @@ module _ (m m' : Memory) (k : ℕ) (new : List ℕ) (r : SgfEdit) (s : EditInC m
   abbrev Because : Reason → Type 0
   Because x = (p : ℕ) × Forbidden m k new x p × (r.place ≡ p)
 
-  shown-allowed : Allowed m k new → r ≡ edit_in_c m.counts (Changed (new_length m k (length new)))
+  shown-allowed : Allowed m k new → r ≡ edit_in_c m.counts (Ok (new_length m k (length new)))
   shown-allowed a = s.is ∙ ap (edit_in_c m.counts) (allowed-given m k new a)
 
-  shown-forbidden : {x : Reason} {p : ℕ} → Forbidden m k new x p → r ≡ edit_in_c m.counts (Refused x p)
+  shown-forbidden : {x : Reason} {p : ℕ} → Forbidden m k new x p → r ≡ edit_in_c m.counts (Err (refusal x p))
   shown-forbidden f = s.is ∙ ap (edit_in_c m.counts) (forbidden-given m k new f)
 
   pub edit-exactly : Exactly r.number (Allowed m k new) Because

@@ -5,13 +5,11 @@ use Rattle.tables.specs.Memory.{Memory}
 use Rattle.tables.specs.Numbers.{depth_limit, text_limit}
 use Rattle.tables.specs.Record.{Tree, all_nodes, all_props}
 use Rattle.tables.specs.Rows.{tables, counts_of}
-use Rattle.tables.specs.declared.Reading.TheVariants as reading
 use Rattle.tables.specs.declared.Reason.TheVariants.{NoRoom}
 use Rattle.fit.specs.Record.{record_in}
 use Rattle.parser.specs.Read.{accepted, read_strict}
 use Rattle.reader.specs.Lent.{Lent, answers, ReadIs}
 use Rattle.serialize.specs.Form.{writing, written, WriteIs}
-use Rattle.serialize.specs.declared.Written.TheVariants.{Wrote}
 use Rattle.serialize_laws.specs.Back.{Named, BeginsAll}
 use Rattle.serialize_laws.specs.Depth.{depth_of}
 use Rattle.c_answers.specs.Structs.{reading_in_c, writing_in_c}
@@ -24,6 +22,8 @@ use Rattle.demands.specs.Holding.{holding}
 use Rattle.demands.proofs.Exported.{shown-accepted, shown-wrote}
 use Rattle.demands.proofs.RoundTrip.{named-writes, back, reads-again, room-exactly}
 use Rattle.demands.proofs.Writings.{wrote-bytes}
+use Rattle.std.specs.Prelude.{Ok, Err}
+use Rattle.tables.specs.Refusals.{refusal}
 
 module _ {i : ℕ} (t : List ℕ) (before after : Lent) (a : SgfReading) (x : ReadInC i (read_strict t) before after a) (z : a.number ≡ 0)
     (b : BeginsAll t) (nm : All Named (all_props (all_nodes (record_in (holding t (counts_read a) after))))) (out out' : List ℕ) (r : SgfWriting)
@@ -34,7 +34,7 @@ module _ {i : ℕ} (t : List ℕ) (before after : Lent) (a : SgfReading) (x : Re
   abbrev W : List ℕ
   W = writing (record_in (holding t (counts_read a) after))
 
-  reads : ReadIs (read_strict t) before after (reading.Accepted (counts_read a))
+  reads : ReadIs (read_strict t) before after (Ok (counts_read a))
   reads = shown-accepted (read_strict t) before after a x z
 
   pub first-full : length out < length W → (r.number ≡ 14) × (out' ≡ out)
@@ -48,7 +48,7 @@ module _ {i : ℕ} (t : List ℕ) (before after : Lent) (a : SgfReading) (x : Re
         let q = (named-writes t before after (counts_read a) reads b nm out out' (written M (length out)) (record { is = refl; bytes = w.bytes })).0 h in
         ap (λ (y : SgfWriting). y.number) (w.is ∙ ap writing_in_c q.0)
 
-    wrote : WriteIs (holding t (counts_read a) after) out out' (Wrote r.length)
+    wrote : WriteIs (holding t (counts_read a) after) out out' (Ok r.length)
     wrote = shown-wrote M out out' r w first-zero
 
     pub first-written : (r.number ≡ 0) × (r.length ≡ length W) × (take r.length out' ≡ W)
@@ -71,14 +71,14 @@ module _ {i : ℕ} (t : List ℕ) (before after : Lent) (a : SgfReading) (x : Re
       reads_so = reads-again t before after (counts_read a) reads b nm out out' r.length wrote short low
 
       module _ {i₂ : ℕ} (before₂ after₂ : Lent) (a₂ : SgfReading) (x₂ : ReadInC i₂ (read_strict U) before₂ after₂ a₂) where
-        is : (has_room (counts_of (tables again)) before₂ ≡ true → answers (read_strict U) before₂ ≡ reading.Accepted (counts_of (tables again)))
-            × (has_room (counts_of (tables again)) before₂ ≡ false → answers (read_strict U) before₂ ≡ reading.Refused NoRoom 0)
+        is : (has_room (counts_of (tables again)) before₂ ≡ true → answers (read_strict U) before₂ ≡ Ok (counts_of (tables again)))
+            × (has_room (counts_of (tables again)) before₂ ≡ false → answers (read_strict U) before₂ ≡ Err (refusal NoRoom 0))
         is =
             room-exactly t before after (counts_read a) reads b nm out out' r.length wrote short low
             before₂ after₂ (answers (read_strict U) before₂) (record { answer = refl; tables = x₂.tables })
 
         second-zero : has_room (counts_of (tables again)) before₂ ≡ true → (a₂.number ≡ 0) × (counts_read a₂ ≡ counts_of (tables again))
-        second-zero q = let f : a₂ ≡ reading_in_c i₂ (reading.Accepted (counts_of (tables again))) = x₂.is ∙ ap (reading_in_c i₂) (is.0 q) in (ap (λ (y : SgfReading). y.number) f, ap counts_read f)
+        second-zero q = let f : a₂ ≡ reading_in_c i₂ (Ok (counts_of (tables again))) = x₂.is ∙ ap (reading_in_c i₂) (is.0 q) in (ap (λ (y : SgfReading). y.number) f, ap counts_read f)
 
         second-full : has_room (counts_of (tables again)) before₂ ≡ false → a₂.number ≡ 14
         second-full q = ap (λ (y : SgfReading). y.number) (x₂.is ∙ ap (reading_in_c i₂) (is.1 q))

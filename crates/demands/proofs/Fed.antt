@@ -17,29 +17,31 @@ use Rattle.edit_laws.specs.Edits.{owner}
 use Rattle.feed.specs.Feed.{Entry, listing}
 use Rattle.feed_check.specs.Check.{feed_checked, bytes_at, shut_judged, bytes_judged, correction_judged, corrections_judged, first_refusal}
 use Rattle.feed_check.specs.declared.FeedRefusal.TheVariants.{NotFitting, Malformed, NoSuchNumber, GameTypeFixed, NotUtf8}
-use Rattle.feed_check.specs.declared.Checked.{Checked}
-use Rattle.feed_check.specs.declared.Checked.TheVariants.{Passed, Refused}
 use Rattle.c_feed.specs.Parts.{check_in_c}
 use Rattle.c_feed.specs.declared.SgfCheck.{SgfCheck}
 use Rattle.c_feed.proofs.Corrected.{no_zero}
 use Rattle.demands.specs.Requests.{OnlyAt, CorrectionBecause, passes, CorrectionsBecause, FeedBecause}
 use Rattle.demands.specs.Requests as when
+use Rattle.std.specs.Prelude.{Result, Ok, Err, ⊤}
+use Rattle.tables.specs.Refusals.{refusal}
+use Rattle.feed_check.specs.declared.FeedRefusal.{FeedRefusal}
+use Rattle.tables.specs.declared.Refusal.{Refusal}
 
 -- given for a reason, and each reason gives its own: then only so
 pub only_at : (Because : (number place : ℕ) → Type 0) (n p : ℕ) → (a : ℕ) × (b : ℕ) × Because a b → ((a b : ℕ) → Because a b → (n ≡ a) × (p ≡ b)) → OnlyAt Because n p
 only_at Because n p (a, b, x) h = record { only = subst₂ Because (sym (h a b x).0) (sym (h a b x).1) x; always = h }
 
 -- a check says a number and a place
-abbrev pub Says : Checked → (number place : ℕ) → Type 0
+abbrev pub Says : Result ⊤ (Refusal FeedRefusal) → (number place : ℕ) → Type 0
 Says c n p = ((check_in_c c).number ≡ n) × ((check_in_c c).place ≡ p)
 
-says : {c d : Checked} → c ≡ d → Says c (check_in_c d).number (check_in_c d).place
-says e = (ap (λ (z : Checked). (check_in_c z).number) e, ap (λ (z : Checked). (check_in_c z).place) e)
+says : {c d : Result ⊤ (Refusal FeedRefusal)} → c ≡ d → Says c (check_in_c d).number (check_in_c d).place
+says e = (ap (λ (z : Result ⊤ (Refusal FeedRefusal)). (check_in_c z).number) e, ap (λ (z : Result ⊤ (Refusal FeedRefusal)). (check_in_c z).place) e)
 
 -- 0 is said where it passes
-pub says-passed : (c : Checked) {p : ℕ} → Says c 0 p → c ≡ Passed
-says-passed Passed h = refl
-says-passed (Refused f q) h = no_zero f h.0
+pub says-passed : (c : Result ⊤ (Refusal FeedRefusal)) {p : ℕ} → Says c 0 p → c ≡ Ok tt
+says-passed (Ok tt) h = refl
+says-passed (Err e) h = no_zero e.reason h.0
 
 well-judged : (at : ℕ) (b : List ℕ) (c : Bool) → WellFormed b → bytes_judged at (trimmed b) c ≡ shut_judged c
 well-judged at b c v = go (trimmed b) refl
@@ -53,7 +55,7 @@ module _ (m : Memory) (w : List ℕ) where
   -- ---- one correction
 
   module _ (x : Entry) where
-    abbrev here : Checked
+    abbrev here : Result ⊤ (Refusal FeedRefusal)
     here = correction_judged (text_in m) (rows_in m).props m.counts.values w x
 
     not-gm : (owner m x.value ≡ GM → ⊥) → same (owner m x.value) GM ≡ false
@@ -66,11 +68,11 @@ module _ (m : Memory) (w : List ℕ) where
     by_bytes l g = rw (lt-ltb x.value m.counts.values l, not-gm g)
 
     one-says : {n p : ℕ} → CorrectionBecause m w x n p → Says here n p
-    one-says (when.beyond l) = says {c = here} {d = Refused NoSuchNumber 0} (rw (le-ltb x.value m.counts.values l))
-    one-says (when.fixed l g) = says {c = here} {d = Refused GameTypeFixed 0} (rw (lt-ltb x.value m.counts.values l, is-gm g))
-    one-says (when.garbled l g p b) = says {c = here} {d = Refused NotUtf8 (x.from + p)} (by_bytes l g ∙ rw (bad-trimmed (bytes_at w x) p b))
+    one-says (when.beyond l) = says {c = here} {d = Err (refusal NoSuchNumber 0)} (rw (le-ltb x.value m.counts.values l))
+    one-says (when.fixed l g) = says {c = here} {d = Err (refusal GameTypeFixed 0)} (rw (lt-ltb x.value m.counts.values l, is-gm g))
+    one-says (when.garbled l g p b) = says {c = here} {d = Err (refusal NotUtf8 (x.from + p))} (by_bytes l g ∙ rw (bad-trimmed (bytes_at w x) p b))
     one-says (when.open-ended l g v c) = says {c = here} {d = shut_judged false} (by_bytes l g ∙ well-judged x.from (bytes_at w x) (closed (bytes_at w x)) v ∙ ap shut_judged c)
-    one-says (when.passes l g v c) = says {c = here} {d = Passed} (by_bytes l g ∙ well-judged x.from (bytes_at w x) (closed (bytes_at w x)) v ∙ ap shut_judged c)
+    one-says (when.passes l g v c) = says {c = here} {d = Ok tt} (by_bytes l g ∙ well-judged x.from (bytes_at w x) (closed (bytes_at w x)) v ∙ ap shut_judged c)
 
     abbrev Decided : Type 0
     Decided = CorrectionBecause m w x 0 0 ⊎ ((n : ℕ) × (p : ℕ) × (0 < n) × CorrectionBecause m w x n p)
@@ -90,15 +92,15 @@ module _ (m : Memory) (w : List ℕ) where
 
   -- ---- corrections one after another
 
-  first_says : (c d : Checked) {n p : ℕ} → 0 < n → Says c n p → Says (first_refusal c d) n p
-  first_says Passed d l h = absurd (omega (arith, l, h.0))
-  first_says (Refused f q) d l h = h
+  first_says : (c d : Result ⊤ (Refusal FeedRefusal)) {n p : ℕ} → 0 < n → Says c n p → Says (first_refusal c d) n p
+  first_says (Ok tt) d l h = absurd (omega (arith, l, h.0))
+  first_says (Err e) d l h = h
 
-  later-says : (c d : Checked) {n p : ℕ} → Says c 0 0 → Says d n p → Says (first_refusal c d) n p
-  later-says Passed d z h = h
-  later-says (Refused f q) d z h = no_zero f z.0
+  later-says : (c d : Result ⊤ (Refusal FeedRefusal)) {n p : ℕ} → Says c 0 0 → Says d n p → Says (first_refusal c d) n p
+  later-says (Ok tt) d z h = h
+  later-says (Err e) d z h = no_zero e.reason z.0
 
-  abbrev these : List Entry → Checked
+  abbrev these : List Entry → Result ⊤ (Refusal FeedRefusal)
   these xs = corrections_judged (text_in m) (rows_in m).props m.counts.values w xs
 
   all_say : {xs : List Entry} {n p : ℕ} → CorrectionsBecause m w xs n p → Says (these xs) n p
@@ -116,8 +118,8 @@ module _ (m : Memory) (w : List ℕ) where
 
   pub feed-says : {n p : ℕ} → FeedBecause m w n p → Says (feed_checked m w) n p
   unfolding feed_checked
-  feed-says (when.misfit f) = says {c = feed_checked m w} {d = Refused NotFitting 0} (rw f)
-  feed-says (when.malformed f l) = says {c = feed_checked m w} {d = Refused Malformed 0} (rw (f, l))
+  feed-says (when.misfit f) = says {c = feed_checked m w} {d = Err (refusal NotFitting 0)} (rw f)
+  feed-says (when.malformed f l) = says {c = feed_checked m w} {d = Err (refusal Malformed 0)} (rw (f, l))
   feed-says (when.judged f l b) = let e : feed_checked m w ≡ these (listing w).entries = rw (f, l) in let h = all_say b in ((says e).0 ∙ h.0, (says e).1 ∙ h.1)
 
   pub feed-decided : (n : ℕ) × (p : ℕ) × FeedBecause m w n p

@@ -5,8 +5,6 @@ use Rattle.tables.specs.Numbers.{text_limit}
 use Rattle.tables.proofs.Cases.{below_or}
 use Rattle.feed_check.specs.Check.{feed_checked}
 use Rattle.feed_check.specs.declared.FeedRefusal.TheVariants.{TextTooLong, NoRoom}
-use Rattle.feed_check.specs.declared.Checked.{Checked}
-use Rattle.feed_check.specs.declared.Checked.TheVariants.{Passed, Refused}
 use Rattle.feed_laws.specs.Applied.{Applying, refusing, applying, on_length, once_checked, feed_applied}
 use Rattle.feed_laws.specs.Corrected.{corrected_text, corrected_rows}
 use Rattle.feed_apply.specs.Lent.{applied_for}
@@ -18,12 +16,15 @@ use Rattle.demands.specs.Requests.{OnlyAt, ApplyBecause}
 use Rattle.demands.specs.Requests as when
 use Rattle.demands.proofs.Fed.{only_at, Says, feed-says}
 use Rattle.demands.proofs.FedInto.{feed-passed, feed-or}
+use Rattle.std.specs.Prelude.{Result, Ok, Err, ⊤}
+use Rattle.feed_check.specs.declared.FeedRefusal.{FeedRefusal}
+use Rattle.tables.specs.declared.Refusal.{Refusal}
 
 module _ (m : Memory) (w : List ℕ) (m' : Memory) (r : SgfEdit) (s : CorrectInC m m' w r) where
   abbrev AppliesAs : SgfEdit → (number place : ℕ) → Type 0
   AppliesAs x n p = (x.number ≡ n) × (x.place ≡ p)
 
-  abbrev applies : Checked → SgfEdit
+  abbrev applies : Result ⊤ (Refusal FeedRefusal) → SgfEdit
   applies c = applied_in_c m.counts (applied_for (once_checked c (on_length (length m.text) (corrected_text m w) (corrected_rows m w))))
 
   applied : r ≡ applies (feed_checked m w)
@@ -33,9 +34,9 @@ module _ (m : Memory) (w : List ℕ) (m' : Memory) (r : SgfEdit) (s : CorrectInC
   of : {x : SgfEdit} {n p : ℕ} → r ≡ x → AppliesAs x n p → AppliesAs r n p
   of e h = (ap (λ (z : SgfEdit). z.number) e ∙ h.0, ap (λ (z : SgfEdit). z.place) e ∙ h.1)
 
-  refused-applies : (c : Checked) {n p : ℕ} → 0 < n → Says c n p → AppliesAs (applies c) n p
-  refused-applies Passed l h = absurd (omega (arith, l, h.0))
-  refused-applies (Refused f q) l h = h
+  refused-applies : (c : Result ⊤ (Refusal FeedRefusal)) {n p : ℕ} → 0 < n → Says c n p → AppliesAs (applies c) n p
+  refused-applies (Ok tt) l h = absurd (omega (arith, l, h.0))
+  refused-applies (Err e) l h = h
 
   abbrev L : ℕ
   L = length (corrected_text m w)

@@ -6,14 +6,9 @@ use Rattle.tables.proofs.Cases.{either-bool, below_or}
 use Rattle.feed.specs.Feed.{listing}
 use Rattle.feed.specs.Find.{found_in}
 use Rattle.feed.specs.Made.{made_for, out_after}
-use Rattle.feed.specs.declared.Found.{Found}
-use Rattle.feed.specs.declared.Found.TheVariants.{At, Nowhere}
-use Rattle.feed.specs.declared.make.Made.{Made}
-use Rattle.feed.specs.declared.make.Made.TheVariants.{Bytes, TooLarge, NoRoom as NoBytes}
+use Rattle.feed.specs.declared.make.MakeFault.TheVariants.{TooLarge, NoRoom as NoBytes}
 use Rattle.feed_check.specs.Check.{feed_checked}
 use Rattle.feed_check.specs.declared.FeedRefusal.TheVariants.{NoSuchNumber}
-use Rattle.feed_check.specs.declared.Checked.{Checked}
-use Rattle.feed_check.specs.declared.Checked.TheVariants.{Passed, Refused}
 use Rattle.feed_value.specs.Look.{source_of, unless_refused, looked_up}
 use Rattle.feed_value.specs.declared.Looked.{Looked}
 use Rattle.feed_value.specs.declared.Looked.TheVariants.{Record, Feed, Refused as NotLooked}
@@ -23,9 +18,13 @@ use Rattle.c_feed.specs.declared.SgfPart.{SgfPart}
 use Rattle.demands.specs.Requests.{Only, OnlyAt, FeedBecause, LookBecause, PutBecause}
 use Rattle.demands.specs.Requests as when
 use Rattle.demands.proofs.Fed.{only_at, Says, says-passed, feed-says, feed-decided}
+use Rattle.std.specs.Prelude.{Option, Some, None, Result, Ok, Err, ⊤}
+use Rattle.feed_check.specs.declared.FeedRefusal.{FeedRefusal}
+use Rattle.feed.specs.declared.make.MakeFault.{MakeFault}
+use Rattle.tables.specs.declared.Refusal.{Refusal}
 
 module _ (m : Memory) (w : List ℕ) where
-  pub feed-passed : FeedBecause m w 0 0 → feed_checked m w ≡ Passed
+  pub feed-passed : FeedBecause m w 0 0 → feed_checked m w ≡ Ok tt
   feed-passed b = says-passed (feed_checked m w) (feed-says m w b)
 
   -- a reason of the feed: 0 at 0, or above 0
@@ -35,7 +34,7 @@ module _ (m : Memory) (w : List ℕ) where
       go : (n p : ℕ) → FeedBecause m w n p → X
       go zero p b =
           let h = feed-says m w b in
-          let e : p ≡ 0 = sym h.1 ∙ ap (λ (c : Checked). (check_in_c c).place) (says-passed (feed_checked m w) h) in
+          let e : p ≡ 0 = sym h.1 ∙ ap (λ (c : Result ⊤ (Refusal FeedRefusal)). (check_in_c c).place) (says-passed (feed_checked m w) h) in
           pass (subst (FeedBecause m w 0) e b)
       go (suc n) p b = refuse (suc n) p (omega arith) b
 
@@ -55,21 +54,21 @@ module _ (m : Memory) (w : List ℕ) where
     shows-as : {x : SgfPart} {n p : ℕ} → r ≡ x → LooksAs x n p → LooksAs r n p
     shows-as e h = (ap (λ (z : SgfPart). z.number) e ∙ h.0, ap (λ (z : SgfPart). z.place) e ∙ h.1)
 
-    refused-looks : (c : Checked) {n p : ℕ} → 0 < n → Says c n p → LooksAs (part_in_c (unless_refused c rest)) n p
-    refused-looks Passed l h = absurd (omega (arith, l, h.0))
-    refused-looks (Refused f q) l h = h
+    refused-looks : (c : Result ⊤ (Refusal FeedRefusal)) {n p : ℕ} → 0 < n → Says c n p → LooksAs (part_in_c (unless_refused c rest)) n p
+    refused-looks (Ok tt) l h = absurd (omega (arith, l, h.0))
+    refused-looks (Err e) l h = h
 
-    found-looks : (x : Found) (a e : ℕ) → LooksAs (part_in_c (source_of x a e)) 0 0
-    found-looks (At p q) a e = (refl, refl)
-    found-looks Nowhere a e = (refl, refl)
+    found-looks : (x : Option (ℕ × ℕ)) (a e : ℕ) → LooksAs (part_in_c (source_of x a e)) 0 0
+    found-looks (Some (p, q)) a e = (refl, refl)
+    found-looks None a e = (refl, refl)
 
     looks : (n p : ℕ) → LookBecause m w k n p → LooksAs r n p
     looks n p (when.refused l b) = shows-as looked (refused-looks (feed_checked m w) l (feed-says m w b))
     looks n p (when.beyond b l) =
-        shows-as {x = part_in_c (NotLooked NoSuchNumber 0)} (looked ∙ ap (λ (c : Checked). part_in_c (unless_refused c rest)) (feed-passed b) ∙ rw (le-ltb k m.counts.values l)) (refl, refl)
+        shows-as {x = part_in_c (NotLooked NoSuchNumber 0)} (looked ∙ ap (λ (c : Result ⊤ (Refusal FeedRefusal)). part_in_c (unless_refused c rest)) (feed-passed b) ∙ rw (le-ltb k m.counts.values l)) (refl, refl)
     looks n p (when.found b l) =
         shows-as {x = part_in_c (source_of (found_in (listing w).entries k) (val_from_at m.values k) (val_to_at m.values k))}
-        (looked ∙ ap (λ (c : Checked). part_in_c (unless_refused c rest)) (feed-passed b) ∙ rw (lt-ltb k m.counts.values l))
+        (looked ∙ ap (λ (c : Result ⊤ (Refusal FeedRefusal)). part_in_c (unless_refused c rest)) (feed-passed b) ∙ rw (lt-ltb k m.counts.values l))
         (found-looks (found_in (listing w).entries k) (val_from_at m.values k) (val_to_at m.values k))
 
     pub look-only : OnlyAt (LookBecause m w k) r.number r.place
@@ -88,10 +87,10 @@ module _ (m : Memory) (w : List ℕ) where
 -- ---- sgf_feed_begin, sgf_feed_add
 
 module _ (held : Bool) (bytes out out' : List ℕ) (r : SgfWriting) (s : PutInC held bytes out out' r) where
-  made : (n : ℕ) → PutBecause held bytes out n → (x : Made) × (made_for held bytes out ≡ x) × ((made_in_c x).number ≡ n)
-  made n (when.large h) = (TooLarge, rw h, refl)
-  made n (when.full h l) = (NoBytes, rw (h, lt-leb (length bytes) (length out) l), refl)
-  made n (when.put h l) = (Bytes (length bytes), rw (h, le-leb (length bytes) (length out) l), refl)
+  made : (n : ℕ) → PutBecause held bytes out n → (x : Result ℕ MakeFault) × (made_for held bytes out ≡ x) × ((made_in_c x).number ≡ n)
+  made n (when.large h) = (Err TooLarge, rw h, refl)
+  made n (when.full h l) = (Err NoBytes, rw (h, lt-leb (length bytes) (length out) l), refl)
+  made n (when.put h l) = (Ok (length bytes), rw (h, le-leb (length bytes) (length out) l), refl)
 
   put-number : (n : ℕ) → PutBecause held bytes out n → r.number ≡ n
   put-number n b = let x = made n b in ap (λ (z : SgfWriting). z.number) (s.is ∙ ap made_in_c x.1) ∙ x.2
@@ -106,15 +105,15 @@ module _ (held : Bool) (bytes out out' : List ℕ) (r : SgfWriting) (s : PutInC 
   pub put-stays : 0 < r.number → out' ≡ out
   put-stays l = go (made_for held bytes out) s.is s.memory
     where
-      go : (x : Made) → r ≡ made_in_c x → out' ≡ out_after x bytes out → out' ≡ out
-      go (Bytes n) e h = absurd (omega (arith, l, ap (λ (z : SgfWriting). z.number) e))
-      go TooLarge e h = h
-      go NoBytes e h = h
+      go : (x : Result ℕ MakeFault) → r ≡ made_in_c x → out' ≡ out_after x bytes out → out' ≡ out
+      go (Ok n) e h = absurd (omega (arith, l, ap (λ (z : SgfWriting). z.number) e))
+      go (Err TooLarge) e h = h
+      go (Err NoBytes) e h = h
 
   pub put-zeros : 0 < r.number → r.length ≡ 0
   put-zeros l = go (made_for held bytes out) s.is
     where
-      go : (x : Made) → r ≡ made_in_c x → r.length ≡ 0
-      go (Bytes n) e = absurd (omega (arith, l, ap (λ (z : SgfWriting). z.number) e))
-      go TooLarge e = ap (λ (z : SgfWriting). z.length) e
-      go NoBytes e = ap (λ (z : SgfWriting). z.length) e
+      go : (x : Result ℕ MakeFault) → r ≡ made_in_c x → r.length ≡ 0
+      go (Ok n) e = absurd (omega (arith, l, ap (λ (z : SgfWriting). z.number) e))
+      go (Err TooLarge) e = ap (λ (z : SgfWriting). z.length) e
+      go (Err NoBytes) e = ap (λ (z : SgfWriting). z.length) e

@@ -4,8 +4,6 @@ use Rattle.tables.specs.Memory.{Memory}
 use Rattle.tables.specs.Record.{Tree}
 use Rattle.fit.specs.Record.{record_in}
 use Rattle.serialize.specs.Form.{writing, written, output}
-use Rattle.serialize.specs.declared.Written.{Written}
-use Rattle.serialize.specs.declared.Written.TheVariants.{Wrote, Refused}
 use Rattle.season_tag.specs.Tag.{tag_of}
 use Rattle.c_answers.specs.Structs.{writing_in_c}
 use Rattle.c_answers.specs.declared.SgfWriting.{SgfWriting}
@@ -20,10 +18,12 @@ use Rattle.demands.specs.Requests.{writing_of, tally_in}
 use Rattle.demands.proofs.AskedMore.{tallied}
 use Rattle.demands.proofs.Writings.{wrote-bytes}
 use Rattle.demands.proofs.Written.{writing-exactly, writing-stays, writing-listed, writes-answer}
+use Rattle.std.specs.Prelude.{Result, Ok, Err}
+use Rattle.tables.specs.declared.Reason.{Reason}
 
-by-writer : (w : Written) (ts : List Tree) → writing_of (line_in_c w ts) ≡ writing_in_c w
-by-writer (Wrote n) ts = refl
-by-writer (Refused x) ts = refl
+by-writer : (w : Result ℕ Reason) (ts : List Tree) → writing_of (line_in_c w ts) ≡ writing_in_c w
+by-writer (Ok n) ts = refl
+by-writer (Err x) ts = refl
 
 module _ (m : Memory) (out out' : List ℕ) (r : SgfLine) (s : LineInC m out out' r) where
   -- its number, length and bytes are those of a writing
@@ -42,24 +42,24 @@ module _ (m : Memory) (out out' : List ℕ) (r : SgfLine) (s : LineInC m out out
   pub line-zeros : 0 < r.number → r ≡ no_line_in_c r.number
   line-zeros l = go (written m (length out)) s.is
     where
-      go : (w : Written) → r ≡ line_in_c w (record_in m) → r ≡ no_line_in_c r.number
-      go (Wrote n) e = absurd (omega (arith, l, ap (λ (z : SgfLine). z.number) e))
-      go (Refused x) e = e ∙ ap no_line_in_c (sym (ap (λ (z : SgfLine). z.number) e))
+      go : (w : Result ℕ Reason) → r ≡ line_in_c w (record_in m) → r ≡ no_line_in_c r.number
+      go (Ok n) e = absurd (omega (arith, l, ap (λ (z : SgfLine). z.number) e))
+      go (Err x) e = e ∙ ap no_line_in_c (sym (ap (λ (z : SgfLine). z.number) e))
 
   pub line-written : (q : SgfWriting) (v : List ℕ) → WriteInC m out v q → (q ≡ writing_of r) × (v ≡ out')
   line-written q v w = (w.is ∙ sym shown.is, w.bytes ∙ sym s.bytes)
 
   module _ (z : r.number ≡ 0) where
-    done : written m (length out) ≡ Wrote (length (writing (record_in m)))
+    done : written m (length out) ≡ Ok (length (writing (record_in m)))
     done = writes-answer m (length out) (line-exactly.zero.0 z)
 
-    line-is : r ≡ line_in_c (Wrote (length (writing (record_in m)))) (record_in m)
-    line-is = s.is ∙ ap (λ (w : Written). line_in_c w (record_in m)) done
+    line-is : r ≡ line_in_c (Ok (length (writing (record_in m)))) (record_in m)
+    line-is = s.is ∙ ap (λ (w : Result ℕ Reason). line_in_c w (record_in m)) done
 
     pub line-tallied : (t : SgfTally) → t ≡ tally_or_number m → t ≡ tally_in r
     line-tallied t h = tallied m t h (line-exactly.zero.0 z).fits ∙ sym (ap tally_in line-is)
 
     pub line-tagged : r.tag ≡ tag_of (take r.length out')
     line-tagged =
-        let b = wrote-bytes m out out' _ (record { is = sym done; bytes = s.bytes ∙ ap (λ (w : Written). output w (writing (record_in m)) out) done }) in
+        let b = wrote-bytes m out out' _ (record { is = sym done; bytes = s.bytes ∙ ap (λ (w : Result ℕ Reason). output w (writing (record_in m)) out) done }) in
         ap (λ (y : SgfLine). y.tag) line-is ∙ ap tag_of (sym (ap (λ (y : SgfLine). take y.length out') line-is ∙ b.1))

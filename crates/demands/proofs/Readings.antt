@@ -2,8 +2,6 @@
 use Rattle.lists.proofs.Prelude.{ℕ, ◌%◌, ◌<◌, Bool, true, List, ◌⊎◌, inl, inr, ⊎_elim, ◌≡◌, refl, sym, ap, ◌∙◌, subst⁻¹, arith, pick}
 use Rattle.tables.specs.Numbers.{number_of}
 use Rattle.tables.specs.Rows.{tables, counts_of}
-use Rattle.tables.specs.declared.Reading.{Reading}
-use Rattle.tables.specs.declared.Reading.TheVariants.{Accepted, Refused}
 use Rattle.tables.specs.declared.Reason.{Reason}
 use Rattle.tables.specs.declared.Reason.TheVariants.{NoRoom}
 use Rattle.tables.proofs.Cases.{either-bool, true-false}
@@ -20,16 +18,20 @@ use Rattle.demands.specs.Settings.{Ignores, SameAnswer}
 use Rattle.demands.proofs.Listed.{one_of}
 use Rattle.demands.proofs.Numbers.{exactly}
 use Rattle.demands.proofs.Refusals.{reading-leaves}
+use Rattle.std.specs.Prelude.{Result, Ok, Err}
+use Rattle.tables.specs.Refusals.{refusal}
+use Rattle.tables.specs.declared.Counts.{Counts}
+use Rattle.tables.specs.declared.Refusal.{Refusal}
 
 -- ---- the settings
 
-shown-ignored : (i : ℕ) (a : Reading) → (reading_in_c i a).ignored ≡ i
-shown-ignored i (Accepted c) = refl
-shown-ignored i (Refused x p) = refl
+shown-ignored : (i : ℕ) (a : Result Counts (Refusal Reason)) → (reading_in_c i a).ignored ≡ i
+shown-ignored i (Ok c) = refl
+shown-ignored i (Err e) = refl
 
-shown-same : (i j : ℕ) (a : Reading) → SameAnswer (reading_in_c i a) (reading_in_c j a)
-shown-same i j (Accepted c) = record { number = refl; place = refl; counts = refl }
-shown-same i j (Refused x p) = record { number = refl; place = refl; counts = refl }
+shown-same : (i j : ℕ) (a : Result Counts (Refusal Reason)) → SameAnswer (reading_in_c i a) (reading_in_c j a)
+shown-same i j (Ok c) = record { number = refl; place = refl; counts = refl }
+shown-same i j (Err e) = record { number = refl; place = refl; counts = refl }
 
 ignores : (n i : ℕ) → i ≡ n % 4 → Ignores n i
 ignores n i e = record { leniency = omega (arith, e); conversion = omega (arith, e); nothing-else = omega (arith, e) }
@@ -59,21 +61,21 @@ module _ (len : Bool) (t : List ℕ) (before : Lent) where
       go (refused x p) e = inr (x, p, unread e)
       go (accepted ts) e = either-bool (roomy (tables ts) before) (λ f. inl (record { trees = ts; is = e; room = f })) (λ f. inr (NoRoom, 0, few ts e f))
 
-  pub reads-answer : (x : ReadsInto len t before) → answers (read len t) before ≡ Accepted (counts_of (tables x.trees))
-  reads-answer x = ap (λ (a : Answer). answers a before) x.is ∙ ap (λ (b : Bool). pick b (Accepted (counts_of (tables x.trees))) (Refused NoRoom 0)) x.room
+  pub reads-answer : (x : ReadsInto len t before) → answers (read len t) before ≡ Ok (counts_of (tables x.trees))
+  reads-answer x = ap (λ (a : Answer). answers a before) x.is ∙ ap (λ (b : Bool). pick b (Ok (counts_of (tables x.trees))) (Err (refusal NoRoom 0))) x.room
 
-  unread-answer : {x : Reason} {p : ℕ} → Unread len t before x p → answers (read len t) before ≡ Refused x p
+  unread-answer : {x : Reason} {p : ℕ} → Unread len t before x p → answers (read len t) before ≡ Err (refusal x p)
   unread-answer (unread e) = ap (λ (a : Answer). answers a before) e
-  unread-answer (few ts e f) = ap (λ (a : Answer). answers a before) e ∙ ap (λ (b : Bool). pick b (Accepted (counts_of (tables ts))) (Refused NoRoom 0)) f
+  unread-answer (few ts e f) = ap (λ (a : Answer). answers a before) e ∙ ap (λ (b : Bool). pick b (Ok (counts_of (tables ts))) (Err (refusal NoRoom 0))) f
 
   module _ {i : ℕ} (after : Lent) (r : SgfReading) (s : ReadInC i (read len t) before after r) where
     abbrev Because : Reason → Type 0
     Because x = (p : ℕ) × Unread len t before x p × (r.place ≡ p)
 
-    shown_read : (x : ReadsInto len t before) → r ≡ reading_in_c i (Accepted (counts_of (tables x.trees)))
+    shown_read : (x : ReadsInto len t before) → r ≡ reading_in_c i (Ok (counts_of (tables x.trees)))
     shown_read x = s.is ∙ ap (reading_in_c i) (reads-answer x)
 
-    shown-unread : {x : Reason} {p : ℕ} → Unread len t before x p → r ≡ reading_in_c i (Refused x p)
+    shown-unread : {x : Reason} {p : ℕ} → Unread len t before x p → r ≡ reading_in_c i (Err (refusal x p))
     shown-unread u = s.is ∙ ap (reading_in_c i) (unread-answer u)
 
     pub reading-exactly : Exactly r.number (ReadsInto len t before) Because

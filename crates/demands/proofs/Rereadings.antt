@@ -6,8 +6,6 @@ use Rattle.tables.specs.Memory.{Memory}
 use Rattle.tables.specs.Record.{Tree}
 use Rattle.tables.specs.Rows.{Tables, tables, counts_of}
 use Rattle.tables.specs.declared.Counts.{Counts}
-use Rattle.tables.specs.declared.Reading.{Reading}
-use Rattle.tables.specs.declared.Reading.TheVariants.{Accepted, Refused}
 use Rattle.tables.specs.declared.Reason.TheVariants.{NoRoom}
 use Rattle.fit.specs.Locals.{RowsLent}
 use Rattle.fit.specs.Record.{rows_of, rows_in, text_in}
@@ -29,12 +27,16 @@ use Rattle.edit_laws.proofs.OnCode.{calls-reads, counts-reads}
 use Rattle.demands.specs.Cells.{tables_in, has_room, counts_read, SameCells}
 use Rattle.demands.specs.When.{ReadsInto}
 use Rattle.demands.proofs.Readings.{reading-exactly, reads-answer}
+use Rattle.std.specs.Prelude.{Result, Ok, Err}
+use Rattle.tables.specs.Refusals.{refusal}
+use Rattle.tables.specs.declared.Reason.{Reason}
+use Rattle.tables.specs.declared.Refusal.{Refusal}
 
-pub read-reads : (m : Memory) (before : Lent) → ReadIs (read_strict (text_in m)) before (tables_in m) (Accepted m.counts) → rows.Reads (text_rows m)
+pub read-reads : (m : Memory) (before : Lent) → ReadIs (read_strict (text_in m)) before (tables_in m) (Ok m.counts) → rows.Reads (text_rows m)
 read-reads m before x = let r = read-rows false (text_in m) before (tables_in m) m.counts x in record { trees = r.0; reads = r.1; same_rows = r.2 }
 
 pub read-fresh : (m : Memory) (before : Lent) → m.used ≤ length m.text
-    → ReadIs (read_strict (text_in m)) before (tables_in m) (Accepted m.counts) → Fresh m
+    → ReadIs (read_strict (text_in m)) before (tables_in m) (Ok m.counts) → Fresh m
 read-fresh m before l x =
     record { fits = read-buffer-fits false m.text m.used before (tables_in m) m.counts l x; reads = read-reads m before x }
 
@@ -44,7 +46,7 @@ shown-fresh {i} m before r l s z k =
     let x : ReadsInto false (text_in m) before = (reading-exactly false (text_in m) before (tables_in m) r s).zero.0 z in
     let a = reads-answer false (text_in m) before x in
     let e : counts_of (tables x.trees) ≡ m.counts = sym (ap counts_read (s.is ∙ ap (reading_in_c i) a)) ∙ k in
-    read-fresh m before l (record { answer = ap Accepted (sym e) ∙ sym a; tables = s.tables })
+    read-fresh m before l (record { answer = ap Ok (sym e) ∙ sym a; tables = s.tables })
 
 pub calls-fresh : (m m' : Memory) (xs : List Order) → Fresh m → edit.Calls m xs m' → Fresh m'
 calls-fresh m m' xs f k = record { fits = calls-fit m m' xs f.fits k; reads = calls-reads m m' xs f.reads k }
@@ -54,7 +56,7 @@ calls-fresh m m' xs f k = record { fits = calls-fit m m' xs f.fits k; reads = ca
 pub trees-once : {ts us : List Tree} → accepted ts ≡ accepted us → ts ≡ us
 trees-once e = cc
 
-pub reread-rows : (m : Memory) → rows.Reads (text_rows m) → (before after : Lent) (k : Counts) → ReadIs (read_strict (text_in m)) before after (Accepted k)
+pub reread-rows : (m : Memory) → rows.Reads (text_rows m) → (before after : Lent) (k : Counts) → ReadIs (read_strict (text_in m)) before after (Ok k)
     → rows_of k after.trees after.nodes after.props after.vals ≡ rows_in m
 reread-rows m f before after k x =
     let r = read-rows false (text_in m) before after k x in
@@ -86,11 +88,11 @@ module _ (m : Memory) (f : Fresh m) where
     roomy-again : roomy T before ≡ true
     roomy-again = subst (λ (k : Counts). has_room k before ≡ true) fresh-counts h
 
-    answer-again : answers (read_strict (text_in m)) before ≡ Accepted m.counts
+    answer-again : answers (read_strict (text_in m)) before ≡ Ok m.counts
     answer-again =
         ap (λ (a : Answer). answers a before) f.reads.reads
-        ∙ ap (λ (b : Bool). pick b (Accepted (counts_of T)) (Refused NoRoom 0)) roomy-again
-        ∙ ap Accepted (sym fresh-counts)
+        ∙ ap (λ (b : Bool). pick b (Ok (counts_of T)) (Err (refusal NoRoom 0))) roomy-again
+        ∙ ap Ok (sym fresh-counts)
 
     leaves-again : leaves (read_strict (text_in m)) before ≡ stored (rows_in m) before
     leaves-again =
@@ -128,19 +130,19 @@ module _ (m : Memory) (f : Fresh m) where
       (over-own _ m.values _ (value-cells m.values m.counts.values n-values) n-values)
 
   -- into tables with room: accepted with the same counts, and the same cells
-  pub reread : (before after : Lent) (r : Reading) → has_room m.counts before ≡ true → ReadIs (read_strict (text_in m)) before after r
-      → (r ≡ Accepted m.counts) × SameCells m.counts after (tables_in m)
+  pub reread : (before after : Lent) (r : Result Counts (Refusal Reason)) → has_room m.counts before ≡ true → ReadIs (read_strict (text_in m)) before after r
+      → (r ≡ Ok m.counts) × SameCells m.counts after (tables_in m)
   reread before after r h x =
       (x.answer ∙ answer-again before h, subst (λ (l : Lent). SameCells m.counts l (tables_in m)) (sym (x.tables ∙ leaves-again before h)) (stored-cells before))
 
   -- into its own tables: every number stays
-  pub reread-own : (after : Lent) (r : Reading) → ReadIs (read_strict (text_in m)) (tables_in m) after r → (r ≡ Accepted m.counts) × (after ≡ tables_in m)
+  pub reread-own : (after : Lent) (r : Result Counts (Refusal Reason)) → ReadIs (read_strict (text_in m)) (tables_in m) after r → (r ≡ Ok m.counts) × (after ≡ tables_in m)
   reread-own after r x = (x.answer ∙ answer-again (tables_in m) own_room, x.tables ∙ leaves-again (tables_in m) own_room ∙ stored-own)
 
   -- as sgf_read_strict says it
   pub reread-shown : {i : ℕ} (before after : Lent) (r : SgfReading) → has_room m.counts before ≡ true → ReadInC i (read_strict (text_in m)) before after r
       → (r.number ≡ 0) × (counts_read r ≡ m.counts) × SameCells m.counts after (tables_in m)
   reread-shown {i} before after r h s =
-      let e : r ≡ reading_in_c i (Accepted m.counts) = s.is ∙ ap (reading_in_c i) (answer-again before h) in
+      let e : r ≡ reading_in_c i (Ok m.counts) = s.is ∙ ap (reading_in_c i) (answer-again before h) in
       let x = reread before after (answers (read_strict (text_in m)) before) h (record { answer = refl; tables = s.tables }) in
       (ap (λ (z : SgfReading). z.number) e, ap counts_read e, x.1)

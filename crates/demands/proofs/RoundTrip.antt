@@ -10,8 +10,6 @@ use Rattle.tables.specs.Numbers.{depth_limit, text_limit}
 use Rattle.tables.specs.Record.{Tree, all_nodes, all_props}
 use Rattle.tables.specs.Rows.{Tables, tables, counts_of}
 use Rattle.tables.specs.declared.Counts.{Counts}
-use Rattle.tables.specs.declared.Reading.{Reading}
-use Rattle.tables.specs.declared.Reading.TheVariants.{Accepted, Refused}
 use Rattle.tables.specs.declared.Reason.TheVariants.{TextTooLong, TooDeep, NoRoom}
 use Rattle.fit.specs.Fit.{Fit}
 use Rattle.fit.specs.Record.{rows_in, record_in}
@@ -25,9 +23,6 @@ use Rattle.ask.specs.Ask.{given, refuses, go_at, go_answer}
 use Rattle.tables.specs.declared.Reason.TheVariants as reason
 use Rattle.serialize.specs.Form.{writing, WriteIs}
 use Rattle.serialize.specs.Branch.{nameless}
-use Rattle.serialize.specs.declared.Written.{Written}
-use Rattle.serialize.specs.declared.Written.TheVariants as written
-use Rattle.serialize.specs.declared.Written.TheVariants.{Wrote}
 use Rattle.serialize_laws.specs.Alike.{Alike}
 use Rattle.serialize_laws.specs.Back.{Named, BeginsAll}
 use Rattle.serialize_laws.specs.Depth.{depth_of}
@@ -38,9 +33,13 @@ use Rattle.serialize_laws.proofs.Theorem.{reads-back-within, too-deep}
 use Rattle.demands.specs.Holding.{holding}
 use Rattle.demands.proofs.Rereadings.{trees-once}
 use Rattle.demands.proofs.Writings.{wrote-bytes, fit-writes, left-rows, left-reads, left-fits}
+use Rattle.std.specs.Prelude.{Result, Ok, Err}
+use Rattle.tables.specs.Refusals.{refusal}
+use Rattle.tables.specs.declared.Reason.{Reason}
+use Rattle.tables.specs.declared.Refusal.{Refusal}
 
 -- as many properties are counted as the record has
-properties-read : (t : List ℕ) (before after : Lent) (k : Counts) → ReadIs (read_strict t) before after (Accepted k)
+properties-read : (t : List ℕ) (before after : Lent) (k : Counts) → ReadIs (read_strict t) before after (Ok k)
     → k.properties ≡ length (all_props (all_nodes (record_in (holding t k after))))
 properties-read t before after k x =
     let n = counts-are-lengths false t before after k x in
@@ -55,12 +54,12 @@ go_same m m' f g n a p =
     ∙ ap₂ (λ (k : ℕ) (v : GoValue). pick (Fit m) (pick (ltb p k) (given v) (refuses reason.NoSuchNumber)) (refuses reason.NotFitting)) n (alike-go (record_in m) (record_in m') a p)
 
 -- a text beyond the limit
-pub long-one : (len : Bool) (t : List ℕ) (before after : Lent) (r : Reading) → text_limit < length t → ReadIs (read len t) before after r → r ≡ Refused TextTooLong 0
+pub long-one : (len : Bool) (t : List ℕ) (before after : Lent) (r : Result Counts (Refusal Reason)) → text_limit < length t → ReadIs (read len t) before after r → r ≡ Err (refusal TextTooLong 0)
 long-one len t before after r h y =
     y.answer
     ∙ ap (λ (b : Bool). answers (pick b (refused TextTooLong 0) (parse_utf8 len (utfs (whole blank) 0 t) t)) before) (lt-ltb text_limit (length t) h)
 
-module _ (t : List ℕ) (before after : Lent) (k : Counts) (x : ReadIs (read_strict t) before after (Accepted k))
+module _ (t : List ℕ) (before after : Lent) (k : Counts) (x : ReadIs (read_strict t) before after (Ok k))
     (b : BeginsAll t) (nm : All Named (all_props (all_nodes (record_in (holding t k after))))) where
   abbrev M : Memory
   M = holding t k after
@@ -71,13 +70,13 @@ module _ (t : List ℕ) (before after : Lent) (k : Counts) (x : ReadIs (read_str
   names : nameless (all_props (all_nodes (record_in (holding t k after)))) ≡ false
   names = named-all (all_props (all_nodes (record_in (holding t k after)))) nm
 
-  pub named-writes : (out out' : List ℕ) (r : Written) → WriteIs (holding t k after) out out' r
+  pub named-writes : (out out' : List ℕ) (r : Result ℕ Reason) → WriteIs (holding t k after) out out' r
       → (length (writing (record_in (holding t k after))) ≤ length out
-      → (r ≡ Wrote (length (writing (record_in (holding t k after))))) × (out' ≡ writing (record_in (holding t k after)) ++ drop (length (writing (record_in (holding t k after)))) out))
-      × (length out < length (writing (record_in (holding t k after))) → (r ≡ written.Refused NoRoom) × (out' ≡ out))
+      → (r ≡ Ok (length (writing (record_in (holding t k after))))) × (out' ≡ writing (record_in (holding t k after)) ++ drop (length (writing (record_in (holding t k after)))) out))
+      × (length out < length (writing (record_in (holding t k after))) → (r ≡ Err NoRoom) × (out' ≡ out))
   named-writes = fit-writes (holding t k after) (left-fits false t before after k x) names
 
-  module _ (out out' : List ℕ) (n : ℕ) (w : WriteIs (holding t k after) out out' (Wrote n)) (l : n ≤ text_limit) where
+  module _ (out out' : List ℕ) (n : ℕ) (w : WriteIs (holding t k after) out out' (Ok n)) (l : n ≤ text_limit) where
     long : n ≡ length (writing (record_in (holding t k after)))
     long = (wrote-bytes (holding t k after) out out' n w).0
 
@@ -87,7 +86,7 @@ module _ (t : List ℕ) (before after : Lent) (k : Counts) (x : ReadIs (read_str
     short : length (writing (record_in (holding t k after))) ≤ text_limit
     short = omega (arith, l, long)
 
-    pub deep-nine : depth_limit < depth_of (take n out') → (before₂ after₂ : Lent) (r : Reading) → ReadIs (read_strict (take n out')) before₂ after₂ r → r ≡ Refused TooDeep 0
+    pub deep-nine : depth_limit < depth_of (take n out') → (before₂ after₂ : Lent) (r : Result Counts (Refusal Reason)) → ReadIs (read_strict (take n out')) before₂ after₂ r → r ≡ Err (refusal TooDeep 0)
     deep-nine h before₂ after₂ r y =
         y.answer
         ∙ ap (λ (a : Answer). answers a before₂)
@@ -101,24 +100,24 @@ module _ (t : List ℕ) (before after : Lent) (k : Counts) (x : ReadIs (read_str
       reads-again = ap (read_strict) is ∙ back.accepts
 
       -- the rows of what is read are lent, or not
-      pub room-exactly : (before₂ after₂ : Lent) (r : Reading) → ReadIs (read_strict (take n out')) before₂ after₂ r
-          → (roomy (tables back.again) before₂ ≡ true → r ≡ Accepted (counts_of (tables back.again))) × (roomy (tables back.again) before₂ ≡ false → r ≡ Refused NoRoom 0)
+      pub room-exactly : (before₂ after₂ : Lent) (r : Result Counts (Refusal Reason)) → ReadIs (read_strict (take n out')) before₂ after₂ r
+          → (roomy (tables back.again) before₂ ≡ true → r ≡ Ok (counts_of (tables back.again))) × (roomy (tables back.again) before₂ ≡ false → r ≡ Err (refusal NoRoom 0))
       room-exactly before₂ after₂ r y = (so true, so false)
         where
-          so : (f : Bool) → roomy (tables back.again) before₂ ≡ f → r ≡ pick f (Accepted (counts_of (tables back.again))) (Refused NoRoom 0)
+          so : (f : Bool) → roomy (tables back.again) before₂ ≡ f → r ≡ pick f (Ok (counts_of (tables back.again))) (Err (refusal NoRoom 0))
           so f h =
               y.answer
               ∙ ap (λ (a : Answer). answers a before₂) reads-again
-              ∙ ap (λ (g : Bool). pick g (Accepted (counts_of (tables back.again))) (Refused NoRoom 0)) h
+              ∙ ap (λ (g : Bool). pick g (Ok (counts_of (tables back.again))) (Err (refusal NoRoom 0))) h
 
       -- tables for n bytes have room
-      pub room-enough : (before₂ after₂ : Lent) (r : Reading) → ReadIs (read_strict (take n out')) before₂ after₂ r → Lends (strict_rows n) before₂
-          → r ≡ Accepted (counts_of (tables back.again))
+      pub room-enough : (before₂ after₂ : Lent) (r : Result Counts (Refusal Reason)) → ReadIs (read_strict (take n out')) before₂ after₂ r → Lends (strict_rows n) before₂
+          → r ≡ Ok (counts_of (tables back.again))
       room-enough before₂ after₂ r y h =
           y.answer
           ∙ strict-accepts false (take n out') back.again reads-again refl before₂ (subst (λ (z : ℕ). Lends (strict_rows z) before₂) (long ∙ sym (ap length is)) h)
 
-      module _ (before₂ after₂ : Lent) (k₂ : Counts) (y : ReadIs (read_strict (take n out')) before₂ after₂ (Accepted k₂)) where
+      module _ (before₂ after₂ : Lent) (k₂ : Counts) (y : ReadIs (read_strict (take n out')) before₂ after₂ (Ok k₂)) where
         again-is : back.again ≡ record_in (holding (take n out') k₂ after₂)
         again-is = trees-once (sym reads-again ∙ left-reads false (take n out') before₂ after₂ k₂ y)
 
@@ -147,22 +146,22 @@ module _ (t : List ℕ) (before after : Lent) (k : Counts) (x : ReadIs (read_str
             ∙ alike-properties (record_in (holding t k after)) (record_in (holding (take n out') k₂ after₂)) alike
             ∙ sym (properties-read t before after k x)) alike
 
-        pub writes_again : (out₂ out₂' : List ℕ) (r : Written) → WriteIs (holding (take n out') k₂ after₂) out₂ out₂' r → n ≤ length out₂ → (r ≡ Wrote n) × (take n out₂' ≡ take n out')
+        pub writes_again : (out₂ out₂' : List ℕ) (r : Result ℕ Reason) → WriteIs (holding (take n out') k₂ after₂) out₂ out₂' r → n ≤ length out₂ → (r ≡ Ok n) × (take n out₂' ≡ take n out')
         writes_again out₂ out₂' r v m =
             let M₂ : Memory = holding (take n out') k₂ after₂ in
             let e : writing (record_in M) ≡ writing (record_in M₂) = same-written (record_in M) (record_in M₂) alike in
             let o : n ≡ length (writing (record_in M₂)) = long ∙ ap length e in
             let f = (fit-writes M₂ (left-fits false (take n out') before₂ after₂ k₂ y)
             (alike-names (record_in M) (record_in M₂) alike ∙ names) out₂ out₂' r v).0 (omega (arith, m, o)) in
-            let q : r ≡ Wrote n = f.0 ∙ ap Wrote (sym o) in
+            let q : r ≡ Ok n = f.0 ∙ ap Ok (sym o) in
             (q, (wrote-bytes M₂ out₂ out₂' n (subst (WriteIs M₂ out₂ out₂') q v)).1 ∙ sym e ∙ sym is)
 
     -- 9, and 9 only, where it is too deep
-    pub nine-deep : (before₂ after₂ : Lent) (p : ℕ) → ReadIs (read_strict (take n out')) before₂ after₂ (Refused TooDeep p) → depth_limit < depth_of (take n out')
+    pub nine-deep : (before₂ after₂ : Lent) (p : ℕ) → ReadIs (read_strict (take n out')) before₂ after₂ (Err (refusal TooDeep p)) → depth_limit < depth_of (take n out')
     nine-deep before₂ after₂ p y =
         below_or depth_limit (depth_of (take n out')) (λ h. h)
         (λ h. go (roomy (tables (back h).again) before₂) (counts_of (tables (back h).again)) (y.answer ∙ ap (λ (a : Answer). answers a before₂) (reads-again h)))
       where
-        go : (f : Bool) (z : Counts) → Refused TooDeep p ≡ pick f (Accepted z) (Refused NoRoom 0) → depth_limit < depth_of (take n out')
+        go : (f : Bool) (z : Counts) → Err (refusal TooDeep p) ≡ pick f (Ok z) (Err (refusal NoRoom 0)) → depth_limit < depth_of (take n out')
         go true z e = never cc
         go false z e = never cc

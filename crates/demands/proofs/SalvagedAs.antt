@@ -15,8 +15,6 @@ use Rattle.salvage_mend.specs.Mend.{mended}
 use Rattle.salvage_list.specs.ListRows.{text_changes}
 use Rattle.salvage_laws.specs.Result.{salvage_of}
 use Rattle.salvage.specs.Salvage.{room_for_all, salvage_gives, salvage_at, tables_left, list_left, bytes_left}
-use Rattle.salvage.specs.declared.SalvageAnswer.{SalvageAnswer}
-use Rattle.salvage.specs.declared.SalvageAnswer.TheVariants.{Done, Refused}
 use Rattle.c_answers.specs.Structs.{no_counts}
 use Rattle.c_salvage.specs.SalvageInC.{salvage_in_c, SalvageInC}
 use Rattle.c_salvage.specs.declared.SgfSalvage.{SgfSalvage}
@@ -25,6 +23,10 @@ use Rattle.demands.specs.Requests.{OnlyAt}
 use Rattle.demands.specs.Salvages.{SalvageBecause, unread, long, deep, full, done}
 use Rattle.demands.proofs.Fed.{only_at}
 use Rattle.demands.proofs.Listed.{one_of}
+use Rattle.std.specs.Prelude.{Result, Ok, Err}
+use Rattle.tables.specs.Refusals.{refusal}
+use Rattle.tables.specs.declared.Counts.{Counts}
+use Rattle.tables.specs.declared.Refusal.{Refusal}
 
 module _ (t : List ℕ) (before after : Lent) (list list' out out' : List ℕ) (r : SgfSalvage) (s : SalvageInC t before after list list' out out' r) where
   abbrev w : List Tree → List ℕ
@@ -36,15 +38,15 @@ module _ (t : List ℕ) (before after : Lent) (list list' out out' : List ℕ) (
   given : (a : Answer) → read_lenient t ≡ a → salvage_at t before list out ≡ salvage_gives a (text_changes t) before (length list) (length out)
   given a e = ap (λ (z : Answer). salvage_gives z (text_changes t) before (length list) (length out)) e
 
-  answer-is : (n p : ℕ) → SalvageBecause t before list out n p → (x : SalvageAnswer) × (salvage_at t before list out ≡ x) × ((salvage_in_c x).number ≡ n) × ((salvage_in_c x).place ≡ p)
+  answer-is : (n p : ℕ) → SalvageBecause t before list out n p → (x : Result (Counts × ℕ × ℕ) (Refusal Reason)) × (salvage_at t before list out ≡ x) × ((salvage_in_c x).number ≡ n) × ((salvage_in_c x).place ≡ p)
   unfolding salvage_gives
-  answer-is n p (unread {x = x} {p = q} e) = (Refused x q, given (refused x q) e, refl, refl)
-  answer-is n p (long ts e l) = (Refused TextTooLong 0, given (accepted ts) e ∙ rw (lt-ltb text_limit (length (w ts)) l), refl, refl)
-  answer-is n p (deep ts e l d) = (Refused TooDeep 0, given (accepted ts) e ∙ rw (le-ltb text_limit (length (w ts)) l, lt-ltb depth_limit (depth_of (w ts)) d), refl, refl)
+  answer-is n p (unread {x = x} {p = q} e) = (Err (refusal x q), given (refused x q) e, refl, refl)
+  answer-is n p (long ts e l) = (Err (refusal TextTooLong 0), given (accepted ts) e ∙ rw (lt-ltb text_limit (length (w ts)) l), refl, refl)
+  answer-is n p (deep ts e l d) = (Err (refusal TooDeep 0), given (accepted ts) e ∙ rw (le-ltb text_limit (length (w ts)) l, lt-ltb depth_limit (depth_of (w ts)) d), refl, refl)
   answer-is n p (full ts e l d f) =
-      (Refused NoRoom 0, given (accepted ts) e ∙ rw (le-ltb text_limit (length (w ts)) l, le-ltb depth_limit (depth_of (w ts)) d, f), refl, refl)
+      (Err (refusal NoRoom 0), given (accepted ts) e ∙ rw (le-ltb text_limit (length (w ts)) l, le-ltb depth_limit (depth_of (w ts)) d, f), refl, refl)
   answer-is n p (done ts e l d f) =
-      (Done (counts_of (tables ts)) (length (w ts)) (length (text_changes t)), given (accepted ts) e ∙ rw (le-ltb text_limit (length (w ts)) l, le-ltb depth_limit (depth_of (w ts)) d, f), refl, refl)
+      (Ok (counts_of (tables ts), length (w ts), length (text_changes t)), given (accepted ts) e ∙ rw (le-ltb text_limit (length (w ts)) l, le-ltb depth_limit (depth_of (w ts)) d, f), refl, refl)
 
   numbers : (n p : ℕ) → SalvageBecause t before list out n p → (r.number ≡ n) × (r.place ≡ p)
   numbers n p b =
@@ -68,17 +70,17 @@ module _ (t : List ℕ) (before after : Lent) (list list' out out' : List ℕ) (
   pub salvage-stays : 0 < r.number → (after ≡ before) × (list' ≡ list) × (out' ≡ out)
   salvage-stays l = go (salvage_at t before list out) s.is s.tables s.changes s.bytes
     where
-      go : (x : SalvageAnswer) → r ≡ salvage_in_c x → after ≡ tables_left x (read_lenient t) before → list' ≡ list_left x (text_changes t) list
+      go : (x : Result (Counts × ℕ × ℕ) (Refusal Reason)) → r ≡ salvage_in_c x → after ≡ tables_left x (read_lenient t) before → list' ≡ list_left x (text_changes t) list
           → out' ≡ bytes_left x (salvage_of (read_lenient t)) out → (after ≡ before) × (list' ≡ list) × (out' ≡ out)
-      go (Done c n k) e a b d = absurd (omega (arith, l, ap (λ (z : SgfSalvage). z.number) e))
-      go (Refused x p) e a b d = (a, b, d)
+      go (Ok (c, n, k)) e a b d = absurd (omega (arith, l, ap (λ (z : SgfSalvage). z.number) e))
+      go (Err r) e a b d = (a, b, d)
 
   pub salvage-zeros : 0 < r.number → (r.length ≡ 0) × (r.changes ≡ 0) × (r.counts ≡ no_counts)
   salvage-zeros l = go (salvage_at t before list out) s.is
     where
-      go : (x : SalvageAnswer) → r ≡ salvage_in_c x → (r.length ≡ 0) × (r.changes ≡ 0) × (r.counts ≡ no_counts)
-      go (Done c n k) e = absurd (omega (arith, l, ap (λ (z : SgfSalvage). z.number) e))
-      go (Refused x p) e = (ap (λ (z : SgfSalvage). z.length) e, ap (λ (z : SgfSalvage). z.changes) e, ap (λ (z : SgfSalvage). z.counts) e)
+      go : (x : Result (Counts × ℕ × ℕ) (Refusal Reason)) → r ≡ salvage_in_c x → (r.length ≡ 0) × (r.changes ≡ 0) × (r.counts ≡ no_counts)
+      go (Ok (c, n, k)) e = absurd (omega (arith, l, ap (λ (z : SgfSalvage). z.number) e))
+      go (Err r) e = (ap (λ (z : SgfSalvage). z.length) e, ap (λ (z : SgfSalvage). z.changes) e, ap (λ (z : SgfSalvage). z.counts) e)
 
   because-listed : (n p : ℕ) → SalvageBecause t before list out n p → OneOf lenient_numbers n
   because-listed n p (unread e) =

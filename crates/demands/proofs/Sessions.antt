@@ -4,8 +4,6 @@ use Rattle.tables.specs.Memory.{Memory}
 use Rattle.fit.specs.Fit.{Fit}
 use Rattle.edit_answer.specs.Answer.{outcome_of, edited_for}
 use Rattle.edit_answer.specs.Edit.{Outcome, refuses, gives}
-use Rattle.edit_answer.specs.declared.Edited.{Edited}
-use Rattle.edit_answer.specs.declared.Edited.TheVariants.{Changed}
 use Rattle.c_answers.specs.Structs.{edit_in_c}
 use Rattle.c_answers.specs.declared.SgfEdit.{SgfEdit}
 use Rattle.sgf.specs.ChangeInC.{EditInC}
@@ -18,12 +16,15 @@ use Rattle.demands.specs.Calls.{goes_on, ExportedCalls, none, call}
 use Rattle.demands.specs.Sessions.{AllZero, kept_before}
 use Rattle.demands.proofs.CallsShown.{goes_on_lem, calls-shown}
 use Rattle.demands.proofs.Numbers.{number-some}
+use Rattle.std.specs.Prelude.{Result, Ok}
+use Rattle.tables.specs.declared.Reason.{Reason}
+use Rattle.tables.specs.declared.Refusal.{Refusal}
 
 -- number 0 says changed
-zero-changed : (m l : Memory) (k : ℕ) (new : List ℕ) (r : SgfEdit) → EditInC m l k new r → r.number ≡ 0 → (n : ℕ) × (edited_for (outcome_of m k new) ≡ Changed n)
+zero-changed : (m l : Memory) (k : ℕ) (new : List ℕ) (r : SgfEdit) → EditInC m l k new r → r.number ≡ 0 → (n : ℕ) × (edited_for (outcome_of m k new) ≡ Ok n)
 zero-changed m l k new r s z = go (outcome_of m k new) s.is
   where
-    go : (o : Outcome) → r ≡ edit_in_c m.counts (edited_for o) → (n : ℕ) × (edited_for o ≡ Changed n)
+    go : (o : Outcome) → r ≡ edit_in_c m.counts (edited_for o) → (n : ℕ) × (edited_for o ≡ Ok n)
     go (refuses x p) e = absurd (omega (arith, number-some x, ap (λ (q : SgfEdit). q.number) e, z))
     go (gives t T) e = (length t, refl)
 
@@ -37,8 +38,8 @@ shown-session (call {m = m} {m'' = m'} {x = x} {xs = xs} r l s k) a =
 shown-once : {m m' m'' : Memory} {xs ys : List Order} → Session m xs ys m' → (c : ExportedCalls m xs m'') → AllZero c × (kept_before c ≡ ys)
 shown-once empty none = (tt, refl)
 shown-once (edit {m = m} {m'' = m'} {x = x} {xs = xs} {ys = ys} n l e k) (call r l' s k') =
-    let b : memory_next l (Changed n) ≡ goes_on l' r =
-    ap₂ (λ (q : Memory) (z : Edited). memory_next q z) (e.memory ∙ sym s.memory) e.answer ∙ sym (goes_on_lem m l' x.value x.bytes r s) in
+    let b : memory_next l (Ok n) ≡ goes_on l' r =
+    ap₂ (λ (q : Memory) (z : Result ℕ (Refusal Reason)). memory_next q z) (e.memory ∙ sym s.memory) e.answer ∙ sym (goes_on_lem m l' x.value x.bytes r s) in
     let h = shown-once (subst (λ (z : Memory). Session z xs ys m') b k) k' in (
       (ap (λ (q : SgfEdit). q.number) (s.is ∙ ap (edit_in_c m.counts) (sym e.answer)), h.0),
       ap (λ (z : List Order). z ++ (kept_of m x ∷ [])) h.1,

@@ -7,7 +7,6 @@ use Rattle.text_utf8.specs.declared.Trimmed.{Trimmed}
 use Rattle.text_utf8.specs.declared.Trimmed.TheVariants as trim
 use Rattle.text_utf8.proofs.WellFormed.{well-or-bad, bad-trimmed, well-formed-trimmed}
 use Rattle.value_display.specs.Display.{displayed, displayed_in}
-use Rattle.value_display.specs.declared.Displayed.TheVariants.{Length, NoRoom as Full}
 use Rattle.lexer.specs.Token.{fault_number as fault_number}
 use Rattle.lexer.specs.Step.{next_at}
 use Rattle.lexer.specs.declared.Fault.{Fault}
@@ -28,6 +27,7 @@ use Rattle.demands.specs.When.{Exactly}
 use Rattle.demands.specs.Lists.{OneOf, trim_numbers, token_numbers, raw_numbers}
 use Rattle.demands.proofs.Listed.{one_of}
 use Rattle.demands.proofs.Numbers.{exactly}
+use Rattle.std.specs.Prelude.{Some, None}
 
 module _ (t : List ℕ) (n p f l : ℕ) (s : TrimIs (trimmed t) n p f l) where
   trim-well : WellFormed t → n ≡ 0
@@ -130,13 +130,13 @@ module _ (W out out' : List ℕ) (r : SgfDisplay) (is : r ≡ display_in_c (disp
   unfolding displayed
   placed-zero l =
       ap (λ (z : SgfDisplay). z.number) is
-      ∙ ap (λ (b : Bool). (display_in_c (display_for (pick b (Length (length W)) Full))).number) (le-leb (length W) (length out) l)
+      ∙ ap (λ (b : Bool). (display_in_c (display_for (pick b (Some (length W)) None))).number) (le-leb (length W) (length out) l)
 
   placed-full : length out < length W → r.number ≡ 14
   unfolding displayed
   placed-full l =
       ap (λ (z : SgfDisplay). z.number) is
-      ∙ ap (λ (b : Bool). (display_in_c (display_for (pick b (Length (length W)) Full))).number) (lt-leb (length W) (length out) l)
+      ∙ ap (λ (b : Bool). (display_in_c (display_for (pick b (Some (length W)) None))).number) (lt-leb (length W) (length out) l)
 
   pub placed-exactly : Exactly r.number (length W ≤ length out) (λ x. (x ≡ NoRoom) × (length out < length W))
   placed-exactly =

@@ -10,16 +10,9 @@ use Rattle.c_tokens.specs.Tokens.{TrimIs, TokenIs, ValueIs}
 use Rattle.lists.proofs.Once.{once_is}
 use Rattle.lists.specs.Once.{Once}
 use Rattle.tables.specs.declared.Counts.{Counts}
-use Rattle.tables.specs.declared.Reading.{Reading}
-use Rattle.ask_value.specs.declared.Accessed.{Accessed}
 use Rattle.go.specs.declared.value.GoValue.{GoValue}
-use Rattle.value_display.specs.declared.Displayed.{Displayed}
 use Rattle.ask.specs.Ask.{display_for}
-use Rattle.ask.specs.declared.DisplayAnswer.{DisplayAnswer}
-use Rattle.serialize.specs.declared.Written.{Written}
-use Rattle.edit_answer.specs.declared.Edited.{Edited}
 use Rattle.tables.specs.Lenient.{as_reading}
-use Rattle.tables.specs.declared.Lenient.{Lenient}
 use Rattle.c_answers.specs.Structs.{reading_in_c, span_in_c, display_in_c, go_in_c, writing_in_c, edit_in_c}
 use Rattle.c_answers.specs.declared.SgfDisplay.{SgfDisplay}
 use Rattle.c_answers.specs.declared.SgfEdit.{SgfEdit}
@@ -27,6 +20,10 @@ use Rattle.c_answers.specs.declared.SgfGoValue.{SgfGoValue}
 use Rattle.c_answers.specs.declared.SgfReading.{SgfReading}
 use Rattle.c_answers.specs.declared.SgfSpan.{SgfSpan}
 use Rattle.c_answers.specs.declared.SgfWriting.{SgfWriting}
+use Rattle.std.specs.Prelude.{Option, Result}
+use Rattle.tables.specs.declared.LenientRefusal.{LenientRefusal}
+use Rattle.tables.specs.declared.Reason.{Reason}
+use Rattle.tables.specs.declared.Refusal.{Refusal}
 
 -- c_tokens
 
@@ -57,26 +54,26 @@ value-once at Unclosed p q = four p q
 
 -- c_answers
 
-pub reading-once : (i : ℕ) (a : Reading) → Once (λ (r : SgfReading). r ≡ reading_in_c i a)
+pub reading-once : (i : ℕ) (a : Result Counts (Refusal Reason)) → Once (λ (r : SgfReading). r ≡ reading_in_c i a)
 reading-once i a = once_is (reading_in_c i a)
 
-pub lenient-once : (i : ℕ) (l : Lenient) → Once (λ (r : SgfReading). r ≡ reading_in_c i (as_reading l))
+pub lenient-once : (i : ℕ) (l : Result Counts LenientRefusal) → Once (λ (r : SgfReading). r ≡ reading_in_c i (as_reading l))
 lenient-once i l = once_is (reading_in_c i (as_reading l))
 
-pub span-once : (a : Accessed) → Once (λ (r : SgfSpan). r ≡ span_in_c a)
+pub span-once : (a : Result (ℕ × ℕ) Reason) → Once (λ (r : SgfSpan). r ≡ span_in_c a)
 span-once a = once_is (span_in_c a)
 
-pub display-once : (a : DisplayAnswer) → Once (λ (r : SgfDisplay). r ≡ display_in_c a)
+pub display-once : (a : Result ℕ Reason) → Once (λ (r : SgfDisplay). r ≡ display_in_c a)
 display-once a = once_is (display_in_c a)
 
-pub display-value-once : (d : Displayed) → Once (λ (r : SgfDisplay). r ≡ display_in_c (display_for d))
+pub display-value-once : (d : Option ℕ) → Once (λ (r : SgfDisplay). r ≡ display_in_c (display_for d))
 display-value-once d = once_is (display_in_c (display_for d))
 
 pub go-once : (n : ℕ) (g : GoValue) → Once (λ (r : SgfGoValue). r ≡ go_in_c n g)
 go-once n g = once_is (go_in_c n g)
 
-pub writing-once : (a : Written) → Once (λ (r : SgfWriting). r ≡ writing_in_c a)
+pub writing-once : (a : Result ℕ Reason) → Once (λ (r : SgfWriting). r ≡ writing_in_c a)
 writing-once a = once_is (writing_in_c a)
 
-pub edit-once : (c : Counts) (a : Edited) → Once (λ (r : SgfEdit). r ≡ edit_in_c c a)
+pub edit-once : (c : Counts) (a : Result ℕ (Refusal Reason)) → Once (λ (r : SgfEdit). r ≡ edit_in_c c a)
 edit-once c a = once_is (edit_in_c c a)

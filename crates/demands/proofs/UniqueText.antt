@@ -3,13 +3,11 @@ use Rattle.lists.proofs.Prelude.{ℕ, ◌≡◌, sym, ◌∙◌, List, Bool, dro
 use Rattle.lists.specs.Once.{Once}
 use Rattle.lists.proofs.Once.{once_is}
 use Rattle.store_bytes.specs.LocalsWrote.{Wrote}
-use Rattle.text_chars.specs.declared.Decoded.{Decoded}
 use Rattle.text_chars.specs.White.{white}
 use Rattle.text_chars.specs.LocalsDecode.{decoded}
 use Rattle.text_utf8.specs.declared.Trimmed.{Trimmed}
 use Rattle.text_utf8.specs.Trim.{trimmed}
 use Rattle.lexer_close.specs.Close.{close_at}
-use Rattle.lexer_close.specs.declared.Close.{Close}
 use Rattle.lexer_scan.specs.Scan.{space, skip_at, ident_at, value_step_at, values_end_at}
 use Rattle.lexer_scan.specs.declared.Ident.{Ident}
 use Rattle.lexer_scan.specs.declared.ValueStep.{ValueStep}
@@ -21,6 +19,7 @@ use Rattle.lexer.specs.declared.Step.{Step}
 use denote.Ref.{Bor}
 use Rattle.lexer.specs.declared.Stepped.{Stepped}
 use Rattle.lexer_walker.specs.declared.Walker.{Walker}
+use Rattle.std.specs.Prelude.{Option}
 
 -- lists
 
@@ -47,7 +46,7 @@ first-once bytes n = once_is (take n bytes)
 pub is-white-once : (c : ℕ) → Once (λ (r : Bool). r ≡ white c)
 is-white-once c = once_is (white c)
 
-pub char-at-once : (s : List ℕ) (i : ℕ) → Once (λ (r : Decoded). r ≡ decoded (drop i s))
+pub char-at-once : (s : List ℕ) (i : ℕ) → Once (λ (r : Option (ℕ × Bool)). r ≡ decoded (drop i s))
 char-at-once s i = once_is (decoded (drop i s))
 
 -- text_utf8
@@ -57,7 +56,7 @@ trim-once text = once_is (trimmed text)
 
 -- lexer_close
 
-pub value-end-once : (s : List ℕ) (i : ℕ) → Once (λ (r : Close). r ≡ close_at s i)
+pub value-end-once : (s : List ℕ) (i : ℕ) → Once (λ (r : Option ℕ). r ≡ close_at s i)
 value-end-once s i = once_is (close_at s i)
 
 -- lexer_scan
@@ -75,7 +74,7 @@ module _ (s : List ℕ) (i : ℕ) where
   pub next-value-once : Once (λ (r : ValueStep). r ≡ value_step_at s i)
   next-value-once = once_is (value_step_at s i)
 
-  pub values-end-once : Once (λ (r : Close). r ≡ values_end_at s i)
+  pub values-end-once : Once (λ (r : Option ℕ). r ≡ values_end_at s i)
   values-end-once = once_is (values_end_at s i)
 
 -- lexer

@@ -14,9 +14,7 @@ use Rattle.parts.specs.Rows.{value_at, values_at}
 use Rattle.values.specs.Decimal.{decimal_of}
 use Rattle.values.specs.Read.{read_value, next_read, read_identifier}
 use Rattle.values.specs.declared.decimal.Number.{Number}
-use Rattle.values.specs.declared.read.ReadStep.{ReadStep}
 use Rattle.value_display.specs.Display.{displayed, displayed_in}
-use Rattle.value_display.specs.declared.Displayed.{Displayed}
 use Rattle.go_points.specs.Area.{letter_of, move_of, area_of}
 use Rattle.go_points.specs.Handicap.{handicap_of}
 use Rattle.go_points.specs.declared.Area.{Area}
@@ -25,6 +23,7 @@ use Rattle.go_shape.specs.Shape.{shape_of}
 use Rattle.go_shape.specs.declared.Shape.{Shape}
 use Rattle.go.specs.Value.{points_of, value_by, go_value}
 use Rattle.go.specs.declared.value.GoValue.{GoValue}
+use Rattle.std.specs.Prelude.{Option}
 
 -- store_numbers
 
@@ -109,7 +108,7 @@ module _ (text vals : List ℕ) (first n : ℕ) where
 
 -- values
 
-pub next-read-once : (s : List ℕ) (at : ℕ) → Once (λ (r : ReadStep). r ≡ next_read s at)
+pub next-read-once : (s : List ℕ) (at : ℕ) → Once (λ (r : Option (ℕ × ℕ)). r ≡ next_read s at)
 next-read-once s at = once_is (next_read s at)
 
 -- of decimal_within, read_i64 and read_i32, whatever the bound
@@ -119,7 +118,7 @@ decimal-once most s = once_is (decimal_of most (read_value s))
 -- value_display
 
 -- the answer, and all of the memory
-pub display-once : (text out : List ℕ) (r s : Displayed) (x y : List ℕ) → (r ≡ displayed text out) × (x ≡ displayed_in text out) → (s ≡ displayed text out) × (y ≡ displayed_in text out) → (r ≡ s) × (x ≡ y)
+pub display-once : (text out : List ℕ) (r s : Option ℕ) (x y : List ℕ) → (r ≡ displayed text out) × (x ≡ displayed_in text out) → (s ≡ displayed text out) × (y ≡ displayed_in text out) → (r ≡ s) × (x ≡ y)
 display-once text out r s x y p q = (p.0 ∙ sym q.0, p.1 ∙ sym q.1)
 
 -- go_points

@@ -27,7 +27,6 @@ use Rattle.c_tally.specs.TallyInC.{tally_or_number}
 use Rattle.c_tally.specs.declared.SgfTally.{SgfTally}
 use Rattle.why_blame.specs.declared.Fact.TheVariants.{NoBracket}
 use Rattle.why.specs.Why.{explained}
-use Rattle.why.specs.declared.Why.TheVariants.{Refused}
 use Rattle.c_why.specs.WhyInC.{why_in_c}
 use Rattle.c_why.specs.declared.SgfWhy.{SgfWhy}
 use Rattle.feed_numerals.specs.Numeral.{groups_from, numeral_at}
@@ -39,10 +38,11 @@ use Rattle.feed_value.specs.declared.Looked.TheVariants.{Feed}
 use Rattle.feed_laid.specs.Laid.{shift}
 use Rattle.feed_laws.specs.Applied.{feed_applied, memory_applied}
 use Rattle.feed_apply.specs.Lent.{applied_for}
-use Rattle.feed_apply.specs.declared.Applied.TheVariants.{Changed}
 use Rattle.c_feed.specs.Parts.{part_in_c, applied_in_c, CorrectInC}
 use Rattle.c_feed.specs.declared.SgfPart.{SgfPart}
 use Rattle.demands.proofs.Useless.{rows}
+use Rattle.std.specs.Prelude.{Ok, Err}
+use Rattle.tables.specs.Refusals.{refusal}
 
 -- a game of one move and a pass that an older editor wrote
 abbrev pub game : Memory
@@ -77,7 +77,7 @@ pointing-go r s e = omega (arith, e, ap (λ (z : SgfGoValue). z.kind) s ∙ game
 
 -- ---- sgf_why_strict
 
-three-told : explained false (bytes "(;B)") ≡ Refused (NoBracket 4) 2
+three-told : explained false (bytes "(;B)") ≡ Err (refusal (NoBracket 4) 2)
 unfolding white trimmed space lex_at read_from
 three-told = refl
 
@@ -102,7 +102,7 @@ deaf-corrected r s =
     let e = s ∙ ap part_in_c game-looked in
     (ap (λ (z : SgfPart). z.number) e, ap (λ (z : SgfPart). z.source) e, ap (λ (z : SgfPart). z.from) e, ap (λ (z : SgfPart). z.to) e)
 
-game-corrected : (applied_for (feed_applied game feed) ≡ Changed 13) × (get_or (memory_applied (feed_applied game feed) game).text 4 0 ≡ 120)
+game-corrected : (applied_for (feed_applied game feed) ≡ Ok 13) × (get_or (memory_applied (feed_applied game feed) game).text 4 0 ≡ 120)
 unfolding white space read_from read_identifier Fit fit_text nodes_fit ranges_fit spans_fit trimmed each sum tabulate orphans upward on_path first_under spans ascending plain_name groups_from numeral_at entry_at entries_from listing found_in corrections_judged feed_checked shift feed_applied
 game-corrected = (refl, refl)
 

@@ -16,7 +16,6 @@ use Rattle.tables.specs.Columns.{depth_at}
 use Rattle.tables.specs.Each.{each, sum, tabulate}
 use Rattle.tables.specs.Memory.{Memory, memory}
 use Rattle.tables.specs.Numbers.{none}
-use Rattle.tables.specs.declared.Reading.TheVariants.{Accepted}
 use Rattle.fit.specs.Fit.{fit_text, Fit}
 use Rattle.fit.specs.Record.{record_in}
 use Rattle.fit_nodes.specs.Nodes.{orphans, upward, on_path, first_under, nodes_fit}
@@ -24,13 +23,10 @@ use Rattle.fit_spans.specs.Ranges.{ranges_fit}
 use Rattle.fit_spans.specs.Spans.{spans, ascending, plain_name, spans_fit}
 use Rattle.ask_value.specs.Access.{accessed}
 use Rattle.ask.specs.Ask.{display, display_in}
-use Rattle.ask.specs.declared.DisplayAnswer.TheVariants.{DisplayLength}
 use Rattle.parser.specs.Examples.{bytes, strict}
 use Rattle.parser.specs.Read.{read}
 use Rattle.reader.specs.Lent.{Lent}
 use Rattle.serialize.specs.Form.{writing, written, output}
-use Rattle.serialize.specs.declared.Written.{Written}
-use Rattle.serialize.specs.declared.Written.TheVariants.{Wrote}
 use Rattle.c_answers.specs.Structs.{reading_in_c, edit_in_c, writing_in_c, display_in_c}
 use Rattle.c_answers.specs.declared.SgfDisplay.{SgfDisplay}
 use Rattle.c_answers.specs.declared.SgfEdit.{SgfEdit}
@@ -43,11 +39,13 @@ use Rattle.demands.specs.Cells.{counts_read}
 use Rattle.demands.proofs.Exported.{shown-accepted}
 use Rattle.demands.proofs.Useless as useless
 use Rattle.demands.proofs.Useless.{rows, room, two-nodes, nothing, ten-first, first, second, first-edit, second-edit}
+use Rattle.std.specs.Prelude.{Result, Ok}
+use Rattle.tables.specs.declared.Reason.{Reason}
 
 -- ---- sgf_read_strict
 
 module _ {i : ℕ} (after : Lent) (r : SgfReading) (x : ReadInC i (read strict (bytes "(;;)")) room after r) where
-  is : r ≡ reading_in_c i (Accepted (rows 1 2 0 0))
+  is : r ≡ reading_in_c i (Ok (rows 1 2 0 0))
   is = x.is ∙ ap (reading_in_c i) two-nodes
 
   -- a reader that refuses everything
@@ -91,12 +89,12 @@ one = memory (bytes "(;C[ab])") 8 (rows 1 1 1 1) (0 ∷ 0 ∷ []) (none ∷ none
 abbrev eight : List ℕ
 eight = 0 ∷ 0 ∷ 0 ∷ 0 ∷ 0 ∷ 0 ∷ 0 ∷ 0 ∷ []
 
-one_written : (written one 8 ≡ Wrote 8) × (writing (record_in one) ≡ bytes "(;C[ab])")
+one_written : (written one 8 ≡ Ok 8) × (writing (record_in one) ≡ bytes "(;C[ab])")
 unfolding white space read_from read_identifier rule_of rule_by tt_passes size_of_tree size_in move_under normal go.normal_by go_value shape_of value_by Fit fit_text nodes_fit ranges_fit spans_fit trimmed each sum tabulate orphans upward on_path first_under spans ascending plain_name
 one_written = (refl, refl)
 
 module _ (out' : List ℕ) (r : SgfWriting) (x : WriteInC one eight out' r) where
-  wrote : r ≡ writing_in_c (Wrote 8)
+  wrote : r ≡ writing_in_c (Ok 8)
   wrote = x.is ∙ ap writing_in_c one_written.0
 
   -- a writer that refuses everything
@@ -110,19 +108,19 @@ module _ (out' : List ℕ) (r : SgfWriting) (x : WriteInC one eight out' r) wher
   -- one that leaves the output as it was
   pub idle-writer : out' ≡ eight → ⊥
   idle-writer e =
-      let f : ◌≡◌ {A = ℕ} 0 40 = ap (λ (b : List ℕ). get_or b 0 0) (sym e ∙ x.bytes ∙ ap₂ (λ (a : Written) (w : List ℕ). output a w eight) one_written.0 one_written.1) in
+      let f : ◌≡◌ {A = ℕ} 0 40 = ap (λ (b : List ℕ). get_or b 0 0) (sym e ∙ x.bytes ∙ ap₂ (λ (a : Result ℕ Reason) (w : List ℕ). output a w eight) one_written.0 one_written.1) in
       omega (arith, f)
 
 -- two bytes lent
 abbrev two : List ℕ
 two = 0 ∷ 0 ∷ []
 
-one-shown : (display one.text (accessed one 0) Text two ≡ DisplayLength 2) × (display_in one.text (accessed one 0) Text two ≡ bytes "ab")
+one-shown : (display one.text (accessed one 0) Text two ≡ Ok 2) × (display_in one.text (accessed one 0) Text two ≡ bytes "ab")
 unfolding white read_from accessed plain escaped item_of format_from display_text displayed displayed_in Fit fit_text nodes_fit ranges_fit spans_fit trimmed each sum tabulate orphans upward on_path first_under spans ascending plain_name
 one-shown = (refl, refl)
 
 module _ (out' : List ℕ) (r : SgfDisplay) (x : DisplayInC one 0 Text two out' r) where
-  shows : r ≡ display_in_c (DisplayLength 2)
+  shows : r ≡ display_in_c (Ok 2)
   shows = x.is ∙ ap display_in_c one-shown.0
 
   -- a display that refuses everything

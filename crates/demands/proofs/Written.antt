@@ -11,8 +11,6 @@ use Rattle.fit.specs.Record.{record_in}
 use Rattle.serialize.specs.Form.{writing, written, output}
 use Rattle.serialize.specs.Locals.{write_answer}
 use Rattle.serialize.specs.Branch.{nameless}
-use Rattle.serialize.specs.declared.Written as written_type
-use Rattle.serialize.specs.declared.Written.TheVariants.{Wrote, Refused}
 use Rattle.c_answers.specs.Structs.{writing_in_c}
 use Rattle.c_answers.specs.declared.SgfWriting.{SgfWriting}
 use Rattle.sgf.specs.ChangeInC.{WriteInC}
@@ -20,6 +18,7 @@ use Rattle.demands.specs.When.{Exactly, Writes, Unwritten, unfit, unnamed, narro
 use Rattle.demands.specs.Lists.{OneOf, writer_numbers}
 use Rattle.demands.proofs.Listed.{one_of}
 use Rattle.demands.proofs.Numbers.{exactly}
+use Rattle.std.specs.Prelude.{Result, Ok, Err}
 
 module _ (m : Memory) (room : ℕ) where
   abbrev W : List ℕ
@@ -36,13 +35,13 @@ module _ (m : Memory) (room : ℕ) where
       (λ n. below_or room (length W) (λ l. inr (NoRoom, narrow f n l)) (λ l. inl (record { fits = f; named = n; long = l }))))
       (λ f. inr (NotFitting, unfit f))
 
-  pub writes-answer : Writes m room → written m room ≡ Wrote (length W)
+  pub writes-answer : Writes m room → written m room ≡ Ok (length W)
   writes-answer x =
       ap (λ (b : Bool). write_answer b N (ltb room (length W)) W) x.fits
       ∙ ap (λ (b : Bool). write_answer true b (ltb room (length W)) W) x.named
       ∙ ap (λ (b : Bool). write_answer true false b W) (le-ltb room (length W) x.long)
 
-  pub unwritten-answer : {x : Reason} → Unwritten m room x → written m room ≡ Refused x
+  pub unwritten-answer : {x : Reason} → Unwritten m room x → written m room ≡ Err x
   unwritten-answer (unfit f) = ap (λ (b : Bool). write_answer b N (ltb room (length W)) W) f
   unwritten-answer (unnamed f n) = ap (λ (b : Bool). write_answer b N (ltb room (length W)) W) f ∙ ap (λ (b : Bool). write_answer true b (ltb room (length W)) W) n
   unwritten-answer (narrow f n l) =
@@ -68,7 +67,7 @@ module _ (m : Memory) (out out' : List ℕ) (r : SgfWriting) (s : WriteInC m out
   pub writing-stays : 0 < r.number → out' ≡ out
   writing-stays l =
       ⊎_elim (λ x. absurd (omega (arith, number-wrote x)))
-      (λ u. s.bytes ∙ ap (λ (w : written_type.Written). output w (writing (record_in m)) out) (unwritten-answer m (length out) u.1)) (written-decided m (length out))
+      (λ u. s.bytes ∙ ap (λ (w : Result ℕ Reason). output w (writing (record_in m)) out) (unwritten-answer m (length out) u.1)) (written-decided m (length out))
 
   pub writing-listed : OneOf writer_numbers r.number
   writing-listed =

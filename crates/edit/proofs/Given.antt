@@ -22,20 +22,21 @@ use Rattle.edit_splice.proofs.May.{replaced-is}
 use Rattle.edit_answer.specs.Answer.{outcome_of, edited_for}
 use Rattle.edit_answer.specs.Edit.{owner_name, Outcome, refuses, gives}
 use Rattle.edit_answer.specs.Locals.{outcome}
-use Rattle.edit_answer.specs.declared.Edited.TheVariants.{Changed, Refused}
 use Rattle.edit_answer.proofs.Fitting.{fit-within}
 use Rattle.edit_answer.proofs.Judged.{new_text, new_rows, answer-misfit, answer-beyond, tests-are, length-new}
 use Rattle.edit.specs.Lent.{memory_after, EditIs}
 use Rattle.edit.specs.Locals.{properties_moved, values_moved}
+use Rattle.std.specs.Prelude.{Ok, Err}
+use Rattle.tables.specs.Refusals.{refusal}
 
-not-both : {A : Type 0} (n : ℕ) (r : Reason) (p : ℕ) → Changed n ≡ Refused r p → A
+not-both : {A : Type 0} (n : ℕ) (r : Reason) (p : ℕ) → Ok n ≡ Err (refusal r p) → A
 not-both n r p e = never cc
 
 -- a refusal leaves all memory
-pub edit-refused : (m : Memory) (k : ℕ) (new : List ℕ) {r : Reason} {p : ℕ} → Refused r p ≡ edited_for (outcome_of m k new) → EditIs m m k new (Refused r p)
+pub edit-refused : (m : Memory) (k : ℕ) (new : List ℕ) {r : Reason} {p : ℕ} → Err (refusal r p) ≡ edited_for (outcome_of m k new) → EditIs m m k new (Err (refusal r p))
 edit-refused m k new {r} {p} h = record { answer = h; memory = go (outcome_of m k new) h }
   where
-    go : (o : Outcome) → Refused r p ≡ edited_for o → m ≡ memory_after o m
+    go : (o : Outcome) → Err (refusal r p) ≡ edited_for o → m ≡ memory_after o m
     go (refuses _ _) h = refl
     go (gives t T) h = not-both (length t) r p (sym h)
 
@@ -50,7 +51,7 @@ pub record Passed (n : ℕ) (g : Bool) (u : Utf) (d l m : Bool) (t : List ℕ) (
   pub room : m ≡ false
   pub count : n ≡ length t
 
-passed : (n : ℕ) (g : Bool) (u : Utf) (d l m : Bool) (t : List ℕ) (T : Tables) → Changed n ≡ edited_for (outcome true g u d l m t T) → Passed n g u d l m t T
+passed : (n : ℕ) (g : Bool) (u : Utf) (d l m : Bool) (t : List ℕ) (T : Tables) → Ok n ≡ edited_for (outcome true g u d l m t T) → Passed n g u d l m t T
 passed n true u d l m t T h = not-both n _ _ h
 passed n false (part i s j r x) d l m t T h = not-both n _ _ h
 passed n false (bad p) d l m t T h = not-both n _ _ h
@@ -72,7 +73,7 @@ module _ (m : Memory) (k : ℕ) (new : List ℕ) where
     pub is : outcome_of m k new ≡ gives Text Rows
     pub tests : Passed n (same (owner_name (text_in m) (tabulate (prop_row m.properties) 0 m.counts.properties) k) GM) (utfs (whole blank) 0 new) (closed new) (ltb text_limit (length Text)) (ltb (length m.text) (length Text)) Text Rows
 
-  pub given : (n : ℕ) → Changed n ≡ edited_for (outcome_of m k new) → Given n
+  pub given : (n : ℕ) → Ok n ≡ edited_for (outcome_of m k new) → Given n
   given n h =
       either-bool (Fit m)
       (λ f.
@@ -118,10 +119,10 @@ module _ (m : Memory) (k : ℕ) (new : List ℕ) where
         → b' ≡ replaced m.text m.used a e new
         → pr' ≡ over (properties_moved a e (length new) m.counts.properties m.properties) m.properties
         → vl' ≡ over (values_moved a e (length new) m.counts.values m.values) m.values
-        → EditIs m (memory b' m.used m.counts m.trees m.nodes pr' vl') k new (Changed n)
+        → EditIs m (memory b' m.used m.counts m.trees m.nodes pr' vl') k new (Ok n)
     edit-given {b'} {pr'} {vl'} {a} {e} ea ee eb ep ev =
         record {
-          answer = ap Changed x.tests.count ∙ ap edited_for (sym x.is);
+          answer = ap Ok x.tests.count ∙ ap edited_for (sym x.is);
           memory =
               ap (λ (z : List ℕ). memory z m.used m.counts m.trees m.nodes pr' vl') (eb ∙ ap₂ (λ (y z : ℕ). replaced m.text m.used y z new) ea ee ∙ text-put)
               ∙ ap₂ (λ (y z : List ℕ). memory (over (cleared Text m.used) m.text) m.used m.counts m.trees m.nodes y z)

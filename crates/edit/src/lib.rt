@@ -6,8 +6,7 @@ mod rows; // rows.rt: the places in the rows moved
 ghost use Rattle.edit.specs.Lent.{EditIs};
 ghost use Rattle.tables.specs.Memory.{memory};
 
-use edit_answer::Edited;
-use tables::Counts;
+use tables::{Counts, Reason, Refusal};
 
 // The bytes of value k, of tables that fit the first `used` bytes of the text, replaced by the new ones.
 pub fn edit(
@@ -20,22 +19,22 @@ pub fn edit(
     values: &mut [u32],
     k: usize,
     new: &[u8],
-) -> Edited
+) -> Result<usize, Refusal<Reason>>
     ensures { EditIs
         (memory text.old used counts trees.now nodes.now properties.old values.old)
         (memory text.new used counts trees.now nodes.now properties.new values.new)
         k new.now result }
 {
     match edit_answer::answer(text, used, counts, trees, nodes, properties, values, k, new) {
-        Edited::Refused(reason, place) => Edited::Refused(reason, place),
-        Edited::Changed(length) => {
+        Err(refused) => Err(refused),
+        Ok(length) => {
             let span = rows::span_of(values, k);
             let start = span.start;
             let end = span.end;
             edit_splice::replace(text, used, start, end, new);
             rows::move_properties(properties, counts.properties, k, start, end, new.len());
             rows::move_values(values, counts.values, k, start, end, new.len());
-            Edited::Changed(length)
+            Ok(length)
         }
     }
 }

@@ -49,11 +49,10 @@ pub fn move_values(values: &mut [u32], n: usize, k: usize, start: usize, end: us
     ensures { values.new ≡ over (values_moved start end m n values.old) values.old }
 {
     let by = edit_rows::change(start + m, end);
-    store_numbers::put2(
+    store_numbers::put(
         values,
         k * tables::VALUE_STRIDE,
-        start as u32,
-        (start + m) as u32,
+        [start as u32, (start + m) as u32],
     );
     edit_rows::shift_values(values, k + 1, n - (k + 1), by);
 }

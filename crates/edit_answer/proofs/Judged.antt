@@ -22,12 +22,14 @@ use Rattle.fit.specs.Record.{prop_row, val_row, rows_in, text_in}
 use Rattle.edit_answer.specs.Edit.{owner_name, span_at, shifted, Outcome, refuses, edit}
 use Rattle.edit_answer.specs.Locals.{outcome, AnswersBytes}
 use Rattle.edit_answer.specs.Answer.{outcome_of, edited_for}
-use Rattle.edit_answer.specs.declared.Edited.{Edited}
-use Rattle.edit_answer.specs.declared.Edited.TheVariants.{Changed, Refused}
 use Rattle.edit_answer.proofs.Fitting.{fit-within}
 use Rattle.edit_splice.specs.Splice.{pasted}
 use Rattle.edit_splice.proofs.Replaced.{length-pasted}
 use Rattle.fit.proofs.Parts.{tabulate-length, tabulate-at}
+use Rattle.std.specs.Prelude.{Result, Ok, Err}
+use Rattle.tables.specs.Refusals.{refusal}
+use Rattle.tables.specs.declared.Reason.{Reason}
+use Rattle.tables.specs.declared.Refusal.{Refusal}
 
 -- ---- the new bytes
 
@@ -37,14 +39,14 @@ whole_of (whole (inked f l)) z = (inked f l, refl)
 whole_of (part k s n r x) z = absurd (miss (1 ∷ 2 ∷ []) 0 tt z)
 whole_of (bad p) z = absurd (miss (1 ∷ 2 ∷ []) 0 tt z)
 
-bad-at : (u : Utf) (c l m : Bool) (t : List ℕ) (T : Tables) {p : ℕ} → Bad p ≡ trim_of u → Refused NotUtf8 p ≡ edited_for (outcome true false u c l m t T)
+bad-at : (u : Utf) (c l m : Bool) (t : List ℕ) (T : Tables) {p : ℕ} → Bad p ≡ trim_of u → Err (refusal NotUtf8 p) ≡ edited_for (outcome true false u c l m t T)
 bad-at (whole blank) c l m t T h = never cc
 bad-at (whole (inked f e)) c l m t T h = never cc
-bad-at (part k s n r x) c l m t T {p} h = let z : p ≡ s = cc in ap (Refused NotUtf8) z
-bad-at (bad q) c l m t T {p} h = let z : p ≡ q = cc in ap (Refused NotUtf8) z
+bad-at (part k s n r x) c l m t T {p} h = let z : p ≡ s = cc in ap (λ (y : ℕ). Err (refusal NotUtf8 y)) z
+bad-at (bad q) c l m t T {p} h = let z : p ≡ q = cc in ap (λ (y : ℕ). Err (refusal NotUtf8 y)) z
 
 module _ (new : List ℕ) (kept room : ℕ) where
-  pub bytes-bad : {p : ℕ} → Bad p ≡ trimmed new → AnswersBytes new kept room (Refused NotUtf8 p)
+  pub bytes-bad : {p : ℕ} → Bad p ≡ trimmed new → AnswersBytes new kept room (Err (refusal NotUtf8 p))
   unfolding trimmed
   bytes-bad h t T e = bad-at (utfs (whole blank) 0 new) (closed new) (ltb text_limit (length t)) (ltb room (length t)) t T h
 
@@ -53,16 +55,16 @@ module _ (new : List ℕ) (kept room : ℕ) where
     unfolding trimmed
     ink = whole_of (utfs (whole blank) 0 new) (subst (λ (z : Trimmed). OneOf (1 ∷ 2 ∷ []) (tag_of trimmed-type.the_type z)) is tag)
 
-    pub bytes-open : closed new ≡ false → AnswersBytes new kept room (Refused NotClosed 0)
+    pub bytes-open : closed new ≡ false → AnswersBytes new kept room (Err (refusal NotClosed 0))
     bytes-open h t T e = rw (ink.1, h)
 
-    pub bytes-long : closed new ≡ true → text_limit < kept + length new → AnswersBytes new kept room (Refused TextTooLong 0)
+    pub bytes-long : closed new ≡ true → text_limit < kept + length new → AnswersBytes new kept room (Err (refusal TextTooLong 0))
     bytes-long h l t T e = rw (ink.1, h, lt-ltb text_limit (length t) (omega arith))
 
-    pub bytes-full : closed new ≡ true → kept + length new ≤ text_limit → room < kept + length new → AnswersBytes new kept room (Refused NoRoom 0)
+    pub bytes-full : closed new ≡ true → kept + length new ≤ text_limit → room < kept + length new → AnswersBytes new kept room (Err (refusal NoRoom 0))
     bytes-full h l f t T e = rw (ink.1, h, le-ltb text_limit (length t) (omega arith), lt-ltb room (length t) (omega arith))
 
-    pub bytes_good : closed new ≡ true → kept + length new ≤ text_limit → kept + length new ≤ room → AnswersBytes new kept room (Changed (kept + length new))
+    pub bytes_good : closed new ≡ true → kept + length new ≤ text_limit → kept + length new ≤ room → AnswersBytes new kept room (Ok (kept + length new))
     bytes_good h l f t T e = rw (ink.1, h, le-ltb text_limit (length t) (omega arith), le-ltb room (length t) (omega arith), e)
 
 -- ---- the whole edit
@@ -80,7 +82,7 @@ module _ (m : Memory) (k : ℕ) (new : List ℕ) where
   abbrev fixed : Bool
   fixed = same (owner_name (text_in m) (tabulate (prop_row m.properties) 0 m.counts.properties) k) GM
 
-  pub answer-misfit : Fit m ≡ false → Refused NotFitting 0 ≡ edited_for Now
+  pub answer-misfit : Fit m ≡ false → Err (refusal NotFitting 0) ≡ edited_for Now
   unfolding outcome_of
   answer-misfit h = rw h
 
@@ -88,7 +90,7 @@ module _ (m : Memory) (k : ℕ) (new : List ℕ) where
   count-is = tabulate-length (val_row m.values) 0 m.counts.values
 
   module _ (fit : Fit m ≡ true) where
-    pub answer-beyond : m.counts.values ≤ k → Refused NoSuchNumber 0 ≡ edited_for Now
+    pub answer-beyond : m.counts.values ≤ k → Err (refusal NoSuchNumber 0) ≡ edited_for Now
     unfolding outcome_of
     answer-beyond h = rw (fit, count-is, le-ltb k m.counts.values h)
 
@@ -106,13 +108,13 @@ module _ (m : Memory) (k : ℕ) (new : List ℕ) where
           ∙ ap (λ (z : Bool). outcome z fixed (utfs (whole blank) 0 new) (closed new) (ltb text_limit (length new_text)) (ltb (length m.text) (length new_text)) new_text new_rows)
           (ap (ltb k) count-is ∙ lt-ltb k m.counts.values below)
 
-      pub answer-fixed : true ≡ fixed → Refused GameTypeFixed 0 ≡ edited_for Now
+      pub answer-fixed : true ≡ fixed → Err (refusal GameTypeFixed 0) ≡ edited_for Now
       answer-fixed h = sym (ap edited_for tests-are ∙ ap (λ (z : Bool). edited_for (outcome true z (utfs (whole blank) 0 new) (closed new) (ltb text_limit (length new_text)) (ltb (length m.text) (length new_text)) new_text new_rows)) (sym h))
 
       pub length-new : length new_text ≡ val_from_at m.values k + length new + (m.used - val_to_at m.values k)
       length-new = length-pasted m.text new m.used (val_from_at m.values k) (val_to_at m.values k) (fit-within m fit k below)
 
-      pub answer-new-bytes : false ≡ fixed → {s : ℕ} → s ≡ val_to_at m.values k - val_from_at m.values k → {r : Edited} → AnswersBytes new (m.used - s) (length m.text) r → r ≡ edited_for Now
+      pub answer-new-bytes : false ≡ fixed → {s : ℕ} → s ≡ val_to_at m.values k - val_from_at m.values k → {r : Result ℕ (Refusal Reason)} → AnswersBytes new (m.used - s) (length m.text) r → r ≡ edited_for Now
       answer-new-bytes h {s} es w =
           let x = fit-within m fit k below in
           let o = x.order in

@@ -14,14 +14,7 @@ ghost use Rattle.edit_answer.specs.Answer.{outcome_of, edited_for};
 ghost use Rattle.edit_answer.specs.Edit.{owner_name};
 ghost use Rattle.edit_answer.specs.Locals.{NamesLie, AnswersBytes};
 
-use tables::{Counts, Reason};
-
-// The new used length; or why an edit is refused, and the place.
-#[derive(Clone, Copy)]
-pub enum Edited {
-    Changed(usize),
-    Refused(Reason, usize),
-}
+use tables::{Counts, Reason, Refusal};
 
 // Whether a value is closed.
 pub fn is_closed(value: &[u8]) -> bool
@@ -87,24 +80,36 @@ fn size_of(values: &[u32], k: usize) -> usize
 }
 
 // Whether the new bytes may stand where `kept` bytes of the text stay and `room` are lent.
-fn answer_bytes(new: &[u8], kept: usize, room: usize) -> Edited
+fn answer_bytes(new: &[u8], kept: usize, room: usize) -> Result<usize, Refusal<Reason>>
     requires { kept ≤ text_limit }
     ensures { AnswersBytes new.now kept room result }
 {
     if let text_utf8::Trimmed::NotUtf8(place) = text_utf8::trim(new) {
-        return Edited::Refused(Reason::NotUtf8, place);
+        return Err(Refusal {
+            reason: Reason::NotUtf8,
+            place,
+        });
     }
     if !is_closed(new) {
-        return Edited::Refused(Reason::NotClosed, 0);
+        return Err(Refusal {
+            reason: Reason::NotClosed,
+            place: 0,
+        });
     }
     let length = kept + new.len();
     if tables::TEXT_LIMIT < length {
-        return Edited::Refused(Reason::TextTooLong, 0);
+        return Err(Refusal {
+            reason: Reason::TextTooLong,
+            place: 0,
+        });
     }
     if room < length {
-        return Edited::Refused(Reason::NoRoom, 0);
+        return Err(Refusal {
+            reason: Reason::NoRoom,
+            place: 0,
+        });
     }
-    Edited::Changed(length)
+    Ok(length)
 }
 
 // What an edit answers.
@@ -118,19 +123,28 @@ pub fn answer(
     values: &[u32],
     k: usize,
     new: &[u8],
-) -> Edited
+) -> Result<usize, Refusal<Reason>>
     ensures { result ≡ edited_for (outcome_of
         (memory text.now used counts trees.now nodes.now properties.now values.now)
         k new.now) }
 {
     if !fit::fits(text, used, counts, trees, nodes, properties, values) {
-        return Edited::Refused(Reason::NotFitting, 0);
+        return Err(Refusal {
+            reason: Reason::NotFitting,
+            place: 0,
+        });
     }
     if counts.values <= k {
-        return Edited::Refused(Reason::NoSuchNumber, 0);
+        return Err(Refusal {
+            reason: Reason::NoSuchNumber,
+            place: 0,
+        });
     }
     if is_fixed(&text[..used], properties, counts.properties, k) {
-        return Edited::Refused(Reason::GameTypeFixed, 0);
+        return Err(Refusal {
+            reason: Reason::GameTypeFixed,
+            place: 0,
+        });
     }
     answer_bytes(new, used - size_of(values, k), text.len())
 }

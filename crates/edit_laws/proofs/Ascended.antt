@@ -18,8 +18,8 @@ module _ (used q e m : ℕ) (qe : q ≤ e) (eu : e ≤ used) where
   moved s = span (starts_at q e m s.from) (ends_at q e m s.to)
 
   -- a span lies apart from the value, or is it
-  abbrev pub Ok : Span → Type 0
-  Ok s = ((s.to < q) ⊎ (e < s.from)) ⊎ ((s.from ≡ q) × (s.to ≡ e))
+  abbrev pub Apart : Span → Type 0
+  Apart s = ((s.to < q) ⊎ (e < s.from)) ⊎ ((s.from ≡ q) × (s.to ≡ e))
 
   abbrev Side : ℕ → Type 0
   Side o = (o ≤ q) ⊎ (e < o)
@@ -28,7 +28,7 @@ module _ (used q e m : ℕ) (qe : q ≤ e) (eu : e ≤ used) where
   start-low o a (inl s) l h = omega (arith, starts-low q e m o s)
   start-low o a (inr s) l h = omega (arith, starts-high q e m o (omega arith))
 
-  step : (o : ℕ) (s : Span) (ss : List Span) → Side o → First used o s ss → Ok s
+  step : (o : ℕ) (s : Span) (ss : List Span) → Side o → First used o s ss → Apart s
       → (starts_at q e m o ≤ starts_at q e m s.from) × (starts_at q e m s.from ≤ ends_at q e m s.to) × (ends_at q e m s.to ≤ q + m + (used - e)) × (suc (ends_at q e m s.to) ≡ starts_at q e m (suc s.to)) × Side (suc s.to)
   step o s ss d x (inl (inl h)) =
       let l = x.low in
@@ -57,7 +57,7 @@ module _ (used q e m : ℕ) (qe : q ≤ e) (eu : e ≤ used) where
       let n = starts-high q e m (suc s.to) (omega arith) in
       (omega arith, omega arith, omega arith, omega arith, inr (omega arith))
 
-  pub moved-ascend : (o : ℕ) (ss : List Span) → Side o → ascending used o ss ≡ true → All Ok ss → ascending (q + m + (used - e)) (starts_at q e m o) (map moved ss) ≡ true
+  pub moved-ascend : (o : ℕ) (ss : List Span) → Side o → ascending used o ss ≡ true → All Apart ss → ascending (q + m + (used - e)) (starts_at q e m o) (map moved ss) ≡ true
   unfolding ascending
   moved-ascend o [] d h a = refl
   moved-ascend o (s ∷ ss) d h a =

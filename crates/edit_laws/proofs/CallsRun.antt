@@ -6,8 +6,6 @@ use Rattle.tables.specs.Memory.{Memory}
 use Rattle.fit.specs.Fit.{Fit}
 use Rattle.edit_answer.specs.Edit.{Outcome, refuses, gives, edit}
 use Rattle.edit_answer.specs.Answer.{outcome_of, edited_for}
-use Rattle.edit_answer.specs.declared.Edited.{Edited}
-use Rattle.edit_answer.specs.declared.Edited.TheVariants.{Changed}
 use Rattle.edit.specs.Lent.{memory_after, EditIs}
 use Rattle.fit.proofs.Whole.{fit-lent}
 use Rattle.edit_answer.proofs.Judged.{new_text, new_rows}
@@ -17,6 +15,9 @@ use Rattle.edit_laws.proofs.Stays.{edit-stays}
 use Rattle.edit_laws.specs.Calls.{text_rows, outcome_for, memory_next, Calls, none, call}
 use Rattle.edit_laws.specs.Run.{TextRows, Order, after, run_edits}
 use Rattle.edit_laws.proofs.OnCode.{held_next}
+use Rattle.std.specs.Prelude.{Result, Ok}
+use Rattle.tables.specs.declared.Reason.{Reason}
+use Rattle.tables.specs.declared.Refusal.{Refusal}
 
 -- the tables in memory fit the used text
 abbrev pub Fitting : Memory → Type 0
@@ -41,7 +42,7 @@ module _ (s : Memory) (x : Order) (fit : Fitting s) where
   kept-outcome : (o : Outcome) → outcome_for s x ≡ o → Kept (memory_next (memory_after o s) (edited_for o))
   kept-outcome (refuses r p) e = (fit, refl)
   kept-outcome (gives t T) e =
-      let h : Changed (length t) ≡ edited_for (outcome_for s x) = ap edited_for (sym e) in
+      let h : Ok (length t) ≡ edited_for (outcome_for s x) = ap edited_for (sym e) in
       let g = given s x.value x.bytes (length t) h in
       let i : gives t T ≡ gives New Moved = sym e ∙ g.is in
       let w : t ≡ New = cc in (
@@ -51,13 +52,13 @@ module _ (s : Memory) (x : Order) (fit : Fitting s) where
             (omega (arith, ap length w, ltb-false (length s.text) (length New) g.tests.room)),
       )
 
-  pub call_kept : (r : Edited) (l : Memory) → EditIs s l x.value x.bytes r → Kept (memory_next l r)
+  pub call_kept : (r : Result ℕ (Refusal Reason)) (l : Memory) → EditIs s l x.value x.bytes r → Kept (memory_next l r)
   call_kept r l h =
-      subst⁻¹ (λ (q : Edited). Kept (memory_next l q)) h.answer
+      subst⁻¹ (λ (q : Result ℕ (Refusal Reason)). Kept (memory_next l q)) h.answer
       (subst⁻¹ (λ (m : Memory). Kept (memory_next m (edited_for (outcome_for s x)))) h.memory (kept-outcome (outcome_for s x) refl))
 
   -- what is held after it is what the definition's edit leaves
-  pub call-edits : (r : Edited) (l : Memory) → EditIs s l x.value x.bytes r
+  pub call-edits : (r : Result ℕ (Refusal Reason)) (l : Memory) → EditIs s l x.value x.bytes r
       → text_rows (memory_next l r) ≡ after (text_rows s) (edit (length s.text) (text_rows s).text (text_rows s).rows x.value x.bytes)
   call-edits r l h = held_next s x r l h ∙ ap (after (text_rows s)) (outcome_fits s x fit)
 

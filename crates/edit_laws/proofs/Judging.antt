@@ -19,10 +19,12 @@ use Rattle.fit.proofs.RootRows.{same-equal}
 use Rattle.parser.specs.Game.{GM}
 use Rattle.edit_answer.specs.Answer.{outcome_of, edited_for}
 use Rattle.edit_answer.specs.Locals.{outcome}
-use Rattle.edit_answer.specs.declared.Edited.{Edited}
-use Rattle.edit_answer.specs.declared.Edited.TheVariants.{Changed, Refused}
 use Rattle.edit_answer.proofs.Judged.{new_text, new_rows, answer-misfit, answer-beyond, answer-fixed, tests-are, length-new}
 use Rattle.edit_laws.specs.Edits.{owner, new_length, Allowed, Forbidden, misfit, beyond, fixed, garbled, open-ended, long, full}
+use Rattle.std.specs.Prelude.{Result, Ok, Err}
+use Rattle.tables.specs.Refusals.{refusal}
+use Rattle.tables.specs.declared.Refusal.{Refusal}
+use Rattle.tables.proofs.Refusals.{err-refusal}
 
 -- ---- the new bytes
 
@@ -35,18 +37,18 @@ well-ink t w = go (utfs (whole blank) 0 t) refl
     go (part i s n r x) e = absurd (well-formed-trimmed t w s (ap trim_of e))
     go (bad p) e = absurd (well-formed-trimmed t w p (ap trim_of e))
 
-bad-answer : (u : Utf) (c l m : Bool) (t : List ℕ) (T : Tables) (p : ℕ) → trim_of u ≡ Bad p → edited_for (outcome true false u c l m t T) ≡ Refused NotUtf8 p
+bad-answer : (u : Utf) (c l m : Bool) (t : List ℕ) (T : Tables) (p : ℕ) → trim_of u ≡ Bad p → edited_for (outcome true false u c l m t T) ≡ Err (refusal NotUtf8 p)
 bad-answer (whole blank) c l m t T p h = never cc
 bad-answer (whole (inked f e)) c l m t T p h = never cc
-bad-answer (part k s n r x) c l m t T p h = let z : s ≡ p = cc in ap (Refused NotUtf8) z
-bad-answer (bad q) c l m t T p h = let z : q ≡ p = cc in ap (Refused NotUtf8) z
+bad-answer (part k s n r x) c l m t T p h = let z : s ≡ p = cc in ap (λ (z : ℕ). Err (refusal NotUtf8 z)) z
+bad-answer (bad q) c l m t T p h = let z : q ≡ p = cc in ap (λ (z : ℕ). Err (refusal NotUtf8 z)) z
 
 bad-shown : (t : List ℕ) (p : ℕ) → BadFrom t p → trim_of (utfs (whole blank) 0 t) ≡ Bad p
 unfolding trimmed
 bad-shown t p x = bad-trimmed t p x
 
 module _ (m : Memory) (k : ℕ) (new : List ℕ) where
-  abbrev Now : Edited
+  abbrev Now : Result ℕ (Refusal Reason)
   Now = edited_for (outcome_of m k new)
 
   abbrev L : ℕ
@@ -75,7 +77,7 @@ module _ (m : Memory) (k : ℕ) (new : List ℕ) where
 
   -- ---- each number is given where it is to be
 
-  pub forbidden-given : {r : Reason} {p : ℕ} → Forbidden m k new r p → Now ≡ Refused r p
+  pub forbidden-given : {r : Reason} {p : ℕ} → Forbidden m k new r p → Now ≡ Err (refusal r p)
   forbidden-given (misfit f) = sym (answer-misfit m k new f)
   forbidden-given (beyond f b) = sym (answer-beyond m k new f b)
   forbidden-given (fixed f b g) = sym (answer-fixed m k new f b (sym (is-gm g)))
@@ -84,11 +86,11 @@ module _ (m : Memory) (k : ℕ) (new : List ℕ) where
   forbidden-given (long f b g w s l) = tests f b g ∙ rw ((well-ink new w).1, s, lt-ltb text_limit L l)
   forbidden-given (full f b g w s l o) = tests f b g ∙ rw ((well-ink new w).1, s, le-ltb text_limit L l, lt-ltb (length m.text) L o)
 
-  pub allowed-given : Allowed m k new → Now ≡ Changed L
+  pub allowed-given : Allowed m k new → Now ≡ Ok L
   allowed-given a =
       tests a.fits a.below a.free
       ∙ rw ((well-ink new a.valid).1, a.shut, le-ltb text_limit L a.short, le-ltb (length m.text) L a.room)
-      (ap Changed (length-new m k new a.fits a.below))
+      (ap Ok (length-new m k new a.fits a.below))
 
   -- ---- and nowhere else
 
@@ -118,18 +120,17 @@ module _ (m : Memory) (k : ℕ) (new : List ℕ) where
       (λ b. inr (NoSuchNumber, 0, beyond f b)))
       (λ f. inr (NotFitting, 0, misfit f))
 
-  pub given-forbidden : (r : Reason) (p : ℕ) → Now ≡ Refused r p → Forbidden m k new r p
+  pub given-forbidden : (r : Reason) (p : ℕ) → Now ≡ Err (refusal r p) → Forbidden m k new r p
   given-forbidden r p e =
       ⊎_elim (λ a. let z = sym (allowed-given a) ∙ e in never cc)
       (λ x.
-      let z : Refused x.0 x.1 ≡ Refused r p = sym (forbidden-given x.2) ∙ e in
-      let a : x.0 ≡ r = cc in
-      let b : x.1 ≡ p = cc in
-      subst₂ (Forbidden m k new) a b x.2)
+      let z : Err (refusal x.0 x.1) ≡ Err (refusal r p) = sym (forbidden-given x.2) ∙ e in
+      let y = err-refusal z in
+      subst₂ (Forbidden m k new) y.0 y.1 x.2)
       judged
 
-  pub given-allowed : (n : ℕ) → Now ≡ Changed n → Allowed m k new × (n ≡ L)
+  pub given-allowed : (n : ℕ) → Now ≡ Ok n → Allowed m k new × (n ≡ L)
   given-allowed n e =
-      ⊎_elim (λ a. let z : Changed L ≡ Changed n = sym (allowed-given a) ∙ e in let y : n ≡ L = cc in (a, y))
+      ⊎_elim (λ a. let z : Ok L ≡ Ok n = sym (allowed-given a) ∙ e in let y : n ≡ L = cc in (a, y))
       (λ x. let z = sym (forbidden-given x.2) ∙ e in never cc)
       judged

@@ -7,7 +7,6 @@ use Rattle.tables.specs.Memory.{Memory}
 use Rattle.fit.specs.Fit.{Fit}
 use Rattle.edit_answer.specs.Edit.{Outcome, refuses, gives, edit}
 use Rattle.edit_answer.specs.Answer.{outcome_of, edited_for}
-use Rattle.edit_answer.specs.declared.Edited.{Edited}
 use Rattle.edit_answer.proofs.Judged.{new_text, new_rows}
 use Rattle.edit.specs.Lent.{memory_after, EditIs}
 use Rattle.edit.proofs.Given.{given}
@@ -16,6 +15,9 @@ use Rattle.edit_laws.proofs.Left.{text-left, rows_left}
 use Rattle.edit_laws.specs.Calls.{text_rows, outcome_for, memory_next, Calls, none, call}
 use Rattle.edit_laws.specs.Run.{Order, after, Reads}
 use Rattle.edit_laws.proofs.DemandThree.{demand-three}
+use Rattle.std.specs.Prelude.{Result}
+use Rattle.tables.specs.declared.Reason.{Reason}
+use Rattle.tables.specs.declared.Refusal.{Refusal}
 
 module _ (s : Memory) (x : Order) where
   abbrev B : List ℕ
@@ -45,8 +47,8 @@ module _ (s : Memory) (x : Order) where
       let g = given s x.value x.bytes (length t) (ap edited_for (sym e)) in
       subst (λ (o : Outcome). text_rows (memory_next (memory_after o s) (edited_for o)) ≡ after (text_rows s) o) e (held-given g.is)
 
-  pub held_next : (r : Edited) (l : Memory) → EditIs s l x.value x.bytes r → text_rows (memory_next l r) ≡ after (text_rows s) (outcome_for s x)
-  held_next r l h = ap₂ (λ (q : Edited) (m : Memory). text_rows (memory_next m q)) h.answer h.memory ∙ held_after (outcome_for s x) refl
+  pub held_next : (r : Result ℕ (Refusal Reason)) (l : Memory) → EditIs s l x.value x.bytes r → text_rows (memory_next l r) ≡ after (text_rows s) (outcome_for s x)
+  held_next r l h = ap₂ (λ (q : Result ℕ (Refusal Reason)) (m : Memory). text_rows (memory_next m q)) h.answer h.memory ∙ held_after (outcome_for s x) refl
 
   reads-asked : Reads (text_rows s) → Reads (after (text_rows s) (outcome_for s x))
   unfolding outcome_of
@@ -58,7 +60,7 @@ module _ (s : Memory) (x : Order) where
       go false h = f
 
 -- one call
-pub call-reads : (s : Memory) (x : Order) (r : Edited) (l : Memory) → Reads (text_rows s) → EditIs s l x.value x.bytes r → Reads (text_rows (memory_next l r))
+pub call-reads : (s : Memory) (x : Order) (r : Result ℕ (Refusal Reason)) (l : Memory) → Reads (text_rows s) → EditIs s l x.value x.bytes r → Reads (text_rows (memory_next l r))
 call-reads s x r l f h = subst⁻¹ Reads (held_next s x r l h) (reads-asked s x f)
 
 -- any run of calls, refused ones of whatever number between them

@@ -22,16 +22,16 @@ use Rattle.fit_spans.proofs.Ranges.{gapless-first, gapless-sum, gapless-in}
 use Rattle.fit.proofs.Whole.{fit-lent}
 use Rattle.edit_splice.specs.Splice.{cleared}
 use Rattle.edit_answer.specs.Edit.{Outcome}
-use Rattle.edit_answer.specs.declared.Edited.TheVariants.{Changed}
 use Rattle.edit.specs.Lent.{memory_after, EditIs}
 use Rattle.edit.proofs.Apart.{AllApart, all_apart}
-use Rattle.edit_laws.proofs.Ascended.{Ok, moved-ascend, first-same, count_same, spans-moved, all-spans, ranges-same, have-same}
+use Rattle.edit_laws.proofs.Ascended.{Apart, moved-ascend, first-same, count_same, spans-moved, all-spans, ranges-same, have-same}
 use Rattle.edit_laws.proofs.Boxes.{Boxed, boxed-is, value-box, slice-apart, box-apart, box-new}
 use Rattle.edit_answer.proofs.Judged.{new_text, length-new}
 use Rattle.edit.proofs.Given.{Given, given, given-long, given-replaceable}
 use Rattle.edit_laws.specs.Calls.{memory_next}
 use Rattle.edit_laws.proofs.Left.{text-left, prop-row-left, val-row-left, length-buffer-left, length-props-left, length-vals-left}
 use Rattle.edit_laws.proofs.Pasted.{valid-still}
+use Rattle.std.specs.Prelude.{Ok}
 
 module _ (m : Memory) (k : ℕ) (new : List ℕ) {n : ℕ} (x : Given m k new n) where
   abbrev t : List ℕ
@@ -125,9 +125,9 @@ module _ (m : Memory) (k : ℕ) (new : List ℕ) {n : ℕ} (x : Given m k new n)
       each_all (value_right u vl') m.counts.values
       (λ j l. ap (λ (r : ValRow). in_brackets_closed u r.from r.to) (val-row j l) ∙ boxed-is u (f (val_from_at m.values j)) (g (val_to_at m.values j)) (box-stays j l))
 
-  all-ok : All (Ok (length t) q e (length new) order within) (spans m.properties m.values 0 m.counts.properties)
+  all-ok : All (Apart (length t) q e (length new) order within) (spans m.properties m.values 0 m.counts.properties)
   all-ok =
-      all-spans (Ok (length t) q e (length new) order within) m.properties m.values m.counts.properties 0 (λ i _ l. inl (name-apart i (omega arith)))
+      all-spans (Apart (length t) q e (length new) order within) m.properties m.values m.counts.properties 0 (λ i _ l. inl (name-apart i (omega arith)))
       (λ i j _ l a z.
       let h : j < m.counts.values = omega (arith, gapless-in (first_val_at m.properties) (val_count_at m.properties) m.counts.properties m.counts.values F.prop-ranges i (omega arith)) in
       same_or j k (λ w. rw w (inr (refl, refl))) (λ w. inl (val-apart j h w)))
@@ -182,10 +182,10 @@ module _ (m : Memory) (k : ℕ) (new : List ℕ) {n : ℕ} (x : Given m k new n)
       clauses-fit (memory (over (cleared u m.used) m.text) (length u) m.counts m.trees m.nodes pr' vl') (omega (arith, new-long, lb)) (rw (text-left u m.text m.used) text-stays)
 
 -- of any tables that fit, and any answer that meets the contract: accepted, they fit the new text with the new used length
-pub edit-stays : (m m' : Memory) (k : ℕ) (new : List ℕ) (n : ℕ) → EditIs m m' k new (Changed n) → Fit (memory_next m' (Changed n)) ≡ true
+pub edit-stays : (m m' : Memory) (k : ℕ) (new : List ℕ) (n : ℕ) → EditIs m m' k new (Ok n) → Fit (memory_next m' (Ok n)) ≡ true
 edit-stays m m' k new n h =
     let x = given m k new n h.answer in
     let l = h.memory ∙ ap (λ (o : Outcome). memory_after o m) x.is in
-    subst⁻¹ (λ (z : ℕ). Fit (memory_next m' (Changed z)) ≡ true) x.tests.count
-    (subst⁻¹ (λ (z : Memory). Fit (memory_next z (Changed (length (new_text m k new)))) ≡ true) l
+    subst⁻¹ (λ (z : ℕ). Fit (memory_next m' (Ok z)) ≡ true) x.tests.count
+    (subst⁻¹ (λ (z : Memory). Fit (memory_next z (Ok (length (new_text m k new)))) ≡ true) l
     (fit-still m k new x))

@@ -10,8 +10,6 @@ use Rattle.fit.specs.Record.{rows_in, text_in}
 use Rattle.fit.proofs.Whole.{fit-lent}
 use Rattle.edit_answer.specs.Answer.{outcome_of, edited_for}
 use Rattle.edit_answer.specs.Edit.{Outcome, gives}
-use Rattle.edit_answer.specs.declared.Edited.{Edited}
-use Rattle.edit_answer.specs.declared.Edited.TheVariants.{Changed}
 use Rattle.edit_answer.proofs.Judged.{new_text, new_rows}
 use Rattle.edit.specs.Lent.{memory_after, EditIs}
 use Rattle.edit.proofs.Given.{Given, given}
@@ -26,6 +24,9 @@ use Rattle.edit_session.specs.InMemory.{kept_of, SameRecord}
 use Rattle.edit_session.specs.Session.{asked, putting_back}
 use Rattle.edit_session.proofs.OfFitting.{used-lent}
 use Rattle.edit_session.proofs.Step.{kept-own, step_back, step-again}
+use Rattle.std.specs.Prelude.{Result, Ok}
+use Rattle.tables.specs.declared.Reason.{Reason}
+use Rattle.tables.specs.declared.Refusal.{Refusal}
 
 -- ---- the same record in the same memory
 
@@ -61,12 +62,12 @@ pub outcome-asked : (m : Memory) (x : Order) → Fit m ≡ true → outcome_for 
 unfolding outcome_of
 outcome-asked m x fit = rw fit
 
-module _ (m : Memory) (fit : Fit m ≡ true) (x : Order) (n : ℕ) (l : Memory) (h : EditIs m l x.value x.bytes (Changed n)) where
+module _ (m : Memory) (fit : Fit m ≡ true) (x : Order) (n : ℕ) (l : Memory) (h : EditIs m l x.value x.bytes (Ok n)) where
   abbrev room : ℕ
   room = length m.text
 
   abbrev m₁ : Memory
-  m₁ = memory_next l (Changed n)
+  m₁ = memory_next l (Ok n)
 
   g : Given m x.value x.bytes n
   g = given m x.value x.bytes n h.answer
@@ -84,10 +85,10 @@ module _ (m : Memory) (fit : Fit m ≡ true) (x : Order) (n : ℕ) (l : Memory) 
   accepted = sym (outcome-asked m x fit) ∙ g.is
 
   rows-now : text_rows m₁ ≡ record { text = Text; rows = Rows }
-  rows-now = call-edits m x fit (Changed n) l h ∙ ap (λ (o : Outcome). after (text_rows m) o) accepted
+  rows-now = call-edits m x fit (Ok n) l h ∙ ap (λ (o : Outcome). after (text_rows m) o) accepted
 
   pub kept : (Fit m₁ ≡ true) × (length m₁.text ≡ room)
-  kept = call_kept m x fit (Changed n) l h
+  kept = call_kept m x fit (Ok n) l h
 
   pub kept-is : putting_back (text_rows m) x ≡ kept_of m x
   kept-is = ap (λ (b : List ℕ). record { value = x.value; bytes = b }) (kept-own m fit room (used-lent m fit) x g.below)
@@ -121,8 +122,8 @@ module _ (m : Memory) (fit : Fit m ≡ true) (x : Order) (n : ℕ) (l : Memory) 
         ∙ ap (λ (z : TextRows). putting_back z x) rows₂
         ∙ step-again m fit room (used-lent m fit) x Text Rows accepted
 
-    module _ (r : Edited) (l₂ : Memory) (e : EditIs m₂ l₂ x.value (own_bytes m x.value) r) where
-      pub call-gone : r ≡ Changed (length (text_in m))
+    module _ (r : Result ℕ (Refusal Reason)) (l₂ : Memory) (e : EditIs m₂ l₂ x.value (own_bytes m x.value) r) where
+      pub call-gone : r ≡ Ok (length (text_in m))
       call-gone = e.answer ∙ ap edited_for gone
 
       left₂ : l₂ ≡ memory_after (gives (text_in m) (rows_in m)) m₂
@@ -135,8 +136,8 @@ module _ (m : Memory) (fit : Fit m ≡ true) (x : Order) (n : ℕ) (l : Memory) 
           let vc = m.counts.values in
           let hp : pc * 4 ≤ length m.properties = let z = held.properties in omega arith in
           let hv : vc * 2 ≤ length m.values = let z = held.values in omega arith in
-          subst⁻¹ (λ (q : Edited). SameRecord m (memory_next l₂ q)) call-gone
-          (subst⁻¹ (λ (q : Memory). SameRecord m (memory_next q (Changed (length (text_in m))))) left₂
+          subst⁻¹ (λ (q : Result ℕ (Refusal Reason)). SameRecord m (memory_next l₂ q)) call-gone
+          (subst⁻¹ (λ (q : Memory). SameRecord m (memory_next q (Ok (length (text_in m))))) left₂
           (record {
             used = used-is;
             text = text-left (text_in m) m₂.text m₂.used;

@@ -4,8 +4,6 @@ use Rattle.lists.proofs.Prelude.{ℕ, true, ◌≡◌, refl, sym, ap, ap₂, ◌
 use Rattle.tables.specs.Memory.{Memory}
 use Rattle.fit.specs.Fit.{Fit}
 use Rattle.fit.specs.Record.{text_in}
-use Rattle.edit_answer.specs.declared.Edited.{Edited}
-use Rattle.edit_answer.specs.declared.Edited.TheVariants.{Changed, Refused}
 use Rattle.edit.specs.Lent.{EditIs}
 use Rattle.edit_laws.specs.Calls.{text_rows, memory_next, Calls, none, call}
 use Rattle.edit_laws.specs.Run.{TextRows, Order, after}
@@ -14,6 +12,9 @@ use Rattle.feed_laid.specs.OfMemory.{own_bytes}
 use Rattle.edit_session.specs.InMemory.{SaysChanged, AllChanged, kept_of, kept_in, SameRecord}
 use Rattle.edit_session.specs.Session.{Granted, asked, AllGranted, undoing}
 use Rattle.edit_session.proofs.CallBack.{same_self, kept, kept-is, accepted, call-again, call-gone, call_same}
+use Rattle.std.specs.Prelude.{Result, Ok, Err}
+use Rattle.tables.specs.declared.Reason.{Reason}
+use Rattle.tables.specs.declared.Refusal.{Refusal}
 
 -- ---- a session by itself
 
@@ -21,23 +22,23 @@ use Rattle.edit_session.proofs.CallBack.{same_self, kept, kept-is, accepted, cal
 pub data Session : Memory → (edits kept : List Order) → Memory → Type 0 where
   empty : {m : Memory} → Session m [] [] m
   edit : {m m'' : Memory} {x : Order} {xs ys : List Order} (n : ℕ) (l : Memory)
-      → EditIs m l x.value x.bytes (Changed n) → Session (memory_next l (Changed n)) xs ys m'' → Session m (x ∷ xs) (ys ++ (kept_of m x ∷ [])) m''
+      → EditIs m l x.value x.bytes (Ok n) → Session (memory_next l (Ok n)) xs ys m'' → Session m (x ∷ xs) (ys ++ (kept_of m x ∷ [])) m''
 
 -- calls that are all answered as changed are one
 pub session-of : {m m' : Memory} {xs : List Order} (c : Calls m xs m') → AllChanged c → Session m xs (kept_in c) m'
 session-of none a = empty
-session-of (call (Changed n) l e k) a = edit n l e (session-of k a.1)
-session-of (call (Refused r p) l e k) a = absurd a.0
+session-of (call (Ok n) l e k) a = edit n l e (session-of k a.1)
+session-of (call (Err x) l e k) a = absurd a.0
 
-says : (r : Edited) (n : ℕ) → r ≡ Changed n → SaysChanged r
+says : (r : Result ℕ (Refusal Reason)) (n : ℕ) → r ≡ Ok n → SaysChanged r
 says r n e = subst⁻¹ SaysChanged e tt
 
 -- and all calls of its edits are it: the contract has one answer
 pub session-once : {m m' m'' : Memory} {xs ys : List Order} → Session m xs ys m' → (c : Calls m xs m'') → AllChanged c × (kept_in c ≡ ys)
 session-once empty none = (tt, refl)
 session-once (edit {m = m} {m'' = m'} {x = x} {xs = xs} {ys = ys} n l e k) (call r l' e' k') =
-    let a : r ≡ Changed n = e'.answer ∙ sym e.answer in
-    let b : memory_next l (Changed n) ≡ memory_next l' r = ap₂ (λ (q : Memory) (z : Edited). memory_next q z) (e.memory ∙ sym e'.memory) (sym a) in
+    let a : r ≡ Ok n = e'.answer ∙ sym e.answer in
+    let b : memory_next l (Ok n) ≡ memory_next l' r = ap₂ (λ (q : Memory) (z : Result ℕ (Refusal Reason)). memory_next q z) (e.memory ∙ sym e'.memory) (sym a) in
     let h = session-once (subst (λ (z : Memory). Session z xs ys m') b k) k' in
     ((says r n a, h.0), ap (λ (z : List Order). z ++ (kept_of m x ∷ [])) h.1)
 
@@ -53,12 +54,12 @@ session-append {m'' = m''} {xs' = xs'} {ys' = ys'} (edit {m = m} {x = x} {xs = x
     subst (λ (z : List Order). Session m (x ∷ xs ++ xs') z m'') (append_assoc ys' ys (kept_of m x ∷ [])) (edit n l e (session-append k b))
 
 -- one call that puts back
-put_back : (m : Memory) (fit : Fit m ≡ true) (x : Order) (n : ℕ) (l : Memory) (h : EditIs m l x.value x.bytes (Changed n)) (m₂ : Memory) (s : SameRecord (memory_next l (Changed n)) m₂)
+put_back : (m : Memory) (fit : Fit m ≡ true) (x : Order) (n : ℕ) (l : Memory) (h : EditIs m l x.value x.bytes (Ok n)) (m₂ : Memory) (s : SameRecord (memory_next l (Ok n)) m₂)
     {m'' : Memory} → Calls m₂ (kept_of m x ∷ []) m'' → Session m₂ (kept_of m x ∷ []) (x ∷ []) m'' × SameRecord m m''
 put_back m fit x n l h m₂ s (call r l₂ e none) =
     let k = call-gone m fit x n l h m₂ s r l₂ e in (
       subst (λ (z : Order). Session m₂ (kept_of m x ∷ []) (z ∷ []) (memory_next l₂ r)) (call-again m fit x n l h m₂ s)
-          (subst⁻¹ (λ (q : Edited). Session m₂ (kept_of m x ∷ []) (kept_of m₂ (kept_of m x) ∷ []) (memory_next l₂ q)) k
+          (subst⁻¹ (λ (q : Result ℕ (Refusal Reason)). Session m₂ (kept_of m x ∷ []) (kept_of m₂ (kept_of m x) ∷ []) (memory_next l₂ q)) k
           (edit (length (text_in m)) l₂ (subst (EditIs m₂ l₂ x.value (own_bytes m x.value)) k e) empty)),
       call_same m fit x n l h m₂ s r l₂ e,
     )
@@ -68,7 +69,7 @@ pub session-undone : {m m' m'' : Memory} {xs ys : List Order} → Fit m ≡ true
 session-undone fit (empty {m = m}) none = (empty, same_self m)
 session-undone {m'' = m''} fit (edit {m = m} {x = x} {ys = ys} n l h k) c =
     let z = calls-split ys c in
-    let f = (call_kept m x fit (Changed n) l h).0 in
+    let f = (call_kept m x fit (Ok n) l h).0 in
     let r = session-undone f k z.1 in
     let p = put_back m fit x n l h z.0 r.1 z.2 in
     (session-append r.0 p.0, p.1)
@@ -98,7 +99,7 @@ session-granted fit empty = (tt, refl)
 session-granted fit (edit {m = m} {x = x} {xs = xs} {ys = ys} n l e k) =
     let a = accepted m fit x n l e in
     let f = kept m fit x n l e in
-    let w : after (text_rows m) (asked (length m.text) (text_rows m) x) ≡ text_rows (memory_next l (Changed n)) = sym (call-edits m x fit (Changed n) l e) in
+    let w : after (text_rows m) (asked (length m.text) (text_rows m) x) ≡ text_rows (memory_next l (Ok n)) = sym (call-edits m x fit (Ok n) l e) in
     let r = session-granted f.0 k in
     let g = ap₂ (λ (i : ℕ) (z : TextRows). AllGranted i z xs) f.1 (sym w) in
     let u = ap₂ (λ (i : ℕ) (z : TextRows). undoing i z xs) (sym f.1) w in (

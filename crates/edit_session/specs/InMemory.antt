@@ -1,18 +1,18 @@
 -- A session in lent memory: calls of which each only meets the edit's contract and is answered as changed; and what is kept for undoing it.
-use Rattle.std.specs.Prelude.{◌∷◌, ◌++◌, ◌≡◌}
+use Rattle.std.specs.Prelude.{◌∷◌, ◌++◌, ◌≡◌, Result, Ok, Err, ℕ}
 use Rattle.lists.specs.Prelude.{List, [], length}
 use Rattle.tables.specs.Memory.{Memory}
 use Rattle.fit.specs.Record.{text_in}
-use Rattle.edit_answer.specs.declared.Edited.{Edited}
-use Rattle.edit_answer.specs.declared.Edited.TheVariants.{Changed, Refused}
 use Rattle.edit_laws.specs.Calls.{Calls, none, call}
 use Rattle.edit_laws.specs.Run.{Order}
 use Rattle.feed_laid.specs.OfMemory.{own_bytes}
+use Rattle.tables.specs.declared.Reason.{Reason}
+use Rattle.tables.specs.declared.Refusal.{Refusal}
 
 -- an answer says that the value was changed
-abbrev pub SaysChanged : Edited → Type 0
-SaysChanged (Changed n) = Unit {0}
-SaysChanged (Refused r p) = ⊥
+abbrev pub SaysChanged : Result ℕ (Refusal Reason) → Type 0
+SaysChanged (Ok n) = Unit {0}
+SaysChanged (Err e) = ⊥
 
 -- each call of a run
 abbrev pub AllChanged : {m m' : Memory} {xs : List Order} → Calls m xs m' → Type 0

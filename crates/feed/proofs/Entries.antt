@@ -1,40 +1,37 @@
 -- One correction more of a feed, as the code reads it. Assumes nothing.
 use Rattle.lists.proofs.Prelude.{ℕ, zero, suc, ◌+◌, ◌-◌, ◌≤◌, ◌<◌, ◌≡◌, refl, sym, ap, ap₂, ◌∙◌, Bool, false, List, [], ◌∷◌, arith, add-one, length, eqb, lt-ltb, le-ltb, le-leb, lt-leb, eq-eqb, ne_eqb, pick}
 use Rattle.feed_numerals.specs.Numeral.{numeral_at}
-use Rattle.feed_numerals.specs.declared.Numeral.TheVariants.{Is, Broken}
 use Rattle.feed.specs.Feed.{Entry, Listing, sized, with_number, entry_at, followed, entries_from, entries_by, listing}
 use Rattle.feed.specs.Find.{found_in}
-use Rattle.feed.specs.declared.Next.{Next}
-use Rattle.feed.specs.declared.Next.TheVariants.{One, Malformed}
-use Rattle.feed.specs.declared.Found.TheVariants.{At, Nowhere}
+use Rattle.std.specs.Prelude.{Option, Some, None}
 
 -- ---- the correction at a place
 
 module _ (w : List ℕ) (low p : ℕ) where
-  pub next-unnumbered : numeral_at w p ≡ Broken → Malformed ≡ entry_at w low p
+  pub next-unnumbered : numeral_at w p ≡ None → None ≡ entry_at w low p
   unfolding entry_at
   next-unnumbered e = sym (ap (with_number w low p) e)
 
-  module _ (v n : ℕ) (e : numeral_at w p ≡ Is v n) where
-    pub next-falling : v < low → Malformed ≡ entry_at w low p
+  module _ (v n : ℕ) (e : numeral_at w p ≡ Some (v, n)) where
+    pub next-falling : v < low → None ≡ entry_at w low p
     unfolding entry_at
-    next-falling h = sym (ap (with_number w low p) e ∙ ap (λ (b : Bool). pick b Malformed (sized w v (p + n) (numeral_at w (p + n)))) (lt-ltb v low h))
+    next-falling h = sym (ap (with_number w low p) e ∙ ap (λ (b : Bool). pick b None (sized w v (p + n) (numeral_at w (p + n)))) (lt-ltb v low h))
 
     next-sized : low ≤ v → entry_at w low p ≡ sized w v (p + n) (numeral_at w (p + n))
     unfolding entry_at
-    next-sized h = ap (with_number w low p) e ∙ ap (λ (b : Bool). pick b Malformed (sized w v (p + n) (numeral_at w (p + n)))) (le-ltb v low h)
+    next-sized h = ap (with_number w low p) e ∙ ap (λ (b : Bool). pick b None (sized w v (p + n) (numeral_at w (p + n)))) (le-ltb v low h)
 
-    pub next-unsized : low ≤ v → numeral_at w (p + n) ≡ Broken → Malformed ≡ entry_at w low p
+    pub next-unsized : low ≤ v → numeral_at w (p + n) ≡ None → None ≡ entry_at w low p
     next-unsized h f = sym (next-sized h ∙ ap (sized w v (p + n)) f)
 
-    module _ (h : low ≤ v) (l m : ℕ) (f : numeral_at w (p + n) ≡ Is l m) where
-      pub next-short : length w < p + n + m + l → Malformed ≡ entry_at w low p
+    module _ (h : low ≤ v) (l m : ℕ) (f : numeral_at w (p + n) ≡ Some (l, m)) where
+      pub next-short : length w < p + n + m + l → None ≡ entry_at w low p
       next-short k =
-          sym (next-sized h ∙ ap (sized w v (p + n)) f ∙ ap (λ (b : Bool). pick b (One v (p + n + m) (p + n + m + l)) Malformed) (lt-leb (p + n + m + l) (length w) k))
+          sym (next-sized h ∙ ap (sized w v (p + n)) f ∙ ap (λ (b : Bool). pick b (Some (v, p + n + m, p + n + m + l)) None) (lt-leb (p + n + m + l) (length w) k))
 
-      pub next_one : p + n + m + l ≤ length w → One v (p + n + m) (p + n + m + l) ≡ entry_at w low p
+      pub next_one : p + n + m + l ≤ length w → Some (v, p + n + m, p + n + m + l) ≡ entry_at w low p
       next_one k =
-          sym (next-sized h ∙ ap (sized w v (p + n)) f ∙ ap (λ (b : Bool). pick b (One v (p + n + m) (p + n + m + l)) Malformed) (le-leb (p + n + m + l) (length w) k))
+          sym (next-sized h ∙ ap (sized w v (p + n)) f ∙ ap (λ (b : Bool). pick b (Some (v, p + n + m, p + n + m + l)) None) (le-leb (p + n + m + l) (length w) k))
 
 -- ---- the corrections from a place on
 
@@ -49,33 +46,33 @@ module _ (w : List ℕ) where
   unfolding entries_from
   listed-end left low at e = ap (λ (c : ℕ). entries_from w c low at) e
 
-  pub listed-fault : (left low at : ℕ) → 0 < left → entry_at w low at ≡ Malformed → entries_from w left low at ≡ none-listed false
+  pub listed-fault : (left low at : ℕ) → 0 < left → entry_at w low at ≡ None → entries_from w left low at ≡ none-listed false
   unfolding entries_from
   listed-fault zero low at h e = absurd (omega arith)
-  listed-fault (suc c) low at h e = ap (λ (x : Next). followed x (λ l q. entries_from w c l q)) e
+  listed-fault (suc c) low at h e = ap (λ (x : Option (ℕ × ℕ × ℕ)). followed x (λ l q. entries_from w c l q)) e
 
-  pub listed-one : (left low at v a e : ℕ) → 0 < left → entry_at w low at ≡ One v a e → entries_from w left low at ≡ one-listed v a e (entries_from w (left - 1) (v + 1) e)
+  pub listed-one : (left low at v a e : ℕ) → 0 < left → entry_at w low at ≡ Some (v, a, e) → entries_from w left low at ≡ one-listed v a e (entries_from w (left - 1) (v + 1) e)
   unfolding entries_from
   listed-one zero low at v a e h k = absurd (omega arith)
   listed-one (suc c) low at v a e h k =
       let x : c ≡ suc c - 1 = omega arith in
-      ap (λ (y : Next). followed y (λ l q. entries_from w c l q)) k ∙ ap₂ (λ (d l : ℕ). one-listed v a e (entries_from w d l e)) x (sym (add-one v))
+      ap (λ (y : Option (ℕ × ℕ × ℕ)). followed y (λ l q. entries_from w c l q)) k ∙ ap₂ (λ (d l : ℕ). one-listed v a e (entries_from w d l e)) x (sym (add-one v))
 
-  pub listing-fault : numeral_at w 0 ≡ Broken → listing w ≡ none-listed false
+  pub listing-fault : numeral_at w 0 ≡ None → listing w ≡ none-listed false
   unfolding listing
   listing-fault e = ap (entries_by w) e
 
-  pub listing-count : (c n : ℕ) → numeral_at w 0 ≡ Is c n → listing w ≡ entries_from w c 0 n
+  pub listing-count : (c n : ℕ) → numeral_at w 0 ≡ Some (c, n) → listing w ≡ entries_from w c 0 n
   unfolding listing
   listing-count c n e = ap (entries_by w) e
 
   -- where k of `count` corrections are read
-  pub listing-begin : (count n : ℕ) → numeral_at w 0 ≡ Is count n → listing w ≡ entries_from w (count - 0) 0 n
+  pub listing-begin : (count n : ℕ) → numeral_at w 0 ≡ Some (count, n) → listing w ≡ entries_from w (count - 0) 0 n
   listing-begin count n e =
       let z : count ≡ count - 0 = omega arith in
       listing-count count n e ∙ ap (λ (d : ℕ). entries_from w d 0 n) z
 
-  pub listed-next : (count k low at v a e : ℕ) → k < count → entry_at w low at ≡ One v a e
+  pub listed-next : (count k low at v a e : ℕ) → k < count → entry_at w low at ≡ Some (v, a, e)
       → entries_from w (count - k) low at ≡ one-listed v a e (entries_from w (count - (k + 1)) (v + 1) e)
   listed-next count k low at v a e h q =
       let p : 0 < count - k = omega arith in
@@ -84,15 +81,15 @@ module _ (w : List ℕ) where
 
 -- ---- a value among them
 
-pub found_none : (k : ℕ) → found_in [] k ≡ Nowhere
+pub found_none : (k : ℕ) → found_in [] k ≡ None
 unfolding found_in
 found_none k = refl
 
 module _ (v a e k : ℕ) (xs : List Entry) where
-  pub found_here : v ≡ k → found_in (record { value = v; from = a; to = e } ∷ xs) k ≡ At a e
+  pub found_here : v ≡ k → found_in (record { value = v; from = a; to = e } ∷ xs) k ≡ Some (a, e)
   unfolding found_in
-  found_here h = ap (λ (b : Bool). pick b (At a e) (found_in xs k)) (eq-eqb v k h)
+  found_here h = ap (λ (b : Bool). pick b (Some (a, e)) (found_in xs k)) (eq-eqb v k h)
 
   pub found-later : (v ≡ k → ⊥) → found_in (record { value = v; from = a; to = e } ∷ xs) k ≡ found_in xs k
   unfolding found_in
-  found-later h = ap (λ (b : Bool). pick b (At a e) (found_in xs k)) (ne_eqb v k h)
+  found-later h = ap (λ (b : Bool). pick b (Some (a, e)) (found_in xs k)) (ne_eqb v k h)

@@ -4,24 +4,25 @@ use Rattle.feed_numerals.specs.Numeral.{spelled, numeral_limit}
 use Rattle.store_bytes.specs.LocalsWrote.{Wrote}
 use Rattle.store_bytes.proofs.Written.{wrote-all}
 use Rattle.feed.specs.Made.{MadeIs, made_for, correction_bytes}
-use Rattle.feed.specs.declared.make.Made.TheVariants.{Bytes, TooLarge, NoRoom}
+use Rattle.feed.specs.declared.make.MakeFault.TheVariants.{TooLarge, NoRoom}
+use Rattle.std.specs.Prelude.{Ok, Err}
 
 module _ {held : Bool} {bytes out : List ℕ} where
-  pub made-large : held ≡ false → MadeIs held bytes out out TooLarge
+  pub made-large : held ≡ false → MadeIs held bytes out out (Err TooLarge)
   made-large h = record { answer = sym (ap (λ (b : Bool). made_for b bytes out) h); memory = refl }
 
-  pub made-full : held ≡ true → length out < length bytes → MadeIs held bytes out out NoRoom
+  pub made-full : held ≡ true → length out < length bytes → MadeIs held bytes out out (Err NoRoom)
   made-full h l =
       record {
-        answer = sym (ap₂ (λ (b d : Bool). pick b (pick d (Bytes (length bytes)) NoRoom) TooLarge) h (lt-leb (length bytes) (length out) l));
+        answer = sym (ap₂ (λ (b d : Bool). pick b (pick d (Ok (length bytes)) (Err NoRoom)) (Err TooLarge)) h (lt-leb (length bytes) (length out) l));
         memory = refl;
       }
 
-  pub made-put : {out' : List ℕ} {r : ℕ} → held ≡ true → length out < 2 ^ 64 → length bytes ≤ length out → Wrote bytes out 0 out' r → MadeIs held bytes out out' (Bytes r)
+  pub made-put : {out' : List ℕ} {r : ℕ} → held ≡ true → length out < 2 ^ 64 → length bytes ≤ length out → Wrote bytes out 0 out' r → MadeIs held bytes out out' (Ok r)
   made-put {out'} {r} h s l x =
       let e : r ≡ length bytes = omega (arith, x.place) in
       record {
-        answer = ap Bytes e ∙ sym (ap₂ (λ (b d : Bool). pick b (pick d (Bytes (length bytes)) NoRoom) TooLarge) h (le-leb (length bytes) (length out) l));
+        answer = ap Ok e ∙ sym (ap₂ (λ (b d : Bool). pick b (pick d (Ok (length bytes)) (Err NoRoom)) (Err TooLarge)) h (le-leb (length bytes) (length out) l));
         memory = wrote-all x l;
       }
 

@@ -3,13 +3,10 @@ use Rattle.lists.proofs.Prelude.{ℕ, zero, suc, ◌+◌, ◌≤◌, ◌<◌, �
 use Rattle.lists.specs.All.{All}
 use Rattle.lists.proofs.Places.{drop-take}
 use Rattle.feed_numerals.specs.Numeral.{numeral_at, spelled, numeral_limit}
-use Rattle.feed_numerals.specs.declared.Numeral.{Numeral}
-use Rattle.feed_numerals.specs.declared.Numeral.TheVariants.{Is, Broken}
 use Rattle.feed_numerals.proofs.RoundTrip.{read-spelled}
 use Rattle.feed.specs.Feed.{Listing, correction_at, sized, with_number, entry_at, followed, entries_from, entries_by, listing, corrections}
 use Rattle.feed.specs.Made.{correction_bytes, corrections_bytes, feed_bytes, Sendable}
-use Rattle.feed.specs.declared.Next.{Next}
-use Rattle.feed.specs.declared.Next.TheVariants.{One, Malformed}
+use Rattle.std.specs.Prelude.{Option, Some, None}
 
 -- a part of so many bytes, and what follows it
 slice-length : (w : List ℕ) (p n : ℕ) → p + n ≤ length w → length (slice p (p + n) w) ≡ n
@@ -29,17 +26,17 @@ pub record Spelt (w : List ℕ) (low p v a e : ℕ) : Type 0 where
   pub bytes : drop p w ≡ correction_bytes v (slice a e w) ++ drop e w
   pub within : e ≤ length w
 
-abbrev Told : List ℕ → (low p : ℕ) → Next → Type 0
-Told w low p (One v a e) = Spelt w low p v a e
-Told w low p Malformed = Unit {0}
+abbrev Told : List ℕ → (low p : ℕ) → Option (ℕ × ℕ × ℕ) → Type 0
+Told w low p (Some (v, a, e)) = Spelt w low p v a e
+Told w low p None = Unit {0}
 
 module _ (w : List ℕ) (all : All (λ b. b < 256) w) (low p : ℕ) where
-  module _ (v n : ℕ) (e : numeral_at w p ≡ Is v n) (h : low ≤ v) where
-    told-sized : (r : Numeral) → numeral_at w (p + n) ≡ r → Told w low p (sized w v (p + n) r)
-    told-sized Broken f = tt
-    told-sized (Is l m) f = go (leb (p + n + m + l) (length w)) refl
+  module _ (v n : ℕ) (e : numeral_at w p ≡ Some (v, n)) (h : low ≤ v) where
+    told-sized : (r : Option (ℕ × ℕ)) → numeral_at w (p + n) ≡ r → Told w low p (sized w v (p + n) r)
+    told-sized None f = tt
+    told-sized (Some (l, m)) f = go (leb (p + n + m + l) (length w)) refl
       where
-        go : (b : Bool) → leb (p + n + m + l) (length w) ≡ b → Told w low p (pick b (One v (p + n + m) (p + n + m + l)) Malformed)
+        go : (b : Bool) → leb (p + n + m + l) (length w) ≡ b → Told w low p (pick b (Some (v, p + n + m, p + n + m + l)) None)
         go false k = tt
         go true k =
             let x = read-spelled w p v n all e in
@@ -59,11 +56,11 @@ module _ (w : List ℕ) (all : All (λ b. b < 256) w) (low p : ℕ) where
               within = i;
             }
 
-  told-numbered : (r : Numeral) → numeral_at w p ≡ r → Told w low p (with_number w low p r)
-  told-numbered Broken e = tt
-  told-numbered (Is v n) e = go (ltb v low) refl
+  told-numbered : (r : Option (ℕ × ℕ)) → numeral_at w p ≡ r → Told w low p (with_number w low p r)
+  told-numbered None e = tt
+  told-numbered (Some (v, n)) e = go (ltb v low) refl
     where
-      go : (b : Bool) → ltb v low ≡ b → Told w low p (pick b Malformed (sized w v (p + n) (numeral_at w (p + n))))
+      go : (b : Bool) → ltb v low ≡ b → Told w low p (pick b None (sized w v (p + n) (numeral_at w (p + n))))
       go true k = tt
       go false k = told-sized v n e (ltb-false v low k) (numeral_at w (p + n)) refl
 
@@ -84,10 +81,10 @@ whole-listed w all zero low p h =
     record { counted = refl; sendable = tt; bytes = let i : length w ≤ p = omega (arith, e) in drop_of_length-le w i }
 whole-listed w all (suc c) low p h = go (entry_at w low p) (told w all low p) (λ l q k. whole-listed w all c l q k) h
   where
-    go : (x : Next) → Told w low p x → ((l q : ℕ) → (entries_from w c l q).whole ≡ true → Whole w c l q (entries_from w c l q))
+    go : (x : Option (ℕ × ℕ × ℕ)) → Told w low p x → ((l q : ℕ) → (entries_from w c l q).whole ≡ true → Whole w c l q (entries_from w c l q))
         → (followed x (λ l q. entries_from w c l q)).whole ≡ true → Whole w (suc c) low p (followed x (λ l q. entries_from w c l q))
-    go Malformed y r k = absurd (false≢true k)
-    go (One v a e) y r k =
+    go None y r k = absurd (false≢true k)
+    go (Some (v, a, e)) y r k =
         let z = r (suc v) e k in
         record {
           counted = ap suc z.counted;
@@ -101,12 +98,12 @@ pub feed-one-form : (w : List ℕ) → All (λ b. b < 256) w → (listing w).who
 unfolding listing
 feed-one-form w all h = go (numeral_at w 0) refl h
   where
-    go : (r : Numeral) → numeral_at w 0 ≡ r → (entries_by w r).whole ≡ true
+    go : (r : Option (ℕ × ℕ)) → numeral_at w 0 ≡ r → (entries_by w r).whole ≡ true
         → (feed_bytes (map (correction_at w) (entries_by w r).entries) ≡ w)
         × (length (map (correction_at w) (entries_by w r).entries) < numeral_limit)
         × Sendable 0 (map (correction_at w) (entries_by w r).entries)
-    go Broken e k = absurd (false≢true k)
-    go (Is c n) e k =
+    go None e k = absurd (false≢true k)
+    go (Some (c, n)) e k =
         let x = read-spelled w 0 c n all e in
         let z = whole-listed w all c 0 n k in
         let m : length (map (correction_at w) (entries_from w c 0 n).entries) ≡ c = length-map (entries_from w c 0 n).entries (correction_at w) ∙ z.counted in

@@ -7,7 +7,8 @@ use Rattle.feed.specs.Feed.{entry_at, listing}
 use Rattle.feed.specs.Find.{found_in}
 use Rattle.feed.specs.LocalsNext.{Lies}
 use Rattle.feed.specs.Made.{MadeIs, out_after}
-use Rattle.feed.specs.declared.make.Made.{Made}
+use Rattle.std.specs.Prelude.{Result}
+use Rattle.feed.specs.declared.make.MakeFault.{MakeFault}
 
 pub next-at-once : (w : List ℕ) (low at : ℕ) → Once (λ r. (r ≡ entry_at w low at) × Lies w low numeral_limit r)
 next-at-once w low at r r' h k = once_is (entry_at w low at) r r' h.0 k.0
@@ -19,7 +20,7 @@ pub find-once : (w : List ℕ) (k : ℕ) → Once (λ r. r ≡ found_in (listing
 find-once w k = once_is (found_in (listing w).entries k)
 
 -- of the count and of a correction
-pub made-once : (held : Bool) (bytes out x y : List ℕ) (r r' : Made) → MadeIs held bytes out x r → MadeIs held bytes out y r' → (x ≡ y) × (r ≡ r')
+pub made-once : (held : Bool) (bytes out x y : List ℕ) (r r' : Result ℕ MakeFault) → MadeIs held bytes out x r → MadeIs held bytes out y r' → (x ≡ y) × (r ≡ r')
 made-once held bytes out x y r r' f g =
     let e = f.answer ∙ sym g.answer in
-    (f.memory ∙ ap (λ (z : Made). out_after z bytes out) e ∙ sym g.memory, e)
+    (f.memory ∙ ap (λ (z : Result ℕ MakeFault). out_after z bytes out) e ∙ sym g.memory, e)

@@ -1,11 +1,7 @@
 -- A feed: a count, then for each correction a value number, a length and that many bytes. Value numbers strictly rise, and nothing stands behind the end.
-use Rattle.std.specs.Prelude.{◌+◌, ◌∷◌}
+use Rattle.std.specs.Prelude.{◌+◌, ◌∷◌, Option, Some, None}
 use Rattle.lists.specs.Prelude.{ℕ, zero, suc, Bool, false, List, [], map, length, slice, leb, ltb, eqb, pick}
 use Rattle.feed_numerals.specs.Numeral.{numeral_at}
-use Rattle.feed_numerals.specs.declared.Numeral.{Numeral}
-use Rattle.feed_numerals.specs.declared.Numeral.TheVariants.{Is, Broken}
-use Rattle.feed.specs.declared.Next.{Next}
-use Rattle.feed.specs.declared.Next.TheVariants.{One, Malformed}
 
 -- a correction: the number of a value, and its new bytes
 pub record Correction : Type 0 where
@@ -24,23 +20,23 @@ pub record Listing : Type 0 where
   pub whole : Bool
 
 -- of value v: a length, read at q, and so many bytes behind it in the feed
-abbrev pub sized : List ℕ → (v q : ℕ) → Numeral → Next
-sized w v q Broken = Malformed
-sized w v q (Is l m) = pick (leb (q + m + l) (length w)) (One v (q + m) (q + m + l)) Malformed
+abbrev pub sized : List ℕ → (v q : ℕ) → Option (ℕ × ℕ) → Option (ℕ × ℕ × ℕ)
+sized w v q None = None
+sized w v q (Some (l, m)) = pick (leb (q + m + l) (length w)) (Some (v, q + m, q + m + l)) None
 
 -- a value number, read at p and not below `low`; then the length
-abbrev pub with_number : List ℕ → (low p : ℕ) → Numeral → Next
-with_number w low p Broken = Malformed
-with_number w low p (Is v n) = pick (ltb v low) Malformed (sized w v (p + n) (numeral_at w (p + n)))
+abbrev pub with_number : List ℕ → (low p : ℕ) → Option (ℕ × ℕ) → Option (ℕ × ℕ × ℕ)
+with_number w low p None = None
+with_number w low p (Some (v, n)) = pick (ltb v low) None (sized w v (p + n) (numeral_at w (p + n)))
 
 -- the correction at place p of a feed, of a value whose number is not below `low`
-unfoldable pub entry_at : List ℕ → (low p : ℕ) → Next
+unfoldable pub entry_at : List ℕ → (low p : ℕ) → Option (ℕ × ℕ × ℕ)
 entry_at w low p = with_number w low p (numeral_at w p)
 
 -- a fault; or a correction and what follows it
-abbrev pub followed : Next → (ℕ → ℕ → Listing) → Listing
-followed Malformed rest = record { entries = []; whole = false }
-followed (One v a e) rest = record { entries = record { value = v; from = a; to = e } ∷ (rest (suc v) e).entries; whole = (rest (suc v) e).whole }
+abbrev pub followed : Option (ℕ × ℕ × ℕ) → (ℕ → ℕ → Listing) → Listing
+followed None rest = record { entries = []; whole = false }
+followed (Some (v, a, e)) rest = record { entries = record { value = v; from = a; to = e } ∷ (rest (suc v) e).entries; whole = (rest (suc v) e).whole }
 
 -- `count` corrections from place p on, of values whose numbers are not below `low`
 unfoldable pub entries_from : List ℕ → (count low p : ℕ) → Listing
@@ -48,9 +44,9 @@ entries_from w zero low p = record { entries = []; whole = eqb p (length w) }
 entries_from w (suc c) low p = followed (entry_at w low p) (λ l q. entries_from w c l q)
 
 -- by the count
-abbrev pub entries_by : List ℕ → Numeral → Listing
-entries_by w Broken = record { entries = []; whole = false }
-entries_by w (Is c n) = entries_from w c 0 n
+abbrev pub entries_by : List ℕ → Option (ℕ × ℕ) → Listing
+entries_by w None = record { entries = []; whole = false }
+entries_by w (Some (c, n)) = entries_from w c 0 n
 
 -- all corrections of a feed
 unfoldable pub listing : List ℕ → Listing

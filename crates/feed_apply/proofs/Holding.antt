@@ -8,8 +8,6 @@ use Rattle.fit.proofs.Whole.{fit-lent}
 use Rattle.edit_splice.specs.Splice.{cleared}
 use Rattle.feed.specs.Feed.{listing}
 use Rattle.feed.specs.Find.{found_in}
-use Rattle.feed.specs.declared.Found.{Found}
-use Rattle.feed.specs.declared.Found.TheVariants.{Nowhere}
 use Rattle.feed_laid.specs.OfMemory.{laid_text, own_bytes}
 use Rattle.feed_laid.proofs.OverMemory.{own-text}
 use Rattle.feed_laws.specs.Corrected.{bytes_for, new_bytes}
@@ -18,6 +16,7 @@ use Rattle.feed_laws.proofs.Cleared.{own-over}
 use Rattle.feed_laws.proofs.Held.{held_text}
 use Rattle.feed_laws.proofs.Partly.{until-below, until-from, until_skip, laid_same, lesser-same}
 use Rattle.feed_apply.specs.LocalsAlong.{Uncorrected}
+use Rattle.std.specs.Prelude.{Option, None}
 
 module _ (m : Memory) (fit : Fit m ≡ true) (w : List ℕ) where
   abbrev vl : List ℕ
@@ -52,8 +51,8 @@ module _ (m : Memory) (fit : Fit m ≡ true) (w : List ℕ) where
       let s = laid_same m fit f g h in
       record { bytes = x.bytes ∙ ap (λ (z : List ℕ). over (cleared z m.used) m.text) s; long = x.long ∙ ap length s }
 
-  uncorrected-own : (j : ℕ) → found_in (listing w).entries j ≡ Nowhere → new j ≡ own j
-  uncorrected-own j f = ap (λ (x : Found). bytes_for w x (own j)) f
+  uncorrected-own : (j : ℕ) → found_in (listing w).entries j ≡ None → new j ≡ own j
+  uncorrected-own j f = ap (λ (x : Option (ℕ × ℕ)). bytes_for w x (own j)) f
 
   pub holds-own : Holds (until 0 less own) m.text m.used
   holds-own =

@@ -7,8 +7,6 @@ use Rattle.fit.specs.Fit.{Fit}
 use Rattle.fit.specs.Record.{text_in}
 use Rattle.feed.specs.Feed.{listing}
 use Rattle.feed.specs.Find.{found_in}
-use Rattle.feed.specs.declared.Found.{Found}
-use Rattle.feed.specs.declared.Found.TheVariants.{At, Nowhere}
 use Rattle.feed.proofs.Lying.{found_inside}
 use Rattle.feed_laid.specs.Laid.{shift}
 use Rattle.feed_laid.specs.OfMemory.{own_bytes}
@@ -20,6 +18,7 @@ use Rattle.feed_laws.proofs.Partly.{until-below, sum_below, lesser-size}
 use Rattle.feed_apply.specs.LocalsAlong.{size_for}
 use Rattle.feed_apply.specs.LocalsSizes.{old_size, new_size, grown_to, shrunk_to, spanned_to, Spread}
 use Rattle.feed_apply.proofs.Sizes.{grown-none, grown-more, shrunk-none, shrunk-more, spanned-low}
+use Rattle.std.specs.Prelude.{Option, Some, None}
 
 module _ (m : Memory) (fit : Fit m ≡ true) (w : List ℕ) where
   abbrev vl : List ℕ
@@ -54,9 +53,9 @@ module _ (m : Memory) (fit : Fit m ≡ true) (w : List ℕ) where
   pub new-size : (j : ℕ) → j < n → length (new j) ≡ new_size vl w j
   new-size j l = go (found_in (listing w).entries j) refl
     where
-      go : (x : Found) → found_in (listing w).entries j ≡ x → length (bytes_for w x (own j)) ≡ size_for x (old_size vl j)
-      go (At b z) f = length-slice b z w (found_inside w j b z f).1
-      go Nowhere f = own-size j l
+      go : (x : Option (ℕ × ℕ)) → found_in (listing w).entries j ≡ x → length (bytes_for w x (own j)) ≡ size_for x (old_size vl j)
+      go (Some (b, z)) f = length-slice b z w (found_inside w j b z f).1
+      go None f = own-size j l
 
   less-sum : (k : ℕ) → k ≤ n → sum (λ j. length (less j)) k + shrunk_to vl w k ≡ spanned_to vl k
   unfolding spanned_to

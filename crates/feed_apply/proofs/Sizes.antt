@@ -4,12 +4,11 @@ use Rattle.lists.proofs.Tests.{same_or}
 use Rattle.tables.specs.Columns.{val_from_at, val_to_at}
 use Rattle.feed.specs.Feed.{listing}
 use Rattle.feed.specs.Find.{found_in}
-use Rattle.feed.specs.declared.Found.{Found}
-use Rattle.feed.specs.declared.Found.TheVariants.{At, Nowhere}
 use Rattle.feed_laid.proofs.Places.{sum_more, sum-none, old-low}
 use Rattle.feed_apply.specs.LocalsAlong.{size_for, Uncorrected, Stands}
 use Rattle.feed_apply.specs.LocalsSizes.{old_size, new_size, grown_to, shrunk_to, spanned_to, Spread, Tallied}
 use Rattle.feed_apply.specs.declared.along.Along.{Along}
+use Rattle.std.specs.Prelude.{Option, Some, None}
 
 module _ (vl w : List ℕ) where
   pub grown-none : grown_to vl w 0 ≡ 0
@@ -36,11 +35,11 @@ module _ (vl w : List ℕ) where
   unfolding spanned_to
   spanned-more k = sum_more (λ j. old_size vl j) k
 
-  pub size_none : (k : ℕ) → found_in (listing w).entries k ≡ Nowhere → new_size vl w k ≡ old_size vl k
-  size_none k h = ap (λ (x : Found). size_for x (old_size vl k)) h
+  pub size_none : (k : ℕ) → found_in (listing w).entries k ≡ None → new_size vl w k ≡ old_size vl k
+  size_none k h = ap (λ (x : Option (ℕ × ℕ)). size_for x (old_size vl k)) h
 
-  pub size-at : (k a e : ℕ) → found_in (listing w).entries k ≡ At a e → new_size vl w k ≡ e - a
-  size-at k a e h = ap (λ (x : Found). size_for x (old_size vl k)) h
+  pub size-at : (k a e : ℕ) → found_in (listing w).entries k ≡ Some (a, e) → new_size vl w k ≡ e - a
+  size-at k a e h = ap (λ (x : Option (ℕ × ℕ)). size_for x (old_size vl k)) h
 
   -- values that are not corrected change nothing
   pub tally-skip : (low high : ℕ) → low ≤ high → Uncorrected w low high → (grown_to vl w high ≡ grown_to vl w low) × (shrunk_to vl w high ≡ shrunk_to vl w low)

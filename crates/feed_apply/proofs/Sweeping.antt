@@ -9,8 +9,6 @@ use Rattle.fit.proofs.Whole.{fit-lent}
 use Rattle.edit_splice.specs.Splice.{replaced}
 use Rattle.feed.specs.Feed.{listing}
 use Rattle.feed.specs.Find.{found_in}
-use Rattle.feed.specs.declared.Found.{Found}
-use Rattle.feed.specs.declared.Found.TheVariants.{At}
 use Rattle.feed_laid.specs.Laid.{with, shift}
 use Rattle.feed_laid.specs.OfMemory.{laid_text, own_bytes}
 use Rattle.feed_laid.proofs.OverMemory.{order, apart}
@@ -23,6 +21,7 @@ use Rattle.feed_apply.specs.LocalsSizes.{old_size, grown_to, shrunk_to}
 use Rattle.feed_apply.specs.LocalsText.{shorter_put, longer_put}
 use Rattle.feed_apply.proofs.Measuring.{own-size, less-start, new-start}
 use Rattle.feed_apply.proofs.Holding.{Holds, holds_same}
+use Rattle.std.specs.Prelude.{Option, Some}
 
 module _ (m : Memory) (fit : Fit m ≡ true) (w : List ℕ) where
   abbrev vl : List ℕ
@@ -70,12 +69,12 @@ module _ (m : Memory) (fit : Fit m ≡ true) (w : List ℕ) where
 
   -- ---- one correction
 
-  module _ (k b z : ℕ) (below : k < n) (found : found_in (listing w).entries k ≡ At b z) where
+  module _ (k b z : ℕ) (below : k < n) (found : found_in (listing w).entries k ≡ Some (b, z)) where
     abbrev bytes : List ℕ
     bytes = slice b z w
 
     new_is : new k ≡ bytes
-    new_is = ap (λ (x : Found). bytes_for w x (own k)) found
+    new_is = ap (λ (x : Option (ℕ × ℕ)). bytes_for w x (own k)) found
 
     less-span : shift a e (until k less own) (suc k) (e k) ≡ a k - shrunk_to vl w k + old_size vl k
     less-span =

@@ -8,7 +8,6 @@ use Rattle.fit_spans.proofs.Lists.{part_slice}
 use Rattle.edit_splice.specs.Splice.{cleared}
 use Rattle.feed.specs.Feed.{listing}
 use Rattle.feed.specs.Find.{found_in}
-use Rattle.feed.specs.declared.Found.TheVariants.{At}
 use Rattle.feed_laid.specs.OfMemory.{laid_text, own_bytes}
 use Rattle.feed_laws.specs.Corrected.{new_bytes}
 use Rattle.feed_laws.specs.LocalsSweep.{until, lesser}
@@ -17,6 +16,7 @@ use Rattle.feed_apply.specs.LocalsSizes.{old_size, grown_to, shrunk_to}
 use Rattle.feed_apply.specs.LocalsText.{shorter_put, longer_put}
 use Rattle.feed_apply.proofs.Holding.{Holds, less-skip, new-skip}
 use Rattle.feed_apply.proofs.Sweeping.{less-more, new-more}
+use Rattle.std.specs.Prelude.{Some}
 
 -- a text with the rows of its values and no others
 abbrev pub bare : List ℕ → (used n : ℕ) → List ℕ → Memory
@@ -38,7 +38,7 @@ module _ (w vl : List ℕ) (n : ℕ) (t₀ : List ℕ) (u₀ : ℕ) where
   pub carried-begin : (k : ℕ) → Uncorrected w 0 k → Carried k t₀ u₀
   carried-begin k u m fit ev en room x = new-skip m fit w 0 k (omega arith) u x
 
-  pub carried-more : {k b z start old k' u u' : ℕ} {t t' : List ℕ} → Carried k t u → k < n → found_in (listing w).entries k ≡ At b z
+  pub carried-more : {k b z start old k' u u' : ℕ} {t t' : List ℕ} → Carried k t u → k < n → found_in (listing w).entries k ≡ Some (b, z)
       → start ≡ val_from_at vl k + grown_to vl w k - shrunk_to vl w k → old ≡ old_size vl k
       → t' ≡ longer_put t u start old (take (z - b) (drop b w)) → u' ≡ u + (length (take (z - b) (drop b w)) - old)
       → Uncorrected w (k + 1) k' → k < k' → Carried k' t' u'
@@ -60,7 +60,7 @@ module _ (m : Memory) (fit : Fit m ≡ true) (w : List ℕ) where
   abbrev n : ℕ
   n = m.counts.values
 
-  pub swept-more : {k b z start old k' u u' : ℕ} {t t' : List ℕ} → Holds m fit w (until k (lesser m w) (own_bytes m)) t u → k < n → found_in (listing w).entries k ≡ At b z
+  pub swept-more : {k b z start old k' u u' : ℕ} {t t' : List ℕ} → Holds m fit w (until k (lesser m w) (own_bytes m)) t u → k < n → found_in (listing w).entries k ≡ Some (b, z)
       → start ≡ val_from_at m.values k - shrunk_to m.values w k → old ≡ old_size m.values k
       → t' ≡ shorter_put t u start old (take (z - b) (drop b w)) → u' ≡ u - (old - length (take (z - b) (drop b w)))
       → Uncorrected w (k + 1) k' → k < k' → Holds m fit w (until k' (lesser m w) (own_bytes m)) t' u'

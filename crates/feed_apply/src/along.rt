@@ -2,9 +2,6 @@
 ghost use Rattle.std.specs.Prelude.{◌≡◌, ◌+◌, ◌-◌, ◌<◌, ◌≤◌, ◌^◌, length};
 ghost use Rattle.feed_apply.specs.LocalsAlong.{Ahead, Stands, Uncorrected};
 
-use feed::Next;
-use feed_numerals::Numeral;
-
 // The next correction: how many follow it, its value, n where there is none, and its bytes in the feed; what the values before it have grown and shrunk by.
 #[derive(Clone, Copy)]
 pub struct Along {
@@ -41,7 +38,7 @@ fn seek(
         };
     }
     match feed::next_at(feed, low, at) {
-        Next::Malformed => Along {
+        None => Along {
             left: 0,
             due: n,
             from: at,
@@ -49,7 +46,7 @@ fn seek(
             grown: grown,
             shrunk: shrunk,
         },
-        Next::One(value, from, to) => {
+        Some((value, from, to)) => {
             if n <= value {
                 return Along {
                     left: 0,
@@ -77,8 +74,8 @@ pub fn begin(feed: &[u8], n: usize) -> Along
     ensures { Stands feed.now n result × Uncorrected feed.now 0 result.due × (result.grown ≡ 0) × (result.shrunk ≡ 0) }
 {
     match feed_numerals::read_numeral(feed, 0) {
-        Numeral::Broken => seek(feed, n, 0, 0, 0, 0, 0),
-        Numeral::Is(count, size) => seek(feed, n, count, 0, size, 0, 0),
+        None => seek(feed, n, 0, 0, 0, 0, 0),
+        Some((count, size)) => seek(feed, n, count, 0, size, 0, 0),
     }
 }
 

@@ -106,7 +106,7 @@ pub fn move_values(values: &mut [u32], n: usize, feed: &[u8])
         edit_rows::shift_values(values, k, v - k, by);
         s = along::pass(feed, n, s, old);
         let to = moved(values[at + tables::VALUE_END], s.grown, s.shrunk);
-        store_numbers::put2(values, at, from, to);
+        store_numbers::put(values, at, [from, to]);
         k = v + 1;
     }
     let by = edit_rows::change(s.grown, s.shrunk);

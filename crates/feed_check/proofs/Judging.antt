@@ -19,8 +19,9 @@ use Rattle.feed_check.specs.Check.{shut_judged, bytes_judged, bytes_at, correcti
 use Rattle.feed_check.specs.LocalsOwner.{tested_by}
 use Rattle.feed_check.specs.declared.FeedRefusal.{FeedRefusal}
 use Rattle.feed_check.specs.declared.FeedRefusal.TheVariants.{NotFitting, Malformed, NoSuchNumber, GameTypeFixed}
-use Rattle.feed_check.specs.declared.Checked.{Checked}
-use Rattle.feed_check.specs.declared.Checked.TheVariants.{Passed, Refused}
+use Rattle.std.specs.Prelude.{Result, Ok, Err, ⊤}
+use Rattle.tables.specs.Refusals.{refusal}
+use Rattle.tables.specs.declared.Refusal.{Refusal}
 
 -- valid bytes are judged by whether they are closed
 pub bytes-valid : (at : ℕ) (x : Trimmed) (shut : Bool) → OneOf (1 ∷ 2 ∷ []) (tag_of trimmed-type.the_type x) → bytes_judged at x shut ≡ shut_judged shut
@@ -28,19 +29,19 @@ bytes-valid at (BadAt p) shut z = absurd (miss (1 ∷ 2 ∷ []) 0 tt z)
 bytes-valid at Blank shut z = refl
 bytes-valid at (Kept f l) shut z = refl
 
-pub tested-unknown : (known fixed : Bool) (r : Checked) → not known ≡ true → Refused NoSuchNumber 0 ≡ tested_by known fixed r
-tested-unknown known fixed r h = sym (ap (λ (b : Bool). pick b (Refused NoSuchNumber 0) (pick fixed (Refused GameTypeFixed 0) r)) h)
+pub tested-unknown : (known fixed : Bool) (r : Result ⊤ (Refusal FeedRefusal)) → not known ≡ true → Err (refusal NoSuchNumber 0) ≡ tested_by known fixed r
+tested-unknown known fixed r h = sym (ap (λ (b : Bool). pick b (Err (refusal NoSuchNumber 0)) (pick fixed (Err (refusal GameTypeFixed 0)) r)) h)
 
-pub tested-fixed : (known fixed : Bool) (r : Checked) → not known ≡ false → fixed ≡ true → Refused GameTypeFixed 0 ≡ tested_by known fixed r
-tested-fixed known fixed r h k = sym (ap₂ (λ (b d : Bool). pick b (Refused NoSuchNumber 0) (pick d (Refused GameTypeFixed 0) r)) h k)
+pub tested-fixed : (known fixed : Bool) (r : Result ⊤ (Refusal FeedRefusal)) → not known ≡ false → fixed ≡ true → Err (refusal GameTypeFixed 0) ≡ tested_by known fixed r
+tested-fixed known fixed r h k = sym (ap₂ (λ (b d : Bool). pick b (Err (refusal NoSuchNumber 0)) (pick d (Err (refusal GameTypeFixed 0)) r)) h k)
 
-pub tested-bytes : (known fixed : Bool) (r : Checked) → not known ≡ false → fixed ≡ false → r ≡ tested_by known fixed r
-tested-bytes known fixed r h k = sym (ap₂ (λ (b d : Bool). pick b (Refused NoSuchNumber 0) (pick d (Refused GameTypeFixed 0) r)) h k)
+pub tested-bytes : (known fixed : Bool) (r : Result ⊤ (Refusal FeedRefusal)) → not known ≡ false → fixed ≡ false → r ≡ tested_by known fixed r
+tested-bytes known fixed r h k = sym (ap₂ (λ (b d : Bool). pick b (Err (refusal NoSuchNumber 0)) (pick d (Err (refusal GameTypeFixed 0)) r)) h k)
 
 -- ---- one correction after another
 
 module _ (t : List ℕ) (rs : List PropRow) (total : ℕ) (w : List ℕ) where
-  pub judged-none : corrections_judged t rs total w [] ≡ Passed
+  pub judged-none : corrections_judged t rs total w [] ≡ Ok tt
   unfolding corrections_judged
   judged-none = refl
 
@@ -50,24 +51,24 @@ module _ (t : List ℕ) (rs : List PropRow) (total : ℕ) (w : List ℕ) where
     tested-is = ap (λ (b : Bool). tested_by (ltb x.value total) b (bytes_judged x.from (trimmed (bytes_at w x)) (closed (bytes_at w x)))) is
 
     pub judged-refused : (f : FeedRefusal) (p : ℕ)
-        → tested_by (ltb x.value total) fixed (bytes_judged x.from (trimmed (bytes_at w x)) (closed (bytes_at w x))) ≡ Refused f p
-        → corrections_judged t rs total w (x ∷ xs) ≡ Refused f p
+        → tested_by (ltb x.value total) fixed (bytes_judged x.from (trimmed (bytes_at w x)) (closed (bytes_at w x))) ≡ Err (refusal f p)
+        → corrections_judged t rs total w (x ∷ xs) ≡ Err (refusal f p)
     unfolding corrections_judged
-    judged-refused f p e = ap (λ (r : Checked). first_refusal r (corrections_judged t rs total w xs)) (sym tested-is ∙ e)
+    judged-refused f p e = ap (λ (r : Result ⊤ (Refusal FeedRefusal)). first_refusal r (corrections_judged t rs total w xs)) (sym tested-is ∙ e)
 
-    pub judged-passed : tested_by (ltb x.value total) fixed (bytes_judged x.from (trimmed (bytes_at w x)) (closed (bytes_at w x))) ≡ Passed
+    pub judged-passed : tested_by (ltb x.value total) fixed (bytes_judged x.from (trimmed (bytes_at w x)) (closed (bytes_at w x))) ≡ Ok tt
         → corrections_judged t rs total w (x ∷ xs) ≡ corrections_judged t rs total w xs
     unfolding corrections_judged
-    judged-passed e = ap (λ (r : Checked). first_refusal r (corrections_judged t rs total w xs)) (sym tested-is ∙ e)
+    judged-passed e = ap (λ (r : Result ⊤ (Refusal FeedRefusal)). first_refusal r (corrections_judged t rs total w xs)) (sym tested-is ∙ e)
 
 -- ---- the whole feed
 
 module _ (m : Memory) (w : List ℕ) where
-  pub checked-misfit : Fit m ≡ false → Refused NotFitting 0 ≡ feed_checked m w
+  pub checked-misfit : Fit m ≡ false → Err (refusal NotFitting 0) ≡ feed_checked m w
   unfolding feed_checked
   checked-misfit h = rw h
 
-  pub checked-malformed : Fit m ≡ true → (listing w).whole ≡ false → Refused Malformed 0 ≡ feed_checked m w
+  pub checked-malformed : Fit m ≡ true → (listing w).whole ≡ false → Err (refusal Malformed 0) ≡ feed_checked m w
   unfolding feed_checked
   checked-malformed h k = rw (h, k)
 

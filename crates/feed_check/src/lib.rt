@@ -16,9 +16,7 @@ ghost use Rattle.feed.specs.Feed.{listing};
 ghost use Rattle.feed_check.specs.Check.{feed_number, bytes_judged, corrections_judged, feed_checked};
 ghost use Rattle.feed_check.specs.LocalsOwner.{Behind, Holds, tested_by};
 
-use feed::Next;
-use feed_numerals::Numeral;
-use tables::Counts;
+use tables::{Counts, Refusal};
 use text_utf8::Trimmed;
 
 // Why a feed is refused.
@@ -34,41 +32,42 @@ pub enum FeedRefusal {
     NoRoom,
 }
 
-// A feed passes; or why it is refused, and the place.
-#[derive(Clone, Copy)]
-pub enum Checked {
-    Passed,
-    Refused(FeedRefusal, usize),
-}
+impl From<FeedRefusal> for u32 {
+    ghost from_gives = { λ refusal to. to ≡ feed_number refusal };
 
-// The number of a refusal.
-pub fn feed_number(refusal: FeedRefusal) -> u32
-    ensures { result ≡ feed_number refusal }
-{
-    match refusal {
-        FeedRefusal::NotFitting => 19,
-        FeedRefusal::Malformed => 24,
-        FeedRefusal::NoSuchNumber => 16,
-        FeedRefusal::GameTypeFixed => 17,
-        FeedRefusal::NotUtf8 => 2,
-        FeedRefusal::NotClosed => 18,
-        FeedRefusal::TextTooLong => 1,
-        FeedRefusal::NoRoom => 14,
+    // The number of a refusal.
+    fn from(refusal: FeedRefusal) -> u32 {
+        match refusal {
+            FeedRefusal::NotFitting => 19,
+            FeedRefusal::Malformed => 24,
+            FeedRefusal::NoSuchNumber => 16,
+            FeedRefusal::GameTypeFixed => 17,
+            FeedRefusal::NotUtf8 => 2,
+            FeedRefusal::NotClosed => 18,
+            FeedRefusal::TextTooLong => 1,
+            FeedRefusal::NoRoom => 14,
+        }
     }
 }
 
 // What new bytes that stand at a place of the feed are answered: 2, 18.
-fn judge_bytes(new: &[u8], at: usize) -> Checked
+fn judge_bytes(new: &[u8], at: usize) -> Result<(), Refusal<FeedRefusal>>
     requires { at + length new.now < 2 ^ 64 }
     ensures { result ≡ bytes_judged at (trimmed new.now) (closed new.now) }
 {
     if let Trimmed::NotUtf8(place) = text_utf8::trim(new) {
-        return Checked::Refused(FeedRefusal::NotUtf8, at + place);
+        return Err(Refusal {
+            reason: FeedRefusal::NotUtf8,
+            place: at + place,
+        });
     }
     if !edit_answer::is_closed(new) {
-        return Checked::Refused(FeedRefusal::NotClosed, 0);
+        return Err(Refusal {
+            reason: FeedRefusal::NotClosed,
+            place: 0,
+        });
     }
-    Checked::Passed
+    Ok(())
 }
 
 // The first property, from one on that no property before has value k, that has a value behind it; n where there is none.
@@ -102,45 +101,54 @@ fn is_game_type(text: &[u8], properties: &[u32], n: usize, p: usize) -> bool
 }
 
 // What one correction is answered: whether its number is known, whether its property is the game type, then its bytes.
-fn judge_one(known: bool, fixed: bool, new: &[u8], at: usize) -> Checked
+fn judge_one(known: bool, fixed: bool, new: &[u8], at: usize) -> Result<(), Refusal<FeedRefusal>>
     requires { at + length new.now < 2 ^ 64 }
     ensures { result ≡ tested_by known fixed (bytes_judged at (trimmed new.now) (closed new.now)) }
 {
     if !known {
-        return Checked::Refused(FeedRefusal::NoSuchNumber, 0);
+        return Err(Refusal {
+            reason: FeedRefusal::NoSuchNumber,
+            place: 0,
+        });
     }
     if fixed {
-        return Checked::Refused(FeedRefusal::GameTypeFixed, 0);
+        return Err(Refusal {
+            reason: FeedRefusal::GameTypeFixed,
+            place: 0,
+        });
     }
     judge_bytes(new, at)
 }
 
 // What the corrections of a feed are answered, one after another.
-fn judge_all(text: &[u8], properties: &[u32], n: usize, total: usize, feed: &[u8]) -> Checked
+fn judge_all(
+    text: &[u8],
+    properties: &[u32],
+    n: usize,
+    total: usize,
+    feed: &[u8],
+) -> Result<(), Refusal<FeedRefusal>>
     requires { (n ≤ length properties.now / property_stride) × NamesLie properties.now n (length text.now) }
     ensures { result ≡ corrections_judged text.now (tabulate (prop_row properties.now) 0 n) total feed.now
         (listing feed.now).entries }
 {
-    let Numeral::Is(count, mut at) = feed_numerals::read_numeral(feed, 0) else {
-        return Checked::Passed;
+    let Some((count, mut at)) = feed_numerals::read_numeral(feed, 0) else {
+        return Ok(());
     };
     let mut low: usize = 0;
     let mut p: usize = 0;
     for _ in 0..count {
-        let Next::One(value, from, to) = feed::next_at(feed, low, at) else {
-            return Checked::Passed;
+        let Some((value, from, to)) = feed::next_at(feed, low, at) else {
+            return Ok(());
         };
         let owner = owner_from(properties, n, p, value);
         let fixed = is_game_type(text, properties, n, owner);
-        let answer = judge_one(value < total, fixed, &feed[from..to], from);
-        if let Checked::Refused(refusal, place) = answer {
-            return Checked::Refused(refusal, place);
-        }
+        judge_one(value < total, fixed, &feed[from..to], from)?;
         low = value + 1;
         at = to;
         p = owner;
     }
-    Checked::Passed
+    Ok(())
 }
 
 // Whether a feed may be applied to a record, but for the length of the text.
@@ -153,16 +161,22 @@ pub fn check_feed(
     properties: &[u32],
     values: &[u32],
     feed: &[u8],
-) -> Checked
+) -> Result<(), Refusal<FeedRefusal>>
     ensures { result ≡ feed_checked
         (memory text.now used counts trees.now nodes.now properties.now values.now)
         feed.now }
 {
     if !fit::fits(text, used, counts, trees, nodes, properties, values) {
-        return Checked::Refused(FeedRefusal::NotFitting, 0);
+        return Err(Refusal {
+            reason: FeedRefusal::NotFitting,
+            place: 0,
+        });
     }
     if !feed::is_feed(feed) {
-        return Checked::Refused(FeedRefusal::Malformed, 0);
+        return Err(Refusal {
+            reason: FeedRefusal::Malformed,
+            place: 0,
+        });
     }
     judge_all(
         &text[..used],

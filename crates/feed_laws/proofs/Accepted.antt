@@ -18,8 +18,6 @@ use Rattle.edit_laws.proofs.CallsRun.{calls-fit}
 use Rattle.edit_laws.proofs.OnCode.{calls-reads}
 use Rattle.feed_check.specs.Check.{feed_checked}
 use Rattle.feed_check.specs.declared.FeedRefusal.TheVariants.{TextTooLong, NoRoom}
-use Rattle.feed_check.specs.declared.Checked.{Checked}
-use Rattle.feed_check.specs.declared.Checked.TheVariants.{Passed, Refused}
 use Rattle.feed_value.specs.Look.{corrected_value}
 use Rattle.feed_value.proofs.Looking.{passed-fit}
 use Rattle.feed_laws.specs.Applied.{Applying, refusing, applying, on_length, once_checked, feed_applied, memory_applied}
@@ -28,6 +26,9 @@ use Rattle.feed_laws.proofs.Held.{held-used}
 use Rattle.feed_laws.proofs.Holds.{held, held_rows}
 use Rattle.feed_laws.proofs.Runs.{Ran, feed-runs}
 use Rattle.feed_laws.proofs.Same.{corrected-same}
+use Rattle.std.specs.Prelude.{Result, Ok, Err, ⊤}
+use Rattle.feed_check.specs.declared.FeedRefusal.{FeedRefusal}
+use Rattle.tables.specs.declared.Refusal.{Refusal}
 
 abbrev is_applying : Applying → ℕ
 is_applying (refusing f p) = 0
@@ -35,7 +36,7 @@ is_applying (applying t T) = 1
 
 -- what an acceptance says
 pub record Accepts (m : Memory) (w t : List ℕ) (T : Tables) : Type 0 where
-  pub passed : feed_checked m w ≡ Passed
+  pub passed : feed_checked m w ≡ Ok tt
   pub text : t ≡ corrected_text m w
   pub rows : T ≡ corrected_rows m w
   pub short : length (corrected_text m w) ≤ text_limit
@@ -53,7 +54,7 @@ pub accepted-says : (m : Memory) (w t : List ℕ) (T : Tables) → feed_applied 
 unfolding feed_applied
 accepted-says m w t T e = checked (feed_checked m w) refl e
   where
-    roomy : (b c : Bool) → ltb text_limit (length (corrected_text m w)) ≡ b → ltb (length m.text) (length (corrected_text m w)) ≡ c → feed_checked m w ≡ Passed
+    roomy : (b c : Bool) → ltb text_limit (length (corrected_text m w)) ≡ b → ltb (length m.text) (length (corrected_text m w)) ≡ c → feed_checked m w ≡ Ok tt
         → pick b (refusing TextTooLong 0) (pick c (refusing NoRoom 0) (applying (corrected_text m w) (corrected_rows m w))) ≡ applying t T → Accepts m w t T
     roomy true c x y p z = never (ap is_applying z)
     roomy false true x y p z = never (ap is_applying z)
@@ -66,9 +67,9 @@ accepted-says m w t T e = checked (feed_checked m w) refl e
           room = ltb-false (length m.text) (length (corrected_text m w)) y;
         }
 
-    checked : (x : Checked) → feed_checked m w ≡ x → once_checked x (on_length (length m.text) (corrected_text m w) (corrected_rows m w)) ≡ applying t T → Accepts m w t T
-    checked (Refused f p) h z = never (ap is_applying z)
-    checked Passed h z = roomy (ltb text_limit (length (corrected_text m w))) (ltb (length m.text) (length (corrected_text m w))) refl refl h z
+    checked : (x : Result ⊤ (Refusal FeedRefusal)) → feed_checked m w ≡ x → once_checked x (on_length (length m.text) (corrected_text m w) (corrected_rows m w)) ≡ applying t T → Accepts m w t T
+    checked (Err e) h z = never (ap is_applying z)
+    checked (Ok tt) h z = roomy (ltb text_limit (length (corrected_text m w))) (ltb (length m.text) (length (corrected_text m w))) refl refl h z
 
 -- the memory that the caller goes on with: the used length is in the answer
 abbrev pub used_now : Memory → ℕ → Memory

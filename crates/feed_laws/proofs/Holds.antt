@@ -19,7 +19,6 @@ use Rattle.edit_splice.specs.Splice.{pasted, cleared}
 use Rattle.edit_answer.specs.Answer.{outcome_of, edited_for}
 use Rattle.edit_answer.specs.Edit.{owner_name, span_at, Outcome, gives, edit}
 use Rattle.edit_answer.specs.Locals.{outcome}
-use Rattle.edit_answer.specs.declared.Edited.TheVariants.{Changed}
 use Rattle.edit.specs.Lent.{memory_after}
 use Rattle.edit_laws.specs.Calls.{memory_next, Calls, none, call}
 use Rattle.edit_laws.specs.Run.{Order}
@@ -35,6 +34,7 @@ use Rattle.feed_laws.proofs.Held.{held_text, held-used, held-length}
 use Rattle.feed_laws.proofs.Judged.{Fine}
 use Rattle.feed_laws.proofs.Names.{owner-stays}
 use Rattle.feed_laws.proofs.Partly.{sum_below, laid_same}
+use Rattle.std.specs.Prelude.{Ok}
 
 -- an edit that passes every test
 accepts : {b g : Bool} {u : Utf} {d l o : Bool} {t : List ℕ} {T : Tables} (i : Ink)
@@ -148,7 +148,7 @@ module _ (m : Memory) (fit : Fit m ≡ true) where
       abbrev left : Memory
       left = memory_after (gives (laid_text m g) (laid_tables m g)) (held f)
 
-      next : memory_next left (Changed (length (laid_text m g))) ≡ held g
+      next : memory_next left (Ok (length (laid_text m g))) ≡ held g
       next =
           ap (λ (t : List ℕ). memory t (length (laid_text m g)) m.counts m.trees m.nodes left.properties left.values) (cleared-again (laid_text m f) (laid_text m g) m.text m.used l)
           ∙ ap₂ (λ (x y : List ℕ). memory (held_text m fit g) (length (laid_text m g)) m.counts m.trees m.nodes x y)
@@ -160,7 +160,7 @@ module _ (m : Memory) (fit : Fit m ≡ true) where
       -- the call of the edit, before others
       pub held-call : (xs : List Order) (z : Memory) → Calls (held g) xs z → Calls (held f) (record { value = k; bytes = new } ∷ xs) z
       held-call xs z c =
-          call (Changed (length (laid_text m g))) left (record { answer = ap edited_for (sym is); memory = ap (λ (o : Outcome). memory_after o (held f)) (sym is) })
+          call (Ok (length (laid_text m g))) left (record { answer = ap edited_for (sym is); memory = ap (λ (o : Outcome). memory_after o (held f)) (sym is) })
           (subst⁻¹ (λ (y : Memory). Calls y xs z) next c)
 
       pub held_fits : Fit (held g) ≡ true

@@ -12,10 +12,7 @@ use Rattle.edit_laws.specs.Run.{Order}
 use Rattle.edit_laws.proofs.CallsRun.{calls-fit}
 use Rattle.feed.specs.Feed.{listing}
 use Rattle.feed.specs.Find.{found_in}
-use Rattle.feed.specs.declared.Found.{Found}
-use Rattle.feed.specs.declared.Found.TheVariants.{At, Nowhere}
 use Rattle.feed_check.specs.Check.{feed_checked}
-use Rattle.feed_check.specs.declared.Checked.TheVariants.{Passed}
 use Rattle.feed_laid.specs.Laid.{with}
 use Rattle.feed_laid.specs.OfMemory.{laid_text, own_bytes}
 use Rattle.feed_laws.specs.Corrected.{bytes_for, new_bytes}
@@ -23,6 +20,7 @@ use Rattle.feed_laws.specs.LocalsSweep.{until, lesser}
 use Rattle.feed_laws.proofs.Holds.{held, held_same, held-own, held-call, held_fits}
 use Rattle.feed_laws.proofs.Judged.{corrected-fine}
 use Rattle.feed_laws.proofs.Partly.{until-below, until-from, until-with, until_skip, laid_same, laid-least, lesser-new, lesser-own, lesser-same, lesser-size, way-shorter, way-longer}
+use Rattle.std.specs.Prelude.{Option, Some, None, Ok}
 
 -- one memory from another by a run of calls of the edit
 pub record Ran (x y : Memory) : Type 0 where
@@ -36,7 +34,7 @@ calls-then : {x y z : Memory} (xs ys : List Order) → Calls x xs y → Calls y 
 calls-then [] ys none d = d
 calls-then (x ∷ xs) ys (call r l h c) d = call r l h (calls-then xs ys c d)
 
-module _ (m : Memory) (w : List ℕ) (fit : Fit m ≡ true) (passed : feed_checked m w ≡ Passed) where
+module _ (m : Memory) (w : List ℕ) (fit : Fit m ≡ true) (passed : feed_checked m w ≡ Ok tt) where
   abbrev n : ℕ
   n = m.counts.values
 
@@ -71,7 +69,7 @@ module _ (m : Memory) (w : List ℕ) (fit : Fit m ≡ true) (passed : feed_check
     one_more k e r f = subst⁻¹ (λ (x : Memory). Ran x End) e (r (ap Fit (sym e) ∙ f))
 
     -- value k edited
-    module _ (k b z : ℕ) (below : k < n) (found : found_in (listing w).entries k ≡ At b z) (is : g k ≡ slice b z w)
+    module _ (k b z : ℕ) (below : k < n) (found : found_in (listing w).entries k ≡ Some (b, z)) (is : g k ≡ slice b z w)
         (long : length (laid_text m (until k g h)) ≤ length m.text) (short : length (laid_text m (until (suc k) g h)) ≤ text_limit) (room : length (laid_text m (until (suc k) g h)) ≤ length m.text)
         (last : length (laid_text m (until k g h)) ≤ length (laid_text m (until (suc k) g h)) + (m.used - length (laid_text m (until (suc k) g h)))) where
       same : (j : ℕ) → j < n → with (until k g h) k (slice b z w) j ≡ until (suc k) g h j
@@ -91,20 +89,20 @@ module _ (m : Memory) (w : List ℕ) (fit : Fit m ≡ true) (passed : feed_check
 
   -- ---- the first sweep
 
-  new-at : (k b z : ℕ) → found_in (listing w).entries k ≡ At b z → new k ≡ slice b z w
-  new-at k b z f = ap (λ (x : Found). bytes_for w x (own k)) f
+  new-at : (k b z : ℕ) → found_in (listing w).entries k ≡ Some (b, z) → new k ≡ slice b z w
+  new-at k b z f = ap (λ (x : Option (ℕ × ℕ)). bytes_for w x (own k)) f
 
-  new-own : (k : ℕ) → found_in (listing w).entries k ≡ Nowhere → new k ≡ own k
-  new-own k f = ap (λ (x : Found). bytes_for w x (own k)) f
+  new-own : (k : ℕ) → found_in (listing w).entries k ≡ None → new k ≡ own k
+  new-own k f = ap (λ (x : Option (ℕ × ℕ)). bytes_for w x (own k)) f
 
   less-run : (i k : ℕ) → k + i ≡ n → Fit (held m fit (until k less own)) ≡ true → Ran (held m fit (until k less own)) (held m fit (until n less own))
   less-run zero k h f = let z : k ≡ n = omega arith in subst (λ (j : ℕ). Ran (held m fit (until k less own)) (held m fit (until j less own))) z (ran-none (held m fit (until k less own)))
   less-run (suc i) k h f = go (found_in (listing w).entries k) refl (less-run i (suc k) (omega arith))
     where
-      go : (x : Found) → found_in (listing w).entries k ≡ x → (Fit (held m fit (until (suc k) less own)) ≡ true → Ran (held m fit (until (suc k) less own)) (held m fit (until n less own)))
+      go : (x : Option (ℕ × ℕ)) → found_in (listing w).entries k ≡ x → (Fit (held m fit (until (suc k) less own)) ≡ true → Ran (held m fit (until (suc k) less own)) (held m fit (until n less own)))
           → Ran (held m fit (until k less own)) (held m fit (until n less own))
-      go Nowhere e r = one_more less own k (kept less own k (lesser-same m fit w k (new-own k e))) r f
-      go (At b z) e r =
+      go None e r = one_more less own k (kept less own k (lesser-same m fit w k (new-own k e))) r f
+      go (Some (b, z)) e r =
           either-bool (leb (length (new k)) (length (own k)))
           (λ c. edited less own k b z (omega arith) e (lesser-new m fit w k (leb-true _ _ c) ∙ new-at k b z e)
           (omega (arith, way-shorter m fit w k, lent)) (omega (arith, way-shorter m fit w (suc k), used-is, fit-short m fit)) (omega (arith, way-shorter m fit w (suc k), lent))
@@ -125,10 +123,10 @@ module _ (m : Memory) (w : List ℕ) (fit : Fit m ≡ true) (passed : feed_check
     new-run zero k h f = let z : k ≡ n = omega arith in subst (λ (j : ℕ). Ran (held m fit (until k new less)) (held m fit (until j new less))) z (ran-none (held m fit (until k new less)))
     new-run (suc i) k h f = go (found_in (listing w).entries k) refl (new-run i (suc k) (omega arith))
       where
-        go : (x : Found) → found_in (listing w).entries k ≡ x → (Fit (held m fit (until (suc k) new less)) ≡ true → Ran (held m fit (until (suc k) new less)) (held m fit (until n new less)))
+        go : (x : Option (ℕ × ℕ)) → found_in (listing w).entries k ≡ x → (Fit (held m fit (until (suc k) new less)) ≡ true → Ran (held m fit (until (suc k) new less)) (held m fit (until n new less)))
             → Ran (held m fit (until k new less)) (held m fit (until n new less))
-        go Nowhere e r = let o = new-own k e in one_more new less k (kept new less k (o ∙ sym (lesser-same m fit w k o))) r f
-        go (At b z) e r =
+        go None e r = let o = new-own k e in one_more new less k (kept new less k (o ∙ sym (lesser-same m fit w k o))) r f
+        go (Some (b, z)) e r =
             either-bool (leb (length (new k)) (length (own k)))
             (λ c. one_more new less k (kept new less k (sym (lesser-new m fit w k (leb-true _ _ c)))) r f)
             (λ c. edited new less k b z (omega arith) e (new-at k b z e)

@@ -8,9 +8,9 @@ use Rattle.edit.specs.Lent.{memory_after}
 use Rattle.feed_check.specs.Check.{feed_checked}
 use Rattle.feed_check.specs.declared.FeedRefusal.{FeedRefusal}
 use Rattle.feed_check.specs.declared.FeedRefusal.TheVariants.{TextTooLong, NoRoom}
-use Rattle.feed_check.specs.declared.Checked.{Checked}
-use Rattle.feed_check.specs.declared.Checked.TheVariants.{Passed, Refused}
 use Rattle.feed_laws.specs.Corrected.{corrected_text, corrected_rows}
+use Rattle.std.specs.Prelude.{Result, Ok, Err, ⊤}
+use Rattle.tables.specs.declared.Refusal.{Refusal}
 
 -- why a feed is refused and the place; or the new used text and rows
 pub data Applying : Type 0 where
@@ -22,9 +22,9 @@ abbrev pub on_length : (room : ℕ) → List ℕ → Tables → Applying
 on_length room u T = pick (ltb text_limit (length u)) (refusing TextTooLong 0) (pick (ltb room (length u)) (refusing NoRoom 0) (applying u T))
 
 -- a feed that is refused by the check; else what follows
-abbrev pub once_checked : Checked → Applying → Applying
-once_checked (Refused f p) o = refusing f p
-once_checked Passed o = o
+abbrev pub once_checked : Result ⊤ (Refusal FeedRefusal) → Applying → Applying
+once_checked (Err e) o = refusing e.reason e.place
+once_checked (Ok tt) o = o
 
 -- 19, 24, then for each correction 16, 17, 2, 18; then 1 and 14; else the text as corrected and its rows
 unfoldable pub feed_applied : Memory → (feed : List ℕ) → Applying

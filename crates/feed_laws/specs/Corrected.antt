@@ -4,14 +4,13 @@ use Rattle.tables.specs.Memory.{Memory}
 use Rattle.tables.specs.Rows.{Tables}
 use Rattle.feed.specs.Feed.{listing}
 use Rattle.feed.specs.Find.{found_in}
-use Rattle.feed.specs.declared.Found.{Found}
-use Rattle.feed.specs.declared.Found.TheVariants.{At, Nowhere}
 use Rattle.feed_laid.specs.OfMemory.{laid_text, laid_tables, own_bytes}
+use Rattle.std.specs.Prelude.{Option, Some, None}
 
 -- the bytes found in the feed, else others
-abbrev pub bytes_for : List ℕ → Found → List ℕ → List ℕ
-bytes_for w (At a e) own = slice a e w
-bytes_for w Nowhere own = own
+abbrev pub bytes_for : List ℕ → Option (ℕ × ℕ) → List ℕ → List ℕ
+bytes_for w (Some (a, e)) own = slice a e w
+bytes_for w None own = own
 
 -- the bytes of value k as corrected
 abbrev pub new_bytes : Memory → (feed : List ℕ) → ℕ → List ℕ

@@ -5,15 +5,8 @@ ghost use Rattle.std.specs.Prelude.{◌≡◌, ◌≤◌, length};
 ghost use Rattle.store_bytes.specs.LocalsWrote.{Wrote};
 ghost use Rattle.feed_numerals.specs.Numeral.{numeral_at, spelled, numeral_limit, Below};
 
-// A number and how many bytes it has; or none that is whole, short enough and in its shortest form.
-#[derive(Clone, Copy)]
-pub enum Numeral {
-    Is(usize, usize),
-    Broken,
-}
-
 // The number that stands at a place: below 2^28, if there is one.
-pub fn read_numeral(s: &[u8], at: usize) -> Numeral
+pub fn read_numeral(s: &[u8], at: usize) -> Option<(usize, usize)>
     ensures { (result ≡ numeral_at s.now at) × Below numeral_limit result }
 {
     let mut value: usize = 0;
@@ -21,20 +14,20 @@ pub fn read_numeral(s: &[u8], at: usize) -> Numeral
     let mut place = at;
     for size in 0..4 {
         if s.len() <= place {
-            return Numeral::Broken;
+            return None;
         }
         let b = usize::from(s[place]);
         if b < 0x80 {
             if (size != 0) & (b == 0) {
-                return Numeral::Broken;
+                return None;
             }
-            return Numeral::Is(value + weight * b, size + 1);
+            return Some((value + weight * b, size + 1));
         }
         value += weight * (b - 0x80);
         weight *= 0x80;
         place += 1;
     }
-    Numeral::Broken
+    None
 }
 
 // How many bytes a number has.

@@ -2,18 +2,14 @@
 use Rattle.lists.proofs.Prelude.{ℕ, zero, suc, ◌+◌, ◌≤◌, ◌<◌, Bool, true, false, ◌≡◌, refl, sym, ap, ◌∙◌, arith, List, [], ◌∷◌, map, eqb, leb, ltb, length, eq-eqb, ne_eqb, eqb-true, eqb-false, ltb-false, pick}
 use Rattle.tables.specs.Memory.{Memory}
 use Rattle.feed_numerals.specs.Numeral.{numeral_at}
-use Rattle.feed_numerals.specs.declared.Numeral.{Numeral}
-use Rattle.feed_numerals.specs.declared.Numeral.TheVariants.{Is, Broken}
 use Rattle.feed.specs.Feed.{Correction, Entry, correction_at, sized, with_number, entry_at, followed, entries_from, entries_by, listing, corrections}
 use Rattle.feed.specs.Find.{found_in}
-use Rattle.feed.specs.declared.Found.TheVariants.{At}
-use Rattle.feed.specs.declared.Next.{Next}
-use Rattle.feed.specs.declared.Next.TheVariants.{One, Malformed}
 use Rattle.feed_laid.specs.Laid.{with}
 use Rattle.feed_laid.specs.OfMemory.{own_bytes}
 use Rattle.feed_laws.specs.Corrected.{bytes_for, new_bytes}
 use Rattle.edit_laws.specs.Run.{Order}
 use Rattle.feed_undo.specs.Undo.{order_of, correction_back}
+use Rattle.std.specs.Prelude.{Option, Some, None}
 
 -- ---- numbers rise
 
@@ -21,24 +17,24 @@ abbrev RisesFrom : ℕ → List Correction → Type 0
 RisesFrom low [] = Unit {0}
 RisesFrom low (c ∷ cs) = (low ≤ c.value) × RisesFrom (suc c.value) cs
 
-abbrev LowNext : ℕ → Next → Type 0
-LowNext low (One v a e) = low ≤ v
-LowNext low Malformed = Unit {0}
+abbrev LowNext : ℕ → Option (ℕ × ℕ × ℕ) → Type 0
+LowNext low (Some (v, a, e)) = low ≤ v
+LowNext low None = Unit {0}
 
 module _ (w : List ℕ) where
-  low-sized : (low v q : ℕ) → low ≤ v → (r : Numeral) → LowNext low (sized w v q r)
-  low-sized low v q h Broken = tt
-  low-sized low v q h (Is l m) = go (leb (q + m + l) (length w))
+  low-sized : (low v q : ℕ) → low ≤ v → (r : Option (ℕ × ℕ)) → LowNext low (sized w v q r)
+  low-sized low v q h None = tt
+  low-sized low v q h (Some (l, m)) = go (leb (q + m + l) (length w))
     where
-      go : (b : Bool) → LowNext low (pick b (One v (q + m) (q + m + l)) Malformed)
+      go : (b : Bool) → LowNext low (pick b (Some (v, q + m, q + m + l)) None)
       go true = h
       go false = tt
 
-  low-numbered : (low p : ℕ) (r : Numeral) → LowNext low (with_number w low p r)
-  low-numbered low p Broken = tt
-  low-numbered low p (Is v n) = go (ltb v low) refl
+  low-numbered : (low p : ℕ) (r : Option (ℕ × ℕ)) → LowNext low (with_number w low p r)
+  low-numbered low p None = tt
+  low-numbered low p (Some (v, n)) = go (ltb v low) refl
     where
-      go : (b : Bool) → ltb v low ≡ b → LowNext low (pick b Malformed (sized w v (p + n) (numeral_at w (p + n))))
+      go : (b : Bool) → ltb v low ≡ b → LowNext low (pick b None (sized w v (p + n) (numeral_at w (p + n))))
       go true e = tt
       go false e = low-sized low v (p + n) (ltb-false v low e) (numeral_at w (p + n))
 
@@ -51,18 +47,18 @@ module _ (w : List ℕ) where
   rises-from zero low p = tt
   rises-from (suc c) low p = go (entry_at w low p) (low-next low p) (λ l q. rises-from c l q)
     where
-      go : (x : Next) → LowNext low x → ((l q : ℕ) → RisesFrom l (map (correction_at w) (entries_from w c l q).entries))
+      go : (x : Option (ℕ × ℕ × ℕ)) → LowNext low x → ((l q : ℕ) → RisesFrom l (map (correction_at w) (entries_from w c l q).entries))
           → RisesFrom low (map (correction_at w) (followed x (λ l q. entries_from w c l q)).entries)
-      go Malformed h r = tt
-      go (One v a e) h r = (h, r (suc v) e)
+      go None h r = tt
+      go (Some (v, a, e)) h r = (h, r (suc v) e)
 
   pub feed-rises : RisesFrom 0 (corrections w)
   unfolding listing
   feed-rises = go (numeral_at w 0)
     where
-      go : (r : Numeral) → RisesFrom 0 (map (correction_at w) (entries_by w r).entries)
-      go Broken = tt
-      go (Is c n) = rises-from c 0 n
+      go : (r : Option (ℕ × ℕ)) → RisesFrom 0 (map (correction_at w) (entries_by w r).entries)
+      go None = tt
+      go (Some (c, n)) = rises-from c 0 n
 
 -- ---- the bytes chosen for value j
 
@@ -76,7 +72,7 @@ chosen-found w [] j own = refl
 chosen-found w (x ∷ es) j own = go (eqb x.value j) (chosen-found w es j own)
   where
     go : (b : Bool) → bytes_for w (found_in es j) own ≡ chosen (map (correction_at w) es) j own
-        → bytes_for w (pick b (At x.from x.to) (found_in es j)) own ≡ pick b (correction_at w x).bytes (chosen (map (correction_at w) es) j own)
+        → bytes_for w (pick b (Some (x.from, x.to)) (found_in es j)) own ≡ pick b (correction_at w x).bytes (chosen (map (correction_at w) es) j own)
     go true h = refl
     go false h = h
 

@@ -13,7 +13,6 @@ use Rattle.fit.specs.Record.{rows_in, text_in}
 use Rattle.fit.proofs.Whole.{fit-lent}
 use Rattle.edit_answer.specs.Answer.{outcome_of, edited_for}
 use Rattle.edit_answer.specs.Edit.{Outcome, gives, owner_name}
-use Rattle.edit_answer.specs.declared.Edited.TheVariants.{Changed}
 use Rattle.edit.specs.Lent.{memory_after}
 use Rattle.edit_laws.specs.Calls.{memory_next}
 use Rattle.edit_laws.specs.Run.{TextRows}
@@ -27,6 +26,7 @@ use Rattle.feed_laid.specs.OfMemory.{laid_text, laid_tables, own_bytes}
 use Rattle.feed_laws.proofs.Holds.{held-own}
 use Rattle.feed_undo.proofs.Puts.{flat-props-same, flat-vals-same}
 use Rattle.feed_undo.proofs.Relaid.{laid_memory, vals-length, props-length, text-held, rows-held}
+use Rattle.std.specs.Prelude.{Ok}
 
 module _ (m : Memory) (fit : Fit m ≡ true) where
   abbrev n : ℕ
@@ -67,7 +67,7 @@ module _ (m : Memory) (fit : Fit m ≡ true) where
         ∙ lays-edit m fit g room k new below free i valid shut short roomy'
 
     abbrev N : Memory
-    N = memory_next (memory_after (gives (laid_text m h) (laid_tables m h)) M) (Changed (length (laid_text m h)))
+    N = memory_next (memory_after (gives (laid_text m h) (laid_tables m h)) M) (Ok (length (laid_text m h)))
 
     fits_next : Fit N ≡ true
     fits_next =

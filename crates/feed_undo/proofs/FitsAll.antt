@@ -14,7 +14,6 @@ use Rattle.fit.specs.Record.{rows_in, text_in}
 use Rattle.fit.proofs.Clauses.{fit-short}
 use Rattle.fit.proofs.Whole.{fit-lent}
 use Rattle.edit_answer.specs.Edit.{gives, owner_name}
-use Rattle.edit_answer.specs.declared.Edited.TheVariants.{Changed}
 use Rattle.edit.specs.Lent.{memory_after}
 use Rattle.edit_laws.specs.Calls.{memory_next}
 use Rattle.edit_session.proofs.OfFitting.{used-lent}
@@ -25,6 +24,7 @@ use Rattle.feed_laws.proofs.Partly.{laid_same, laid-least}
 use Rattle.feed_undo.proofs.Swept.{swept, swept-is}
 use Rattle.feed_undo.proofs.Relaid.{laid_memory, rows_same}
 use Rattle.feed_undo.proofs.Fits.{own-fits, one-fits}
+use Rattle.std.specs.Prelude.{Ok}
 
 module _ (m : Memory) (fit : Fit m ≡ true) where
   abbrev n : ℕ
@@ -118,4 +118,4 @@ module _ (m : Memory) (fit : Fit m ≡ true) where
           let b = sweep-fits t2 (λ j e. not-game (game j) e) first f most-second short roomy a n (omega arith) in
           let x = swept f t2 first n in
           subst (λ (M : Memory). Fit M ≡ true)
-          (ap₂ (λ (t : List ℕ) (T : Tables). memory_next (memory_after (gives t T) m) (Changed (length t))) (laid_same m fit x f all_set) (rows_same m fit x f all_set)) b
+          (ap₂ (λ (t : List ℕ) (T : Tables). memory_next (memory_after (gives t T) m) (Ok (length t))) (laid_same m fit x f all_set) (rows_same m fit x f all_set)) b

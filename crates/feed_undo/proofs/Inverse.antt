@@ -16,7 +16,6 @@ use Rattle.fit.specs.Record.{prop_row, val_row, rows_in, text_in}
 use Rattle.fit.proofs.Clauses.{fit-short, fit-vals}
 use Rattle.fit.proofs.Whole.{fit-lent}
 use Rattle.edit_answer.specs.Edit.{gives, owner_name, span_at}
-use Rattle.edit_answer.specs.declared.Edited.TheVariants.{Changed}
 use Rattle.edit.specs.Lent.{memory_after}
 use Rattle.edit_laws.specs.Calls.{memory_next}
 use Rattle.edit_laws.proofs.Cells.{property-cells, value-cells}
@@ -42,6 +41,7 @@ use Rattle.feed_undo.proofs.Puts.{flat-props-same, flat-vals-same}
 use Rattle.feed_undo.proofs.FitsAll.{all-fits}
 use Rattle.feed_undo.proofs.Judged.{Good, passed-good, good-passed}
 use Rattle.feed_undo.proofs.Relaid.{props-length, vals-length, text-held, rows-held, rows_same, text-again, rows-again}
+use Rattle.std.specs.Prelude.{Ok}
 
 module _ (m : Memory) (fit : Fit m ≡ true) where
   abbrev n : ℕ
@@ -176,7 +176,7 @@ module _ (m : Memory) (w : List ℕ) (bytes : All (λ b. b < 256) w) (takes : Ta
       let P = flat_props (rows_in m).props in
       let Q = flat_vals (rows_in m).vals in
       let tl = text-lent m fit f takes.room in
-      subst⁻¹ (λ (q : Memory). SameRecord m q) (ap₂ (λ (t : List ℕ) (T : Tables). memory_next (memory_after (gives t T) M) (Changed (length t))) text-back rows_back)
+      subst⁻¹ (λ (q : Memory). SameRecord m q) (ap₂ (λ (t : List ℕ) (T : Tables). memory_next (memory_after (gives t T) M) (Ok (length t))) text-back rows_back)
       (record {
         used = length-take-le m.used m.text (fit-lent m fit).0;
         text = text-left (text_in m) M.text M.used;

@@ -15,8 +15,10 @@ use Rattle.edit_answer.specs.Edit.{owner_name}
 use Rattle.feed.specs.Feed.{Correction, Entry, correction_at, listing, corrections}
 use Rattle.feed_check.specs.Check.{bytes_judged, bytes_at, correction_judged, first_refusal, corrections_judged, feed_checked}
 use Rattle.feed_check.specs.declared.FeedRefusal.TheVariants.{NotFitting, Malformed, NoSuchNumber, GameTypeFixed}
-use Rattle.feed_check.specs.declared.Checked.{Checked}
-use Rattle.feed_check.specs.declared.Checked.TheVariants.{Passed, Refused}
+use Rattle.std.specs.Prelude.{Result, Ok, Err, ⊤}
+use Rattle.tables.specs.Refusals.{refusal}
+use Rattle.feed_check.specs.declared.FeedRefusal.{FeedRefusal}
+use Rattle.tables.specs.declared.Refusal.{Refusal}
 
 -- what a correction that passes is
 pub record Good (t : List ℕ) (rs : List PropRow) (total : ℕ) (c : Correction) : Type 0 where
@@ -33,7 +35,7 @@ record Tests (b g : Bool) (u : Utf) (d : Bool) : Type 0 where
   valid : u ≡ whole ink
   shut : d ≡ true
 
-tests-of : (at : ℕ) (b g : Bool) (u : Utf) (d : Bool) → pick (not b) (Refused NoSuchNumber 0) (pick g (Refused GameTypeFixed 0) (bytes_judged at (trim_of u) d)) ≡ Passed → Tests b g u d
+tests-of : (at : ℕ) (b g : Bool) (u : Utf) (d : Bool) → pick (not b) (Err (refusal NoSuchNumber 0)) (pick g (Err (refusal GameTypeFixed 0)) (bytes_judged at (trim_of u) d)) ≡ Ok tt → Tests b g u d
 tests-of at false g u d e = never cc
 tests-of at true true u d e = never cc
 tests-of at true false (part k s n r x) d e = never cc
@@ -44,50 +46,50 @@ tests-of at true false (whole blank) true e = record { known = refl; free = refl
 tests-of at true false (whole (inked f l)) true e = record { known = refl; free = refl; ink = inked f l; valid = refl; shut = refl }
 
 of-tests : (at : ℕ) (b g : Bool) (u : Utf) (d : Bool) (k : Ink) → b ≡ true → g ≡ false → u ≡ whole k → d ≡ true
-    → pick (not b) (Refused NoSuchNumber 0) (pick g (Refused GameTypeFixed 0) (bytes_judged at (trim_of u) d)) ≡ Passed
+    → pick (not b) (Err (refusal NoSuchNumber 0)) (pick g (Err (refusal GameTypeFixed 0)) (bytes_judged at (trim_of u) d)) ≡ Ok tt
 of-tests at b g u d blank eb eg eu ed = rw (eb, eg, eu, ed)
 of-tests at b g u d (inked f l) eb eg eu ed = rw (eb, eg, eu, ed)
 
-first-passed : (x y : Checked) → first_refusal x y ≡ Passed → (x ≡ Passed) × (y ≡ Passed)
-first-passed Passed y e = (refl, e)
-first-passed (Refused f p) y e = never cc
+first-passed : (x y : Result ⊤ (Refusal FeedRefusal)) → first_refusal x y ≡ Ok tt → (x ≡ Ok tt) × (y ≡ Ok tt)
+first-passed (Ok tt) y e = (refl, e)
+first-passed (Err r) y e = never cc
 
 module _ (t : List ℕ) (rs : List PropRow) (total : ℕ) (w : List ℕ) where
-  one-good : (x : Entry) → correction_judged t rs total w x ≡ Passed → Good t rs total (correction_at w x)
+  one-good : (x : Entry) → correction_judged t rs total w x ≡ Ok tt → Good t rs total (correction_at w x)
   unfolding trimmed
   one-good x e =
       let r = tests-of x.from (ltb x.value total) (same (owner_name t rs x.value) GM) (utfs (whole blank) 0 (bytes_at w x)) (closed (bytes_at w x)) e in
       record { below = ltb-true x.value total r.known; free = r.free; ink = r.ink; valid = r.valid; shut = r.shut }
 
-  good-one : (x : Entry) → Good t rs total (correction_at w x) → correction_judged t rs total w x ≡ Passed
+  good-one : (x : Entry) → Good t rs total (correction_at w x) → correction_judged t rs total w x ≡ Ok tt
   unfolding trimmed
   good-one x g =
       of-tests x.from (ltb x.value total) (same (owner_name t rs x.value) GM) (utfs (whole blank) 0 (bytes_at w x)) (closed (bytes_at w x)) g.ink
       (lt-ltb x.value total g.below) g.free g.valid g.shut
 
-  pub judged-good : (es : List Entry) → corrections_judged t rs total w es ≡ Passed → All (Good t rs total) (map (correction_at w) es)
+  pub judged-good : (es : List Entry) → corrections_judged t rs total w es ≡ Ok tt → All (Good t rs total) (map (correction_at w) es)
   unfolding corrections_judged
   judged-good [] e = tt
   judged-good (x ∷ es) e = let z = first-passed (correction_judged t rs total w x) (corrections_judged t rs total w es) e in (one-good x z.0, judged-good es z.1)
 
-  pub good-judged : (es : List Entry) → All (Good t rs total) (map (correction_at w) es) → corrections_judged t rs total w es ≡ Passed
+  pub good-judged : (es : List Entry) → All (Good t rs total) (map (correction_at w) es) → corrections_judged t rs total w es ≡ Ok tt
   unfolding corrections_judged
   good-judged [] g = refl
-  good-judged (x ∷ es) g = ap (λ (c : Checked). first_refusal c (corrections_judged t rs total w es)) (good-one x g.0) ∙ good-judged es g.1
+  good-judged (x ∷ es) g = ap (λ (c : Result ⊤ (Refusal FeedRefusal)). first_refusal c (corrections_judged t rs total w es)) (good-one x g.0) ∙ good-judged es g.1
 
 -- the whole check
-three : (a b : Bool) (c : Checked) → pick a (pick b c (Refused Malformed 0)) (Refused NotFitting 0) ≡ Passed → (a ≡ true) × (b ≡ true) × (c ≡ Passed)
+three : (a b : Bool) (c : Result ⊤ (Refusal FeedRefusal)) → pick a (pick b c (Err (refusal Malformed 0))) (Err (refusal NotFitting 0)) ≡ Ok tt → (a ≡ true) × (b ≡ true) × (c ≡ Ok tt)
 three true true c e = (refl, refl, e)
 three true false c e = never cc
 three false b c e = never cc
 
 module _ (m : Memory) (w : List ℕ) where
-  pub passed-good : feed_checked m w ≡ Passed → (Fit m ≡ true) × ((listing w).whole ≡ true) × All (Good (text_in m) (rows_in m).props m.counts.values) (corrections w)
+  pub passed-good : feed_checked m w ≡ Ok tt → (Fit m ≡ true) × ((listing w).whole ≡ true) × All (Good (text_in m) (rows_in m).props m.counts.values) (corrections w)
   unfolding feed_checked
   passed-good e =
       let z = three (Fit m) (listing w).whole (corrections_judged (text_in m) (rows_in m).props m.counts.values w (listing w).entries) e in
       (z.0, z.1, judged-good (text_in m) (rows_in m).props m.counts.values w (listing w).entries z.2)
 
-  pub good-passed : Fit m ≡ true → (listing w).whole ≡ true → All (Good (text_in m) (rows_in m).props m.counts.values) (corrections w) → feed_checked m w ≡ Passed
+  pub good-passed : Fit m ≡ true → (listing w).whole ≡ true → All (Good (text_in m) (rows_in m).props m.counts.values) (corrections w) → feed_checked m w ≡ Ok tt
   unfolding feed_checked
   good-passed f h g = rw (f, h) (good-judged (text_in m) (rows_in m).props m.counts.values w (listing w).entries g)

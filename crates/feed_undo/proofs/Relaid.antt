@@ -11,7 +11,6 @@ use Rattle.fit.specs.Fit.{Fit}
 use Rattle.fit.specs.Record.{prop_row, val_row, rows_in, text_in}
 use Rattle.fit.proofs.Parts.{tabulate-same}
 use Rattle.edit_answer.specs.Edit.{gives}
-use Rattle.edit_answer.specs.declared.Edited.TheVariants.{Changed}
 use Rattle.edit.specs.Lent.{memory_after}
 use Rattle.edit_laws.specs.Calls.{memory_next}
 use Rattle.edit_laws.proofs.Left.{text-left}
@@ -25,10 +24,11 @@ use Rattle.feed_laid.proofs.Texts.{before, behind, laid-split}
 use Rattle.feed_laws.proofs.Holds.{held_rows, held_same}
 use Rattle.feed_laws.proofs.Partly.{sum_below}
 use Rattle.feed_undo.proofs.Puts.{behind-last}
+use Rattle.std.specs.Prelude.{Ok}
 
 -- what the caller has once such a text is left as by one edit
 abbrev pub laid_memory : Memory → (ℕ → List ℕ) → Memory
-laid_memory m f = memory_next (memory_after (gives (laid_text m f) (laid_tables m f)) m) (Changed (length (laid_text m f)))
+laid_memory m f = memory_next (memory_after (gives (laid_text m f) (laid_tables m f)) m) (Ok (length (laid_text m f)))
 
 module _ (m : Memory) (fit : Fit m ≡ true) where
   abbrev a : ℕ → ℕ

@@ -1,17 +1,15 @@
 -- Feeds in a session: a feed as its edits, and the feed that undoes it.
-use Rattle.std.specs.Prelude.{◌≤◌, ◌≡◌}
+use Rattle.std.specs.Prelude.{◌≤◌, ◌≡◌, Ok}
 use Rattle.lists.specs.Prelude.{ℕ, List, map, length}
 use Rattle.tables.specs.Memory.{Memory}
 use Rattle.tables.specs.Numbers.{text_limit}
 use Rattle.edit_answer.specs.Edit.{gives}
-use Rattle.edit_answer.specs.declared.Edited.TheVariants.{Changed}
 use Rattle.edit.specs.Lent.{memory_after}
 use Rattle.edit_laws.specs.Calls.{memory_next}
 use Rattle.edit_laws.specs.Run.{Order}
 use Rattle.feed.specs.Feed.{Correction, corrections}
 use Rattle.feed.specs.Made.{feed_bytes}
 use Rattle.feed_check.specs.Check.{feed_checked}
-use Rattle.feed_check.specs.declared.Checked.TheVariants.{Passed}
 use Rattle.feed_laid.specs.OfMemory.{own_bytes}
 use Rattle.feed_laws.specs.Corrected.{corrected_text, corrected_rows}
 
@@ -25,13 +23,13 @@ feed_edits w = map order_of (corrections w)
 
 -- a feed is accepted as one: it passes the check, and the text as corrected is within the limit and the bytes lent
 pub record TakesFeed (m : Memory) (feed : List ℕ) : Type 0 where
-  pub passed : feed_checked m feed ≡ Passed
+  pub passed : feed_checked m feed ≡ Ok tt
   pub short : length (corrected_text m feed) ≤ text_limit
   pub room : length (corrected_text m feed) ≤ length m.text
 
 -- what the caller then has: the text as corrected and its rows, left as by one edit
 abbrev pub memory_corrected : Memory → (feed : List ℕ) → Memory
-memory_corrected m w = memory_next (memory_after (gives (corrected_text m w) (corrected_rows m w)) m) (Changed (length (corrected_text m w)))
+memory_corrected m w = memory_next (memory_after (gives (corrected_text m w) (corrected_rows m w)) m) (Ok (length (corrected_text m w)))
 
 -- the correction that puts back what a value has
 abbrev pub correction_back : Memory → Correction → Correction

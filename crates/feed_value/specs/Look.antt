@@ -4,24 +4,23 @@ use Rattle.tables.specs.Columns.{val_from_at, val_to_at}
 use Rattle.tables.specs.Memory.{Memory}
 use Rattle.feed.specs.Feed.{listing}
 use Rattle.feed.specs.Find.{found_in}
-use Rattle.feed.specs.declared.Found.{Found}
-use Rattle.feed.specs.declared.Found.TheVariants.{At, Nowhere}
 use Rattle.feed_check.specs.Check.{feed_checked}
 use Rattle.feed_check.specs.declared.FeedRefusal.TheVariants.{NoSuchNumber}
-use Rattle.feed_check.specs.declared.Checked.{Checked}
-use Rattle.feed_check.specs.declared.Checked.TheVariants.{Passed, Refused as Refuses}
 use Rattle.feed_value.specs.declared.Looked.{Looked}
 use Rattle.feed_value.specs.declared.Looked.TheVariants.{Record, Feed, Refused}
+use Rattle.std.specs.Prelude.{Option, Some, None, Result, Ok, Err, ⊤}
+use Rattle.feed_check.specs.declared.FeedRefusal.{FeedRefusal}
+use Rattle.tables.specs.declared.Refusal.{Refusal}
 
 -- the feed's bytes where there are, else the record's
-abbrev pub source_of : Found → (a e : ℕ) → Looked
-source_of (At p q) a e = Feed p q
-source_of Nowhere a e = Record a e
+abbrev pub source_of : Option (ℕ × ℕ) → (a e : ℕ) → Looked
+source_of (Some (p, q)) a e = Feed p q
+source_of None a e = Record a e
 
 -- a refused feed refuses the lookup; else what follows
-abbrev pub unless_refused : Checked → Looked → Looked
-unless_refused (Refuses f p) r = Refused f p
-unless_refused Passed r = r
+abbrev pub unless_refused : Result ⊤ (Refusal FeedRefusal) → Looked → Looked
+unless_refused (Err e) r = Refused e.reason e.place
+unless_refused (Ok tt) r = r
 
 -- refused as the feed is, but for 1 and 14; then 16 where k is not below the count; else where its bytes stand
 unfoldable pub looked_up : Memory → (feed : List ℕ) → (k : ℕ) → Looked

@@ -8,9 +8,8 @@ ghost use Rattle.feed.specs.Feed.{listing};
 ghost use Rattle.feed.specs.Find.{found_in};
 ghost use Rattle.feed_value.specs.Look.{source_of, looked_up, corrected_value};
 
-use feed::Found;
-use feed_check::{Checked, FeedRefusal};
-use tables::Counts;
+use feed_check::FeedRefusal;
+use tables::{Counts, Refusal};
 
 // Where a value's bytes stand, in the record or in the feed; or why it is refused, and the place.
 #[derive(Clone, Copy)]
@@ -26,8 +25,8 @@ fn source_of(values: &[u32], feed: &[u8], k: usize) -> Looked
     ensures { result ≡ source_of (found_in (listing feed.now).entries k) (val_from_at values.now k) (val_to_at values.now k) }
 {
     match feed::find(feed, k) {
-        Found::At(from, to) => Looked::Feed(from, to),
-        Found::Nowhere => {
+        Some((from, to)) => Looked::Feed(from, to),
+        None => {
             let start = lists::wide(values[k * tables::VALUE_STRIDE]);
             let end = lists::wide(values[k * tables::VALUE_STRIDE + tables::VALUE_END]);
             Looked::Record(start, end)
@@ -52,8 +51,8 @@ pub fn look_up(
         feed.now k }
 {
     match feed_check::check_feed(text, used, counts, trees, nodes, properties, values, feed) {
-        Checked::Refused(refusal, place) => Looked::Refused(refusal, place),
-        Checked::Passed => {
+        Err(refused) => Looked::Refused(refused.reason, refused.place),
+        Ok(()) => {
             if counts.values <= k {
                 return Looked::Refused(FeedRefusal::NoSuchNumber, 0);
             }

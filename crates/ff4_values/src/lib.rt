@@ -9,7 +9,6 @@ ghost use Rattle.go.specs.Value.{is_go};
 ghost use Rattle.ff4_values.specs.Locals.{only_byte};
 
 use values::decimal::Number;
-use values::read::ReadStep;
 
 // What the values of a property are: not of these kinds; not as their kind wants; none; a Double; a Color; a number by its sign and its size.
 #[derive(Clone, Copy)]
@@ -41,10 +40,10 @@ const GO: u32 = 10;
 fn only_byte(raw: &[u8]) -> u32
     ensures { result ≡ only_byte (read_value raw.now) }
 {
-    let ReadStep::Byte(b, at) = values::read::next_read(raw, 0) else {
+    let Some((b, at)) = values::read::next_read(raw, 0) else {
         return 256;
     };
-    let ReadStep::Byte(_, _) = values::read::next_read(raw, at) else {
+    let Some(_) = values::read::next_read(raw, at) else {
         return b as u32;
     };
     256
@@ -55,8 +54,8 @@ fn read_none(raw: &[u8]) -> Simple
     ensures { result ≡ none_of (read_value raw.now) }
 {
     match values::read::next_read(raw, 0) {
-        ReadStep::End => Simple::Nothing,
-        ReadStep::Byte(_, _) => Simple::Invalid,
+        None => Simple::Nothing,
+        Some(_) => Simple::Invalid,
     }
 }
 

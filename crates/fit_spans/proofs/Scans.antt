@@ -4,8 +4,6 @@ use Rattle.lexer_laws.proofs.Exactly.{CloseIs, close-is, close-exactly}
 use Rattle.lexer.specs.Closed.{closed}
 use Rattle.lexer_scan.specs.Scan.{ident_from}
 use Rattle.lexer_close.specs.Close.{close_at}
-use Rattle.lexer_close.specs.declared.Close.{Close}
-use Rattle.lexer_close.specs.declared.Close.TheVariants.{At, Open}
 use Rattle.lexer_scan.specs.declared.Ident.{Ident}
 use Rattle.lexer_scan.specs.declared.Ident.TheVariants.{Opens, Missing, Foreign}
 use Rattle.tables.specs.Columns.{name_from_at, name_to_at, val_from_at, val_to_at}
@@ -13,6 +11,7 @@ use Rattle.fit_spans.specs.Spans.{plain_name, name_right, in_brackets_closed, va
 use Rattle.tables.proofs.Cases.{either-bool, below_or, true-false, and_left, and_right}
 use Rattle.lists.proofs.Tests.{same_or}
 use Rattle.fit_spans.proofs.Lists.{part_slice}
+use Rattle.std.specs.Prelude.{Option, Some, None}
 
 -- ---- an identifier is plain where no `[` and no other byte than ASCII ends the scan
 
@@ -34,38 +33,38 @@ plain-runs-out i (b ∷ bs) = go (eqb b 0x5b) (leb 0x80 b) refl (plain-runs-out 
 
 -- ---- a value is closed, and `]` follows, where the scan from its start ends at its end
 
-abbrev pub ends_at : ℕ → Close → Bool
-ends_at e (At j) = eqb j e
-ends_at e Open = false
+abbrev pub ends_at : ℕ → Option ℕ → Bool
+ends_at e (Some j) = eqb j e
+ends_at e None = false
 
 module _ (t : List ℕ) (a e : ℕ) (order : a ≤ e) (inside : e ≤ length t) where
   abbrev Shut : Bool
   Shut = eqb (get_or t e 0) 0x5d && closed (slice a e t)
 
-  shut-ends : get_or t e 0 ≡ 0x5d → closed (slice a e t) ≡ true → close_at t a ≡ At e
+  shut-ends : get_or t e 0 ≡ 0x5d → closed (slice a e t) ≡ true → close_at t a ≡ Some e
   shut-ends b c =
       let l : e < length t = below_or e (length t) (λ z. z) (λ z. absurd (omega (arith, get_or-eq_default t 0 z))) in
       let d : drop a t ≡ slice a e t ++ (0x5d ∷ drop (suc e) t) =
       ap (drop a) (sym (take-append-drop e t))
       ∙ drop-append-le a (take e t) (drop e t) (omega (arith, length-take-le e t inside))
       ∙ ap (λ (z : List ℕ). slice a e t ++ z) (drop-cons t e 0 l ∙ ap (λ (z : ℕ). z ∷ drop (suc e) t) b) in
-      close-exactly false a (drop a t) (At e) (slice a e t, drop (suc e) t, d, c, omega (arith, length-slice a e t inside))
+      close-exactly false a (drop a t) (Some e) (slice a e t, drop (suc e) t, d, c, omega (arith, length-slice a e t inside))
 
-  ends-shut : close_at t a ≡ At e → Shut ≡ true
+  ends-shut : close_at t a ≡ Some e → Shut ≡ true
   ends-shut h = go (subst (CloseIs false a (drop a t)) h (close-is false a (drop a t)))
     where
-      go : CloseIs false a (drop a t) (At e) → Shut ≡ true
+      go : CloseIs false a (drop a t) (Some e) → Shut ≡ true
       go x =
           let w : e - a ≡ length x.0 = omega (arith, x.4) in
           let s : slice a e t ≡ x.0 = sym (part_slice a e t) ∙ rw (w, x.2) (take_at x.0 (0x5d ∷ x.1) (length x.0) refl) in
           let g : get_or t e 0 ≡ 0x5d = ap (λ (z : ℕ). get_or t z 0) x.4 ∙ sym (get_or-drop a t (length x.0) 0) ∙ rw x.2 (get_or_at x.0 0x5d x.1 0 (length x.0) refl) in
           rw (g, s) x.3
 
-  open-not : (c : Close) → c ≡ close_at t a → Shut ≡ false → ends_at e c ≡ false
-  open-not (At j) h x = same_or j e (λ z. true-false Shut (ends-shut (sym h ∙ ap At z)) x) (λ z. ne_eqb j e z)
-  open-not Open h x = refl
+  open-not : (c : Option ℕ) → c ≡ close_at t a → Shut ≡ false → ends_at e c ≡ false
+  open-not (Some j) h x = same_or j e (λ z. true-false Shut (ends-shut (sym h ∙ ap Some z)) x) (λ z. ne_eqb j e z)
+  open-not None h x = refl
 
-  scan-is : (c : Close) → c ≡ close_at t a → ends_at e c ≡ Shut
+  scan-is : (c : Option ℕ) → c ≡ close_at t a → ends_at e c ≡ Shut
   scan-is c h =
       either-bool Shut
       (λ x.
@@ -81,7 +80,7 @@ module _ (t : List ℕ) (a e : ℕ) (order : a ≤ e) (inside : e ≤ length t) 
   pub boxed-other : (a ≡ 0 → ⊥) → (get_or t (a - 1) 0 ≡ 91 → ⊥) → false ≡ in_brackets_closed t a e
   boxed-other h k = rw (lt-ltb 0 a (omega arith), ne_eqb (get_or t (a - 1) 0) 91 k)
 
-  pub boxed-is : (a ≡ 0 → ⊥) → get_or t (a - 1) 0 ≡ 91 → (c : Close) → c ≡ close_at t a → ends_at e c ≡ in_brackets_closed t a e
+  pub boxed-is : (a ≡ 0 → ⊥) → get_or t (a - 1) 0 ≡ 91 → (c : Option ℕ) → c ≡ close_at t a → ends_at e c ≡ in_brackets_closed t a e
   boxed-is h k c s = rw (lt-ltb 0 a (omega arith), eq-eqb (get_or t (a - 1) 0) 91 k) (scan-is c s)
 
 -- ---- a row's, by the cells that were read

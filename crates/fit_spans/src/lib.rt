@@ -189,8 +189,8 @@ fn is_boxed(text: &[u8], start: usize, end: usize) -> bool
         return true;
     }
     match lexer_close::value_end(text, start) {
-        lexer_close::Close::At(place) => place == end,
-        lexer_close::Close::Open => false,
+        Some(place) => place == end,
+        None => false,
     }
 }
 

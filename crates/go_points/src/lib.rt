@@ -8,7 +8,6 @@ ghost use Rattle.go_points.specs.Area.{letter_of, move_to, move_of, cornered, ar
 ghost use Rattle.go_points.specs.Handicap.{handicap_of};
 
 use values::decimal::Number;
-use values::read::ReadStep;
 
 // What a property stands for.
 #[derive(Clone, Copy)]
@@ -55,13 +54,13 @@ fn move_to(x: u8, y: u8) -> Value
 pub fn read_move(s: &[u8]) -> Value
     ensures { result ≡ move_of (read_value s.now) }
 {
-    let ReadStep::Byte(a, at1) = values::read::next_read(s, 0) else {
+    let Some((a, at1)) = values::read::next_read(s, 0) else {
         return Value::Pass;
     };
-    let ReadStep::Byte(b, at2) = values::read::next_read(s, at1) else {
+    let Some((b, at2)) = values::read::next_read(s, at1) else {
         return Value::Invalid;
     };
-    let ReadStep::Byte(_, _) = values::read::next_read(s, at2) else {
+    let Some(_) = values::read::next_read(s, at2) else {
         return move_to(letter_of(a), letter_of(b));
     };
     Value::Invalid
@@ -97,13 +96,13 @@ fn area_of(a: u8, b: u8, d: u8, e: u8) -> Area
 fn area_to(a: u8, b: u8, s: &[u8], at: usize) -> Area
     ensures { result ≡ area_of (a ∷ b ∷ 0x3a ∷ read_value (drop at s.now)) }
 {
-    let ReadStep::Byte(d, at1) = values::read::next_read(s, at) else {
+    let Some((d, at1)) = values::read::next_read(s, at) else {
         return Area::Bad;
     };
-    let ReadStep::Byte(e, at2) = values::read::next_read(s, at1) else {
+    let Some((e, at2)) = values::read::next_read(s, at1) else {
         return Area::Bad;
     };
-    let ReadStep::Byte(_, _) = values::read::next_read(s, at2) else {
+    let Some(_) = values::read::next_read(s, at2) else {
         return area_of(a, b, d, e);
     };
     Area::Bad
@@ -113,13 +112,13 @@ fn area_to(a: u8, b: u8, s: &[u8], at: usize) -> Area
 pub fn read_area(s: &[u8]) -> Area
     ensures { result ≡ area_of (read_value s.now) }
 {
-    let ReadStep::Byte(a, at1) = values::read::next_read(s, 0) else {
+    let Some((a, at1)) = values::read::next_read(s, 0) else {
         return Area::Bad;
     };
-    let ReadStep::Byte(b, at2) = values::read::next_read(s, at1) else {
+    let Some((b, at2)) = values::read::next_read(s, at1) else {
         return Area::Bad;
     };
-    let ReadStep::Byte(colon, at3) = values::read::next_read(s, at2) else {
+    let Some((colon, at3)) = values::read::next_read(s, at2) else {
         return area_of(a, b, a, b);
     };
     if colon != b':' {

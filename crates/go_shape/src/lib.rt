@@ -6,8 +6,6 @@ ghost use Rattle.values.specs.Read.{read_identifier};
 ghost use Rattle.go_shape.specs.LocalsIdentifier.{Letters};
 ghost use Rattle.go_shape.specs.Shape.{shape_of};
 
-use values::read::ReadStep;
-
 // What a property takes, by its identifier.
 #[derive(Clone, Copy)]
 pub enum Shape {
@@ -18,16 +16,16 @@ pub enum Shape {
 }
 
 // The next uppercase letter of an identifier.
-fn next_letter(s: &[u8], from: usize) -> ReadStep
+fn next_letter(s: &[u8], from: usize) -> Option<(u8, usize)>
     ensures { Letters s.now from result }
 {
     for at in from..s.len() {
         let b = s[at];
         if b.is_ascii_uppercase() {
-            return ReadStep::Byte(b, at + 1);
+            return Some((b, at + 1));
         }
     }
-    ReadStep::End
+    None
 }
 
 // What an identifier of one letter takes.
@@ -57,13 +55,13 @@ fn shape_of_two(a: u8, b: u8) -> Shape
 pub fn shape_of(identifier: &[u8]) -> Shape
     ensures { result ≡ shape_of (read_identifier identifier.now) }
 {
-    let ReadStep::Byte(a, at1) = next_letter(identifier, 0) else {
+    let Some((a, at1)) = next_letter(identifier, 0) else {
         return Shape::Unread;
     };
-    let ReadStep::Byte(b, at2) = next_letter(identifier, at1) else {
+    let Some((b, at2)) = next_letter(identifier, at1) else {
         return shape_of_one(a);
     };
-    let ReadStep::Byte(_, _) = next_letter(identifier, at2) else {
+    let Some(_) = next_letter(identifier, at2) else {
         return shape_of_two(a, b);
     };
     Shape::Unread

@@ -3,11 +3,10 @@ use Rattle.lists.proofs.Prelude.{ℕ, suc, ◌+◌, ◌-◌, ◌≤◌, ◌<◌,
 use lib.Dec.{leb-suc-suc}
 use Rattle.lists.proofs.Prelude.{not, ltb-true, ltb-false}
 use Rattle.std.proofs.Common.{cond, Some, None}
-use Rattle.std.specs.Prelude.{position}
+use Rattle.std.specs.Prelude.{position, Option}
 use Rattle.std.specs.List.{position_or_len}
 use Rattle.values.specs.Read.{read_from, read_value}
 use Rattle.go_size.specs.Size.{has_colon, colon_place, before_colon, behind_colon, side_of, pair_of, size_of}
-use Rattle.go_size.specs.declared.Size.{Size}
 
 no-colon : (x : ℕ) → eqb x 0x5c ≡ true → eqb x 0x3a ≡ false
 no-colon x p = ne_eqb x 0x3a (omega (arith, eqb-true x 0x5c p))
@@ -101,7 +100,7 @@ colon-missed s e = go (ltb (position_or_len (λ b. eqb b 0x3a) s) (length s)) re
     go false f g = let l = ltb-false (position_or_len (λ b. eqb b 0x3a) s) (length s) f in omega (arith, place-is s)
 
 -- the size
-module _ (s : List ℕ) {x : ℕ} {r : Size} where
+module _ (s : List ℕ) {x : ℕ} {r : Option (ℕ × ℕ)} where
   pub size-two : (p y : ℕ) → p ≡ colon_place s → p < length s → x ≡ side_of (read_value (take p s)) → y ≡ side_of (read_value (take (length s - (p + 1)) (drop (p + 1) s))) → r ≡ pair_of x y
       → r ≡ size_of (read_value s)
   unfolding size_of

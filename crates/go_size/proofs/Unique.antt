@@ -6,10 +6,10 @@ use Rattle.values.specs.Read.{read_value}
 use Rattle.parts_props.specs.Props.{properties_at}
 use Rattle.go_size.specs.Size.{size_of}
 use Rattle.go_size.specs.Root.{size_in}
-use Rattle.go_size.specs.declared.Size.{Size}
 use Rattle.go_size.specs.declared.RootSize.{RootSize}
+use Rattle.std.specs.Prelude.{Option}
 
-pub read-size-once : (s : List ℕ) → Once (λ (r : Size). r ≡ size_of (read_value s))
+pub read-size-once : (s : List ℕ) → Once (λ (r : Option (ℕ × ℕ)). r ≡ size_of (read_value s))
 read-size-once s = once_is (size_of (read_value s))
 
 pub size-in-once : (text pr vl : List ℕ) (first count : ℕ) → Once (λ (r : RootSize). r ≡ size_in (properties_at text pr vl first count))

@@ -1,12 +1,10 @@
 -- The size that the properties of a root say.
-use Rattle.std.specs.Prelude.{◌∷◌}
+use Rattle.std.specs.Prelude.{◌∷◌, Option, Some, None}
 use Rattle.lists.specs.Prelude.{ℕ, List, [], pick}
 use Rattle.lists.specs.Same.{same}
 use Rattle.values.specs.Read.{read_value}
 use Rattle.parts_props.specs.Props.{Property}
 use Rattle.go_size.specs.Size.{size_of}
-use Rattle.go_size.specs.declared.Size.{Size}
-use Rattle.go_size.specs.declared.Size.TheVariants.{Bad, Board}
 use Rattle.go_size.specs.declared.RootSize.{RootSize}
 use Rattle.go_size.specs.declared.RootSize.TheVariants.{Absent, Sized, Wrong}
 
@@ -20,9 +18,9 @@ sizes_in [] = []
 sizes_in (p ∷ ps) = let r = sizes_in ps in pick (same p.name SZ) (p.raws ∷ r) r
 
 -- a valid size
-abbrev pub root_size : Size → RootSize
-root_size Bad = Wrong
-root_size (Board x y) = Sized x y
+abbrev pub root_size : Option (ℕ × ℕ) → RootSize
+root_size None = Wrong
+root_size (Some (x, y)) = Sized x y
 
 -- exactly one value, and that valid
 unfoldable pub size_of_values : List (List ℕ) → RootSize

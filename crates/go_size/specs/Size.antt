@@ -1,11 +1,9 @@
 -- The size that one value says: one number, or two with one colon, each from 1 to 52.
-use Rattle.std.specs.Prelude.{◌||◌, ◌∷◌}
+use Rattle.std.specs.Prelude.{◌||◌, ◌∷◌, Option, Some, None}
 use Rattle.lists.specs.Prelude.{ℕ, suc, Bool, false, List, [], eqb, pick}
 use Rattle.values.specs.Decimal.{decimal_of}
 use Rattle.values.specs.declared.decimal.Number.{Number}
 use Rattle.values.specs.declared.decimal.Number.TheVariants as N
-use Rattle.go_size.specs.declared.Size.{Size}
-use Rattle.go_size.specs.declared.Size.TheVariants.{Bad, Board}
 
 -- whether there is a colon
 abbrev pub has_colon : List ℕ → Bool
@@ -38,9 +36,9 @@ unfoldable pub side_of : List ℕ → ℕ
 side_of v = plus_of (decimal_of 52 v)
 
 -- two sides, none of them 0
-unfoldable pub pair_of : ℕ → ℕ → Size
-pair_of x y = pick (eqb x 0 || eqb y 0) Bad (Board x y)
+unfoldable pub pair_of : ℕ → ℕ → Option (ℕ × ℕ)
+pair_of x y = pick (eqb x 0 || eqb y 0) None (Some (x, y))
 
 -- of a read value
-unfoldable pub size_of : List ℕ → Size
+unfoldable pub size_of : List ℕ → Option (ℕ × ℕ)
 size_of v = pick (has_colon v) (pair_of (side_of (before_colon v)) (side_of (behind_colon v))) (pair_of (side_of v) (side_of v))

@@ -11,13 +11,6 @@ ghost use Rattle.go_size.specs.Locals.{NextSize};
 
 use values::decimal::Number;
 
-// What one value says: columns and rows, or nothing.
-#[derive(Clone, Copy)]
-pub enum Size {
-    Bad,
-    Board(usize, usize),
-}
-
 // What the properties of a root say: no SZ, one valid SZ, or an SZ that is repeated or invalid.
 #[derive(Clone, Copy)]
 pub enum RootSize {
@@ -46,17 +39,17 @@ fn side(s: &[u8]) -> usize
 
 // Two sides, none of them 0.
 #[tactic(auto, unfolding(crate::specs::Size::pair_of))]
-fn board(x: usize, y: usize) -> Size
+fn board(x: usize, y: usize) -> Option<(usize, usize)>
     ensures { result ≡ pair_of x y }
 {
     if x == 0 || y == 0 {
-        return Size::Bad;
+        return None;
     }
-    Size::Board(x, y)
+    Some((x, y))
 }
 
 // The size that a raw value says.
-pub fn read_size(s: &[u8]) -> Size
+pub fn read_size(s: &[u8]) -> Option<(usize, usize)>
     ensures { result ≡ size_of (read_value s.now) }
 {
     match colon_place(s) {
@@ -77,8 +70,8 @@ fn one_size(text: &[u8], values: &[u32], first: usize, count: usize) -> RootSize
     }
     let value = parts::value_at(text, values, first, 0);
     match read_size(value) {
-        Size::Bad => RootSize::Wrong,
-        Size::Board(x, y) => RootSize::Sized(x, y),
+        None => RootSize::Wrong,
+        Some((x, y)) => RootSize::Sized(x, y),
     }
 }
 

@@ -6,9 +6,9 @@ use Rattle.lexer.specs.Step.{vals_on, vals_by, vals_at}
 use Rattle.lexer_scan.proofs.Bounds.{value-is}
 use Rattle.lists.proofs.Tests.{never}
 use Rattle.lexer_scan.proofs.Values.{values-more, values-unclosed, values-none}
-use Rattle.lexer_close.specs.declared.Close.TheVariants.{At, Open}
 use Rattle.lexer_scan.specs.declared.ValueStep.{ValueStep}
 use Rattle.lexer_scan.specs.declared.ValueStep.TheVariants.{Value, NoMore, Unclosed}
+use Rattle.std.specs.Prelude.{Some, None}
 
 module _ (s : List ℕ) where
   vals-fuel : (f g k : ℕ) → length s - k < f → length s - k < g → vals_by f s k ≡ vals_by g s k
@@ -37,15 +37,15 @@ module _ (s : List ℕ) where
   vals-none k q = ap (vals_on (vals_by (length s) s) s) q
 
   -- the values take no more bytes than they have
-  pub vals-count : (n k e : ℕ) → length s - k < n → values_end_at s k ≡ At e → k + length (vals_at s k) ≤ e
+  pub vals-count : (n k e : ℕ) → length s - k < n → values_end_at s k ≡ Some e → k + length (vals_at s k) ≤ e
   vals-count zero k e h q = absurd (omega arith)
   vals-count (suc n) k e h q = go (value_step_at s k) refl (vals-count n)
     where
-      go : (v : ValueStep) → value_step_at s k ≡ v → ((x g : ℕ) → length s - x < n → values_end_at s x ≡ At g → x + length (vals_at s x) ≤ g) → k + length (vals_at s k) ≤ e
+      go : (v : ValueStep) → value_step_at s k ≡ v → ((x g : ℕ) → length s - x < n → values_end_at s x ≡ Some g → x + length (vals_at s x) ≤ g) → k + length (vals_at s k) ≤ e
       go (Value a b x) r ih =
           let i = value-is s k a b x r in
           let j = ih x e (omega arith) (sym (values-more s k a b x r) ∙ q) in
           let l = ap length (vals-more k a b x r) in
           omega arith
-      go NoMore r ih = let y : At k ≡ At e = sym (values-none s k r) ∙ q in let x : k ≡ e = cc in let l = ap length (vals-none k r) in omega arith
-      go Unclosed r ih = let z : At e ≡ Open = sym q ∙ values-unclosed s k r in never (cc)
+      go NoMore r ih = let y : Some k ≡ Some e = sym (values-none s k r) ∙ q in let x : k ≡ e = cc in let l = ap length (vals-none k r) in omega arith
+      go Unclosed r ih = let z : Some e ≡ None = sym q ∙ values-unclosed s k r in never (cc)

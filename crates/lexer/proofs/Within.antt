@@ -6,14 +6,13 @@ use Rattle.lexer.specs.Step.{on_ident, head_from, head_at, on_values, on_head, n
 use Rattle.lexer_scan.proofs.Bounds.{skip-bounds, ident-bounds, opens-not-none}
 use Rattle.lexer_scan.proofs.Values.{values-bounds, values-forward}
 use Rattle.lexer.proofs.Listed.{vals-count}
-use Rattle.lexer_close.specs.declared.Close.{Close}
-use Rattle.lexer_close.specs.declared.Close.TheVariants.{At, Open}
 use Rattle.lexer_scan.specs.declared.Ident.{Ident}
 use Rattle.lexer_scan.specs.declared.Ident.TheVariants.{Opens, Missing, Foreign}
 use Rattle.lexer.specs.declared.Head.{Head}
 use Rattle.lexer.specs.declared.Head.TheVariants.{Start as head_start, End as head_end, Node as head_node, Name, Refused as head_refused, Done as head_done}
 use Rattle.lexer.specs.declared.Step.{Step}
 use Rattle.lexer.specs.declared.Step.TheVariants.{Start, End, Node, Property, Refused, Done}
+use Rattle.std.specs.Prelude.{Option, Some, None}
 
 module _ (u : List ℕ) where
   -- of how a token begins
@@ -55,12 +54,12 @@ module _ (u : List ℕ) where
   unfolding head_at
   head-within i = from-within i (skip_at u i) (skip-bounds u i)
 
-  values-within : (i j k : ℕ) → HeadWithin i (Name j k) → (z : Close) → values_end_at u k ≡ z → Within i (on_values j k z)
-  values-within i j k w (At e) q =
+  values-within : (i j k : ℕ) → HeadWithin i (Name j k) → (z : Option ℕ) → values_end_at u k ≡ z → Within i (on_values j k z)
+  values-within i j k w (Some e) q =
       let b = values-bounds u k e q in
       let f = values-forward u k e (opens-not-none u k w.3) q in
       (w.0, w.1, w.2, f, b.1 (omega (arith, w.2)), vals-count u (suc (length u)) k e (omega arith) q)
-  values-within i j k w Open q = (w.0, omega (arith, w.1, w.2))
+  values-within i j k w None q = (w.0, omega (arith, w.1, w.2))
 
   token-within : (i : ℕ) (h : Head) → HeadWithin i h → Within i (on_head u h)
   token-within i (head_start j) w = w

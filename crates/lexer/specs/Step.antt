@@ -1,9 +1,7 @@
 -- The next token of a text, by scans; and what the machine gives where it is met.
-use Rattle.std.specs.Prelude.{◌+◌, ◌≡◌, ◌∷◌}
+use Rattle.std.specs.Prelude.{◌+◌, ◌≡◌, ◌∷◌, Option, Some, None}
 use Rattle.lists.specs.Prelude.{ℕ, zero, suc, List, [], eqb, ltb, length, get_or, slice, pick}
 use Rattle.lexer.specs.declared.Fault.TheVariants.{MissingPropertyIdentifier, UnexpectedEndOfPropertyIdentifier, UnexpectedEndOfPropertyValue}
-use Rattle.lexer_close.specs.declared.Close.{Close}
-use Rattle.lexer_close.specs.declared.Close.TheVariants.{At, Open}
 use Rattle.lexer_scan.specs.declared.Ident.{Ident}
 use Rattle.lexer_scan.specs.declared.Ident.TheVariants.{Opens, Missing, Foreign}
 use Rattle.lexer_scan.specs.declared.ValueStep.{ValueStep}
@@ -36,9 +34,9 @@ unfoldable pub head_at : List ℕ → ℕ → Head
 head_at s i = head_from s (skip_at s i)
 
 -- a property from i whose first `[` is at k, by where its values end (SCOPE 74)
-abbrev pub on_values : ℕ → ℕ → Close → Step
-on_values i k (At e) = Property i k e
-on_values i k Open = Refused UnexpectedEndOfPropertyValue i
+abbrev pub on_values : ℕ → ℕ → Option ℕ → Step
+on_values i k (Some e) = Property i k e
+on_values i k None = Refused UnexpectedEndOfPropertyValue i
 
 -- a token, by how it begins
 abbrev pub on_head : List ℕ → Head → Step

@@ -14,14 +14,16 @@ pub enum Fault {
     UnexpectedEndOfPropertyValue,
 }
 
-// The number of a fault.
-pub fn number(fault: Fault) -> u32
-    ensures { result ≡ fault_number fault }
-{
-    match fault {
-        Fault::MissingPropertyIdentifier => 3,
-        Fault::UnexpectedEndOfPropertyIdentifier => 4,
-        Fault::UnexpectedEndOfPropertyValue => 5,
+impl From<Fault> for u32 {
+    ghost from_gives = { λ fault to. to ≡ fault_number fault };
+
+    // The number of a fault.
+    fn from(fault: Fault) -> u32 {
+        match fault {
+            Fault::MissingPropertyIdentifier => 3,
+            Fault::UnexpectedEndOfPropertyIdentifier => 4,
+            Fault::UnexpectedEndOfPropertyValue => 5,
+        }
     }
 }
 
@@ -84,8 +86,8 @@ fn property(s: &[u8], from: usize, opens: usize) -> Step
     ensures { result ≡ on_values from opens (values_end_at s.now opens) }
 {
     match lexer_scan::values_end(s, opens) {
-        lexer_close::Close::At(e) => Step::Property(from, opens, e),
-        lexer_close::Close::Open => Step::Refused(Fault::UnexpectedEndOfPropertyValue, from),
+        Some(e) => Step::Property(from, opens, e),
+        None => Step::Refused(Fault::UnexpectedEndOfPropertyValue, from),
     }
 }
 

@@ -4,7 +4,7 @@ use Rattle.lists.proofs.Tests.{and_both}
 use Rattle.lexer_close.proofs.Steps.{close-here, close-on}
 use Rattle.lexer_close.specs.Close.{close_from, close_at}
 use Rattle.lexer_close.specs.LocalsRun.{closes_nothing, LeadsTo}
-use Rattle.lexer_close.specs.declared.Close.TheVariants.{At}
+use Rattle.std.specs.Prelude.{Some}
 
 -- one byte
 pub close-plain : (s : List ℕ) (i : ℕ) → i < length s → closes_nothing (get_or s i 0) ≡ true → close_at s (i + 1) ≡ close_at s i
@@ -39,7 +39,7 @@ leads-block m n s i e h p = leads-plain n s i h (λ k b.
     ap closes_nothing (sym v) ∙ p k l)
 
 -- two plain bytes and a `]`
-pub close-pair : (s : List ℕ) (i : ℕ) → i + 3 ≤ length s → {a b : Bool} → a ≡ closes_nothing (get_or s i 0) → b ≡ closes_nothing (get_or s (i + 1) 0) → eqb (get_or s (i + 2) 0) 0x5d && (a && b) ≡ true → close_at s i ≡ At (i + 2)
+pub close-pair : (s : List ℕ) (i : ℕ) → i + 3 ≤ length s → {a b : Bool} → a ≡ closes_nothing (get_or s i 0) → b ≡ closes_nothing (get_or s (i + 1) 0) → eqb (get_or s (i + 2) 0) 0x5d && (a && b) ≡ true → close_at s i ≡ Some (i + 2)
 close-pair s i h {a} {b} p q e =
     let both = and_both (eqb (get_or s (i + 2) 0) 0x5d) (a && b) e in
     let ab = and_both a b both.1 in

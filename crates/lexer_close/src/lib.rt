@@ -8,19 +8,12 @@ ghost use Rattle.lexer_close.specs.Close.{close_at};
 
 pub use runs::is_pair;
 
-// Where a scan for a closing bracket ends.
-#[derive(Clone, Copy)]
-pub enum Close {
-    At(usize),
-    Open,
-}
-
 // The first unescaped `]` at or after `from`. Runs of plain bytes are stepped over: a short one at the start, then blocks behind an escape and each 16 bytes.
-pub fn value_end(s: &[u8], from: usize) -> Close
+pub fn value_end(s: &[u8], from: usize) -> Option<usize>
     ensures { result ≡ close_at s.now from }
 {
     if s.len() <= from {
-        return Close::Open;
+        return None;
     }
     let mut i = runs::past_short(s, from);
     let mut escaped = false;
@@ -28,7 +21,7 @@ pub fn value_end(s: &[u8], from: usize) -> Close
     // A loop: i moves by a byte, or past a run.
     loop {
         if s.len() <= i {
-            break Close::Open;
+            break None;
         }
         if escaped {
             escaped = false;
@@ -38,7 +31,7 @@ pub fn value_end(s: &[u8], from: usize) -> Close
         }
         let b = s[i];
         if b == b']' {
-            break Close::At(i);
+            break Some(i);
         }
         escaped = b == b'\\';
         i += 1;
@@ -50,11 +43,11 @@ pub fn value_end(s: &[u8], from: usize) -> Close
 }
 
 // As `value_end`. Most values are two bytes.
-pub fn quick_end(s: &[u8], from: usize) -> Close
+pub fn quick_end(s: &[u8], from: usize) -> Option<usize>
     ensures { result ≡ close_at s.now from }
 {
     if runs::is_pair(s, from) {
-        return Close::At(from + 2);
+        return Some(from + 2);
     }
     value_end(s, from)
 }

@@ -1,6 +1,5 @@
 // Runs of bytes that a scan for a closing bracket may step over, a block at a time.
-ghost use Rattle.std.specs.Prelude.{◌≡◌, true, ℕ, ◌+◌, ◌≤◌, ◌<◌, length, get_or};
-ghost use Rattle.lexer_close.specs.declared.Close.TheVariants.{At};
+ghost use Rattle.std.specs.Prelude.{◌≡◌, true, ℕ, ◌+◌, ◌≤◌, ◌<◌, length, get_or, Some};
 ghost use Rattle.lexer_close.specs.Close.{close_at};
 ghost use Rattle.lexer_close.specs.LocalsRun.{closes_nothing, LeadsTo};
 
@@ -38,7 +37,7 @@ pub fn past_short(s: &[u8], from: usize) -> usize
 
 // Do two plain bytes and a `]` stand there.
 pub fn is_pair(s: &[u8], i: usize) -> bool
-    ensures { result ≡ true → close_at s.now i ≡ At (i + 2) }
+    ensures { result ≡ true → close_at s.now i ≡ Some (i + 2) }
 {
     if s.len() <= i {
         return false;

@@ -5,10 +5,9 @@ use Rattle.lexer_scan.specs.Scan.{ident_from}
 use Rattle.lexer_close.specs.Close.{close_from}
 use Rattle.lexer.specs.Closed.{closed_from}
 use Rattle.lists.proofs.Tests.{never}
-use Rattle.lexer_close.specs.declared.Close.{Close}
-use Rattle.lexer_close.specs.declared.Close.TheVariants.{At, Open}
 use Rattle.lexer_scan.specs.declared.Ident.{Ident}
 use Rattle.lexer_scan.specs.declared.Ident.TheVariants.{Opens, Missing, Foreign}
+use Rattle.std.specs.Prelude.{Option, Some, None}
 
 -- ---- an identifier
 
@@ -57,23 +56,23 @@ ident-exactly i bs Foreign h =
 -- ---- a value
 
 -- what each answer says of the bytes from place i on, with an escape pending or not
-abbrev pub CloseIs : Bool → ℕ → List ℕ → Close → Type 0
-CloseIs e i bs (At j) = (body post : List ℕ) × (bs ≡ body ++ (0x5d ∷ post)) × (closed_from e body ≡ true) × (j ≡ i + length body)
-CloseIs e i bs Open = (body post : List ℕ) → bs ≡ body ++ (0x5d ∷ post) → closed_from e body ≡ true → ⊥
+abbrev pub CloseIs : Bool → ℕ → List ℕ → Option ℕ → Type 0
+CloseIs e i bs (Some j) = (body post : List ℕ) × (bs ≡ body ++ (0x5d ∷ post)) × (closed_from e body ≡ true) × (j ≡ i + length body)
+CloseIs e i bs None = (body post : List ℕ) → bs ≡ body ++ (0x5d ∷ post) → closed_from e body ≡ true → ⊥
 
 -- a byte more in front, which turns the flag e into e'
 module _ (e e' : Bool) (i b : ℕ) (bs : List ℕ) (open-end : b ≡ 0x5d → closed_from e [] ≡ true → ⊥)
     (front : (body : List ℕ) → closed_from e' body ≡ true → closed_from e (b ∷ body) ≡ true) (back : (body : List ℕ) → closed_from e (b ∷ body) ≡ true → closed_from e' body ≡ true) where
-  still_open : CloseIs e' (i + 1) bs Open → CloseIs e i (b ∷ bs) Open
+  still_open : CloseIs e' (i + 1) bs None → CloseIs e i (b ∷ bs) None
   still_open h [] post q c = open-end (head-eq_of_cons-eq q) c
   still_open h (x ∷ body) post q c =
       h body post (tail-eq_of_cons-eq q) (back body (subst (λ (z : ℕ). closed_from e (z ∷ body) ≡ true) (sym (head-eq_of_cons-eq q)) c))
 
-  close-cons : (x : Close) → CloseIs e' (i + 1) bs x → CloseIs e i (b ∷ bs) x
-  close-cons (At j) h = (b ∷ h.0, h.1, ap (λ (z : List ℕ). b ∷ z) h.2, front h.0 h.3, omega (arith, h.4))
-  close-cons Open h = still_open h
+  close-cons : (x : Option ℕ) → CloseIs e' (i + 1) bs x → CloseIs e i (b ∷ bs) x
+  close-cons (Some j) h = (b ∷ h.0, h.1, ap (λ (z : List ℕ). b ∷ z) h.2, front h.0 h.3, omega (arith, h.4))
+  close-cons None h = still_open h
 
-no-close : (e : Bool) (i : ℕ) → CloseIs e i [] Open
+no-close : (e : Bool) (i : ℕ) → CloseIs e i [] None
 no-close e i [] post q c = let z : ◌≡◌ {A = ℕ} 0 1 = omega (arith, ap length q) in never z
 no-close e i (x ∷ body) post q c = let z : ◌≡◌ {A = ℕ} 0 1 = omega (arith, ap length q) in never z
 
@@ -84,28 +83,28 @@ close-is e i [] = no-close e i
 close-is true i (b ∷ bs) = close-cons true false i b bs (λ _ c. false≢true c) (λ body c. c) (λ body c. c) (close_from false (i + 1) bs) (close-is false (i + 1) bs)
 close-is false i (b ∷ bs) = go (eqb b 0x5d) refl (close-is (eqb b 0x5c) (i + 1) bs)
   where
-    go : (c : Bool) → eqb b 0x5d ≡ c → CloseIs (eqb b 0x5c) (i + 1) bs (close_from (eqb b 0x5c) (i + 1) bs) → CloseIs false i (b ∷ bs) (pick c (At i) (close_from (eqb b 0x5c) (i + 1) bs))
+    go : (c : Bool) → eqb b 0x5d ≡ c → CloseIs (eqb b 0x5c) (i + 1) bs (close_from (eqb b 0x5c) (i + 1) bs) → CloseIs false i (b ∷ bs) (pick c (Some i) (close_from (eqb b 0x5c) (i + 1) bs))
     go true q h = ([], bs, ap (λ (z : ℕ). z ∷ bs) (eqb-true b 0x5d q), refl, omega arith)
     go false q h =
         close-cons false (eqb b 0x5c) i b bs (λ x _. eqb-false b 0x5d q x) (λ body c. rw q c) (λ body c. rw q at c) (close_from (eqb b 0x5c) (i + 1) bs) h
 
-close-over : (e : Bool) (i : ℕ) (body post : List ℕ) → closed_from e body ≡ true → close_from e i (body ++ (0x5d ∷ post)) ≡ At (i + length body)
+close-over : (e : Bool) (i : ℕ) (body post : List ℕ) → closed_from e body ≡ true → close_from e i (body ++ (0x5d ∷ post)) ≡ Some (i + length body)
 unfolding close_from
 close-over true i [] post c = absurd (false≢true c)
-close-over false i [] post c = let z : i ≡ i + 0 = omega arith in ap At z
-close-over true i (b ∷ body) post c = let z : i + 1 + length body ≡ i + suc (length body) = omega arith in close-over false (i + 1) body post c ∙ ap At z
+close-over false i [] post c = let z : i ≡ i + 0 = omega arith in ap Some z
+close-over true i (b ∷ body) post c = let z : i + 1 + length body ≡ i + suc (length body) = omega arith in close-over false (i + 1) body post c ∙ ap Some z
 close-over false i (b ∷ body) post c = go (eqb b 0x5d) c (close-over (eqb b 0x5c) (i + 1) body post)
   where
-    go : (t : Bool) → (not t && closed_from (eqb b 0x5c) body) ≡ true → (closed_from (eqb b 0x5c) body ≡ true → close_from (eqb b 0x5c) (i + 1) (body ++ (0x5d ∷ post)) ≡ At (i + 1 + length body))
-        → pick t (At i) (close_from (eqb b 0x5c) (i + 1) (body ++ (0x5d ∷ post))) ≡ At (i + suc (length body))
+    go : (t : Bool) → (not t && closed_from (eqb b 0x5c) body) ≡ true → (closed_from (eqb b 0x5c) body ≡ true → close_from (eqb b 0x5c) (i + 1) (body ++ (0x5d ∷ post)) ≡ Some (i + 1 + length body))
+        → pick t (Some i) (close_from (eqb b 0x5c) (i + 1) (body ++ (0x5d ∷ post))) ≡ Some (i + suc (length body))
     go true q ih = absurd (false≢true q)
-    go false q ih = let z : i + 1 + length body ≡ i + suc (length body) = omega arith in ih q ∙ ap At z
+    go false q ih = let z : i + 1 + length body ≡ i + suc (length body) = omega arith in ih q ∙ ap Some z
 
 -- and whichever answer holds of the bytes is given
-pub close-exactly : (e : Bool) (i : ℕ) (bs : List ℕ) (x : Close) → CloseIs e i bs x → close_from e i bs ≡ x
-close-exactly e i bs (At j) h = ap (close_from e i) h.2 ∙ close-over e i h.0 h.1 h.3 ∙ ap At (sym h.4)
-close-exactly e i bs Open h = go (close_from e i bs) (close-is e i bs)
+pub close-exactly : (e : Bool) (i : ℕ) (bs : List ℕ) (x : Option ℕ) → CloseIs e i bs x → close_from e i bs ≡ x
+close-exactly e i bs (Some j) h = ap (close_from e i) h.2 ∙ close-over e i h.0 h.1 h.3 ∙ ap Some (sym h.4)
+close-exactly e i bs None h = go (close_from e i bs) (close-is e i bs)
   where
-    go : (x : Close) → CloseIs e i bs x → x ≡ Open
-    go (At j) k = absurd (h k.0 k.1 k.2 k.3)
-    go Open k = refl
+    go : (x : Option ℕ) → CloseIs e i bs x → x ≡ None
+    go (Some j) k = absurd (h k.0 k.1 k.2 k.3)
+    go None k = refl

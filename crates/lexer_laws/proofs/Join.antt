@@ -11,16 +11,15 @@ use Rattle.lexer_scan.proofs.Values.{values-more, values-unclosed, values-none}
 use Rattle.lexer.proofs.Listed.{vals-more, vals-none}
 use Rattle.lexer_laws.proofs.Rest.{rest, step-at, end-at, ident_on, ident-rest, made, close_on, value-rest, skip-rest, between-skips, after-skips, skip-stops}
 use Rattle.lexer.specs.declared.Fault.TheVariants.{UnexpectedEndOfPropertyValue}
-use Rattle.lexer_close.specs.declared.Close.{Close}
-use Rattle.lexer_close.specs.declared.Close.TheVariants.{At, Open}
 use Rattle.lexer_scan.specs.declared.Ident.{Ident}
 use Rattle.lexer_scan.specs.declared.Ident.TheVariants.{Opens, Missing, Foreign}
 use Rattle.lexer.specs.declared.Head.{Head}
+use Rattle.std.specs.Prelude.{Option, Some, None}
 
 module _ (u : List ℕ) (s k : ℕ) (w : List ℕ) where
-  abbrev values_on : List Val → ℕ → Close → Lexed
-  values_on vs q (At e) = lexed (prop (made u s k w (vs ++ vals_at u q)) e ∷ []) (lex_at u e)
-  values_on vs q Open = record { toks = []; end = broken UnexpectedEndOfPropertyValue s }
+  abbrev values_on : List Val → ℕ → Option ℕ → Lexed
+  values_on vs q (Some e) = lexed (prop (made u s k w (vs ++ vals_at u q)) e ∷ []) (lex_at u e)
+  values_on vs q None = record { toks = []; end = broken UnexpectedEndOfPropertyValue s }
 
   abbrev val_of : ℕ → ℕ → Val
   val_of q j = record { from = q + 1; to = j; raw = slice (q + 1) j u }
@@ -54,13 +53,13 @@ module _ (u : List ℕ) (s k : ℕ) (w : List ℕ) where
     grown j = vs ++ (val_of q j ∷ [])
 
     -- one value, then those from x on
-    module _ (j x : ℕ) (e : close_at u (q + 1) ≡ At j) (ex : x ≡ skip_at u (j + 1)) where
+    module _ (j x : ℕ) (e : close_at u (q + 1) ≡ Some j) (ex : x ≡ skip_at u (j + 1)) where
       lists : grown j ++ vals_at u x ≡ vs ++ vals_at u q
       lists = append_assoc vs (val_of q j ∷ []) (vals_at u x) ∙ ap (λ (z : List Val). vs ++ z) (sym (vals-more u q (q + 1) j x (value_on u q j x b e ex)))
 
-      join : (z : Close) → values_on (grown j) x z ≡ values_on vs q z
-      join (At g) = ap (λ (z : List Val). lexed (prop (made u s k w z) g ∷ []) (lex_at u g)) lists
-      join Open = refl
+      join : (z : Option ℕ) → values_on (grown j) x z ≡ values_on vs q z
+      join (Some g) = ap (λ (z : List Val). lexed (prop (made u s k w z) g ∷ []) (lex_at u g)) lists
+      join None = refl
 
       same-values : values_end_at u x ≡ values_end_at u q
       same-values = sym (values-more u q (q + 1) j x (value_on u q j x b e ex))
@@ -87,8 +86,8 @@ module _ (u : List ℕ) (s k : ℕ) (w : List ℕ) where
           (sym (append-nil (grown j)) ∙ ap (λ (z : List Val). grown j ++ z) (sym (vals-none u x (value_none u x o))) ∙ lists)
           ∙ ap (values_on vs q) (sym (values-none u x (value_none u x o)) ∙ same-values)
 
-    from-close : (z : Close) → close_at u (q + 1) ≡ z → close_on u s k w vs (q + 1) z ≡ values_on vs q (values_end_at u q)
-    from-close (At j) e =
+    from-close : (z : Option ℕ) → close_at u (q + 1) ≡ z → close_on u s k w vs (q + 1) z ≡ values_on vs q (values_end_at u q)
+    from-close (Some j) e =
         let cb = close-bounds u (q + 1) j e in
         skip-rest u (after (made u s k w (grown j))) (after-skips (made u s k w (grown j))) (drop (suc j) u) (suc j) refl
         ∙ go (skip_at u (suc j)) (ap (skip_at u) (sym (add-one j))) (skip-within u (suc j) (omega arith)) (skip-stops u (suc j))
@@ -96,7 +95,7 @@ module _ (u : List ℕ) (s k : ℕ) (w : List ℕ) where
         go : (x : ℕ) → x ≡ skip_at u (j + 1) → x ≤ length u → space (get_or u x 0) ≡ false → rest (after (made u s k w (grown j))) x (length u) (drop x u) ≡ values_on vs q (values_end_at u q)
         go x ex h sp = elim (eqb (get_or u x 0) 0x5b) as (λ (c : Bool). eqb (get_or u x 0) 0x5b ≡ c → rest (after (made u s k w (grown j))) x (length u) (drop x u) ≡ values_on vs q (values_end_at u q))
             [ true ↦ λ c. opened j x e ex h sp (eqb-true (get_or u x 0) 0x5b c) | false ↦ λ c. closed j x e ex h sp (eqb-false (get_or u x 0) 0x5b c) ] refl
-    from-close Open e = ap (values_on vs q) (sym (values-unclosed u q (value-open u q b e)))
+    from-close None e = ap (values_on vs q) (sym (values-unclosed u q (value-open u q b e)))
 
   values-lex : (n : ℕ) → Values n
   values-lex zero vs q f b = absurd (omega arith)
@@ -133,9 +132,9 @@ module _ (u : List ℕ) where
       let b = ident-bounds u i k e in
       values-lex u i k (slice i k u) (suc (length u)) [] k (omega arith) b.2 ∙ on (values_end_at u k)
     where
-      on : (z : Close) → values_on u i k (slice i k u) [] k z ≡ step_on u (on_values i k z)
-      on (At e) = refl
-      on Open = refl
+      on : (z : Option ℕ) → values_on u i k (slice i k u) [] k z ≡ step_on u (on_values i k z)
+      on (Some e) = refl
+      on None = refl
   ident-token i Missing e = refl
   ident-token i Foreign e = refl
 

@@ -23,9 +23,9 @@ use Rattle.lexer_laws.proofs.Exactly as exactly
 use Rattle.lexer_laws.proofs.Faults as faults
 use Rattle.lexer_laws.specs.Reach.{Reaches}
 use Rattle.lexer.specs.declared.Fault.{Fault}
-use Rattle.lexer_close.specs.declared.Close.{Close}
 use Rattle.lexer_scan.specs.declared.Ident.{Ident}
 use Rattle.lexer.specs.declared.Step.TheVariants.{Refused}
+use Rattle.std.specs.Prelude.{Option}
 
 -- the tokens of a joined text are those of the first part, then those of the second from the state that the first leaves
 pub tokens_append : (st : St) (o : ℕ) (xs ys : List ℕ)
@@ -65,7 +65,7 @@ pub identifier-exactly : (i : ℕ) (bs : List ℕ) (x : Ident) → exactly.Ident
 identifier-exactly = exactly.ident-exactly
 
 -- a value closes at the first unescaped bracket, and is unclosed where there is none
-pub value-exactly : (i : ℕ) (bs : List ℕ) (x : Close) → exactly.CloseIs false i bs x → close_from false i bs ≡ x
+pub value-exactly : (i : ℕ) (bs : List ℕ) (x : Option ℕ) → exactly.CloseIs false i bs x → close_from false i bs ≡ x
 value-exactly = exactly.close-exactly false
 
 -- the tokens end with a fault exactly where the first token at fault is reached by tokens, and at its start

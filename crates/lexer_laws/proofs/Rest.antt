@@ -6,10 +6,9 @@ use Rattle.lexer_scan.specs.Scan.{space, skip_from, skip_at, ident_from}
 use Rattle.lexer_close.specs.Close.{close_from}
 use Rattle.lexer.specs.declared.Fault.{Fault}
 use Rattle.lexer.specs.declared.Fault.TheVariants.{MissingPropertyIdentifier, UnexpectedEndOfPropertyIdentifier, UnexpectedEndOfPropertyValue}
-use Rattle.lexer_close.specs.declared.Close.{Close}
-use Rattle.lexer_close.specs.declared.Close.TheVariants.{At, Open}
 use Rattle.lexer_scan.specs.declared.Ident.{Ident}
 use Rattle.lexer_scan.specs.declared.Ident.TheVariants.{Opens, Missing, Foreign}
+use Rattle.std.specs.Prelude.{Option, Some, None}
 
 -- what the machine still gives
 abbrev pub rest : St → (o l : ℕ) → List ℕ → Lexed
@@ -64,9 +63,9 @@ module _ (u : List ℕ) where
     abbrev pub made : List Val → Prop
     made vs = record { from = s; to = k; name = w; vals = vs }
 
-    abbrev pub close_on : List Val → ℕ → Close → Lexed
-    close_on vs v (At j) = rest_at (after (made (vs ++ (record { from = v; to = j; raw = slice v j u } ∷ [])))) (suc j)
-    close_on vs v Open = record { toks = []; end = broken UnexpectedEndOfPropertyValue s }
+    abbrev pub close_on : List Val → ℕ → Option ℕ → Lexed
+    close_on vs v (Some j) = rest_at (after (made (vs ++ (record { from = v; to = j; raw = slice v j u } ∷ [])))) (suc j)
+    close_on vs v None = record { toks = []; end = broken UnexpectedEndOfPropertyValue s }
 
     pub value-rest : (bs : List ℕ) (e : Bool) (i : ℕ) (vs : List Val) (v : ℕ) → drop i u ≡ bs → v ≤ i
         → rest (value s k w vs e v (slice v i u)) i (length u) bs ≡ close_on vs v (close_from e i bs)
@@ -79,7 +78,7 @@ module _ (u : List ℕ) where
     value-rest (b ∷ bs) false i vs v d h = go (eqb b 0x5d) (value-rest bs (eqb b 0x5c) (suc i) vs v (at_place i u b bs d).2 (omega arith))
       where
         go : (c : Bool) → rest (value s k w vs (eqb b 0x5c) v (slice v (suc i) u)) (suc i) (length u) bs ≡ close_on vs v (close_from (eqb b 0x5c) (suc i) bs)
-            → rest (values false c (eqb b 0x5c) s k w vs v (slice v i u) i b) (suc i) (length u) bs ≡ close_on vs v (pick c (At i) (close_from (eqb b 0x5c) (i + 1) bs))
+            → rest (values false c (eqb b 0x5c) s k w vs v (slice v i u) i b) (suc i) (length u) bs ≡ close_on vs v (pick c (Some i) (close_from (eqb b 0x5c) (i + 1) bs))
         go true ih = ap (rest (after (made (vs ++ (record { from = v; to = i; raw = slice v i u } ∷ [])))) (suc i) (length u)) (sym (at_place i u b bs d).2)
         go false ih =
             ap (λ (z : List ℕ). rest (value s k w vs (eqb b 0x5c) v z) (suc i) (length u) bs) (sym (slice_snoc v i u b bs h d))

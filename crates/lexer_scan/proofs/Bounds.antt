@@ -5,12 +5,11 @@ use Rattle.lists.proofs.Tests.{never}
 use Rattle.lexer_scan.specs.Scan.{space, skip_from, skip_at, ident_from, ident_at, on_close, value_step_at}
 use Rattle.lexer_close.proofs.Bounds.{close-bounds}
 use Rattle.lexer_close.specs.Close.{close_at}
-use Rattle.lexer_close.specs.declared.Close.{Close}
-use Rattle.lexer_close.specs.declared.Close.TheVariants.{At, Open}
 use Rattle.lexer_scan.specs.declared.Ident.{Ident}
 use Rattle.lexer_scan.specs.declared.Ident.TheVariants.{Opens}
 use Rattle.lexer_scan.specs.declared.ValueStep.{ValueStep}
 use Rattle.lexer_scan.specs.declared.ValueStep.TheVariants.{Value, NoMore, Unclosed}
+use Rattle.std.specs.Prelude.{Option, Some, None}
 
 skip-within-from : (i : ℕ) (l : List ℕ) → (i ≤ skip_from i l) × (skip_from i l ≤ i + length l)
 unfolding skip_from
@@ -62,7 +61,7 @@ ident-bounds s i k q =
 pub record ValueIs (s : List ℕ) (k a e n : ℕ) : Type 0 where
   pub opens : get_or s k 0 ≡ 0x5b
   pub from : a ≡ k + 1
-  pub closes : close_at s (k + 1) ≡ At e
+  pub closes : close_at s (k + 1) ≡ Some e
   pub next : n ≡ skip_at s (e + 1)
   pub forward : a ≤ e
   pub inside : e < length s
@@ -76,8 +75,8 @@ value-is s k a e n q = pick-elim P (eqb (get_or s k 0) 0x5b) (λ h. go (close_at
     P : ValueStep → Type 0
     P x = x ≡ Value a e n → ValueIs s k a e n
 
-    go : (z : Close) → close_at s (k + 1) ≡ z → get_or s k 0 ≡ 0x5b → on_close s k z ≡ Value a e n → ValueIs s k a e n
-    go (At j) c h q =
+    go : (z : Option ℕ) → close_at s (k + 1) ≡ z → get_or s k 0 ≡ 0x5b → on_close s k z ≡ Value a e n → ValueIs s k a e n
+    go (Some j) c h q =
         let x : k + 1 ≡ a = cc in
         let y : j ≡ e = cc in
         let w : skip_at s (j + 1) ≡ n = cc in
@@ -85,14 +84,14 @@ value-is s k a e n q = pick-elim P (eqb (get_or s k 0) 0x5b) (λ h. go (close_at
         let l = skip-bounds s (j + 1) in
         let u = skip-within s (j + 1) (omega arith) in
         record { opens = h; from = sym x; closes = rw (← y) c; next = rw (← y) (sym w); forward = omega arith; inside = omega arith; on = omega arith; still = omega arith }
-    go Open c h q = never (cc)
+    go None c h q = never (cc)
 
 module _ (s : List ℕ) (k : ℕ) where
-  pub value_on : (j n : ℕ) → get_or s k 0 ≡ 0x5b → close_at s (k + 1) ≡ At j → n ≡ skip_at s (j + 1) → value_step_at s k ≡ Value (k + 1) j n
+  pub value_on : (j n : ℕ) → get_or s k 0 ≡ 0x5b → close_at s (k + 1) ≡ Some j → n ≡ skip_at s (j + 1) → value_step_at s k ≡ Value (k + 1) j n
   unfolding value_step_at
   value_on j n b q e = rw (eq-eqb (get_or s k 0) 0x5b b, q, e)
 
-  pub value-open : get_or s k 0 ≡ 0x5b → close_at s (k + 1) ≡ Open → value_step_at s k ≡ Unclosed
+  pub value-open : get_or s k 0 ≡ 0x5b → close_at s (k + 1) ≡ None → value_step_at s k ≡ Unclosed
   unfolding value_step_at
   value-open b q = rw (eq-eqb (get_or s k 0) 0x5b b, q)
 
@@ -104,6 +103,6 @@ module _ (s : List ℕ) (k : ℕ) where
 pub opens-not-none : (s : List ℕ) (k : ℕ) → get_or s k 0 ≡ 0x5b → value_step_at s k ≡ NoMore → ⊥
 opens-not-none s k b q = go (close_at s (k + 1)) refl
   where
-    go : (z : Close) → close_at s (k + 1) ≡ z → ⊥
-    go (At j) c = let e : Value (k + 1) j (skip_at s (j + 1)) ≡ NoMore = sym (value_on s k j _ b c refl) ∙ q in never (cc)
-    go Open c = let e : Unclosed ≡ NoMore = sym (value-open s k b c) ∙ q in never (cc)
+    go : (z : Option ℕ) → close_at s (k + 1) ≡ z → ⊥
+    go (Some j) c = let e : Value (k + 1) j (skip_at s (j + 1)) ≡ NoMore = sym (value_on s k j _ b c refl) ∙ q in never (cc)
+    go None c = let e : Unclosed ≡ NoMore = sym (value-open s k b c) ∙ q in never (cc)

@@ -1,10 +1,8 @@
 -- What the scans of the token rules find, over the list of a text's bytes.
-use Rattle.std.specs.Prelude.{◌+◌, ◌||◌, ◌∷◌}
+use Rattle.std.specs.Prelude.{◌+◌, ◌||◌, ◌∷◌, Option, Some, None}
 use Rattle.lists.specs.Prelude.{ℕ, suc, Bool, List, [], eqb, leb, length, drop, get_or, pick}
 use Rattle.lists.specs.Run.{Next, more, done, run}
 use Rattle.lexer_close.specs.Close.{close_at}
-use Rattle.lexer_close.specs.declared.Close.{Close}
-use Rattle.lexer_close.specs.declared.Close.TheVariants.{At, Open}
 use Rattle.lexer_scan.specs.declared.Ident.{Ident}
 use Rattle.lexer_scan.specs.declared.Ident.TheVariants.{Opens, Missing, Foreign}
 use Rattle.lexer_scan.specs.declared.ValueStep.{ValueStep}
@@ -33,20 +31,20 @@ abbrev pub ident_at : List ℕ → ℕ → Ident
 ident_at s i = ident_from i (drop i s)
 
 -- the value whose `[` is at k, once its closing bracket is looked for
-abbrev pub on_close : List ℕ → ℕ → Close → ValueStep
-on_close s k (At j) = Value (k + 1) j (skip_at s (j + 1))
-on_close s k Open = Unclosed
+abbrev pub on_close : List ℕ → ℕ → Option ℕ → ValueStep
+on_close s k (Some j) = Value (k + 1) j (skip_at s (j + 1))
+on_close s k None = Unclosed
 
 -- the value that opens at k: from after its `[` to its `]`, then the white space after it. Past the end of the text `get_or` gives 0, which opens nothing
 unfoldable pub value_step_at : List ℕ → ℕ → ValueStep
 value_step_at s k = pick (eqb (get_or s k 0) 0x5b) (on_close s k (close_at s (k + 1))) NoMore
 
 -- after a value, the next one; no more: they end here
-abbrev pub on_value : ℕ → ValueStep → Next ℕ Close
+abbrev pub on_value : ℕ → ValueStep → Next ℕ (Option ℕ)
 on_value k (Value a e n) = more n
-on_value k NoMore = done (At k)
-on_value k Unclosed = done Open
+on_value k NoMore = done (Some k)
+on_value k Unclosed = done None
 
 -- past the values that stand from k on, and the white space after each (SCOPE 76)
-unfoldable pub values_end_at : List ℕ → ℕ → Close
-values_end_at s k = run (λ (i : ℕ). on_value i (value_step_at s i)) Open (suc (length s)) k
+unfoldable pub values_end_at : List ℕ → ℕ → Option ℕ
+values_end_at s k = run (λ (i : ℕ). on_value i (value_step_at s i)) None (suc (length s)) k

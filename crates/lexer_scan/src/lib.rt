@@ -4,8 +4,6 @@
 ghost use Rattle.std.specs.Prelude.{◌≡◌};
 ghost use Rattle.lexer_scan.specs.Scan.{space, skip_at, ident_at, value_step_at, values_end_at};
 
-use lexer_close::Close;
-
 // Where an identifier ends: at a `[`; or the text ends first; or a byte that is not ASCII comes first.
 #[derive(Clone, Copy)]
 pub enum Ident {
@@ -67,7 +65,7 @@ pub fn next_value(s: &[u8], at: usize) -> ValueStep
     if s[at] != b'[' {
         return ValueStep::NoMore;
     }
-    let Close::At(to) = lexer_close::quick_end(s, at + 1) else {
+    let Some(to) = lexer_close::quick_end(s, at + 1) else {
         return ValueStep::Unclosed;
     };
     let next = skip_space(s, to + 1);
@@ -75,20 +73,20 @@ pub fn next_value(s: &[u8], at: usize) -> ValueStep
 }
 
 // Past the values that stand from `from` on, and the white space after each.
-pub fn values_end(s: &[u8], from: usize) -> Close
+pub fn values_end(s: &[u8], from: usize) -> Option<usize>
     ensures { result ≡ values_end_at s.now from }
 {
     let mut i = from;
     // A loop: i moves by a value.
     loop {
         if s.len() <= i {
-            break Close::At(i);
+            break Some(i);
         }
         if s[i] != b'[' {
-            break Close::At(i);
+            break Some(i);
         }
-        let Close::At(to) = lexer_close::quick_end(s, i + 1) else {
-            break Close::Open;
+        let Some(to) = lexer_close::quick_end(s, i + 1) else {
+            break None;
         };
         i = skip_space(s, to + 1);
     }

@@ -2,6 +2,7 @@ pub mod All
 pub mod Once
 pub mod Paste
 pub mod Pick
+pub mod Parts
 pub mod Places
 pub mod Prelude
 pub mod Put

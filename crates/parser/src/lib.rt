@@ -101,7 +101,7 @@ fn fault_or_end(s: &[u8], from: usize) -> Survey
         let stepped = lexer::Cursor { at }.next(s);
         let token = stepped.token;
         match token {
-            Step::Refused(f, i) => return Survey::Refused(tables::fault_reason(f), i),
+            Step::Refused(f, i) => return Survey::Refused(Reason::from(f), i),
             Step::Done => return Survey::Refused(Reason::UnexpectedGameTreeEnd, 0),
             _ => {
                 let next = stepped.next;
@@ -129,7 +129,7 @@ pub fn survey_strict(s: &[u8], from: usize) -> Survey
     let stop = x.stop;
     match stop {
         Stop::End(i) => fault_or_end(s, i + 1),
-        Stop::Fault(f, i) => Survey::Refused(tables::fault_reason(f), i),
+        Stop::Fault(f, i) => Survey::Refused(Reason::from(f), i),
         Stop::Done => {
             if x.depth != 0 {
                 return Survey::Refused(Reason::UnexpectedEndOfData, 0);

@@ -4,12 +4,12 @@ use Rattle.lexer.specs.Token.{Val}
 use Rattle.lexer_scan.specs.Scan.{space, value_step_at, values_end_at}
 use Rattle.lexer.specs.Step.{vals_at}
 use Rattle.lexer_scan.specs.declared.ValueStep.TheVariants.{Value, NoMore, Unclosed}
-use Rattle.lexer_close.specs.declared.Close.TheVariants.{Open}
 use Rattle.lexer_scan.proofs.Bounds.{value-is}
 use Rattle.lexer_scan.proofs.Values.{values-more, values-none, values-unclosed}
 use Rattle.lexer.proofs.Listed.{vals-more, vals-none}
 use Rattle.lexer_laws.proofs.Rest.{skip-stops}
 use Rattle.parser_census.specs.LocalsCount.{ValuesCountIs}
+use Rattle.std.specs.Prelude.{None}
 
 -- vs are counted, those from i on are to come
 pub record Counting (u : List ℕ) (from i n : ℕ) : Type 0 where
@@ -46,5 +46,5 @@ module _ {u : List ℕ} {from i n : ℕ} (x : Counting u from i n) where
       let e : vals_at u from ≡ x.vs = x.all ∙ ap (λ (z : List Val). x.vs ++ z) (vals-none u i h) ∙ append-nil x.vs in
       record { ends = x.same ∙ values-none u i h; count = x.count ∙ ap length (sym e); still = x.still }
 
-  pub counting-open : value_step_at u i ≡ Unclosed → values_end_at u from ≡ Open
+  pub counting-open : value_step_at u i ≡ Unclosed → values_end_at u from ≡ None
   counting-open h = x.same ∙ values-unclosed u i h

@@ -5,35 +5,34 @@ use Rattle.lexer.specs.Token.{Val}
 use Rattle.tables.specs.declared.Reason.{Reason}
 use Rattle.parser.specs.Game.{Game, is, no_game, game_vals}
 use Rattle.parser_game.specs.LocalsGame.{type_of}
-use Rattle.parser_game.specs.declared.GameType.{GameType}
-use Rattle.parser_game.specs.declared.GameType.TheVariants.{Is, Refused}
 use Rattle.parser_census.specs.LocalsCensus.{on_kind, on_prop}
 use Rattle.parser_census.specs.declared.Mode.{Mode}
 use Rattle.parser_census.specs.declared.Mode.TheVariants.{Root, Typed, Odd}
+use Rattle.std.specs.Prelude.{Result, Ok, Err}
 
 -- ---- the root's game type
 
-module _ {x : GameType} (K : Game) (e : x ≡ type_of K) where
-  pub type-refused : {r : Reason} → x ≡ Refused r → Odd ≡ on_kind K
+module _ {x : Result ℕ Reason} (K : Game) (e : x ≡ type_of K) where
+  pub type-refused : {r : Reason} → x ≡ Err r → Odd ≡ on_kind K
   type-refused {r} q = go K (sym e ∙ q)
     where
-      go : (K : Game) → type_of K ≡ Refused r → Odd ≡ on_kind K
+      go : (K : Game) → type_of K ≡ Err r → Odd ≡ on_kind K
       go (is zero) w = never cc
       go (is (suc k)) w = refl
       go (no_game s) w = refl
 
-  pub type-go : {k : ℕ} → x ≡ Is k → k ≡ 0 → Typed ≡ on_kind K
+  pub type-go : {k : ℕ} → x ≡ Ok k → k ≡ 0 → Typed ≡ on_kind K
   type-go {k} q z = go K (sym e ∙ q)
     where
-      go : (K : Game) → type_of K ≡ Is k → Typed ≡ on_kind K
+      go : (K : Game) → type_of K ≡ Ok k → Typed ≡ on_kind K
       go (is zero) w = refl
       go (is (suc j)) w = let y : suc j ≡ k = cc in absurd (omega (arith, y, z))
       go (no_game s) w = never cc
 
-  pub type-other : {k : ℕ} → x ≡ Is k → (k ≡ 0 → ⊥) → Odd ≡ on_kind K
+  pub type-other : {k : ℕ} → x ≡ Ok k → (k ≡ 0 → ⊥) → Odd ≡ on_kind K
   type-other {k} q z = go K (sym e ∙ q)
     where
-      go : (K : Game) → type_of K ≡ Is k → Odd ≡ on_kind K
+      go : (K : Game) → type_of K ≡ Ok k → Odd ≡ on_kind K
       go (is zero) w = let y : 0 ≡ k = cc in absurd (z (sym y))
       go (is (suc j)) w = refl
       go (no_game s) w = never cc

@@ -6,8 +6,7 @@ use Rattle.parser_census.specs.LocalsCensus.{on_prop, census_at, census_on}
 use Rattle.parser_census.specs.LocalsCount.{takes, is_odd}
 use Rattle.parser_census.specs.declared.Mode.{Mode}
 use Rattle.parser_census.specs.declared.Mode.TheVariants.{Outside, First, Root, Typed, Node, Opened, Bare, Full, Odd}
-use Rattle.parser_census.specs.declared.Census.{Census}
-use Rattle.parser_census.specs.declared.Census.TheVariants.{Odd as odd}
+use Rattle.std.specs.Prelude.{Option, None}
 
 -- ---- the odd mode
 
@@ -26,15 +25,15 @@ pub pick-both : {A : Type 0} (b : Bool) (x : A) → pick b x x ≡ x
 pick-both true x = refl
 pick-both false x = refl
 
-ended-odd : (e : End) → census_at e odd ≡ odd
+ended-odd : (e : End) → census_at e None ≡ None
 ended-odd done = refl
 ended-odd (broken f s) = refl
 
-pick_odd : (b : Bool) {x y : Census} → x ≡ odd → y ≡ odd → pick b x y ≡ odd
+pick_odd : (b : Bool) {x y : Option (ℕ × ℕ × ℕ × ℕ)} → x ≡ None → y ≡ None → pick b x y ≡ None
 pick_odd true p q = p
 pick_odd false p q = q
 
-pub odd-stays : (d t n p v : ℕ) (ts : List Tok) (e : End) → census_on Odd d t n p v ts e ≡ odd
+pub odd-stays : (d t n p v : ℕ) (ts : List Tok) (e : End) → census_on Odd d t n p v ts e ≡ None
 odd-stays d t n p v [] e = ended-odd e
 odd-stays d t n p v (start o ∷ ts) e = ap (λ (z : Mode). census_on z (d + 1) t n p v ts e) (pick-both (leb depth_limit d) Odd) ∙ odd-stays (d + 1) t n p v ts e
 odd-stays d t n p v (end o ∷ ts) e = pick_odd (leb d 1) (odd-stays 0 (t + 1) n p v ts e) (odd-stays (d - 1) t n p v ts e)

@@ -8,16 +8,17 @@ use Rattle.parser.specs.Game.{Game, is, no_game, props, props_named, GM, game_va
 use Rattle.parser_census.specs.LocalsCensus.{on_start, on_end, on_last, on_kind, on_prop, total, census_at, census_on}
 use Rattle.parser_census.specs.declared.Mode.{Mode}
 use Rattle.parser_census.specs.declared.Mode.TheVariants.{Outside, First, Root, Typed, Node, Opened, Bare, Full, Odd}
-use Rattle.parser_census.specs.declared.Census.TheVariants.{Simple, Odd as odd}
 use Rattle.parser_census.proofs.OddMode.{odd-stays}
+use Rattle.std.specs.Prelude.{Option, Some, None}
+use Rattle.lists.proofs.Parts.{some-four}
 
 module _ (ct cn cp cv : ℕ) (e : End) where
   -- from this state on the census says so
   abbrev pub Says : Mode → (d t n p v : ℕ) → List Tok → Type 0
-  Says m d t n p v ts = census_on m d t n p v ts e ≡ Simple ct cn cp cv
+  Says m d t n p v ts = census_on m d t n p v ts e ≡ Some (ct, cn, cp, cv)
 
   pub odd-never : {A : Type 0} (d t n p v : ℕ) (ts : List Tok) → Says Odd d t n p v ts → A
-  odd-never d t n p v ts h = let z : odd ≡ Simple ct cn cp cv = sym (odd-stays d t n p v ts e) ∙ h in never cc
+  odd-never d t n p v ts h = let z : ◌≡◌ {A = Option (ℕ × ℕ × ℕ × ℕ)} None (Some (ct, cn, cp, cv)) = sym (odd-stays d t n p v ts e) ∙ h in never cc
 
   -- a mode that is odd
   pub odd-mode : {A : Type 0} (m : Mode) (d t n p v : ℕ) (ts : List Tok) → m ≡ Odd → Says m d t n p v ts → A
@@ -45,15 +46,12 @@ module _ (ct cn cp cv : ℕ) (e : End) where
   pub says_none : (m : Mode) (d t n p v : ℕ) → Says m d t n p v [] → (m ≡ Outside) × (e ≡ done) × (0 < t) × (ct ≡ t) × (cn ≡ n) × (cp ≡ p) × (cv ≡ v)
   says_none m d t n p v h = go e refl m t h
     where
-      go : (f : End) → e ≡ f → (m : Mode) (t : ℕ) → census_at f (total m t n p v) ≡ Simple ct cn cp cv → (m ≡ Outside) × (e ≡ done) × (0 < t) × (ct ≡ t) × (cn ≡ n) × (cp ≡ p) × (cv ≡ v)
+      go : (f : End) → e ≡ f → (m : Mode) (t : ℕ) → census_at f (total m t n p v) ≡ Some (ct, cn, cp, cv) → (m ≡ Outside) × (e ≡ done) × (0 < t) × (ct ≡ t) × (cn ≡ n) × (cp ≡ p) × (cv ≡ v)
       go (broken f s) q m t w = never cc
       go done q Outside zero w = never cc
       go done q Outside (suc t) w =
-          let a : suc t ≡ ct = cc in
-          let b : n ≡ cn = cc in
-          let c : p ≡ cp = cc in
-          let d : v ≡ cv = cc in
-          (refl, q, omega arith, sym a, sym b, sym c, sym d)
+          let x = some-four w in
+          (refl, q, omega arith, sym x.0, sym x.1, sym x.2, sym x.3)
       go done q First t w = never cc
       go done q Root t w = never cc
       go done q Typed t w = never cc

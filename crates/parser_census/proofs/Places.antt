@@ -3,7 +3,6 @@ use Rattle.lists.proofs.Prelude.{ℕ, ◌+◌, ◌≤◌, ◌<◌, ◌≡◌, re
 use Rattle.lists.proofs.Tests.{and_both}
 use Rattle.lexer_close.specs.Close.{close_at}
 use Rattle.lexer_close.specs.LocalsRun.{closes_nothing}
-use Rattle.lexer_close.specs.declared.Close.TheVariants.{At}
 use Rattle.lexer_close.proofs.Leads.{close-pair}
 use Rattle.lexer_scan.specs.Scan.{space, skip_at, ident_at, value_step_at, values_end_at}
 use Rattle.lexer_scan.specs.declared.Ident.{Ident}
@@ -19,6 +18,7 @@ use Rattle.lexer.proofs.Listed.{vals-more, vals-none}
 use Rattle.lexer_laws.proofs.Rest.{skip-stops}
 use Rattle.lexer_laws.proofs.Join.{lex-next}
 use Rattle.parser_census.specs.LocalsCount.{NameAt, ShortIs}
+use Rattle.std.specs.Prelude.{Some}
 
 pub space-high : (b : ℕ) → 32 < b → space b ≡ false
 unfolding space
@@ -91,14 +91,14 @@ short-is s i h at {a} {b} p q e =
     let j3 : i + 2 + 1 ≡ i + 3 = omega arith in
     let j4 : i + 2 + 2 ≡ i + 4 = omega arith in
     let j5 : i + 4 + 1 ≡ i + 5 = omega arith in
-    let c2 : close_at s (i + 2) ≡ At (i + 2 + 2) =
+    let c2 : close_at s (i + 2) ≡ Some (i + 2 + 2) =
     close-pair s (i + 2) (omega (arith, h)) p (q ∙ ap (λ (z : ℕ). closes_nothing (get_or s z 0)) (sym j3)) (ap (λ (z : ℕ). eqb (get_or s z 0) 0x5d && (a && b)) j4 ∙ rw (f.3, f.4)) in
-    let c : close_at s (i + 1 + 1) ≡ At (i + 4) = ap (close_at s) j2 ∙ c2 ∙ ap At j4 in
+    let c : close_at s (i + 1 + 1) ≡ Some (i + 4) = ap (close_at s) j2 ∙ c2 ∙ ap Some j4 in
     let st : space (get_or s (i + 5) 0) ≡ false = space-high (get_or s (i + 5) 0) (ltb-true 32 (get_or s (i + 5) 0) f.5) in
     let sk : i + 5 ≡ skip_at s (i + 4 + 1) = sym (skip-still s (i + 5) st) ∙ ap (skip_at s) (sym j5) in
     let va : value_step_at s (i + 1) ≡ Value (i + 1 + 1) (i + 4) (i + 5) = value_on s (i + 1) (i + 4) (i + 5) (eqb-true (get_or s (i + 1) 0) 0x5b f.2) c sk in
     let no = value_none s (i + 5) (eqb-false (get_or s (i + 5) 0) 0x5b (not-true (eqb (get_or s (i + 5) 0) 0x5b) f.6)) in
-    let vs : values_end_at s (i + 1) ≡ At (i + 5) = values-more s (i + 1) (i + 1 + 1) (i + 4) (i + 5) va ∙ values-none s (i + 5) no in
+    let vs : values_end_at s (i + 1) ≡ Some (i + 5) = values-more s (i + 1) (i + 1 + 1) (i + 4) (i + 5) va ∙ values-none s (i + 5) no in
     record {
       inside = h;
       next = next-name s i (omega (arith, h)) at ∙ ap (λ (z : Ident). on_head s (on_ident i z)) id ∙ ap (on_values i (i + 1)) vs;

@@ -13,9 +13,9 @@ use Rattle.parser.specs.declared.Survey.TheVariants.{Slices as found}
 use Rattle.parser_census.specs.LocalsCensus.{on_start, on_end, on_last, on_node, on_prop, census_of}
 use Rattle.parser_census.specs.declared.Mode.{Mode}
 use Rattle.parser_census.specs.declared.Mode.TheVariants.{Outside, Odd}
-use Rattle.parser_census.specs.declared.Census.TheVariants.{Simple}
 use Rattle.parser_census.proofs.Levels.{Level, level-start, level-end, level-last, level-node, level-prop, level-zero}
 use Rattle.parser_census.proofs.Odds.{Says, odd-mode, says-start, says_last, says-end, says_none}
+use Rattle.std.specs.Prelude.{Some}
 
 abbrev Full-slice : List Tok → Type 0
 Full-slice x = 0 < length x
@@ -93,7 +93,7 @@ filled-found len m (s ∷ us) b h f =
     ∙ found_all (reverse (s ∷ us)) (all-reverse Full-slice (s ∷ us) f)
     ∙ ap found (length-reverse (s ∷ us))
 
-module _ (l : Lexed) (ct cn cp cv : ℕ) (h : census_of l ≡ Simple ct cn cp cv) where
+module _ (l : Lexed) (ct cn cp cv : ℕ) (h : census_of l ≡ Some (ct, cn, cp, cv)) where
   all_end : Ends ct cn cp cv l.end 0 0 [] [] l.toks
   unfolding census_of
   all_end = ends ct cn cp cv l.end l.toks Outside 0 0 0 0 0 0 [] [] refl h (omega arith) refl tt (λ z. refl)

@@ -12,10 +12,9 @@ use Rattle.parser_census.specs.LocalsCensus.{on_start, on_end, on_last, on_node,
 use Rattle.parser_census.specs.LocalsCount.{is_odd, NameAt}
 use Rattle.parser_census.specs.declared.Mode.{Mode}
 use Rattle.parser_census.specs.declared.Mode.TheVariants.{Outside, Odd}
-use Rattle.parser_census.specs.declared.Census.{Census}
-use Rattle.parser_census.specs.declared.Census.TheVariants.{Odd as odd}
 use Rattle.parser_census.proofs.Places.{next-done, next_start, next-end, next-node, lex-still}
 use Rattle.parser_census.proofs.OddMode.{odd_is, pick-both, odd-stays}
+use Rattle.std.specs.Prelude.{Option, None}
 
 -- ---- at a place i that is no white space; no count is above it
 
@@ -43,7 +42,7 @@ place-first s from {i} e =
 
 module _ {s : List ℕ} {from i : ℕ} {m : Mode} {d t n p v : ℕ} (x : At-place s from i m d t n p v) where
   -- the tokens from here on
-  abbrev pub On : Lexed → Census
+  abbrev pub On : Lexed → Option (ℕ × ℕ × ℕ × ℕ)
   On l = census_on m d t n p v l.toks l.end
 
   -- by the next token
@@ -53,11 +52,11 @@ module _ {s : List ℕ} {from i : ℕ} {m : Mode} {d t n p v : ℕ} (x : At-plac
   pub place-name : (get_or s i 0 ≡ 0x3b → ⊥) → (get_or s i 0 ≡ 0x28 → ⊥) → (get_or s i 0 ≡ 0x29 → ⊥) → NameAt s i
   place-name a b c = record { start = b; end = c; node = a; still = x.still }
 
-  pub place-done : length s ≤ i → {r : Census} → r ≡ total m t n p v → r ≡ census_of (lex_at s from)
+  pub place-done : length s ≤ i → {r : Option (ℕ × ℕ × ℕ × ℕ)} → r ≡ total m t n p v → r ≡ census_of (lex_at s from)
   place-done h e = e ∙ met (next-done s i h)
 
   -- behind a token of one byte
-  behind : (f : Lexed → Census) {j : ℕ} → j ≡ skip_at s (i + 1) → f (lex_at s (i + 1)) ≡ f (lex_at s j)
+  behind : (f : Lexed → Option (ℕ × ℕ × ℕ × ℕ)) {j : ℕ} → j ≡ skip_at s (i + 1) → f (lex_at s (i + 1)) ≡ f (lex_at s j)
   behind f e = ap f (lex-still s (i + 1) ∙ ap (lex_at s) (sym e))
 
   module _ (h : i < length s) {j : ℕ} (ej : j ≡ skip_at s (i + 1)) where
@@ -136,32 +135,32 @@ module _ {s : List ℕ} {from i : ℕ} {m : Mode} {d t n p v : ℕ} (x : At-plac
   -- ---- odd
 
   module _ (h : i < length s) where
-    pub odd-node : get_or s i 0 ≡ 0x3b → {m' : Mode} → m' ≡ on_node m → is_odd m' ≡ true → odd ≡ census_of (lex_at s from)
+    pub odd-node : get_or s i 0 ≡ 0x3b → {m' : Mode} → m' ≡ on_node m → is_odd m' ≡ true → None ≡ census_of (lex_at s from)
     odd-node e {m'} em o =
         sym (ap (λ (z : Mode). census_on z d t (n + 1) p v (lex_at s (i + 1)).toks (lex_at s (i + 1)).end) (sym em ∙ odd_is m' o) ∙ odd-stays d t (n + 1) p v (lex_at s (i + 1)).toks (lex_at s (i + 1)).end)
         ∙ met (next-node s i h e)
 
-    started : Mode → Census
+    started : Mode → Option (ℕ × ℕ × ℕ × ℕ)
     started z = census_on z (d + 1) t n p v (lex_at s (i + 1)).toks (lex_at s (i + 1)).end
 
-    odd-start-at : get_or s i 0 ≡ 0x28 → pick (leb depth_limit d) Odd (on_start m) ≡ Odd → odd ≡ census_of (lex_at s from)
+    odd-start-at : get_or s i 0 ≡ 0x28 → pick (leb depth_limit d) Odd (on_start m) ≡ Odd → None ≡ census_of (lex_at s from)
     unfolding started
     odd-start-at e o = sym (ap started o ∙ odd-stays (d + 1) t n p v (lex_at s (i + 1)).toks (lex_at s (i + 1)).end) ∙ met (next_start s i h e)
 
-    pub odd-deep : get_or s i 0 ≡ 0x28 → depth_limit ≤ d → odd ≡ census_of (lex_at s from)
+    pub odd-deep : get_or s i 0 ≡ 0x28 → depth_limit ≤ d → None ≡ census_of (lex_at s from)
     odd-deep e le = odd-start-at e (ap (λ (b : Bool). pick b Odd (on_start m)) (le-leb depth_limit d le))
 
-    pub odd-start : get_or s i 0 ≡ 0x28 → {m' : Mode} → m' ≡ on_start m → is_odd m' ≡ true → odd ≡ census_of (lex_at s from)
+    pub odd-start : get_or s i 0 ≡ 0x28 → {m' : Mode} → m' ≡ on_start m → is_odd m' ≡ true → None ≡ census_of (lex_at s from)
     odd-start e {m'} em o = odd-start-at e (ap (λ (z : Mode). pick (leb depth_limit d) Odd z) (sym em ∙ odd_is m' o) ∙ pick-both (leb depth_limit d) Odd)
 
-    pub odd-last : get_or s i 0 ≡ 0x29 → d ≤ 1 → {m' : Mode} → m' ≡ on_last m → is_odd m' ≡ true → odd ≡ census_of (lex_at s from)
+    pub odd-last : get_or s i 0 ≡ 0x29 → d ≤ 1 → {m' : Mode} → m' ≡ on_last m → is_odd m' ≡ true → None ≡ census_of (lex_at s from)
     odd-last e le {m'} em o =
         sym (ap (λ (b : Bool). pick b (census_on (on_last m) 0 (t + 1) n p v (lex_at s (i + 1)).toks (lex_at s (i + 1)).end) (census_on (on_end m) (d - 1) t n p v (lex_at s (i + 1)).toks (lex_at s (i + 1)).end)) (le-leb d 1 le)
         ∙ ap (λ (z : Mode). census_on z 0 (t + 1) n p v (lex_at s (i + 1)).toks (lex_at s (i + 1)).end) (sym em ∙ odd_is m' o)
         ∙ odd-stays 0 (t + 1) n p v (lex_at s (i + 1)).toks (lex_at s (i + 1)).end)
         ∙ met (next-end s i h e)
 
-    pub odd-end : get_or s i 0 ≡ 0x29 → 1 < d → {m' : Mode} → m' ≡ on_end m → is_odd m' ≡ true → odd ≡ census_of (lex_at s from)
+    pub odd-end : get_or s i 0 ≡ 0x29 → 1 < d → {m' : Mode} → m' ≡ on_end m → is_odd m' ≡ true → None ≡ census_of (lex_at s from)
     odd-end e gt {m'} em o =
         sym (ap (λ (b : Bool). pick b (census_on (on_last m) 0 (t + 1) n p v (lex_at s (i + 1)).toks (lex_at s (i + 1)).end) (census_on (on_end m) (d - 1) t n p v (lex_at s (i + 1)).toks (lex_at s (i + 1)).end)) (lt-leb d 1 gt)
         ∙ ap (λ (z : Mode). census_on z (d - 1) t n p v (lex_at s (i + 1)).toks (lex_at s (i + 1)).end) (sym em ∙ odd_is m' o)

@@ -1,5 +1,5 @@
 -- The census, steps of the reader: one fold over the tokens, without a stack, that counts the rows of a text in which nothing is odd.
-use Rattle.std.specs.Prelude.{◌+◌, ◌-◌, ◌∷◌}
+use Rattle.std.specs.Prelude.{◌+◌, ◌-◌, ◌∷◌, Option, Some, None}
 use Rattle.lists.specs.Prelude.{ℕ, zero, suc, Bool, List, [], leb, length, pick}
 use Rattle.lists.specs.Same.{same}
 use Rattle.lexer.specs.Token.{Val, Tok, start, end, node, prop, End, done, broken, Lexed}
@@ -7,8 +7,6 @@ use Rattle.tables.specs.Numbers.{depth_limit}
 use Rattle.parser.specs.Game.{Game, is, no_game, GM, game_vals}
 use Rattle.parser_census.specs.declared.Mode.{Mode}
 use Rattle.parser_census.specs.declared.Mode.TheVariants.{Outside, First, Root, Typed, Node, Opened, Bare, Full, Odd}
-use Rattle.parser_census.specs.declared.Census.{Census}
-use Rattle.parser_census.specs.declared.Census.TheVariants.{Simple, Odd as odd}
 
 -- behind a start: the first node must follow that of a tree; where the list is empty, a second start is odd
 abbrev pub on_start : Mode → Mode
@@ -77,25 +75,25 @@ on_prop Full gm vs = Odd
 on_prop Odd gm vs = Odd
 
 -- behind the last token: at least one tree, and none open
-abbrev pub total : Mode → (t n p v : ℕ) → Census
-total Outside zero n p v = odd
-total Outside (suc t) n p v = Simple (suc t) n p v
-total First t n p v = odd
-total Root t n p v = odd
-total Typed t n p v = odd
-total Node t n p v = odd
-total Opened t n p v = odd
-total Bare t n p v = odd
-total Full t n p v = odd
-total Odd t n p v = odd
+abbrev pub total : Mode → (t n p v : ℕ) → Option (ℕ × ℕ × ℕ × ℕ)
+total Outside zero n p v = None
+total Outside (suc t) n p v = Some (suc t, n, p, v)
+total First t n p v = None
+total Root t n p v = None
+total Typed t n p v = None
+total Node t n p v = None
+total Opened t n p v = None
+total Bare t n p v = None
+total Full t n p v = None
+total Odd t n p v = None
 
 -- the tokens end with the text
-abbrev pub census_at : End → Census → Census
+abbrev pub census_at : End → Option (ℕ × ℕ × ℕ × ℕ) → Option (ℕ × ℕ × ℕ × ℕ)
 census_at done x = x
-census_at (broken f s) x = odd
+census_at (broken f s) x = None
 
 -- d: how many trees are open; t, n, p, v: the trees, nodes, properties and values so far
-abbrev pub census_on : Mode → (d t n p v : ℕ) → List Tok → End → Census
+abbrev pub census_on : Mode → (d t n p v : ℕ) → List Tok → End → Option (ℕ × ℕ × ℕ × ℕ)
 census_on m d t n p v [] e = census_at e (total m t n p v)
 census_on m d t n p v (start o ∷ ts) e = census_on (pick (leb depth_limit d) Odd (on_start m)) (d + 1) t n p v ts e
 census_on m d t n p v (end o ∷ ts) e =
@@ -104,5 +102,5 @@ census_on m d t n p v (node o ∷ ts) e = census_on (on_node m) d t (n + 1) p v 
 census_on m d t n p v (prop q o ∷ ts) e = census_on (on_prop m (same q.name GM) q.vals) d t n (p + 1) (v + length q.vals) ts e
 
 -- the census of the tokens
-unfoldable pub census_of : Lexed → Census
+unfoldable pub census_of : Lexed → Option (ℕ × ℕ × ℕ × ℕ)
 census_of l = census_on Outside 0 0 0 0 0 l.toks l.end

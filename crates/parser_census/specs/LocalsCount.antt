@@ -1,14 +1,11 @@
 -- What the steps of a census find.
-use Rattle.std.specs.Prelude.{◌+◌, ◌≤◌, ◌≡◌}
+use Rattle.std.specs.Prelude.{◌+◌, ◌≤◌, ◌≡◌, Option, Some, None}
 use Rattle.lists.specs.Prelude.{ℕ, Bool, true, false, List, length, get_or}
 use Rattle.lexer_scan.specs.Scan.{space, values_end_at}
-use Rattle.lexer_close.specs.declared.Close.TheVariants.{At, Open}
 use Rattle.lexer.specs.Step.{next_at, vals_at}
 use Rattle.lexer.specs.declared.Step.TheVariants.{Property}
 use Rattle.parser_census.specs.declared.Mode.{Mode}
 use Rattle.parser_census.specs.declared.Mode.TheVariants.{Outside, First, Root, Typed, Node, Opened, Bare, Full, Odd}
-use Rattle.parser_census.specs.declared.Counted.{Counted}
-use Rattle.parser_census.specs.declared.Counted.TheVariants.{All, Unclosed}
 
 -- may a property follow
 abbrev pub takes : Mode → Bool
@@ -36,14 +33,14 @@ is_odd Odd = true
 
 -- n values stand from k on and end at e, which is no white space
 pub record ValuesCountIs (s : List ℕ) (k n e : ℕ) : Type 0 where
-  pub ends : values_end_at s k ≡ At e
+  pub ends : values_end_at s k ≡ Some e
   pub count : n ≡ length (vals_at s k)
   pub still : space (get_or s e 0) ≡ false
 
 -- the values that stand from k on, or that one does not close
-abbrev pub CountedIs : (s : List ℕ) (k : ℕ) → Counted → Type 0
-CountedIs s k (All n e) = ValuesCountIs s k n e
-CountedIs s k Unclosed = values_end_at s k ≡ Open
+abbrev pub CountedIs : (s : List ℕ) (k : ℕ) → Option (ℕ × ℕ) → Type 0
+CountedIs s k (Some (n, e)) = ValuesCountIs s k n e
+CountedIs s k None = values_end_at s k ≡ None
 
 -- a token begins at i that is no start, no end and no node
 pub record NameAt (s : List ℕ) (i : ℕ) : Type 0 where

@@ -13,14 +13,6 @@ ghost use Rattle.parser_census.specs.LocalsCensus.{on_start, on_end, on_last, on
 ghost use Rattle.parser_census.specs.LocalsCount.{takes, is_odd, CountedIs, NameAt, ShortIs};
 
 use lexer_scan::{Ident, ValueStep};
-use parser_game::GameType;
-
-// The numbers of trees, nodes, properties and values of a text that is accepted, and all trees are Go; or something is odd, and nothing is said.
-#[derive(Clone, Copy)]
-pub enum Census {
-    Simple(usize, usize, usize, usize),
-    Odd,
-}
 
 // Where the tokens so far lead: outside of a tree; behind the start of one; behind its root or the root's properties, without and with a game type; behind another node or its properties; behind a start where the current list is empty; where it is empty; where it is not; or something is odd.
 #[derive(Clone, Copy)]
@@ -95,24 +87,23 @@ fn is_odd(mode: Mode) -> bool
 }
 
 // Behind the last token.
-fn add_up(mode: Mode, t: usize, n: usize, p: usize, v: usize) -> Census
+fn add_up(
+    mode: Mode,
+    t: usize,
+    n: usize,
+    p: usize,
+    v: usize,
+) -> Option<(usize, usize, usize, usize)>
     ensures { result ≡ total mode t n p v }
 {
     match mode {
-        Mode::Outside if t != 0 => Census::Simple(t, n, p, v),
-        _ => Census::Odd,
+        Mode::Outside if t != 0 => Some((t, n, p, v)),
+        _ => None,
     }
 }
 
-// How many values stand from a place on, and where they end; or one does not close.
-#[derive(Clone, Copy)]
-enum Counted {
-    All(usize, usize),
-    Unclosed,
-}
-
 // The values that stand from the `[` at a place on, counted.
-fn count_values(s: &[u8], from: usize) -> Counted
+fn count_values(s: &[u8], from: usize) -> Option<(usize, usize)>
     requires { (from < length s.now) × (space (get_or s.now from 0) ≡ false) }
     ensures { CountedIs s.now from result }
 {
@@ -125,8 +116,8 @@ fn count_values(s: &[u8], from: usize) -> Counted
                 n += 1;
                 i = next;
             }
-            ValueStep::NoMore => return Counted::All(n, i),
-            ValueStep::Unclosed => return Counted::Unclosed,
+            ValueStep::NoMore => return Some((n, i)),
+            ValueStep::Unclosed => return None,
         }
     }
 }
@@ -157,7 +148,7 @@ fn is_short(s: &[u8], i: usize) -> bool
 fn on_type(s: &[u8], k: usize) -> Mode
     ensures { result ≡ on_kind (game_vals (vals_at s.now k)) }
 {
-    let GameType::Is(game) = parser_game::game_values(s, k) else {
+    let Ok(game) = parser_game::game_values(s, k) else {
         return Mode::Odd;
     };
     if game == 0 {
@@ -190,7 +181,7 @@ fn on_property(s: &[u8], mode: Mode, i: usize, k: usize) -> Mode
 }
 
 // The census of the tokens from a place on.
-pub fn take_census(s: &[u8], from: usize) -> Census
+pub fn take_census(s: &[u8], from: usize) -> Option<(usize, usize, usize, usize)>
     ensures { result ≡ census_of (lex_at s.now from) }
 {
     let mut i = lexer_scan::skip_space(s, from);
@@ -209,7 +200,7 @@ pub fn take_census(s: &[u8], from: usize) -> Census
         if b == b';' {
             mode = on_node(mode);
             if is_odd(mode) {
-                return Census::Odd;
+                return None;
             }
             n += 1;
             i = lexer_scan::skip_space(s, i + 1);
@@ -217,11 +208,11 @@ pub fn take_census(s: &[u8], from: usize) -> Census
         }
         if b == b'(' {
             if tables::DEPTH_LIMIT <= depth {
-                return Census::Odd;
+                return None;
             }
             mode = on_start(mode);
             if is_odd(mode) {
-                return Census::Odd;
+                return None;
             }
             depth += 1;
             i = lexer_scan::skip_space(s, i + 1);
@@ -231,7 +222,7 @@ pub fn take_census(s: &[u8], from: usize) -> Census
             if depth <= 1 {
                 mode = on_last(mode);
                 if is_odd(mode) {
-                    return Census::Odd;
+                    return None;
                 }
                 depth = 0;
                 t += 1;
@@ -240,14 +231,14 @@ pub fn take_census(s: &[u8], from: usize) -> Census
             }
             mode = on_end(mode);
             if is_odd(mode) {
-                return Census::Odd;
+                return None;
             }
             depth -= 1;
             i = lexer_scan::skip_space(s, i + 1);
             continue;
         }
         if !may_take(mode) {
-            return Census::Odd;
+            return None;
         }
         if is_short(s, i) {
             p += 1;
@@ -256,14 +247,14 @@ pub fn take_census(s: &[u8], from: usize) -> Census
             continue;
         }
         let Ident::Opens(k) = lexer_scan::ident_end(s, i) else {
-            return Census::Odd;
+            return None;
         };
-        let Counted::All(count, e) = count_values(s, k) else {
-            return Census::Odd;
+        let Some((count, e)) = count_values(s, k) else {
+            return None;
         };
         mode = on_property(s, mode, i, k);
         if is_odd(mode) {
-            return Census::Odd;
+            return None;
         }
         p += 1;
         v += count;

@@ -17,10 +17,10 @@ use Rattle.lexer_scan.specs.contracts.ValueStep as value-step
 use Rattle.lexer.proofs.Listed.{vals-more}
 use Rattle.tables.specs.declared.Reason.TheVariants.{InvalidGameType}
 use Rattle.parser.specs.Game.{is, no_game, is_i32, game_of, game_vals, GM}
-use Rattle.parser_game.specs.declared.GameType.{GameType}
-use Rattle.parser_game.specs.declared.GameType.TheVariants.{Is, Refused}
 use Rattle.parser_game.specs.LocalsGame.{type_of}
 use Rattle.parser_game.proofs.Variants.{not-value}
+use Rattle.std.specs.Prelude.{Result, Ok, Err}
+use Rattle.tables.specs.declared.Reason.{Reason}
 
 -- ---- GM
 
@@ -43,19 +43,19 @@ same-pointwise (x ∷ xs) (y ∷ ys) = ap (λ (t : Bool). eqb x y && t) (same-po
 -- ---- a number; exactly `1`
 
 module _ (v : List ℕ) where
-  pub game-bad : decimal_of (2 ^ 31 - 1) v ≡ Bad → Refused InvalidGameType ≡ type_of (game_of v)
+  pub game-bad : decimal_of (2 ^ 31 - 1) v ≡ Bad → Err InvalidGameType ≡ type_of (game_of v)
   game-bad e = ap (λ (z : Number). type_of (pick (is_i32 z) (is (pick (same v (0x31 ∷ [])) 0 1)) (no_game InvalidGameType))) (sym e)
 
-  game-good : is_i32 (decimal_of (2 ^ 31 - 1) v) ≡ true → (b : Bool) → b ≡ same v (0x31 ∷ []) → Is (pick b 0 1) ≡ type_of (game_of v)
+  game-good : is_i32 (decimal_of (2 ^ 31 - 1) v) ≡ true → (b : Bool) → b ≡ same v (0x31 ∷ []) → Ok (pick b 0 1) ≡ type_of (game_of v)
   game-good e b q =
-      ap (λ (z : Bool). Is (pick z 0 1)) q
+      ap (λ (z : Bool). Ok (pick z 0 1)) q
       ∙ ap (λ (z : Bool). type_of (pick z (is (pick (same v (0x31 ∷ [])) 0 1)) (no_game InvalidGameType))) (sym e)
 
-  pub game-go : is_i32 (decimal_of (2 ^ 31 - 1) v) ≡ true → {b : Bool} → b ≡ same v (0x31 ∷ []) → b ≡ true → Is 0 ≡ type_of (game_of v)
-  game-go e {b} q t = ap (λ (z : Bool). Is (pick z 0 1)) (sym t) ∙ game-good e b q
+  pub game-go : is_i32 (decimal_of (2 ^ 31 - 1) v) ≡ true → {b : Bool} → b ≡ same v (0x31 ∷ []) → b ≡ true → Ok 0 ≡ type_of (game_of v)
+  game-go e {b} q t = ap (λ (z : Bool). Ok (pick z 0 1)) (sym t) ∙ game-good e b q
 
-  pub game-unknown : is_i32 (decimal_of (2 ^ 31 - 1) v) ≡ true → {b : Bool} → b ≡ same v (0x31 ∷ []) → b ≡ false → Is 1 ≡ type_of (game_of v)
-  game-unknown e {b} q t = ap (λ (z : Bool). Is (pick z 0 1)) (sym t) ∙ game-good e b q
+  pub game-unknown : is_i32 (decimal_of (2 ^ 31 - 1) v) ≡ true → {b : Bool} → b ≡ same v (0x31 ∷ []) → b ≡ false → Ok 1 ≡ type_of (game_of v)
+  game-unknown e {b} q t = ap (λ (z : Bool). Ok (pick z 0 1)) (sym t) ∙ game-good e b q
 
   pub one_none : read_value v ≡ [] → false ≡ same (read_value v) (0x31 ∷ [])
   one_none e = sym (ap (λ (z : List ℕ). same z (0x31 ∷ [])) e)
@@ -76,19 +76,19 @@ vals-shut : (s : List ℕ) (k : ℕ) {x : ValueStep} → x ≡ value_step_at s k
 unfolding vals_at vals_by
 vals-shut s k {x} e z = ap (vals_on (vals_by (length s) s) s) (sym e) ∙ not-value (vals_by (length s) s) s x z
 
-pub game-none : (s : List ℕ) (k : ℕ) {x : ValueStep} → x ≡ value_step_at s k → OneOf (1 ∷ 2 ∷ []) (tag_of value-step.the_type x) → Refused InvalidGameType ≡ type_of (game_vals (vals_at s k))
+pub game-none : (s : List ℕ) (k : ℕ) {x : ValueStep} → x ≡ value_step_at s k → OneOf (1 ∷ 2 ∷ []) (tag_of value-step.the_type x) → Err InvalidGameType ≡ type_of (game_vals (vals_at s k))
 game-none s k e z = ap (λ (y : List Val). type_of (game_vals y)) (sym (vals-shut s k e z))
 
 module _ (s : List ℕ) (k a e n : ℕ) {x : ValueStep} (ex : x ≡ value_step_at s k) (ev : x ≡ Value a e n) where
   first-value : vals_at s k ≡ record { from = a; to = e; raw = slice a e s } ∷ vals_at s n
   first-value = vals-more s k a e n (sym ex ∙ ev)
 
-  pub game-many : (b f m : ℕ) {y : ValueStep} → y ≡ value_step_at s n → y ≡ Value b f m → Refused InvalidGameType ≡ type_of (game_vals (vals_at s k))
+  pub game-many : (b f m : ℕ) {y : ValueStep} → y ≡ value_step_at s n → y ≡ Value b f m → Err InvalidGameType ≡ type_of (game_vals (vals_at s k))
   game-many b f m ey ew =
       ap (λ (z : List Val). type_of (game_vals z))
       (sym (first-value ∙ ap (λ (z : List Val). record { from = a; to = e; raw = slice a e s } ∷ z) (vals-more s n b f m (sym ey ∙ ew))))
 
-  pub game-one : {y : ValueStep} → y ≡ value_step_at s n → OneOf (1 ∷ 2 ∷ []) (tag_of value-step.the_type y) → {r : GameType} → r ≡ type_of (game_of (read_value (slice a e s))) → r ≡ type_of (game_vals (vals_at s k))
+  pub game-one : {y : ValueStep} → y ≡ value_step_at s n → OneOf (1 ∷ 2 ∷ []) (tag_of value-step.the_type y) → {r : Result ℕ Reason} → r ≡ type_of (game_of (read_value (slice a e s))) → r ≡ type_of (game_vals (vals_at s k))
   game-one ey z er =
       er
       ∙ ap (λ (y : List Val). type_of (game_vals y))

@@ -11,10 +11,10 @@ use Rattle.lexer_laws.proofs.Join.{lex-next}
 use Rattle.tables.specs.declared.Reason.TheVariants.{UnexpectedProperty}
 use Rattle.parser.specs.Game.{props, props_named, GM, game_props, find_gametype}
 use Rattle.parser.specs.LocalsSlice.{slice_from}
-use Rattle.parser_game.specs.declared.GameType.{GameType}
-use Rattle.parser_game.specs.declared.GameType.TheVariants.{Refused}
 use Rattle.parser_game.specs.LocalsGame.{type_of, behind_of, concluded}
 use Rattle.parser_game.proofs.Variants.{not-property}
+use Rattle.std.specs.Prelude.{Result, Err}
+use Rattle.tables.specs.declared.Reason.{Reason}
 
 pub past-toks : (s : List ℕ) → (lex_at s (length s)).toks ≡ []
 unfolding lex_at
@@ -52,7 +52,7 @@ two-less (prop p e ∷ ts) = one_less 0 (omega arith) ts
 
 -- from the place behind two tokens to the slice
 pub game-slice : (s : List ℕ) (from a b : ℕ) → (lex_at s a).toks ≡ behind_of (lex_at s from).toks → (lex_at s b).toks ≡ behind_of (lex_at s a).toks
-    → {r : GameType} → r ≡ type_of (game_props (props_named GM (props (lex_at s b).toks))) → r ≡ type_of (find_gametype (slice_from 0 (lex_at s from).toks))
+    → {r : Result ℕ Reason} → r ≡ type_of (game_props (props_named GM (props (lex_at s b).toks))) → r ≡ type_of (find_gametype (slice_from 0 (lex_at s from).toks))
 game-slice s from a b ea eb e =
     e ∙ ap (λ (z : List Prop). type_of (game_props (props_named GM z))) (sym (two-less (lex_at s from).toks ∙ ap props (sym (eb ∙ ap behind_of ea))))
 
@@ -90,12 +90,12 @@ module _ {s : List ℕ} {l r : List Tok} {found : Bool} {k : ℕ} (x : Gathering
           one = λ z. (i, refl);
         }
 
-    pub gather-two : b ≡ true → found ≡ true → Refused UnexpectedProperty ≡ type_of (game_props (props_named GM (props l)))
+    pub gather-two : b ≡ true → found ≡ true → Err UnexpectedProperty ≡ type_of (game_props (props_named GM (props l)))
     gather-two f g =
         let y = x.one g in
         ap (λ (z : List Prop). type_of (game_props z)) (sym (picked true f ∙ ap (λ (z : List Prop). z ++ (prop_at s i j ∷ props_named GM (props r'))) y.1))
 
-  pub gather-end : props r ≡ [] → {y : GameType} → y ≡ type_of (concluded found (vals_at s k)) → y ≡ type_of (game_props (props_named GM (props l)))
+  pub gather-end : props r ≡ [] → {y : Result ℕ Reason} → y ≡ type_of (concluded found (vals_at s k)) → y ≡ type_of (game_props (props_named GM (props l)))
   unfolding prop_at
   gather-end e {y} ey =
       let w : props_named GM (props l) ≡ x.ps = x.all ∙ ap (λ (z : List Prop). x.ps ++ props_named GM z) e ∙ append-nil x.ps in

@@ -1,15 +1,14 @@
 -- The game type as the code finds it.
-use Rattle.std.specs.Prelude.{◌∷◌}
+use Rattle.std.specs.Prelude.{◌∷◌, Result, Ok, Err, ℕ}
 use Rattle.lists.specs.Prelude.{Bool, true, false, List, []}
 use Rattle.lexer.specs.Token.{Val, Tok, start, end, node, prop}
 use Rattle.parser.specs.Game.{Game, is, no_game, game_vals}
-use Rattle.parser_game.specs.declared.GameType.{GameType}
-use Rattle.parser_game.specs.declared.GameType.TheVariants.{Is, Refused}
+use Rattle.tables.specs.declared.Reason.{Reason}
 
 -- the code's answer for the definition's
-abbrev pub type_of : Game → GameType
-type_of (is k) = Is k
-type_of (no_game r) = Refused r
+abbrev pub type_of : Game → Result ℕ Reason
+type_of (is k) = Ok k
+type_of (no_game r) = Err r
 
 -- behind the first token, where the slice goes on
 abbrev pub behind_of : List Tok → List Tok

@@ -16,65 +16,58 @@ use lexer_scan::ValueStep;
 use tables::Reason;
 use values::decimal::Number;
 
-// The game type (0 Go, 1 Unknown), or why there is none.
-#[derive(Clone, Copy)]
-pub enum GameType {
-    Is(u32),
-    Refused(Reason),
-}
-
 // Is the read value exactly `1`.
 fn is_one(v: &[u8]) -> bool
     ensures { result ≡ same (read_value v.now) (0x31 ∷ []) }
 {
     match values::read::next_read(v, 0) {
-        values::read::ReadStep::End => false,
-        values::read::ReadStep::Byte(b, next) => {
+        None => false,
+        Some((b, next)) => {
             if b != b'1' {
                 return false;
             }
             match values::read::next_read(v, next) {
-                values::read::ReadStep::End => true,
-                values::read::ReadStep::Byte(_, _) => false,
+                None => true,
+                Some(_) => false,
             }
         }
     }
 }
 
 // The game type that a value says.
-pub fn game_of(v: &[u8]) -> GameType
+pub fn game_of(v: &[u8]) -> Result<u32, Reason>
     ensures { result ≡ type_of (game_of (read_value v.now)) }
 {
     let Number::Bad = values::decimal::read_i32(v) else {
         if is_one(v) {
-            return GameType::Is(0);
+            return Ok(0);
         }
-        return GameType::Is(1);
+        return Ok(1);
     };
-    GameType::Refused(Reason::InvalidGameType)
+    Err(Reason::InvalidGameType)
 }
 
 // The game type that the values from k on say: exactly one is wanted.
-pub fn game_values(s: &[u8], k: usize) -> GameType
+pub fn game_values(s: &[u8], k: usize) -> Result<u32, Reason>
     ensures { result ≡ type_of (game_vals (vals_at s.now k)) }
 {
     let ValueStep::Value(a, e, next) = lexer_scan::next_value(s, k) else {
-        return GameType::Refused(Reason::InvalidGameType);
+        return Err(Reason::InvalidGameType);
     };
     let ValueStep::Value(_, _, _) = lexer_scan::next_value(s, next) else {
         return game_of(&s[a..e]);
     };
-    GameType::Refused(Reason::InvalidGameType)
+    Err(Reason::InvalidGameType)
 }
 
 // The game type by the one GM that was found, or Go.
-fn conclude(s: &[u8], found: bool, k: usize) -> GameType
+fn conclude(s: &[u8], found: bool, k: usize) -> Result<u32, Reason>
     ensures { result ≡ type_of (concluded found (vals_at s.now k)) }
 {
     if found {
         return game_values(s, k);
     }
-    GameType::Is(0)
+    Ok(0)
 }
 
 // Is the raw identifier exactly `GM`.
@@ -100,7 +93,7 @@ pub fn behind(s: &[u8], from: usize) -> usize
 }
 
 // The game type of the slice that starts at a place: two tokens are skipped, then `GM` is looked for.
-pub fn game_type(s: &[u8], from: usize) -> GameType
+pub fn game_type(s: &[u8], from: usize) -> Result<u32, Reason>
     ensures { result ≡ type_of (find_gametype (slice_from 0 (lex_at s.now from).toks)) }
 {
     let second = behind(s, from);
@@ -115,7 +108,7 @@ pub fn game_type(s: &[u8], from: usize) -> GameType
         at = e;
         if is_gm(s, i, j) {
             if found {
-                return GameType::Refused(Reason::UnexpectedProperty);
+                return Err(Reason::UnexpectedProperty);
             }
             found = true;
             k = j;

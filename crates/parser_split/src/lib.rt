@@ -7,15 +7,8 @@ ghost use Rattle.parser.specs.LocalsSurvey.{survey_of};
 ghost use Rattle.parser_split.specs.LocalsPlans.{plan_tokens, plan_text};
 
 use parser::Survey;
-use tables::Reason;
+use tables::{Reason, Refusal};
 use text_utf8::Trimmed;
-
-// What is read: the place of the first slice, the end of the part that they stand in, and how many they are; or why the text is refused, and the place.
-#[derive(Clone, Copy)]
-pub enum Plan {
-    Slices(usize, usize, usize),
-    Refused(Reason, usize),
-}
 
 // The first pass over the tokens, strict or lenient.
 fn survey(s: &[u8], from: usize, lenient: bool) -> Survey
@@ -28,39 +21,49 @@ fn survey(s: &[u8], from: usize, lenient: bool) -> Survey
 }
 
 // The slices of the tokens from a place on. Where there is none, the empty one is that of the empty text.
-fn plan_tokens(s: &[u8], from: usize, lenient: bool) -> Plan
+fn plan_tokens(
+    s: &[u8],
+    from: usize,
+    lenient: bool,
+) -> Result<(usize, usize, usize), Refusal<Reason>>
     ensures { result ≡ plan_tokens lenient s.now from }
 {
     match survey(s, from, lenient) {
-        Survey::Refused(reason, place) => Plan::Refused(reason, place),
-        Survey::Slices(count) => Plan::Slices(from, s.len(), count),
-        Survey::Empty => Plan::Slices(0, 0, 1),
+        Survey::Refused(reason, place) => Err(Refusal { reason, place }),
+        Survey::Slices(count) => Ok((from, s.len(), count)),
+        Survey::Empty => Ok((0, 0, 1)),
     }
 }
 
 // The slices of a text: the limit, UTF-8, trimming, the first pass over the tokens.
-pub fn plan_text(text: &[u8], lenient: bool) -> Plan
+pub fn plan_text(text: &[u8], lenient: bool) -> Result<(usize, usize, usize), Refusal<Reason>>
     ensures { result ≡ plan_text lenient text.now }
 {
     if tables::TEXT_LIMIT < text.len() {
-        return Plan::Refused(Reason::TextTooLong, 0);
+        return Err(Refusal {
+            reason: Reason::TextTooLong,
+            place: 0,
+        });
     }
     match text_utf8::trim(text) {
-        Trimmed::NotUtf8(place) => Plan::Refused(Reason::NotUtf8, place),
+        Trimmed::NotUtf8(place) => Err(Refusal {
+            reason: Reason::NotUtf8,
+            place,
+        }),
         Trimmed::Blank => plan_tokens(&text[..0], 0, lenient),
         Trimmed::Kept(first, last) => plan_tokens(&text[..last], first, lenient),
     }
 }
 
 // The slices of a text that is read strictly.
-pub fn plan_strict(text: &[u8]) -> Plan
+pub fn plan_strict(text: &[u8]) -> Result<(usize, usize, usize), Refusal<Reason>>
     ensures { result ≡ plan_text false text.now }
 {
     plan_text(text, false)
 }
 
 // The slices of a text that is read leniently.
-pub fn plan_lenient(text: &[u8]) -> Plan
+pub fn plan_lenient(text: &[u8]) -> Result<(usize, usize, usize), Refusal<Reason>>
     ensures { result ≡ plan_text true text.now }
 {
     plan_text(text, true)

@@ -1,9 +1,7 @@
 -- What the next token asks for, by the state between two tokens.
-use Rattle.std.specs.Prelude.{◌+◌, ◌&&◌, ◌∷◌}
+use Rattle.std.specs.Prelude.{◌+◌, ◌&&◌, ◌∷◌, Option, Some, None}
 use Rattle.lists.specs.Prelude.{ℕ, zero, suc, Bool, true, false, List, [], get_or, eqb, ltb, leb, pick}
 use Rattle.lexer_scan.specs.Scan.{values_end_at}
-use Rattle.lexer_close.specs.declared.Close.{Close}
-use Rattle.lexer_close.specs.declared.Close.TheVariants.{At, Open}
 use Rattle.lexer.specs.Step.{head_at}
 use Rattle.lexer.specs.declared.Head.{Head}
 use Rattle.lexer.specs.declared.Head.TheVariants.{Start as start, End as end, Node as node, Name as name, Refused as refused, Done as done}
@@ -40,10 +38,10 @@ abbrev pub prop_act : State → (i k : ℕ) → Act
 prop_act st i k = pick st.follows (Add i k) (Stop UnexpectedProperty)
 
 -- lenient reading finds a value that does not close; strict reading does not look
-abbrev pub unclosed : Bool → Close → Bool
+abbrev pub unclosed : Bool → Option ℕ → Bool
 unclosed false c = false
-unclosed true (At e) = false
-unclosed true Open = true
+unclosed true (Some e) = false
+unclosed true None = true
 
 -- ---- the next token
 

@@ -6,7 +6,6 @@ ghost use Rattle.lexer_scan.specs.Scan.{values_end_at};
 ghost use Rattle.parser_step.specs.LocalsActs.{may_start, unclosed, next_act};
 
 use lexer::Head;
-use lexer_close::Close;
 use tables::{NONE, Reason};
 
 // Between two tokens: the next place, how many trees are open, the node whose child list is current, the next row of each table, the first property of the last node; may a property follow.
@@ -66,8 +65,8 @@ fn unclosed(s: &[u8], k: usize, lenient: bool) -> bool
         return false;
     }
     match lexer_scan::values_end(s, k) {
-        Close::At(_) => false,
-        Close::Open => true,
+        Some(_) => false,
+        None => true,
     }
 }
 

@@ -6,8 +6,6 @@ use Rattle.lexer.specs.Token.{Tok, prop, done, broken, lex_at}
 use Rattle.lexer_scan.specs.Scan.{skip_at, ident_at, values_end_at}
 use Rattle.lexer_scan.specs.declared.Ident.{Ident}
 use Rattle.lexer_scan.specs.declared.Ident.TheVariants.{Opens, Missing, Foreign}
-use Rattle.lexer_close.specs.declared.Close.{Close}
-use Rattle.lexer_close.specs.declared.Close.TheVariants.{At, Open}
 use Rattle.lexer.specs.Step.{prop_at, on_ident, head_from, head_at}
 use Rattle.lexer.specs.declared.Fault.{Fault}
 use Rattle.lexer.specs.declared.Fault.TheVariants.{UnexpectedEndOfPropertyValue}
@@ -18,15 +16,16 @@ use Rattle.parser_tree.specs.LocalsTree.{open_property, open_token, token_tail, 
 use Rattle.parser_tree.specs.LocalsTurns.{end_or}
 use Rattle.parser_tree.proofs.Meets.{name-next, step-meets, step-lies, head_meets, head-lies}
 use Rattle.parser_tree.proofs.Behind.{Skipping, skipping-prop, skipping-open, lex-end}
+use Rattle.std.specs.Prelude.{Option, Some, None}
 
 -- lenient reading has found an open value
-pub open-found : (len : Bool) (c : Close) → unclosed len c ≡ true → (len ≡ true) × (c ≡ Open)
-open-found true Open e = (refl, refl)
-open-found true (At x) e = absurd (false≢true e)
+pub open-found : (len : Bool) (c : Option ℕ) → unclosed len c ≡ true → (len ≡ true) × (c ≡ None)
+open-found true None e = (refl, refl)
+open-found true (Some x) e = absurd (false≢true e)
 open-found false c e = absurd (false≢true e)
 
 -- strict reading goes on at one
-open-strict : (len : Bool) {c : Close} → unclosed len c ≡ false → c ≡ Open → len ≡ false
+open-strict : (len : Bool) {c : Option ℕ} → unclosed len c ≡ false → c ≡ None → len ≡ false
 open-strict true e h = absurd (false≢true (sym e ∙ ap (unclosed true) h))
 open-strict false e h = refl
 
@@ -96,7 +95,7 @@ module _ (u : List ℕ) where
       opened = ap (open_property u i) (head-ident g)
 
       module _ (len : Bool) where
-        open-met : values_end_at u k ≡ Open → len ≡ false → met_in len u (lex_at u at) ≡ prop (prop_at u i k) (length u) ∷ met_in len u (lex_at u (length u))
+        open-met : values_end_at u k ≡ None → len ≡ false → met_in len u (lex_at u at) ≡ prop (prop_at u i k) (length u) ∷ met_in len u (lex_at u (length u))
         open-met h l =
             ap (met_in len u) (step-meets u at (name-next u at i k g h))
             ∙ ap (λ (b : Bool). token_tail b u (broken UnexpectedEndOfPropertyValue i)) l
@@ -107,24 +106,24 @@ module _ (u : List ℕ) where
         pub property-met : unclosed len (values_end_at u k) ≡ false → {e : ℕ} → e ≡ end_or (length u) (values_end_at u k) → met_in len u (lex_at u at) ≡ prop (prop_at u i k) e ∷ met_in len u (lex_at u e)
         property-met n {e} q = go (values_end_at u k) refl n q
           where
-            go : (c : Close) → values_end_at u k ≡ c → unclosed len c ≡ false → e ≡ end_or (length u) c → met_in len u (lex_at u at) ≡ prop (prop_at u i k) e ∷ met_in len u (lex_at u e)
-            go (At x) h m q = subst (λ (z : ℕ). met_in len u (lex_at u at) ≡ prop (prop_at u i k) z ∷ met_in len u (lex_at u z)) (sym q) (ap (met_in len u) (step-meets u at (name-next u at i k g h)))
-            go Open h m q = subst (λ (z : ℕ). met_in len u (lex_at u at) ≡ prop (prop_at u i k) z ∷ met_in len u (lex_at u z)) (sym q) (open-met h (open-strict len m refl))
+            go : (c : Option ℕ) → values_end_at u k ≡ c → unclosed len c ≡ false → e ≡ end_or (length u) c → met_in len u (lex_at u at) ≡ prop (prop_at u i k) e ∷ met_in len u (lex_at u e)
+            go (Some x) h m q = subst (λ (z : ℕ). met_in len u (lex_at u at) ≡ prop (prop_at u i k) z ∷ met_in len u (lex_at u z)) (sym q) (ap (met_in len u) (step-meets u at (name-next u at i k g h)))
+            go None h m q = subst (λ (z : ℕ). met_in len u (lex_at u at) ≡ prop (prop_at u i k) z ∷ met_in len u (lex_at u z)) (sym q) (open-met h (open-strict len m refl))
 
         -- it moves on
         pub property-lies : {e : ℕ} → e ≡ end_or (length u) (values_end_at u k) → (at < e) × (e ≤ length u)
         property-lies {e} q = go (values_end_at u k) refl q
           where
-            go : (c : Close) → values_end_at u k ≡ c → e ≡ end_or (length u) c → (at < e) × (e ≤ length u)
-            go (At x) h q = let b = step-lies u at (name-next u at i k g h) in (omega arith, omega arith)
-            go Open h q = let b = head-lies u at g in (omega arith, omega arith)
+            go : (c : Option ℕ) → values_end_at u k ≡ c → e ≡ end_or (length u) c → (at < e) × (e ≤ length u)
+            go (Some x) h q = let b = step-lies u at (name-next u at i k g h) in (omega arith, omega arith)
+            go None h q = let b = head-lies u at g in (omega arith, omega arith)
 
         pub skipping-property : unclosed len (values_end_at u k) ≡ false → {from d n e : ℕ} → Skipping len u from d at n → e ≡ end_or (length u) (values_end_at u k) → Skipping len u from d e n
         skipping-property m {from} {d} {n} {e} x q = go (values_end_at u k) refl m q
           where
-            go : (c : Close) → values_end_at u k ≡ c → unclosed len c ≡ false → e ≡ end_or (length u) c → Skipping len u from d e n
-            go (At y) h m q = let b = step-lies u at (name-next u at i k g h) in subst (λ (z : ℕ). Skipping len u from d z n) (sym q) (skipping-prop x (omega arith) b.4 (step-meets u at (name-next u at i k g h)))
-            go Open h m q = subst (λ (z : ℕ). Skipping len u from d z n) (sym q) (skipping-open x (open-strict len m refl) (step-meets u at (name-next u at i k g h)) opened)
+            go : (c : Option ℕ) → values_end_at u k ≡ c → unclosed len c ≡ false → e ≡ end_or (length u) c → Skipping len u from d e n
+            go (Some y) h m q = let b = step-lies u at (name-next u at i k g h) in subst (λ (z : ℕ). Skipping len u from d z n) (sym q) (skipping-prop x (omega arith) b.4 (step-meets u at (name-next u at i k g h)))
+            go None h m q = subst (λ (z : ℕ). Skipping len u from d z n) (sym q) (skipping-open x (open-strict len m refl) (step-meets u at (name-next u at i k g h)) opened)
 
         -- an open value, to lenient reading
         pub unclosed-over : unclosed len (values_end_at u k) ≡ true → met_in len u (lex_at u at) ≡ []

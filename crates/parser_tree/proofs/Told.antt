@@ -11,10 +11,9 @@ use Rattle.parser.specs.LocalsSlice.{slice_from}
 use Rattle.parser.specs.Read.{trees_so_far, no_trees, tree_of_nodes, tree_of_walk}
 use Rattle.parser_tree.specs.LocalsTree.{open_token, token_tail, met_in, Run, nodes_after, run_of, place_behind, Held, Bases, Left, tree_with, end_left, run_left, slice_left, in_reach, tree_left}
 use Rattle.parser_tree.specs.LocalsWalks.{walk_of, Ready, TreeIs, WalkIs, Reach, SliceAt, SliceAfter, LeftIs}
-use Rattle.parser_tree.specs.declared.Walked.{Walked}
-use Rattle.parser_tree.specs.declared.Walked.TheVariants.{Refused as refused}
 use Rattle.parser_tree.proofs.Laid.{laid-stored}
 use Rattle.parser_tree.proofs.Bounded.{run-walked, run-nodes, Mild, mild-walked}
+use Rattle.std.specs.Prelude.{Result, Err}
 
 -- ---- the limits
 
@@ -38,14 +37,14 @@ module _ (u : List ℕ) (from base p0 v0 : ℕ) where
     before = record { nodes = t₀; props = q₀; vals = w₀ }
 
     -- beyond them
-    pub left-beyond : in_reach (length u) from bases ≡ false → LeftIs (tree_left len u from bases before) len u from base p0 v0 t₀ q₀ w₀ (refused NoRoom)
+    pub left-beyond : in_reach (length u) from bases ≡ false → LeftIs (tree_left len u from bases before) len u from base p0 v0 t₀ q₀ w₀ (Err NoRoom)
     left-beyond h = rw h (record { answer = refl; held = refl; next = tt })
 
     -- within them
-    pub left-within : in_reach (length u) from bases ≡ true → {t q w : List ℕ} {r : Walked} → LeftIs (slice_left len u from bases before) len u from base p0 v0 t q w r → LeftIs (tree_left len u from bases before) len u from base p0 v0 t q w r
+    pub left-within : in_reach (length u) from bases ≡ true → {t q w : List ℕ} {r : Result (ℕ × ℕ × ℕ × ℕ) Reason} → LeftIs (slice_left len u from bases before) len u from base p0 v0 t q w r → LeftIs (tree_left len u from bases before) len u from base p0 v0 t q w r
     left-within h x = rw h x
 
-    left-slice : in_reach (length u) from bases ≡ true → {t q w : List ℕ} {r : Walked} → LeftIs (tree_left len u from bases before) len u from base p0 v0 t q w r → LeftIs (slice_left len u from bases before) len u from base p0 v0 t q w r
+    left-slice : in_reach (length u) from bases ≡ true → {t q w : List ℕ} {r : Result (ℕ × ℕ × ℕ × ℕ) Reason} → LeftIs (tree_left len u from bases before) len u from base p0 v0 t q w r → LeftIs (slice_left len u from bases before) len u from base p0 v0 t q w r
     left-slice h x = rw h at x
 
 -- ---- where the reader is ready
@@ -80,13 +79,13 @@ module _ {len : Bool} {u : List ℕ} {from base p0 v0 : ℕ} (y : Ready len u fr
     abbrev m₀ : Held
     m₀ = record { nodes = t₀; props = q₀; vals = w₀ }
 
-    abbrev Out : Walked → Type 0
+    abbrev Out : Result (ℕ × ℕ × ℕ × ℕ) Reason → Type 0
     Out r = WalkIs len u from base p0 v0 t₀ q₀ w₀ t q w r
 
     -- a tree of the nodes es
     told-tree : (es : List Node) (o : ℕ)
         → ((k : ℕ) (ts : List Tree) → tree_of_walk len base k (walk_of len base (lex_at u from).toks) ts ≡ trees_so_far (base + length es) (record { root = base; game = k; nodes = es } ∷ ts))
-        → 0 < length es → {r : Walked} → record { answer = r; held = record { nodes = t; props = q; vals = w } } ≡ tree_with b₀ m₀ o es → SliceAfter len u from base p0 v0 r → Out r
+        → 0 < length es → {r : Result (ℕ × ℕ × ℕ × ℕ) Reason} → record { answer = r; held = record { nodes = t; props = q; vals = w } } ≡ tree_with b₀ m₀ o es → SliceAfter len u from base p0 v0 r → Out r
     told-tree es o f l {r} e n =
         subst⁻¹ Out (ap (λ (z : Left). z.answer) e)
         (give (subst (SliceAfter len u from base p0 v0) (ap (λ (z : Left). z.answer) e) n))
@@ -116,10 +115,10 @@ module _ {len : Bool} {u : List ℕ} {from base p0 v0 : ℕ} (y : Ready len u fr
             }
 
     -- no tree
-    told-no : {s : Reason} → len ≡ false → ((k : ℕ) (ts : List Tree) → tree_of_walk len base k (walk_of len base (lex_at u from).toks) ts ≡ no_trees s) → {x : Walked} → x ≡ refused s → Out x
+    told-no : {s : Reason} → len ≡ false → ((k : ℕ) (ts : List Tree) → tree_of_walk len base k (walk_of len base (lex_at u from).toks) ts ≡ no_trees s) → {x : Result (ℕ × ℕ × ℕ × ℕ) Reason} → x ≡ Err s → Out x
     told-no l f e = subst⁻¹ Out e (l, f)
 
-    module _ (r : Walked) (n : SliceAfter len u from base p0 v0 r) (o : ℕ) where
+    module _ (r : Result (ℕ × ℕ × ℕ × ℕ) Reason) (n : SliceAfter len u from base p0 v0 r) (o : ℕ) where
       abbrev Is : Left → Type 0
       Is x = record { answer = r; held = record { nodes = t; props = q; vals = w } } ≡ x
 
@@ -145,13 +144,13 @@ module _ {len : Bool} {u : List ℕ} {from base p0 v0 : ℕ} (y : Ready len u fr
           strict true e = absurd (subst Mild h (ready-mild e))
 
     -- the slice's tree, as the reader asks for it
-    pub told : {r : Walked} → LeftIs (tree_left len u from b₀ m₀) len u from base p0 v0 t q w r → WalkIs len u from base p0 v0 t₀ q₀ w₀ t q w r
+    pub told : {r : Result (ℕ × ℕ × ℕ × ℕ) Reason} → LeftIs (tree_left len u from b₀ m₀) len u from base p0 v0 t q w r → WalkIs len u from base p0 v0 t₀ q₀ w₀ t q w r
     unfolding slice_left
     told {r} x =
         let z = left-slice u from base p0 v0 len t₀ q₀ w₀ (reaches u from base p0 v0 ready-reach) x in
         let R : Run = run_of len base (lex_at u from).toks in
         let e : record { answer = r; held = record { nodes = t; props = q; vals = w } } ≡ run_left len b₀ m₀ (place_behind from (slice_from 0 (met_in len u (lex_at u from)))) R.nodes R.walk =
-        ap (λ (a : Walked). record { answer = a; held = record { nodes = t; props = q; vals = w } }) z.answer
+        ap (λ (a : Result (ℕ × ℕ × ℕ × ℕ) Reason). record { answer = a; held = record { nodes = t; props = q; vals = w } }) z.answer
         ∙ ap (λ (m : Held). record { answer = (slice_left len u from b₀ m₀).answer; held = m }) z.held
         ∙ ap (λ (ts : List Tok). run_left len b₀ m₀ (place_behind from (slice_from 0 (met_in len u (lex_at u from)))) (run_of len base ts).nodes (run_of len base ts).walk) ready-met in
         told-walk r z.next (place_behind from (slice_from 0 (met_in len u (lex_at u from)))) R.walk (sym ready-walk) R.nodes ready-nodes e

@@ -1,5 +1,5 @@
 -- The walk of one slice for every text, place and rows: what is answered, and what the three tables hold after it.
-use Rattle.std.specs.Prelude.{◌+◌, ◌*◌, ◌&&◌, ◌∷◌, ◌++◌}
+use Rattle.std.specs.Prelude.{◌+◌, ◌*◌, ◌&&◌, ◌∷◌, ◌++◌, Result, Ok, Err}
 use Rattle.lists.specs.Prelude.{ℕ, Bool, true, false, List, [], reverse, length, leb, pick}
 use Rattle.lists.specs.Put.{put_at}
 use Rattle.lexer_scan.specs.Scan.{ident_at}
@@ -16,8 +16,7 @@ use Rattle.tables.specs.declared.Reason.TheVariants.{TooDeep, UnexpectedEndOfDat
 use Rattle.parser.specs.Walk.{Walk, walk, halted, stopped, walks}
 use Rattle.parser.specs.LocalsSlice.{slice_from}
 use Rattle.parser_tree.specs.LocalsFlat.{bare_rows}
-use Rattle.parser_tree.specs.declared.Walked.{Walked}
-use Rattle.parser_tree.specs.declared.Walked.TheVariants.{Tree as tree, Refused as refused}
+use Rattle.tables.specs.declared.Reason.{Reason}
 
 -- ---- the tokens
 
@@ -132,11 +131,11 @@ pub record Bases : Type 0 where
 
 -- what is answered, and what is held then
 pub record Left : Type 0 where
-  pub answer : Walked
+  pub answer : Result (ℕ × ℕ × ℕ × ℕ) Reason
   pub held : Held
 
 -- the nodes es behind those before them
-abbrev pub left_with : Bases → Held → Walked → (es : List Node) → Left
+abbrev pub left_with : Bases → Held → Result (ℕ × ℕ × ℕ × ℕ) Reason → (es : List Node) → Left
 left_with b m r es =
     record {
       answer = r;
@@ -150,19 +149,19 @@ left_with b m r es =
 -- a tree of the nodes es, and the next rows
 abbrev pub tree_with : Bases → Held → (at : ℕ) → (es : List Node) → Left
 tree_with b m at es =
-    left_with b m (tree at (b.nodes + length es) (b.props + length (all_props es)) (b.vals + length (all_vals (all_props es)))) es
+    left_with b m (Ok (at, b.nodes + length es, b.props + length (all_props es), b.vals + length (all_vals (all_props es)))) es
 
 -- a slice at its end: without any node it is refused, lenient reading makes an empty root
 abbrev pub end_left : Bool → Bases → Held → (at : ℕ) → List Node → Left
 end_left len b m at (n ∷ ns) = tree_with b m at (reverse (n ∷ ns))
 end_left true b m at [] = tree_with b m at (record { parent = none; props = [] } ∷ [])
-end_left false b m at [] = left_with b m (refused UnexpectedEndOfData) []
+end_left false b m at [] = left_with b m (Err UnexpectedEndOfData) []
 
 -- by the walk: a refusal leaves the nodes before it
 abbrev pub run_left : Bool → Bases → Held → (at : ℕ) → List Node → Walk → Left
 run_left len b m at ns (walk cur st g ms) = end_left len b m at ns
 run_left len b m at ns (halted ms) = end_left len b m at ns
-run_left len b m at ns (stopped r) = left_with b m (refused r) (reverse ns)
+run_left len b m at ns (stopped r) = left_with b m (Err r) (reverse ns)
 
 -- the tree of the slice that starts at a place, over what is held before
 unfoldable pub slice_left : Bool → (u : List ℕ) (from : ℕ) → Bases → Held → Left
@@ -177,4 +176,4 @@ in_reach size from b =
 
 -- the same, and beyond the limits nothing is done
 abbrev pub tree_left : Bool → (u : List ℕ) (from : ℕ) → Bases → Held → Left
-tree_left len u from b m = pick (in_reach (length u) from b) (slice_left len u from b m) (record { answer = refused NoRoom; held = m })
+tree_left len u from b m = pick (in_reach (length u) from b) (slice_left len u from b m) (record { answer = Err NoRoom; held = m })

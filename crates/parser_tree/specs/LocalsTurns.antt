@@ -1,5 +1,5 @@
 -- What the steps of the walk do, in the code's own terms. Nothing public is stated by these.
-use Rattle.std.specs.Prelude.{◌+◌, ◌-◌, ◌*◌, ◌≤◌, ◌<◌, ◌≡◌, ◌∷◌}
+use Rattle.std.specs.Prelude.{◌+◌, ◌-◌, ◌*◌, ◌≤◌, ◌<◌, ◌≡◌, ◌∷◌, Option, Some, None, Result, Ok, Err}
 use Rattle.lists.specs.Prelude.{ℕ, Bool, true, false, List, [], length, get_or, eqb}
 use Rattle.lists.specs.Put.{PutWhole}
 use Rattle.lexer.specs.Token.{done as finished, lex_at}
@@ -7,8 +7,6 @@ use Rattle.lexer_scan.specs.Scan.{values_end_at}
 use Rattle.lexer.specs.Step.{vals_at, head_at}
 use Rattle.lexer.specs.declared.Head.{Head}
 use Rattle.lexer.specs.declared.Head.TheVariants.{Start as start, End as end, Node as node, Name as name, Refused as refused, Done as done}
-use Rattle.lexer_close.specs.declared.Close.{Close}
-use Rattle.lexer_close.specs.declared.Close.TheVariants.{At, Open}
 use Rattle.tables.specs.Numbers.{depth_limit, none}
 use Rattle.tables.specs.Columns.{node_stride, property_stride, value_stride}
 use Rattle.tables.specs.Rows.{val_rows}
@@ -21,8 +19,6 @@ use Rattle.parser_step.specs.declared.State.{State}
 use Rattle.parser_step.specs.declared.Act.{Act}
 use Rattle.parser_step.specs.declared.Act.TheVariants.{Start, End, Node, Add, Stop, Over}
 use Rattle.parser_tree.specs.LocalsTree.{met_in, place_behind, put_rows, val_lists}
-use Rattle.parser_tree.specs.declared.Walked.{Walked}
-use Rattle.parser_tree.specs.declared.Walked.TheVariants.{Tree, Refused}
 
 -- more rows than a walk comes to
 abbrev pub row_limit : ℕ
@@ -100,9 +96,9 @@ added st e c =
 -- ---- properties
 
 -- where values end, or the text, of so many bytes, if one of them does not close
-abbrev pub end_or : ℕ → Close → ℕ
-end_or n (At e) = e
-end_or n Open = n
+abbrev pub end_or : ℕ → Option ℕ → ℕ
+end_or n (Some e) = e
+end_or n None = n
 
 -- the values from k on that close are rows from v0 on
 pub record TakenIs (u : List ℕ) (k v0 : ℕ) (w w' : List ℕ) (r : Taken) : Type 0 where
@@ -162,17 +158,17 @@ pub record BehindIs (len : Bool) (u : List ℕ) (from d r : ℕ) : Type 0 where
   pub inside : r ≤ length u
 
 -- the tree, by whether it has no node and by leniency
-abbrev pub RootBy : (none? len : Bool) → State → (at : ℕ) → List ℕ → Walked → List ℕ → Type 0
-RootBy false len st at t r t' = (r ≡ Tree at st.nodes st.props st.vals) × (t' ≡ t)
+abbrev pub RootBy : (none? len : Bool) → State → (at : ℕ) → List ℕ → Result (ℕ × ℕ × ℕ × ℕ) Reason → List ℕ → Type 0
+RootBy false len st at t r t' = (r ≡ Ok (at, st.nodes, st.props, st.vals)) × (t' ≡ t)
 RootBy true true st at t r t' =
-    (r ≡ Tree at (st.nodes + 1) st.props st.vals) × PutWhole t (st.nodes * node_stride) (none ∷ none ∷ none ∷ st.props ∷ 0 ∷ 0 ∷ []) t'
-RootBy true false st at t r t' = (r ≡ Refused UnexpectedEndOfData) × (t' ≡ t)
+    (r ≡ Ok (at, st.nodes + 1, st.props, st.vals)) × PutWhole t (st.nodes * node_stride) (none ∷ none ∷ none ∷ st.props ∷ 0 ∷ 0 ∷ []) t'
+RootBy true false st at t r t' = (r ≡ Err UnexpectedEndOfData) × (t' ≡ t)
 
 -- the tree whose slice ends before `at`
-abbrev pub RootIs : (len : Bool) (base : ℕ) → State → (at : ℕ) → List ℕ → Walked → List ℕ → Type 0
+abbrev pub RootIs : (len : Bool) (base : ℕ) → State → (at : ℕ) → List ℕ → Result (ℕ × ℕ × ℕ × ℕ) Reason → List ℕ → Type 0
 RootIs len base st at t r t' = RootBy (eqb st.nodes base) len st at t r t'
 
 -- the tree stops
-abbrev pub StopIs : (len : Bool) (u : List ℕ) (base : ℕ) → State → Reason → List ℕ → Walked → List ℕ → Type 0
-StopIs false u base st reason t r t' = (r ≡ Refused reason) × (t' ≡ t)
+abbrev pub StopIs : (len : Bool) (u : List ℕ) (base : ℕ) → State → Reason → List ℕ → Result (ℕ × ℕ × ℕ × ℕ) Reason → List ℕ → Type 0
+StopIs false u base st reason t r t' = (r ≡ Err reason) × (t' ≡ t)
 StopIs true u base st reason t r t' = (at : ℕ) × BehindIs true u st.at st.depth at × RootIs true base st at t r t'

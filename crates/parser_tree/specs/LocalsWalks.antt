@@ -1,5 +1,5 @@
 -- The tree of one slice, read from the tokens from a place on.
-use Rattle.std.specs.Prelude.{◌+◌, ◌*◌, ◌≤◌, ◌<◌, ◌≡◌, ◌∷◌}
+use Rattle.std.specs.Prelude.{◌+◌, ◌*◌, ◌≤◌, ◌<◌, ◌≡◌, ◌∷◌, Result, Ok, Err}
 use Rattle.lists.specs.Prelude.{ℕ, Bool, false, List, [], length}
 use Rattle.lists.specs.Put.{PutIs}
 use Rattle.lexer.specs.Token.{Tok, done, lex_at}
@@ -13,8 +13,7 @@ use Rattle.parser.specs.Read.{trees_so_far, no_trees, tree_of_walk}
 use Rattle.parser.specs.LocalsSlice.{slice_from, rest_from, Shallow}
 use Rattle.parser_tree.specs.LocalsFlat.{bare_rows}
 use Rattle.parser_tree.specs.LocalsTree.{Left}
-use Rattle.parser_tree.specs.declared.Walked.{Walked}
-use Rattle.parser_tree.specs.declared.Walked.TheVariants.{Tree as tree, Refused as refused}
+use Rattle.tables.specs.declared.Reason.{Reason}
 
 -- the walk of the first slice of the tokens
 unfoldable pub walk_of : Bool → (base : ℕ) → List Tok → Walk
@@ -57,9 +56,9 @@ pub record TreeIs (len : Bool) (u : List ℕ) (from base p0 v0 : ℕ) (t₀ q₀
   pub val-bound : v + from ≤ v0 + at
 
 -- what a walk gives
-abbrev pub WalkIs : Bool → (u : List ℕ) (from base p0 v0 : ℕ) (t₀ q₀ w₀ t q w : List ℕ) → Walked → Type 0
-WalkIs len u from base p0 v0 t₀ q₀ w₀ t q w (tree at n p v) = TreeIs len u from base p0 v0 t₀ q₀ w₀ t q w at n p v
-WalkIs len u from base p0 v0 t₀ q₀ w₀ t q w (refused r) =
+abbrev pub WalkIs : Bool → (u : List ℕ) (from base p0 v0 : ℕ) (t₀ q₀ w₀ t q w : List ℕ) → Result (ℕ × ℕ × ℕ × ℕ) Reason → Type 0
+WalkIs len u from base p0 v0 t₀ q₀ w₀ t q w (Ok (at, n, p, v)) = TreeIs len u from base p0 v0 t₀ q₀ w₀ t q w at n p v
+WalkIs len u from base p0 v0 t₀ q₀ w₀ t q w (Err r) =
     (len ≡ false) × ((k : ℕ) (ts : List Tree) → tree_of_walk len base k (walk_of len base (lex_at u from).toks) ts ≡ no_trees r)
 
 -- what the walk asks for: numbers within the limits
@@ -81,12 +80,12 @@ pub record SliceAt (len : Bool) (u : List ℕ) (from base p0 v0 at n p v : ℕ) 
   pub val-bound : v + from ≤ v0 + at
 
 -- of a tree
-abbrev pub SliceAfter : Bool → (u : List ℕ) (from base p0 v0 : ℕ) → Walked → Type 0
-SliceAfter len u from base p0 v0 (tree at n p v) = SliceAt len u from base p0 v0 at n p v
-SliceAfter len u from base p0 v0 (refused r) = Unit {0}
+abbrev pub SliceAfter : Bool → (u : List ℕ) (from base p0 v0 : ℕ) → Result (ℕ × ℕ × ℕ × ℕ) Reason → Type 0
+SliceAfter len u from base p0 v0 (Ok (at, n, p, v)) = SliceAt len u from base p0 v0 at n p v
+SliceAfter len u from base p0 v0 (Err r) = Unit {0}
 
 -- what is answered and held, by its definition; and where a next slice starts, which follows from it
-pub record LeftIs (x : Left) (len : Bool) (u : List ℕ) (from base p0 v0 : ℕ) (t q w : List ℕ) (r : Walked) : Type 0 where
+pub record LeftIs (x : Left) (len : Bool) (u : List ℕ) (from base p0 v0 : ℕ) (t q w : List ℕ) (r : Result (ℕ × ℕ × ℕ × ℕ) Reason) : Type 0 where
   pub answer : r ≡ x.answer
   pub held : record { nodes = t; props = q; vals = w } ≡ x.held
   pub next : SliceAfter len u from base p0 v0 r

@@ -14,13 +14,6 @@ use lexer_scan::ValueStep;
 use parser_step::{Act, State};
 use tables::{NODE_STRIDE, NONE, PROPERTY_STRIDE, Reason, TEXT_LIMIT, VALUE_STRIDE};
 
-// What a walk gives: the place behind the slice and the next row of each table (nodes, properties, values); or why there is no tree.
-#[derive(Clone, Copy)]
-pub enum Walked {
-    Tree(usize, usize, usize, usize),
-    Refused(Reason),
-}
-
 // The next row of the values, and where the values end.
 #[derive(Clone, Copy)]
 struct Taken {
@@ -64,15 +57,10 @@ fn node(mut w: State, i: usize, nodes: &mut [u32]) -> State
     ensures { (result ≡ noded w i)
         × PutWhole nodes.old (w.nodes * node_stride) (w.cur ∷ none ∷ none ∷ w.props ∷ 0 ∷ 0 ∷ []) nodes.new }
 {
-    store_numbers::put6(
+    store_numbers::put(
         nodes,
         w.nodes * NODE_STRIDE,
-        w.cur,
-        NONE,
-        NONE,
-        w.props as u32,
-        0,
-        0,
+        [w.cur, NONE, NONE, w.props as u32, 0, 0],
     );
     w.at = i + 1;
     w.cur = w.nodes as u32;
@@ -93,7 +81,7 @@ fn take_values(s: &[u8], from: usize, v0: usize, vals: &mut [u32]) -> Taken
     loop {
         match lexer_scan::next_value(s, i) {
             ValueStep::Value(a, e, next) => {
-                store_numbers::put2(vals, v * VALUE_STRIDE, a as u32, e as u32);
+                store_numbers::put(vals, v * VALUE_STRIDE, [a as u32, e as u32]);
                 v += 1;
                 i = next;
             }
@@ -122,17 +110,14 @@ fn add(
 {
     let taken = take_values(s, k, w.vals, vals);
     let count = taken.next - w.vals;
-    store_numbers::put4(
+    store_numbers::put(
         props,
         w.props * PROPERTY_STRIDE,
-        i as u32,
-        k as u32,
-        w.vals as u32,
-        count as u32,
+        [i as u32, k as u32, w.vals as u32, count as u32],
     );
     w.props += 1;
     let cell = w.nodes * NODE_STRIDE - 2;
-    store_numbers::put2(nodes, cell, (w.props - w.first) as u32, 0);
+    store_numbers::put(nodes, cell, [(w.props - w.first) as u32, 0]);
     w.at = taken.end;
     w.vals = taken.next;
     w
@@ -172,36 +157,44 @@ pub fn skip_slice(s: &[u8], from: usize, opened: usize) -> usize
 }
 
 // The tree whose slice ends before `at`. Without any node strict reading refuses it, lenient reading makes an empty root.
-fn finish(lenient: bool, base: usize, w: State, at: usize, nodes: &mut [u32]) -> Walked
+fn finish(
+    lenient: bool,
+    base: usize,
+    w: State,
+    at: usize,
+    nodes: &mut [u32],
+) -> Result<(usize, usize, usize, usize), Reason>
     requires { Small w }
     ensures { RootIs lenient base w at nodes.old result nodes.new }
 {
     if w.nodes != base {
-        return Walked::Tree(at, w.nodes, w.props, w.vals);
+        return Ok((at, w.nodes, w.props, w.vals));
     }
     if !lenient {
-        return Walked::Refused(Reason::UnexpectedEndOfData);
+        return Err(Reason::UnexpectedEndOfData);
     }
-    store_numbers::put6(
+    store_numbers::put(
         nodes,
         w.nodes * NODE_STRIDE,
-        NONE,
-        NONE,
-        NONE,
-        w.props as u32,
-        0,
-        0,
+        [NONE, NONE, NONE, w.props as u32, 0, 0],
     );
-    Walked::Tree(at, w.nodes + 1, w.props, w.vals)
+    Ok((at, w.nodes + 1, w.props, w.vals))
 }
 
 // The tree stops before a token: strict reading refuses it, lenient reading keeps its nodes and skips the rest of the slice.
-fn stop(s: &[u8], lenient: bool, base: usize, w: State, reason: Reason, nodes: &mut [u32]) -> Walked
+fn stop(
+    s: &[u8],
+    lenient: bool,
+    base: usize,
+    w: State,
+    reason: Reason,
+    nodes: &mut [u32],
+) -> Result<(usize, usize, usize, usize), Reason>
     requires { Small w × (length s.now ≤ text_limit) × (w.at ≤ length s.now) }
     ensures { StopIs lenient s.now base w reason nodes.old result nodes.new }
 {
     if !lenient {
-        return Walked::Refused(reason);
+        return Err(reason);
     }
     let at = skip_slice(s, w.at, w.depth);
     finish(true, base, w, at, nodes)
@@ -245,7 +238,7 @@ fn walk_slice(
     nodes: &mut [u32],
     props: &mut [u32],
     vals: &mut [u32],
-) -> Walked
+) -> Result<(usize, usize, usize, usize), Reason>
     requires { Reach s.now from base p0 v0 }
     ensures { LeftIs (slice_left lenient s.now from (record { nodes = base; props = p0; vals = v0 })
         (record { nodes = nodes.entry.now; props = props.old; vals = vals.old }))
@@ -258,7 +251,7 @@ fn walk_slice(
         match parser_step::look(s, lenient, base, w, &stack) {
             Act::Start(i) => {
                 if w.depth == 1024 {
-                    return Walked::Refused(Reason::TooDeep);
+                    return Err(Reason::TooDeep);
                 }
                 w = start(w, i, &mut stack);
             }
@@ -282,13 +275,13 @@ pub fn walk_tree(
     nodes: &mut [u32],
     props: &mut [u32],
     vals: &mut [u32],
-) -> Walked
+) -> Result<(usize, usize, usize, usize), Reason>
     ensures { LeftIs (tree_left lenient s.now from (record { nodes = base; props = p0; vals = v0 })
         (record { nodes = nodes.entry.now; props = props.old; vals = vals.old }))
         lenient s.now from base p0 v0 nodes.exit.now props.new vals.new result }
 {
     if !in_reach(s.len(), from, base, p0, v0) {
-        return Walked::Refused(Reason::NoRoom);
+        return Err(Reason::NoRoom);
     }
     walk_slice(s, from, lenient, base, p0, v0, nodes, props, vals)
 }

@@ -12,16 +12,13 @@ use Rattle.parser.specs.Game.{Game, is, find_gametype}
 use Rattle.parser.specs.LocalsSlice.{slice_from, rest_from, first_slices, Shallow}
 use Rattle.parser.specs.Read.{Trees, trees_so_far, no_trees, tree_of_walk, tree_of_game, parse_gametrees}
 use Rattle.parser_tree.specs.LocalsWalks.{walk_of, Ready, Stored, TreeIs, WalkIs}
-use Rattle.parser_tree.specs.declared.Walked.{Walked}
-use Rattle.parser_tree.specs.declared.Walked.TheVariants.{Tree as tree, Refused as refused_walk}
 use Rattle.parser_tree.proofs.Between.{Between, between-ready, between_next}
 use Rattle.parser_tree.proofs.Stored.{stored-none, stored-both}
 use Rattle.reader.specs.Lent.{Lent, lent}
 use Rattle.reader.specs.LocalsSlices.{leniently, read_of, SlicesReady, GoIf, TreesPutIs}
 use Rattle.parser_game.specs.LocalsGame.{type_of}
 use Rattle.reader.proofs.Kinded.{fails, kinded-is, kinded-refused}
-use Rattle.parser_game.specs.declared.GameType.{GameType}
-use Rattle.parser_game.specs.declared.GameType.TheVariants.{Is, Refused}
+use Rattle.std.specs.Prelude.{Result, Ok, Err}
 
 tree-append : (xs ys : List Tree) → flat_trees (tree_rows (xs ++ ys)) ≡ flat_trees (tree_rows xs) ++ flat_trees (tree_rows ys)
 tree-append [] ys = refl
@@ -121,13 +118,13 @@ module _ {len go : Bool} {u : List ℕ} {l : List Tok} {count : ℕ} {before aft
     unfolding first_slices
     turn = x.same ∙ ap (λ (z : ℕ). parse_gametrees len (trees_so_far n x.ts) (first_slices z toks)) left
 
-    pub plant-no : {r : Reason} {g : GameType} → g ≡ type_of (leniently len (find_gametype (slice_from 0 toks))) → g ≡ Refused r → read_of len count l ≡ no_trees r
+    pub plant-no : {r : Reason} {g : Result ℕ Reason} → g ≡ type_of (leniently len (find_gametype (slice_from 0 toks))) → g ≡ Err r → read_of len count l ≡ no_trees r
     plant-no {r} e q =
         turn
         ∙ ap (λ (j : Trees). parse_gametrees len j (first_slices (count - (k + 1)) (rest_from 0 toks))) (kinded-refused len n (slice_from 0 toks) x.ts (find_gametype (slice_from 0 toks)) r (sym q ∙ e))
         ∙ fails len r (first_slices (count - (k + 1)) (rest_from 0 toks))
 
-    module _ {g : GameType} {j : ℕ} (e : g ≡ type_of (leniently len (find_gametype (slice_from 0 toks)))) (q : g ≡ Is j) where
+    module _ {g : Result ℕ Reason} {j : ℕ} (e : g ≡ type_of (leniently len (find_gametype (slice_from 0 toks)))) (q : g ≡ Ok j) where
       turned : read_of len count l ≡ parse_gametrees len (tree_of_walk len n j (walk_of len n toks) x.ts) (first_slices (count - (k + 1)) (rest_from 0 toks))
       unfolding walk_of
       turned = turn ∙ ap (λ (y : Trees). parse_gametrees len y (first_slices (count - (k + 1)) (rest_from 0 toks))) (kinded-is len n (slice_from 0 toks) x.ts (find_gametype (slice_from 0 toks)) j (sym q ∙ e))
@@ -164,17 +161,17 @@ module _ {len go : Bool} {u : List ℕ} {l : List Tok} {count : ℕ} {before aft
           }
 
 -- what a walk gave
-module _ (len : Bool) (u : List ℕ) (from base p0 v0 : ℕ) (t₀ q₀ w₀ t q w : List ℕ) {x : Walked} (y : WalkIs len u from base p0 v0 t₀ q₀ w₀ t q w x) where
-  pub walk-tree-as : {at n p v : ℕ} → x ≡ tree at n p v → TreeIs len u from base p0 v0 t₀ q₀ w₀ t q w at n p v
+module _ (len : Bool) (u : List ℕ) (from base p0 v0 : ℕ) (t₀ q₀ w₀ t q w : List ℕ) {x : Result (ℕ × ℕ × ℕ × ℕ) Reason} (y : WalkIs len u from base p0 v0 t₀ q₀ w₀ t q w x) where
+  pub walk-tree-as : {at n p v : ℕ} → x ≡ Ok (at, n, p, v) → TreeIs len u from base p0 v0 t₀ q₀ w₀ t q w at n p v
   walk-tree-as e = subst (WalkIs len u from base p0 v0 t₀ q₀ w₀ t q w) e y
 
-  pub walk-refused-as : {r : Reason} → x ≡ refused_walk r → (k : ℕ) (ts : List Tree) → tree_of_walk len base k (walk_of len base (lex_at u from).toks) ts ≡ no_trees r
+  pub walk-refused-as : {r : Reason} → x ≡ Err r → (k : ℕ) (ts : List Tree) → tree_of_walk len base k (walk_of len base (lex_at u from).toks) ts ≡ no_trees r
   walk-refused-as e = (subst (WalkIs len u from base p0 v0 t₀ q₀ w₀ t q w) e y).1
 
 -- a game type that is known
-pub go-type : (len : Bool) {K : Game} → K ≡ is 0 → Is 0 ≡ type_of (leniently len K)
+pub go-type : (len : Bool) {K : Game} → K ≡ is 0 → Ok 0 ≡ type_of (leniently len K)
 go-type len e = go len ∙ ap (λ (z : Game). type_of (leniently len z)) (sym e)
   where
-    go : (len : Bool) → Is 0 ≡ type_of (leniently len (is 0))
+    go : (len : Bool) → Ok 0 ≡ type_of (leniently len (is 0))
     go true = refl
     go false = refl

@@ -17,23 +17,21 @@ use Rattle.parser.specs.Game.{is, find_gametype}
 use Rattle.parser.specs.LocalsSlice.{first_slices}
 use Rattle.parser.specs.Read.{trees_so_far, parse_gametrees, read}
 use Rattle.parser_split.specs.LocalsPlans.{plan_found, plan_kept, plan_text}
-use Rattle.parser_split.specs.declared.Plan.TheVariants.{Slices, Refused}
 use Rattle.parser_census.specs.LocalsCensus.{census_of}
-use Rattle.parser_census.specs.declared.Census.{Census}
-use Rattle.parser_census.specs.declared.Census.TheVariants.{Simple, Odd}
 use Rattle.parser_census.proofs.Grow.{shown}
 use Rattle.parser_census.proofs.Slices.{census-found}
 use Rattle.reader.specs.LocalsSlices.{read_of, CountedAs, FillReady}
 use Rattle.reader.specs.LocalsKnown.{known_by, known_kept, known_of}
-use Rattle.reader.specs.declared.Known.{Known}
-use Rattle.reader.specs.declared.Known.TheVariants.{Rows, Nothing}
 use Rattle.reader.proofs.Rooms.{tree-count}
 use Rattle.reader.proofs.Surveyed.{PlanIs}
 use Rattle.reader.proofs.Texts.{planned}
+use Rattle.std.specs.Prelude.{Option, Some, None, Ok, Err}
+use Rattle.tables.specs.Refusals.{refusal}
+use Rattle.lists.proofs.Parts.{some-three}
 
 -- ---- the trees, whose rows the census counts
 
-module _ (len : Bool) (l : Lexed) (c : Counts) (h : census_of l ≡ Simple c.trees c.nodes c.properties c.values) where
+module _ (len : Bool) (l : Lexed) (c : Counts) (h : census_of l ≡ Some (c.trees, c.nodes, c.properties, c.values)) where
   pub census-counted : CountedAs (read_of len c.trees l.toks) c × All (λ (s : List Tok). find_gametype s ≡ is 0) (first_slices c.trees l.toks)
   unfolding census_of read_of
   census-counted =
@@ -57,17 +55,15 @@ module _ (len : Bool) (l : Lexed) (c : Counts) (h : census_of l ≡ Simple c.tre
 pub record KnownIs (t : List ℕ) (f l : ℕ) (c : Counts) : Type 0 where
   pub short : length t ≤ text_limit
   pub kept : trimmed t ≡ Kept f l
-  pub says : census_of (lex_at (take l t) f) ≡ Simple c.trees c.nodes c.properties c.values
+  pub says : census_of (lex_at (take l t) f) ≡ Some (c.trees, c.nodes, c.properties, c.values)
 
-known-by : (f l g m : ℕ) (x : Census) (c : Counts) → known_by f l x ≡ Rows g m c → (f ≡ g) × (l ≡ m) × (x ≡ Simple c.trees c.nodes c.properties c.values)
-known-by f l g m (Simple t n p v) c e =
-    let a : f ≡ g = cc in
-    let b : l ≡ m = cc in
-    let d : record { trees = t; nodes = n; properties = p; values = v } ≡ c = cc in
-    (a, b, ap (λ (z : Counts). Simple z.trees z.nodes z.properties z.values) d)
-known-by f l g m Odd c e = never cc
+known-by : (f l g m : ℕ) (x : Option (ℕ × ℕ × ℕ × ℕ)) (c : Counts) → known_by f l x ≡ Some (g, m, c) → (f ≡ g) × (l ≡ m) × (x ≡ Some (c.trees, c.nodes, c.properties, c.values))
+known-by f l g m (Some (t, n, p, v)) c e =
+    let x = some-three e in
+    (x.0, x.1, ap (λ (z : Counts). Some (z.trees, z.nodes, z.properties, z.values)) x.2)
+known-by f l g m None c e = never cc
 
-known_kept_lem : (t : List ℕ) (f l : ℕ) (c : Counts) → length t ≤ text_limit → (x : Trimmed) → trimmed t ≡ x → known_kept t x ≡ Rows f l c → KnownIs t f l c
+known_kept_lem : (t : List ℕ) (f l : ℕ) (c : Counts) → length t ≤ text_limit → (x : Trimmed) → trimmed t ≡ x → known_kept t x ≡ Some (f, l, c) → KnownIs t f l c
 known_kept_lem t f l c h (NotUtf8 p) q e = never cc
 known_kept_lem t f l c h Blank q e = never cc
 known_kept_lem t f l c h (Kept g m) q e =
@@ -78,10 +74,10 @@ known_kept_lem t f l c h (Kept g m) q e =
       says = ap (λ (z : ℕ). census_of (lex_at (take l t) z)) (sym w.0) ∙ ap (λ (z : ℕ). census_of (lex_at (take z t) g)) (sym w.1) ∙ w.2;
     }
 
-pub known_is : (t : List ℕ) {x : Known} → x ≡ known_of t → {f l : ℕ} {c : Counts} → x ≡ Rows f l c → KnownIs t f l c
+pub known_is : (t : List ℕ) {x : Option (ℕ × ℕ × Counts)} → x ≡ known_of t → {f l : ℕ} {c : Counts} → x ≡ Some (f, l, c) → KnownIs t f l c
 known_is t {x} e {f} {l} {c} q = go (ltb text_limit (length t)) refl (sym e ∙ q)
   where
-    go : (b : Bool) → ltb text_limit (length t) ≡ b → pick b Nothing (known_kept t (trimmed t)) ≡ Rows f l c → KnownIs t f l c
+    go : (b : Bool) → ltb text_limit (length t) ≡ b → pick b None (known_kept t (trimmed t)) ≡ Some (f, l, c) → KnownIs t f l c
     go true r w = never cc
     go false r w = known_kept_lem t f l c (ltb-false text_limit (length t) r) (trimmed t) refl w
 
@@ -92,14 +88,14 @@ module _ {t : List ℕ} {f l : ℕ} {c : Counts} (k : KnownIs t f l c) where
   known-inside = (trim-bounds t f l k.kept).1
 
   module _ (len : Bool) where
-    known-plan-is : plan_text len t ≡ Slices f l c.trees
+    known-plan-is : plan_text len t ≡ Ok (f, l, c.trees)
     known-plan-is =
-        ap (λ (b : Bool). pick b (Refused TextTooLong 0) (plan_kept len t (trimmed t))) (le-ltb text_limit (length t) k.short)
+        ap (λ (b : Bool). pick b (Err (refusal TextTooLong 0)) (plan_kept len t (trimmed t))) (le-ltb text_limit (length t) k.short)
         ∙ ap (plan_kept len t) k.kept
         ∙ ap (plan_found f (length (take l t))) (census-found (lex_at (take l t) f) c.trees c.nodes c.properties c.values k.says len)
-        ∙ ap (λ (z : ℕ). Slices f z c.trees) (length-take-le l t known-inside)
+        ∙ ap (λ (z : ℕ). Ok (f, z, c.trees)) (length-take-le l t known-inside)
 
-    pub known-plan : PlanIs len t (read len t) (Slices f l c.trees)
+    pub known-plan : PlanIs len t (read len t) (Ok (f, l, c.trees))
     known-plan = planned len t refl known-plan-is
 
     pub known-ready : FillReady len true (take l t) f c
@@ -109,8 +105,8 @@ module _ {t : List ℕ} {f l : ℕ} {c : Counts} (k : KnownIs t f l c) where
 
 -- ---- what the code is told
 
-pub known-long : (t : List ℕ) → text_limit < length t → Nothing ≡ known_of t
-known-long t h = sym (ap (λ (b : Bool). pick b Nothing (known_kept t (trimmed t))) (lt-ltb text_limit (length t) h))
+pub known-long : (t : List ℕ) → text_limit < length t → None ≡ known_of t
+known-long t h = sym (ap (λ (b : Bool). pick b None (known_kept t (trimmed t))) (lt-ltb text_limit (length t) h))
 
 pub known-short : (t : List ℕ) → length t ≤ text_limit → {x y : Trimmed} → x ≡ trimmed t → x ≡ y → known_kept t y ≡ known_of t
-known-short t h e q = ap (known_kept t) (sym q ∙ e) ∙ sym (ap (λ (b : Bool). pick b Nothing (known_kept t (trimmed t))) (le-ltb text_limit (length t) h))
+known-short t h e q = ap (known_kept t) (sym q ∙ e) ∙ sym (ap (λ (b : Bool). pick b None (known_kept t (trimmed t))) (le-ltb text_limit (length t) h))

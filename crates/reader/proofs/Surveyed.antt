@@ -4,7 +4,6 @@ use Rattle.lists.proofs.Tests.{never}
 use Rattle.lexer.specs.Token.{End, done, broken, Lexed, lex_at}
 use Rattle.tables.specs.Numbers.{text_limit}
 use Rattle.tables.specs.declared.Reason.{Reason}
-use Rattle.tables.specs.declared.Reading.{Reading}
 use Rattle.parser.specs.Split.{Slices as Sliced, no, slices, split_by_gametree}
 use Rattle.parser.specs.LocalsSlice.{slice_from, rest_from, first_slices, Shallow}
 use Rattle.parser.specs.LocalsSurvey.{survey_of_slices, survey_strict, survey_of}
@@ -16,19 +15,20 @@ use Rattle.parser.proofs.Tokens.{tokens-few}
 use Rattle.reader.specs.Lent.{Lent, ReadIs}
 use Rattle.reader.specs.LocalsSlices.{read_of, SlicesReady}
 use Rattle.parser_split.specs.LocalsPlans.{plan_found, plan_tokens}
-use Rattle.parser_split.specs.declared.Plan.{Plan}
-use Rattle.parser_split.specs.declared.Plan.TheVariants.{Slices, Refused as refused_plan}
+use Rattle.std.specs.Prelude.{Result, Ok, Err}
+use Rattle.tables.specs.declared.Counts.{Counts}
+use Rattle.tables.specs.declared.Refusal.{Refusal}
 
 -- the answer a is that of these slices of u, or is refused
-abbrev pub PlanIs : Bool → (u : List ℕ) → (a : Answer) → Plan → Type 0
-PlanIs len u a (Slices first last count) = (a ≡ answer (read_of len count (lex_at (take last u) first).toks)) × SlicesReady len (take last u) first count × (last ≤ length u)
-PlanIs len u a (refused_plan r p) = a ≡ refused r p
+abbrev pub PlanIs : Bool → (u : List ℕ) → (a : Answer) → Result (ℕ × ℕ × ℕ) (Refusal Reason) → Type 0
+PlanIs len u a (Ok (first, last, count)) = (a ≡ answer (read_of len count (lex_at (take last u) first).toks)) × SlicesReady len (take last u) first count × (last ≤ length u)
+PlanIs len u a (Err e) = a ≡ refused e.reason e.place
 
 -- the answer of tokens
 abbrev pub tokens_answer : Bool → Lexed → Answer
 tokens_answer len l = lexing len l.end l.toks
 
-pub read_as : {A B : Answer} → A ≡ B → {b a : Lent} {r : Reading} → ReadIs B b a r → ReadIs A b a r
+pub read_as : {A B : Answer} → A ≡ B → {b a : Lent} {r : Result Counts (Refusal Reason)} → ReadIs B b a r → ReadIs A b a r
 read_as {A} {B} e {b} {a} {r} x = subst⁻¹ (λ (z : Answer). ReadIs z b a r) e x
 
 -- no fault, where reading is strict
@@ -95,7 +95,7 @@ module _ (len : Bool) (u : List ℕ) (from : ℕ) {x : Survey} (e : x ≡ survey
         let f = s.bound in
         record { short = h; inside = i; bound = omega (arith, tokens-few u from); shallow = s.shallow; faultless = found_in.0 }
 
-    slices-plan : length u ≤ text_limit → from ≤ length u → PlanIs len u (tokens_answer len L) (Slices from (length u) k)
+    slices-plan : length u ≤ text_limit → from ≤ length u → PlanIs len u (tokens_answer len L) (Ok (from, length u, k))
     slices-plan h i =
         (slices-answer ∙ ap (λ (z : List ℕ). answer (read_of len k (lex_at z from).toks)) (sym (take-length u)), subst⁻¹ (λ (z : List ℕ). SlicesReady len z from k) (take-length u) (slices-ready h i), omega arith)
 
@@ -111,7 +111,7 @@ module _ (len : Bool) (u : List ℕ) (from : ℕ) {x : Survey} (e : x ≡ survey
   unfolding first_slices slice_from rest_from Shallow lex_at
   empty-ready = record { short = omega arith; inside = omega arith; bound = omega arith; shallow = (tt, tt); faultless = λ z. refl }
 
-  empty-plan : x ≡ Empty → PlanIs len u (tokens_answer len L) (Slices 0 0 1)
+  empty-plan : x ≡ Empty → PlanIs len u (tokens_answer len L) (Ok (0, 0, 1))
   empty-plan q = (empty-answer q, empty-ready, omega arith)
 
 -- ---- the plan of the tokens

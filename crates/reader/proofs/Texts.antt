@@ -11,9 +11,11 @@ use Rattle.parser.proofs.Texts.{lex-prefix, text-long, on_trimmed, text-trimmed}
 use Rattle.parser.specs.Read.{Answer, refused, answer, read}
 use Rattle.reader.specs.LocalsSlices.{read_of, SlicesReady}
 use Rattle.parser_split.specs.LocalsPlans.{plan_tokens, plan_kept, plan_text}
-use Rattle.parser_split.specs.declared.Plan.{Plan}
-use Rattle.parser_split.specs.declared.Plan.TheVariants.{Slices, Refused}
 use Rattle.reader.proofs.Surveyed.{PlanIs, tokens_answer, tokens-plan}
+use Rattle.std.specs.Prelude.{Result, Ok, Err}
+use Rattle.tables.specs.Refusals.{refusal}
+use Rattle.tables.specs.declared.Reason.{Reason}
+use Rattle.tables.specs.declared.Refusal.{Refusal}
 
 module _ (len : Bool) (t : List ℕ) (h : length t ≤ text_limit) {x : Trimmed} (e : x ≡ trimmed t) where
   text-bad : {p : ℕ} → x ≡ NotUtf8 p → read len t ≡ refused not_utf8 p
@@ -34,13 +36,13 @@ module _ (len : Bool) (t : List ℕ) (h : length t ≤ text_limit) {x : Trimmed}
   kept-within {f} {l} q = trim-bounds t f l (sym e ∙ q)
 
 -- a plan for a front part of the text
-plan-front : (len : Bool) (t : List ℕ) (l : ℕ) → l ≤ length t → {A B : Answer} → A ≡ B → (r : Plan) → PlanIs len (take l t) B r → PlanIs len t A r
-plan-front len t l h e (Slices f o k) z =
+plan-front : (len : Bool) (t : List ℕ) (l : ℕ) → l ≤ length t → {A B : Answer} → A ≡ B → (r : Result (ℕ × ℕ × ℕ) (Refusal Reason)) → PlanIs len (take l t) B r → PlanIs len t A r
+plan-front len t l h e (Ok (f, o, k)) z =
     let b = z.2 in
     let n = length-take-le l t h in
     let s : take o (take l t) ≡ take o t = take-take o l t (omega arith) in
     (e ∙ z.0 ∙ ap (λ (y : List ℕ). answer (read_of len k (lex_at y f).toks)) s, subst (λ (y : List ℕ). SlicesReady len y f k) s z.1, omega arith)
-plan-front len t l h e (Refused r p) z = e ∙ z
+plan-front len t l h e (Err x) z = e ∙ z
 
 -- ---- the plan of the text
 
@@ -56,10 +58,10 @@ module _ (len : Bool) (t : List ℕ) where
   text-plan : PlanIs len t (read len t) (plan_text len t)
   text-plan = go (ltb text_limit (length t)) refl
     where
-      go : (b : Bool) → ltb text_limit (length t) ≡ b → PlanIs len t (read len t) (pick b (Refused TextTooLong 0) (plan_kept len t (trimmed t)))
+      go : (b : Bool) → ltb text_limit (length t) ≡ b → PlanIs len t (read len t) (pick b (Err (refusal TextTooLong 0)) (plan_kept len t (trimmed t)))
       go true e = text-long len t (ltb-true text_limit (length t) e)
       go false e = kept-plan (ltb-false text_limit (length t) e) (trimmed t) refl
 
   -- what a plan that was given says of the definition's answer
-  pub planned : {x y : Plan} → x ≡ plan_text len t → x ≡ y → PlanIs len t (read len t) y
+  pub planned : {x y : Result (ℕ × ℕ × ℕ) (Refusal Reason)} → x ≡ plan_text len t → x ≡ y → PlanIs len t (read len t) y
   planned e q = subst (PlanIs len t (read len t)) (sym e ∙ q) text-plan

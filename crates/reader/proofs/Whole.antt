@@ -11,8 +11,6 @@ use Rattle.tables.specs.Flat.{flat_nodes, over}
 use Rattle.tables.specs.LocalsDepths.{LevelledTo, LevelsIs}
 use Rattle.tables.specs.LocalsLinks.{HasRows, LinkedFrom, LinksIs}
 use Rattle.tables.specs.declared.Counts.{Counts}
-use Rattle.tables.specs.declared.Reading.{Reading}
-use Rattle.tables.specs.declared.Reading.TheVariants.{Accepted, Refused}
 use Rattle.tables.specs.declared.Reason.{Reason}
 use Rattle.tables.specs.declared.Reason.TheVariants.{NoRoom}
 use Rattle.parser.specs.LocalsSlice.{first_slices}
@@ -21,22 +19,23 @@ use Rattle.parser_tree.specs.LocalsFlat.{bare_rows}
 use Rattle.parser_tree.proofs.Flats.{val-length, prop-length, node-length}
 use Rattle.reader.specs.Lent.{Lent, lent, room_for, roomy, rows_counted, stored, ReadIs}
 use Rattle.reader.specs.LocalsSlices.{read_of, CountedAs, TreesPutIs, TreesIs, CountIs}
-use Rattle.reader.specs.declared.slices.Total.{Total}
-use Rattle.reader.specs.declared.slices.Total.TheVariants.{Rows, Refused as refused_total}
 use Rattle.reader.proofs.Parents.{Below, parents-below}
 use Rattle.reader.proofs.Linked.{linked-rows}
 use Rattle.reader.proofs.Plants.{tree-length}
 use Rattle.reader.proofs.Rooms.{tree-count, flat-nodes, Room, room-true}
 use Rattle.tables.proofs.Lengths.{prop-rows-length, val-rows-length, node-rows-length}
 use Rattle.tables.specs.Columns.{node_stride}
+use Rattle.std.specs.Prelude.{Result, Ok, Err}
+use Rattle.tables.specs.Refusals.{refusal}
+use Rattle.tables.specs.declared.Refusal.{Refusal}
 
 lent_same : {r t q w r1 t1 q1 w1 : List ℕ} → r1 ≡ r → t1 ≡ t → q1 ≡ q → w1 ≡ w → lent r1 t1 q1 w1 ≡ lent r t q w
 lent_same er et eq ew = rw (er, et, eq, ew)
 
 -- ---- refused
 
-pub read-refused : {X : Trees} {r : Reason} → X ≡ no_trees r → {b : Lent} → ReadIs (answer X) b b (Refused r 0)
-read-refused {X} {r} e {b} = subst⁻¹ (λ (z : Trees). ReadIs (answer z) b b (Refused r 0)) e (record { answer = refl; tables = refl })
+pub read-refused : {X : Trees} {r : Reason} → X ≡ no_trees r → {b : Lent} → ReadIs (answer X) b b (Err (refusal r 0))
+read-refused {X} {r} e {b} = subst⁻¹ (λ (z : Trees). ReadIs (answer z) b b (Err (refusal r 0))) e (record { answer = refl; tables = refl })
 
 -- ---- the trees put
 
@@ -79,9 +78,9 @@ module _ {X : Trees} {c : Counts} (K : CountedAs X c) (b : Lent)
   room-is =
       ap (λ (z : Counts). room_for z (length b.trees) (length b.nodes) (length b.props) (length b.vals)) K.counts ∙ sym e
 
-  pub read-no-room : t ≡ false → ReadIs (answer X) b b (Refused NoRoom 0)
+  pub read-no-room : t ≡ false → ReadIs (answer X) b b (Err (refusal NoRoom 0))
   read-no-room f =
-      subst⁻¹ (λ (z : Answer). ReadIs z b b (Refused NoRoom 0)) (answer-is K) (record { answer = rw (room-is, f); tables = rw (room-is, f) })
+      subst⁻¹ (λ (z : Answer). ReadIs z b b (Err (refusal NoRoom 0))) (answer-is K) (record { answer = rw (room-is, f); tables = rw (room-is, f) })
 
   -- the run that writes, the links and the depths
   module _ (f : t ≡ true) {A : Lent} {n' p' v' : ℕ} (Y : TreesPutIs X c.trees b A n' p' v') (len : Bool) (l : List Tok) (ex : X ≡ read_of len c.trees l)
@@ -121,36 +120,36 @@ module _ {X : Trees} {c : Counts} (K : CountedAs X c) (b : Lent)
         (put_all Y.stored.tprops (omega (arith, prop-length 0 (all_props (all_nodes Y.ts)))))
         (put_all Y.stored.tvals (omega (arith, val-length (all_vals (all_props (all_nodes Y.ts))))))
 
-    read-filled : ReadIs (answer X) b (lent A.trees t3 A.props A.vals) (Accepted c)
+    read-filled : ReadIs (answer X) b (lent A.trees t3 A.props A.vals) (Ok c)
     read-filled =
-        subst⁻¹ (λ (z : Answer). ReadIs z b (lent A.trees t3 A.props A.vals) (Accepted c)) (answer-is K)
+        subst⁻¹ (λ (z : Answer). ReadIs z b (lent A.trees t3 A.props A.vals) (Ok c)) (answer-is K)
         (record {
-          answer = rw (room-is, f) (ap Accepted (sym K.counts));
+          answer = rw (room-is, f) (ap Ok (sym K.counts));
           tables = rw (room-is, f) (filled ∙ ap (λ (z : List Tree). stored (tables z) b) trees-same);
         })
 
   -- the second run does not refuse where the first did not
-  pub read-accepted : t ≡ true → (A : Lent) (x : Total) → TreesIs X c.trees b A x → (len : Bool) (l : List Tok) → X ≡ read_of len c.trees l → (t2 t3 : List ℕ) → LinksIs c.nodes A.nodes t2 → LevelsIs c.nodes t2 t3
-      → ReadIs (answer X) b (lent A.trees t3 A.props A.vals) (Accepted c)
-  read-accepted f A (Rows n' p' v') Y len l ex t2 t3 links levels = read-filled f Y len l ex links levels
-  read-accepted f A (refused_total r) Y len l ex t2 t3 links levels =
+  pub read-accepted : t ≡ true → (A : Lent) (x : Result (ℕ × ℕ × ℕ) Reason) → TreesIs X c.trees b A x → (len : Bool) (l : List Tok) → X ≡ read_of len c.trees l → (t2 t3 : List ℕ) → LinksIs c.nodes A.nodes t2 → LevelsIs c.nodes t2 t3
+      → ReadIs (answer X) b (lent A.trees t3 A.props A.vals) (Ok c)
+  read-accepted f A (Ok (n', p', v')) Y len l ex t2 t3 links levels = read-filled f Y len l ex links levels
+  read-accepted f A (Err r) Y len l ex t2 t3 links levels =
       let w : no_trees r ≡ trees_so_far c.nodes (reverse K.ts) = sym Y ∙ K.trees-are in never cc
 
 -- what the run that counts gave
-module _ (X : Trees) (count : ℕ) {x : Total} (y : CountIs X count x) where
-  pub total-rows : {n p v : ℕ} → x ≡ Rows n p v → TreesPutIs X count y.0 y.1 n p v
+module _ (X : Trees) (count : ℕ) {x : Result (ℕ × ℕ × ℕ) Reason} (y : CountIs X count x) where
+  pub total-rows : {n p v : ℕ} → x ≡ Ok (n, p, v) → TreesPutIs X count y.0 y.1 n p v
   total-rows e = subst (TreesIs X count y.0 y.1) e y.2
 
-  pub total-refused : {r : Reason} → x ≡ refused_total r → X ≡ no_trees r
+  pub total-refused : {r : Reason} → x ≡ Err r → X ≡ no_trees r
   total-refused e = subst (TreesIs X count y.0 y.1) e y.2
 
 -- ---- counted only
 
-pub count-refused : {X : Trees} {r : Reason} → X ≡ no_trees r → Refused r 0 ≡ rows_counted (answer X)
+pub count-refused : {X : Trees} {r : Reason} → X ≡ no_trees r → Err (refusal r 0) ≡ rows_counted (answer X)
 count-refused e = ap (λ (z : Trees). rows_counted (answer z)) (sym e)
 
-pub count-accepted : {X : Trees} {c : Counts} → CountedAs X c → Accepted c ≡ rows_counted (answer X)
-count-accepted K = sym (ap rows_counted (answer-is K) ∙ ap Accepted K.counts)
+pub count-accepted : {X : Trees} {c : Counts} → CountedAs X c → Ok c ≡ rows_counted (answer X)
+count-accepted K = sym (ap rows_counted (answer-is K) ∙ ap Ok K.counts)
 
-pub count-as : {A B : Answer} → A ≡ B → {r : Reading} → r ≡ rows_counted B → r ≡ rows_counted A
+pub count-as : {A B : Answer} → A ≡ B → {r : Result Counts (Refusal Reason)} → r ≡ rows_counted B → r ≡ rows_counted A
 count-as e q = q ∙ ap rows_counted (sym e)

@@ -1,5 +1,5 @@
 -- The trees of the slices from a place on.
-use Rattle.std.specs.Prelude.{◌+◌, ◌≤◌, ◌≡◌}
+use Rattle.std.specs.Prelude.{◌+◌, ◌≤◌, ◌≡◌, Result, Ok, Err}
 use Rattle.lists.specs.Prelude.{ℕ, Bool, true, false, List, [], reverse, length}
 use Rattle.lists.specs.All.{All}
 use Rattle.lists.specs.Put.{PutIs}
@@ -14,8 +14,7 @@ use Rattle.parser.specs.LocalsSlice.{first_slices, Shallow}
 use Rattle.parser.specs.Read.{Trees, trees_so_far, no_trees, parse_gametrees}
 use Rattle.parser_tree.specs.LocalsWalks.{Stored}
 use Rattle.reader.specs.Lent.{Lent}
-use Rattle.reader.specs.declared.slices.Total.{Total}
-use Rattle.reader.specs.declared.slices.Total.TheVariants.{Rows, Refused}
+use Rattle.tables.specs.declared.Reason.{Reason}
 
 -- the game type as the mode takes it: lenient reading turns a refusal into Go
 abbrev pub leniently : Bool → Game → Game
@@ -61,10 +60,10 @@ pub record TreesPutIs (x : Trees) (count : ℕ) (before after : Lent) (n p v : �
   pub stored : Stored 0 0 0 (all_nodes ts) before.nodes before.props before.vals after.nodes after.props after.vals n p v
 
 -- what comes of it
-abbrev pub TreesIs : Trees → ℕ → Lent → Lent → Total → Type 0
-TreesIs x count before after (Rows n p v) = TreesPutIs x count before after n p v
-TreesIs x count before after (Refused r) = x ≡ no_trees r
+abbrev pub TreesIs : Trees → ℕ → Lent → Lent → Result (ℕ × ℕ × ℕ) Reason → Type 0
+TreesIs x count before after (Ok (n, p, v)) = TreesPutIs x count before after n p v
+TreesIs x count before after (Err r) = x ≡ no_trees r
 
 -- the same of a run over tables that nobody keeps
-abbrev pub CountIs : Trees → ℕ → Total → Type 0
+abbrev pub CountIs : Trees → ℕ → Result (ℕ × ℕ × ℕ) Reason → Type 0
 CountIs x count r = (before : Lent) × (after : Lent) × TreesIs x count before after r

@@ -12,24 +12,15 @@ ghost use Rattle.reader.specs.Lent.{lent, rows_counted, ReadIs, LenientIs};
 ghost use Rattle.reader.specs.LocalsKnown.{known_by, known_of};
 ghost use Rattle.reader.specs.LocalsMild.{Mild};
 
-use parser_census::Census;
-use parser_split::Plan;
-use tables::{Counts, Lenient, Reading, Reason};
+use tables::{Counts, LenientRefusal, Reason, Refusal};
 use text_utf8::Trimmed;
 
-// What the census says of a text: the place of the first token, the end of what trimming keeps, and how many rows there are, all trees Go; or nothing.
-#[derive(Clone, Copy)]
-pub enum Known {
-    Rows(usize, usize, Counts),
-    Nothing,
-}
-
 // What the census says of the part that ends at `last`.
-fn known_part(s: &[u8], first: usize, last: usize) -> Known
+fn known_part(s: &[u8], first: usize, last: usize) -> Option<(usize, usize, Counts)>
     ensures { result ≡ known_by first last (census_of (lex_at s.now first)) }
 {
     match parser_census::take_census(s, first) {
-        Census::Simple(t, n, p, v) => Known::Rows(
+        Some((t, n, p, v)) => Some((
             first,
             last,
             Counts {
@@ -38,21 +29,21 @@ fn known_part(s: &[u8], first: usize, last: usize) -> Known
                 properties: p,
                 values: v,
             },
-        ),
-        Census::Odd => Known::Nothing,
+        )),
+        None => None,
     }
 }
 
 // What the census says of a text.
-pub fn known_text(text: &[u8]) -> Known
+pub fn known_text(text: &[u8]) -> Option<(usize, usize, Counts)>
     ensures { result ≡ known_of text.now }
 {
     if tables::TEXT_LIMIT < text.len() {
-        return Known::Nothing;
+        return None;
     }
     match text_utf8::trim(text) {
-        Trimmed::NotUtf8(_) => Known::Nothing,
-        Trimmed::Blank => Known::Nothing,
+        Trimmed::NotUtf8(_) => None,
+        Trimmed::Blank => None,
         Trimmed::Kept(first, last) => known_part(&text[..last], first, last),
     }
 }
@@ -65,15 +56,15 @@ fn read_odd(
     nodes: &mut [u32],
     properties: &mut [u32],
     values: &mut [u32],
-) -> Reading
+) -> Result<Counts, Refusal<Reason>>
     ensures { ReadIs (definition.read lenient text.now)
         (lent trees.old nodes.old properties.old values.old)
         (lent trees.new nodes.new properties.new values.new)
         result }
 {
     match parser_split::plan_text(text, lenient) {
-        Plan::Refused(reason, place) => Reading::Refused(reason, place),
-        Plan::Slices(first, last, count) => slices::read_slices(
+        Err(refused) => Err(refused),
+        Ok((first, last, count)) => slices::read_slices(
             &text[..last],
             first,
             count,
@@ -89,13 +80,13 @@ fn read_odd(
 // Reads a text of which the census has said this. Most texts have nothing odd, and are then walked once more only.
 fn read_by(
     text: &[u8],
-    known: Known,
+    known: Option<(usize, usize, Counts)>,
     lenient: bool,
     trees: &mut [u32],
     nodes: &mut [u32],
     properties: &mut [u32],
     values: &mut [u32],
-) -> Reading
+) -> Result<Counts, Refusal<Reason>>
     requires { known ≡ known_of text.now }
     ensures { ReadIs (definition.read lenient text.now)
         (lent trees.old nodes.old properties.old values.old)
@@ -103,8 +94,8 @@ fn read_by(
         result }
 {
     match known {
-        Known::Nothing => read_odd(text, lenient, trees, nodes, properties, values),
-        Known::Rows(first, last, counts) => slices::fill(
+        None => read_odd(text, lenient, trees, nodes, properties, values),
+        Some((first, last, counts)) => slices::fill(
             &text[..last],
             first,
             counts,
@@ -126,7 +117,7 @@ fn read(
     nodes: &mut [u32],
     properties: &mut [u32],
     values: &mut [u32],
-) -> Reading
+) -> Result<Counts, Refusal<Reason>>
     ensures { ReadIs (definition.read lenient text.now)
         (lent trees.old nodes.old properties.old values.old)
         (lent trees.new nodes.new properties.new values.new)
@@ -143,7 +134,7 @@ pub fn read_strict(
     nodes: &mut [u32],
     properties: &mut [u32],
     values: &mut [u32],
-) -> Reading
+) -> Result<Counts, Refusal<Reason>>
     ensures { ReadIs (definition.read_strict text.now)
         (lent trees.old nodes.old properties.old values.old)
         (lent trees.new nodes.new properties.new values.new)
@@ -153,18 +144,18 @@ pub fn read_strict(
 }
 
 // The case of a lenient reading. No other reason comes from one.
-fn mild(reading: Reading) -> Lenient
+fn mild(reading: Result<Counts, Refusal<Reason>>) -> Result<Counts, LenientRefusal>
     requires { Mild reading }
     ensures { as_reading result ≡ reading }
 {
     match reading {
-        Reading::Accepted(counts) => Lenient::Accepted(counts),
-        Reading::Refused(reason, place) => {
-            match reason {
-                Reason::TextTooLong => Lenient::TextTooLong,
-                Reason::NotUtf8 => Lenient::NotUtf8(place),
-                Reason::TooDeep => Lenient::TooDeep,
-                _ => Lenient::NoRoom,
+        Ok(counts) => Ok(counts),
+        Err(refused) => {
+            match refused.reason {
+                Reason::TextTooLong => Err(LenientRefusal::TextTooLong),
+                Reason::NotUtf8 => Err(LenientRefusal::NotUtf8(refused.place)),
+                Reason::TooDeep => Err(LenientRefusal::TooDeep),
+                _ => Err(LenientRefusal::NoRoom),
             }
         }
     }
@@ -173,12 +164,12 @@ fn mild(reading: Reading) -> Lenient
 // Reads a text of which the census has said this into the lent tables, leniently: the counts, or one of four refusals.
 pub fn read_known(
     text: &[u8],
-    known: Known,
+    known: Option<(usize, usize, Counts)>,
     trees: &mut [u32],
     nodes: &mut [u32],
     properties: &mut [u32],
     values: &mut [u32],
-) -> Lenient
+) -> Result<Counts, LenientRefusal>
     requires { known ≡ known_of text.now }
     ensures { LenientIs (definition.read_lenient text.now)
         (lent trees.old nodes.old properties.old values.old)
@@ -195,7 +186,7 @@ pub fn read_lenient(
     nodes: &mut [u32],
     properties: &mut [u32],
     values: &mut [u32],
-) -> Lenient
+) -> Result<Counts, LenientRefusal>
     ensures { LenientIs (definition.read_lenient text.now)
         (lent trees.old nodes.old properties.old values.old)
         (lent trees.new nodes.new properties.new values.new)
@@ -205,36 +196,34 @@ pub fn read_lenient(
 }
 
 // How many rows a text of which nothing is known has.
-fn count_odd(text: &[u8], lenient: bool) -> Reading
+fn count_odd(text: &[u8], lenient: bool) -> Result<Counts, Refusal<Reason>>
     ensures { result ≡ rows_counted (definition.read lenient text.now) }
 {
     match parser_split::plan_text(text, lenient) {
-        Plan::Refused(reason, place) => Reading::Refused(reason, place),
-        Plan::Slices(first, last, count) => {
-            slices::count_slices(&text[..last], first, count, lenient)
-        }
+        Err(refused) => Err(refused),
+        Ok((first, last, count)) => { slices::count_slices(&text[..last], first, count, lenient) }
     }
 }
 
 // How many rows a text has, read strictly or leniently. No table is lent and none is needed.
-fn count(text: &[u8], lenient: bool) -> Reading
+fn count(text: &[u8], lenient: bool) -> Result<Counts, Refusal<Reason>>
     ensures { result ≡ rows_counted (definition.read lenient text.now) }
 {
     match known_text(text) {
-        Known::Nothing => count_odd(text, lenient),
-        Known::Rows(_, _, counts) => Reading::Accepted(counts),
+        None => count_odd(text, lenient),
+        Some((_, _, counts)) => Ok(counts),
     }
 }
 
 // How many rows a strict reading of a text needs, or why it is refused and the place.
-pub fn count_strict(text: &[u8]) -> Reading
+pub fn count_strict(text: &[u8]) -> Result<Counts, Refusal<Reason>>
     ensures { result ≡ rows_counted (definition.read_strict text.now) }
 {
     count(text, false)
 }
 
 // How many rows a lenient reading of a text needs, or why it is refused.
-pub fn count_lenient(text: &[u8]) -> Lenient
+pub fn count_lenient(text: &[u8]) -> Result<Counts, LenientRefusal>
     ensures { as_reading result ≡ rows_counted (definition.read_lenient text.now) }
 {
     mild(count(text, true))

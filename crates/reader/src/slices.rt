@@ -8,39 +8,30 @@ ghost use Rattle.parser_game.specs.LocalsGame.{type_of};
 ghost use Rattle.reader.specs.Lent.{lent, room_for, rows_counted, ReadIs};
 ghost use Rattle.reader.specs.LocalsSlices.{leniently, read_of, SlicesReady, GoIf, FillReady, TreesIs, CountIs};
 
-use parser_game::GameType;
-use parser_tree::Walked;
-use tables::{Counts, Reading, Reason};
-
-// The numbers of rows (nodes, properties, values); or why there are no trees.
-#[derive(Clone, Copy)]
-pub enum Total {
-    Rows(usize, usize, usize),
-    Refused(Reason),
-}
+use tables::{Counts, Reason, Refusal};
 
 // The game type of the slice at a place; lenient reading turns a refusal into Go.
-fn type_or_go(s: &[u8], at: usize, lenient: bool) -> GameType
+fn type_or_go(s: &[u8], at: usize, lenient: bool) -> Result<u32, Reason>
     ensures { result ≡ type_of (leniently lenient (find_gametype (slice_from 0 (lex_at s.now at).toks))) }
 {
     match parser_game::game_type(s, at) {
-        GameType::Is(game) => GameType::Is(game),
-        GameType::Refused(reason) => {
+        Ok(game) => Ok(game),
+        Err(reason) => {
             if lenient {
-                return GameType::Is(0);
+                return Ok(0);
             }
-            GameType::Refused(reason)
+            Err(reason)
         }
     }
 }
 
 // The same, where it may be known that it is Go.
-fn type_unless(s: &[u8], at: usize, lenient: bool, go: bool) -> GameType
+fn type_unless(s: &[u8], at: usize, lenient: bool, go: bool) -> Result<u32, Reason>
     requires { go ≡ true → find_gametype (slice_from 0 (lex_at s.now at).toks) ≡ is 0 }
     ensures { result ≡ type_of (leniently lenient (find_gametype (slice_from 0 (lex_at s.now at).toks))) }
 {
     if go {
-        return GameType::Is(0);
+        return Ok(0);
     }
     type_or_go(s, at, lenient)
 }
@@ -56,7 +47,7 @@ fn read_trees(
     nodes: &mut [u32],
     properties: &mut [u32],
     values: &mut [u32],
-) -> Total
+) -> Result<(usize, usize, usize), Reason>
     requires { SlicesReady lenient s.now from count × GoIf go (first_slices count (lex_at s.now from).toks) }
     ensures { TreesIs (read_of lenient count (lex_at s.now from).toks) count
         (lent trees.old nodes.old properties.old values.old)
@@ -69,12 +60,12 @@ fn read_trees(
     let mut v: usize = 0;
     for k in 0..count {
         match type_unless(s, at, lenient, go) {
-            GameType::Refused(reason) => return Total::Refused(reason),
-            GameType::Is(game) => {
+            Err(reason) => return Err(reason),
+            Ok(game) => {
                 match parser_tree::walk_tree(s, at, lenient, n, p, v, nodes, properties, values) {
-                    Walked::Refused(reason) => return Total::Refused(reason),
-                    Walked::Tree(next, node, property, value) => {
-                        store_numbers::put2(trees, k * tables::TREE_STRIDE, n as u32, game);
+                    Err(reason) => return Err(reason),
+                    Ok((next, node, property, value)) => {
+                        store_numbers::put(trees, k * tables::TREE_STRIDE, [n as u32, game]);
                         at = next;
                         n = node;
                         p = property;
@@ -84,7 +75,7 @@ fn read_trees(
             }
         }
     }
-    Total::Rows(n, p, v)
+    Ok((n, p, v))
 }
 
 // Are so many rows lent: numbers divided by the stride.
@@ -98,7 +89,12 @@ fn has_room(counts: Counts, trees: usize, nodes: usize, properties: usize, value
 }
 
 // How many rows the trees of `count` slices have: a run over tables of its own, in which no row has room.
-fn count_rows(s: &[u8], from: usize, count: usize, lenient: bool) -> Total
+fn count_rows(
+    s: &[u8],
+    from: usize,
+    count: usize,
+    lenient: bool,
+) -> Result<(usize, usize, usize), Reason>
     requires { SlicesReady lenient s.now from count }
     ensures { CountIs (read_of lenient count (lex_at s.now from).toks) count result }
 {
@@ -130,7 +126,7 @@ pub fn fill(
     nodes: &mut [u32],
     properties: &mut [u32],
     values: &mut [u32],
-) -> Reading
+) -> Result<Counts, Refusal<Reason>>
     requires { FillReady lenient go s.now from counts }
     ensures { ReadIs (answer (read_of lenient counts.trees (lex_at s.now from).toks))
         (lent trees.old nodes.old properties.old values.old)
@@ -144,9 +140,12 @@ pub fn fill(
         properties.len(),
         values.len(),
     ) {
-        return Reading::Refused(Reason::NoRoom, 0);
+        return Err(Refusal {
+            reason: Reason::NoRoom,
+            place: 0,
+        });
     }
-    read_trees(
+    let _ = read_trees(
         s,
         from,
         counts.trees,
@@ -159,7 +158,7 @@ pub fn fill(
     );
     tables::link_nodes(nodes, counts.nodes);
     tables::level_nodes(nodes, counts.nodes);
-    Reading::Accepted(counts)
+    Ok(counts)
 }
 
 // The trees of `count` slices from a place on: the rows are counted first.
@@ -172,7 +171,7 @@ pub fn read_slices(
     nodes: &mut [u32],
     properties: &mut [u32],
     values: &mut [u32],
-) -> Reading
+) -> Result<Counts, Refusal<Reason>>
     requires { SlicesReady lenient s.now from count }
     ensures { ReadIs (answer (read_of lenient count (lex_at s.now from).toks))
         (lent trees.old nodes.old properties.old values.old)
@@ -180,8 +179,8 @@ pub fn read_slices(
         result }
 {
     match count_rows(s, from, count, lenient) {
-        Total::Refused(reason) => Reading::Refused(reason, 0),
-        Total::Rows(n, p, v) => {
+        Err(reason) => Err(Refusal { reason, place: 0 }),
+        Ok((n, p, v)) => {
             let counts = Counts {
                 trees: count,
                 nodes: n,
@@ -196,13 +195,18 @@ pub fn read_slices(
 }
 
 // How many rows the trees of `count` slices from a place on have, or why there are no trees.
-pub fn count_slices(s: &[u8], from: usize, count: usize, lenient: bool) -> Reading
+pub fn count_slices(
+    s: &[u8],
+    from: usize,
+    count: usize,
+    lenient: bool,
+) -> Result<Counts, Refusal<Reason>>
     requires { SlicesReady lenient s.now from count }
     ensures { result ≡ rows_counted (answer (read_of lenient count (lex_at s.now from).toks)) }
 {
     match count_rows(s, from, count, lenient) {
-        Total::Refused(reason) => Reading::Refused(reason, 0),
-        Total::Rows(n, p, v) => Reading::Accepted(Counts {
+        Err(reason) => Err(Refusal { reason, place: 0 }),
+        Ok((n, p, v)) => Ok(Counts {
             trees: count,
             nodes: n,
             properties: p,

@@ -5,7 +5,6 @@ use Rattle.lexer.specs.Token.{Tok}
 use Rattle.tables.specs.Record.{Node, Tree, all_nodes, all_props, all_vals}
 use Rattle.tables.specs.Rows.{tables, parents, counts_of}
 use Rattle.tables.specs.declared.Counts.{Counts}
-use Rattle.tables.specs.declared.Reading.TheVariants.{Accepted}
 use Rattle.parser.specs.LocalsSlice.{first_slices}
 use Rattle.parser.specs.Split.{slices}
 use Rattle.parser.specs.Read.{Answer, accepted, tokenize, read}
@@ -21,6 +20,7 @@ use Rattle.lists.proofs.Tests.{never}
 use Rattle.reader_laws.proofs.Sizes.{few-toks, toks-have}
 use Rattle.reader_laws.proofs.Spaced.{Spaced, tokens-spaced}
 use Rattle.reader_laws.proofs.Totals.{strict-total, lenient-total}
+use Rattle.std.specs.Prelude.{Ok}
 
 lex-spaced : (t : List ℕ) (k : Ink) → Spaced false (tokenize k t).toks
 lex-spaced t blank = tt
@@ -98,7 +98,7 @@ module _ (len : Bool) (t : List ℕ) (ts : List Tree) (h : read len t ≡ accept
           (omega (arith, x.0, trees-are), omega (arith, x.1, nodes-are), omega (arith, x.3, props-are), omega (arith, x.4, vals_are))
 
   -- where they are lent, what is read is accepted: there is no 14
-  accepts : (x : Rows) (l : Lent) → Suffices x c → Lends x l → answers (read len t) l ≡ Accepted c
+  accepts : (x : Rows) (l : Lent) → Suffices x c → Lends x l → answers (read len t) l ≡ Ok c
   accepts x l n g =
       ap (λ (a : Answer). answers a l) h
       ∙ rw (
@@ -108,8 +108,8 @@ module _ (len : Bool) (t : List ℕ) (ts : List Tree) (h : read len t ≡ accept
         le-leb c.values (length l.vals / 2) (omega (arith, n.3, g.3)),
       )
 
-  pub strict-accepts : len ≡ false → (l : Lent) → Lends (strict_rows size) l → answers (read len t) l ≡ Accepted c
+  pub strict-accepts : len ≡ false → (l : Lent) → Lends (strict_rows size) l → answers (read len t) l ≡ Ok c
   strict-accepts s l g = accepts (strict_rows size) l (strict-enough s) g
 
-  pub lenient-accepts : len ≡ true → (l : Lent) → Lends (lenient_rows size) l → answers (read len t) l ≡ Accepted c
+  pub lenient-accepts : len ≡ true → (l : Lent) → Lends (lenient_rows size) l → answers (read len t) l ≡ Ok c
   lenient-accepts s l g = accepts (lenient_rows size) l (lenient-enough s) g

@@ -48,10 +48,10 @@ FirstOnly (n ∷ []) = n.parent ≡ none
 FirstOnly (n ∷ m ∷ ns) = (n.parent ≡ none → ⊥) × FirstOnly (m ∷ ns)
 
 -- only the last of the stack may be none
-abbrev Some : List ℕ → Type 0
-Some [] = Unit {0}
-Some (p ∷ []) = Unit {0}
-Some (p ∷ q ∷ st) = (p ≡ none → ⊥) × Some (q ∷ st)
+abbrev HasOpen : List ℕ → Type 0
+HasOpen [] = Unit {0}
+HasOpen (p ∷ []) = Unit {0}
+HasOpen (p ∷ q ∷ st) = (p ≡ none → ⊥) × HasOpen (q ∷ st)
 
 -- before the first node, and after it, where a token is to come
 abbrev Before : List Tok → ℕ → List ℕ → Type 0
@@ -60,7 +60,7 @@ Before (t ∷ ts) cur st = (cur ≡ none) × (length st ≤ 1) × Shuts (length 
 
 abbrev After : List Tok → ℕ → List ℕ → Type 0
 After [] cur st = Unit {0}
-After (t ∷ ts) cur st = (cur ≡ none → ⊥) × Some st × Shuts (length st) (t ∷ ts)
+After (t ∷ ts) cur st = (cur ≡ none → ⊥) × HasOpen st × Shuts (length st) (t ∷ ts)
 
 abbrev Stage : List Tok → ℕ → List ℕ → List Node → Type 0
 Stage ts cur st [] = Before ts cur st
@@ -70,11 +70,11 @@ before : (ts : List Tok) (cur : ℕ) (st : List ℕ) → cur ≡ none → length
 before [] cur st a b c = tt
 before (t ∷ ts) cur st a b c = (a, b, c)
 
-after : (ts : List Tok) (cur : ℕ) (st : List ℕ) → (cur ≡ none → ⊥) → Some st → Shuts (length st) ts → After ts cur st
+after : (ts : List Tok) (cur : ℕ) (st : List ℕ) → (cur ≡ none → ⊥) → HasOpen st → Shuts (length st) ts → After ts cur st
 after [] cur st a b c = tt
 after (t ∷ ts) cur st a b c = (a, b, c)
 
-some-push : (cur : ℕ) (st : List ℕ) → (cur ≡ none → ⊥) → Some st → Some (cur ∷ st)
+some-push : (cur : ℕ) (st : List ℕ) → (cur ≡ none → ⊥) → HasOpen st → HasOpen (cur ∷ st)
 some-push cur [] a b = tt
 some-push cur (p ∷ st) a b = (a, b)
 
@@ -91,7 +91,7 @@ stage-close o (t ∷ ts) cur p (q ∷ st) [] h = absurd (omega (arith, h.1))
 stage-close o (t ∷ ts) cur p [] (n ∷ ns) h = some-none t ts h.1.2
 stage-close o (t ∷ ts) cur p (q ∷ st) (n ∷ ns) h = (h.0, (h.1.1.0, h.1.1.1, h.1.2))
 
-some-few : (st : List ℕ) → length st ≤ 1 → Some st
+some-few : (st : List ℕ) → length st ≤ 1 → HasOpen st
 some-few [] h = tt
 some-few (p ∷ []) h = tt
 some-few (p ∷ q ∷ st) h = absurd (omega arith)

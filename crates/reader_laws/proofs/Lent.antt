@@ -4,7 +4,6 @@ use Rattle.tables.specs.Flat.{flat_trees, flat_nodes, flat_props, flat_vals}
 use Rattle.tables.specs.Record.{Tree}
 use Rattle.tables.specs.Rows.{Tables, tables, counts_of}
 use Rattle.tables.specs.declared.Counts.{Counts}
-use Rattle.tables.specs.declared.Reading.TheVariants.{Accepted, Refused}
 use Rattle.tables.specs.declared.Reason.TheVariants.{NoRoom}
 use Rattle.tables.specs.Memory.{memory}
 use Rattle.fit.specs.Fit.{Fit}
@@ -15,20 +14,22 @@ use Rattle.reader.specs.Lent.{Lent, roomy, stored, answers, leaves, ReadIs}
 use Rattle.reader_laws.proofs.Fitting.{buffer-fits}
 use Rattle.lists.proofs.Tests.{never}
 use Rattle.reader_laws.proofs.Recorded.{record_of_lem}
+use Rattle.std.specs.Prelude.{Ok, Err}
+use Rattle.tables.specs.Refusals.{refusal}
 
 -- a record was read, its counts are given back, and its rows are stored
 abbrev Left : Bool → List ℕ → (before after : Lent) → Counts → List Tree → Type 0
 Left len t before after c ts = (read len t ≡ accepted ts) × (c ≡ counts_of (tables ts)) × (after ≡ stored (tables ts) before)
 
-module _ (len : Bool) (t : List ℕ) (before after : Lent) (c : Counts) (x : ReadIs (read len t) before after (Accepted c)) where
+module _ (len : Bool) (t : List ℕ) (before after : Lent) (c : Counts) (x : ReadIs (read len t) before after (Ok c)) where
   left : (ts : List Tree) × Left len t before after c ts
   left = go (read len t) refl x.answer x.tables
     where
-      go : (y : Answer) → read len t ≡ y → Accepted c ≡ answers y before → after ≡ leaves y before → (ts : List Tree) × Left len t before after c ts
+      go : (y : Answer) → read len t ≡ y → Ok c ≡ answers y before → after ≡ leaves y before → (ts : List Tree) × Left len t before after c ts
       go (refused r p) q e l = never cc
       go (accepted ts) q e l = roomed (roomy (tables ts) before) e l
         where
-          roomed : (f : Bool) → Accepted c ≡ pick f (Accepted (counts_of (tables ts))) (Refused NoRoom 0) → after ≡ pick f (stored (tables ts) before) before → (us : List Tree) × Left len t before after c us
+          roomed : (f : Bool) → Ok c ≡ pick f (Ok (counts_of (tables ts))) (Err (refusal NoRoom 0)) → after ≡ pick f (stored (tables ts) before) before → (us : List Tree) × Left len t before after c us
           roomed true w s = let z : c ≡ counts_of (tables ts) = cc in (ts, (q, z, s))
           roomed false w s = never cc
 
@@ -48,7 +49,7 @@ module _ (len : Bool) (t : List ℕ) (before after : Lent) (c : Counts) (x : Rea
           (ts, q, z, ap (record_of t) z ∙ record_of_lem len t ts q)
 
 -- of the first `used` bytes of a buffer
-pub read-buffer-fits : (len : Bool) (buf : List ℕ) (used : ℕ) (before after : Lent) (c : Counts) → used ≤ length buf → ReadIs (read len (take used buf)) before after (Accepted c)
+pub read-buffer-fits : (len : Bool) (buf : List ℕ) (used : ℕ) (before after : Lent) (c : Counts) → used ≤ length buf → ReadIs (read len (take used buf)) before after (Ok c)
     → Fit (memory buf used c after.trees after.nodes after.props after.vals) ≡ true
 read-buffer-fits len buf used before after c l x = go (left len (take used buf) before after c x)
   where
@@ -59,6 +60,6 @@ read-buffer-fits len buf used before after c l x = go (left len (take used buf) 
         (drop (length (flat_props T.props)) before.props) (drop (length (flat_vals T.vals)) before.vals))
 
 -- of a text that is used whole
-pub read_fits : (len : Bool) (t : List ℕ) (before after : Lent) (c : Counts) → ReadIs (read len t) before after (Accepted c)
+pub read_fits : (len : Bool) (t : List ℕ) (before after : Lent) (c : Counts) → ReadIs (read len t) before after (Ok c)
     → Fit (memory t (length t) c after.trees after.nodes after.props after.vals) ≡ true
 read_fits len t before after c x = read-buffer-fits len t (length t) before after c (omega arith) (rw (take-length t) x)

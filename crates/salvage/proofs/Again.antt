@@ -21,10 +21,11 @@ use Rattle.salvage_laws.specs.Tail.{NoTail}
 use Rattle.salvage_laws.proofs.Empty.{own-list, twice-list}
 use Rattle.salvage_laws.proofs.Theorem.{mended-own, mended-too-deep, mended-twice}
 use Rattle.salvage.specs.Salvage.{SalvageIs}
-use Rattle.salvage.specs.declared.SalvageAnswer.{SalvageAnswer}
-use Rattle.salvage.specs.declared.SalvageAnswer.TheVariants.{Done}
 use Rattle.salvage.proofs.Stays.{text-stays}
 use Rattle.salvage.proofs.Theorems.{changes-are, IsDone, done-read, first-bytes}
+use Rattle.std.specs.Prelude.{Result, Ok}
+use Rattle.tables.specs.declared.Reason.{Reason}
+use Rattle.tables.specs.declared.Refusal.{Refusal}
 
 -- a strictly accepted text that is its own writing, each tree beginning with `(` and nothing behind the last, whose raw identifiers are non-empty and uppercase
 module _ (t : List ℕ) (ts : List Tree) (h : read_strict t ≡ accepted ts) (b : BeginsAll t) (nm : All Named (all_props (all_nodes ts))) (tail : NoTail t) (own : writing ts ≡ t) where
@@ -47,18 +48,18 @@ module _ (t : List ℕ) (ts : List Tree) (h : read_strict t ≡ accepted ts) (b 
 
   -- is salvaged as it is, with an empty list
   pub salvage-own : (before : Lent) (list out : List ℕ) → roomy (tables ts) before ≡ true → length t ≤ length out
-      → {after : Lent} {list' out' : List ℕ} {r : SalvageAnswer} → SalvageIs t before after list list' out out' r
-      → (r ≡ Done (counts_of (tables ts)) (length t) 0) × (list' ≡ list) × (take (length t) out' ≡ t)
+      → {after : Lent} {list' out' : List ℕ} {r : Result (Counts × ℕ × ℕ) (Refusal Reason)} → SalvageIs t before after list list' out out' r
+      → (r ≡ Ok (counts_of (tables ts), length t, 0)) × (list' ≡ list) × (take (length t) out' ≡ t)
   salvage-own before list out room enough x = text-stays t ts kept.0 kept.1 own silent shallow before list out room enough x
 
 -- the result of a salvage
-module _ {t : List ℕ} {before after : Lent} {list list' out out' : List ℕ} {c : Counts} {n k : ℕ} (x : SalvageIs t before after list list' out out' (Done c n k)) where
+module _ {t : List ℕ} {before after : Lent} {list list' out out' : List ℕ} {c : Counts} {n k : ℕ} (x : SalvageIs t before after list list' out out' (Ok (c, n, k))) where
   -- a text that is leniently read, and salvaged as it is, with an empty list
   abbrev Twice : List ℕ → Type 0
   Twice w =
       (us : List Tree) × (read_lenient w ≡ accepted us) × ((before₂ : Lent) (list₂ out₂ : List ℕ) → roomy (tables us) before₂ ≡ true → length w ≤ length out₂
-      → (after₂ : Lent) (list₂' out₂' : List ℕ) (r : SalvageAnswer) → SalvageIs w before₂ after₂ list₂ list₂' out₂ out₂' r
-      → (r ≡ Done (counts_of (tables us)) (length w) 0) × (list₂' ≡ list₂) × (take (length w) out₂' ≡ w))
+      → (after₂ : Lent) (list₂' out₂' : List ℕ) (r : Result (Counts × ℕ × ℕ) (Refusal Reason)) → SalvageIs w before₂ after₂ list₂ list₂' out₂ out₂' r
+      → (r ≡ Ok (counts_of (tables us), length w, 0)) × (list₂' ≡ list₂) × (take (length w) out₂' ≡ w))
 
   pub salvage-twice : Twice (take n out')
   salvage-twice = go (done-read t before (length list) (length out) c n k x.answer)

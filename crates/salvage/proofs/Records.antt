@@ -10,16 +10,16 @@ use Rattle.salvage_mend.specs.Changes.{Change, empty_root, unnamed, removed_gm, 
 use Rattle.salvage_mend.specs.Mend.{mended}
 use Rattle.salvage_list.specs.ListRows.{change_row, change_rows, with_changes}
 use Rattle.salvage.specs.LocalsRecord.{Decided, WrittenWhole}
-use Rattle.salvage.specs.declared.SalvageAnswer.TheVariants.{Done}
+use Rattle.std.specs.Prelude.{Ok}
 
 module _ (m : Memory) (cs : List Change) (list out : List ℕ) {k : ℕ} (d : Decided m cs list out k) where
   abbrev w : List ℕ
   w = writing (mended (record_in m))
 
-  pub record-done : {out' : List ℕ} {n : ℕ} → Wrote w out 0 out' n → {list' : List ℕ} → list' ≡ over (change_rows cs) list → WrittenWhole m cs list list' out out' (Done m.counts n k)
+  pub record-done : {out' : List ℕ} {n : ℕ} → Wrote w out 0 out' n → {list' : List ℕ} → list' ≡ over (change_rows cs) list → WrittenWhole m cs list list' out out' (Ok (m.counts, n, k))
   record-done {n = n} x y =
       let q : n ≡ length w = omega (arith, x.place, d.short) in
-      record { answer = ap₂ (λ (a b : ℕ). Done m.counts a b) q d.count; changes = y; bytes = wrote-all x d.room }
+      record { answer = ap₂ (λ (a b : ℕ). Ok (m.counts, a, b)) q d.count; changes = y; bytes = wrote-all x d.room }
 
 -- ---- the list
 

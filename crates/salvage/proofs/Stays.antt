@@ -15,18 +15,21 @@ use Rattle.salvage_mend.specs.Mend.{mended}
 use Rattle.salvage_list.specs.ListRows.{text_changes}
 use Rattle.salvage_laws.specs.Result.{salvage_of}
 use Rattle.salvage.specs.Salvage.{room_for_all, result_answer, salvage_gives, salvage_at, list_left, bytes_left, SalvageIs}
-use Rattle.salvage.specs.declared.SalvageAnswer.{SalvageAnswer}
-use Rattle.salvage.specs.declared.SalvageAnswer.TheVariants.{Done, Refused}
+use Rattle.std.specs.Prelude.{Result, Ok, Err}
+use Rattle.tables.specs.Refusals.{refusal}
+use Rattle.tables.specs.declared.Counts.{Counts}
+use Rattle.tables.specs.declared.Reason.{Reason}
+use Rattle.tables.specs.declared.Refusal.{Refusal}
 
 module _ (w : List ℕ) (ts : List Tree) (reads : read_lenient w ≡ accepted ts) (stays : mended ts ≡ ts) (own : writing ts ≡ w) (none : text_changes w ≡ []) (deep : depth_of w ≤ depth_limit) where
   same_text : writing (mended ts) ≡ w
   same_text = ap writing stays ∙ own
 
   module _ (before : Lent) (list out : List ℕ) (room : roomy (tables ts) before ≡ true) (enough : length w ≤ length out) where
-    abbrev by : (l d r k n : Bool) → SalvageAnswer
-    by l d r k n = pick l (Refused TextTooLong 0) (pick d (Refused TooDeep 0) (pick (r && (k && n)) (Done (counts_of (tables ts)) (length w) 0) (Refused NoRoom 0)))
+    abbrev by : (l d r k n : Bool) → Result (Counts × ℕ × ℕ) (Refusal Reason)
+    by l d r k n = pick l (Err (refusal TextTooLong 0)) (pick d (Err (refusal TooDeep 0)) (pick (r && (k && n)) (Ok (counts_of (tables ts), length w, 0)) (Err (refusal NoRoom 0))))
 
-    result-is : by (ltb text_limit (length w)) (ltb depth_limit (depth_of w)) (roomy (tables ts) before) (leb 0 (length list / 3)) (leb (length w) (length out)) ≡ Done (counts_of (tables ts)) (length w) 0
+    result-is : by (ltb text_limit (length w)) (ltb depth_limit (depth_of w)) (roomy (tables ts) before) (leb 0 (length list / 3)) (leb (length w) (length out)) ≡ Ok (counts_of (tables ts), length w, 0)
     result-is =
         ap (λ (z : Bool). by z (ltb depth_limit (depth_of w)) (roomy (tables ts) before) (leb 0 (length list / 3)) (leb (length w) (length out))) (le-ltb text_limit (length w) (reading-is true w ts reads).short)
         ∙ ap (λ (z : Bool). by false z (roomy (tables ts) before) (leb 0 (length list / 3)) (leb (length w) (length out))) (le-ltb depth_limit (depth_of w) deep)
@@ -34,7 +37,7 @@ module _ (w : List ℕ) (ts : List Tree) (reads : read_lenient w ≡ accepted ts
         ∙ ap (λ (z : Bool). by false false true z (leb (length w) (length out))) (le-leb 0 (length list / 3) (omega arith))
         ∙ ap (λ (z : Bool). by false false true true z) (le-leb (length w) (length out) enough)
 
-    answer-is : salvage_at w before list out ≡ Done (counts_of (tables ts)) (length w) 0
+    answer-is : salvage_at w before list out ≡ Ok (counts_of (tables ts), length w, 0)
     unfolding salvage_gives
     answer-is =
         ap₂ (λ (a : Answer) (cs : List Change). salvage_gives a cs before (length list) (length out)) reads none
@@ -42,10 +45,10 @@ module _ (w : List ℕ) (ts : List Tree) (reads : read_lenient w ≡ accepted ts
         ∙ result-is
 
     -- the answer 0 with the length of the text and no change; the list stays, and the output begins with the text
-    pub text-stays : {after : Lent} {list' out' : List ℕ} {r : SalvageAnswer} → SalvageIs w before after list list' out out' r
-        → (r ≡ Done (counts_of (tables ts)) (length w) 0) × (list' ≡ list) × (take (length w) out' ≡ w)
+    pub text-stays : {after : Lent} {list' out' : List ℕ} {r : Result (Counts × ℕ × ℕ) (Refusal Reason)} → SalvageIs w before after list list' out out' r
+        → (r ≡ Ok (counts_of (tables ts), length w, 0)) × (list' ≡ list) × (take (length w) out' ≡ w)
     text-stays x =
         let e = x.answer ∙ answer-is in
-        let l = x.changes ∙ ap₂ (λ (a : SalvageAnswer) (cs : List Change). list_left a cs list) e none in
-        let b = x.bytes ∙ ap₂ (λ (a : SalvageAnswer) (z : Answer). bytes_left a (salvage_of z) out) e reads ∙ ap (λ (z : List ℕ). over z out) same_text in
+        let l = x.changes ∙ ap₂ (λ (a : Result (Counts × ℕ × ℕ) (Refusal Reason)) (cs : List Change). list_left a cs list) e none in
+        let b = x.bytes ∙ ap₂ (λ (a : Result (Counts × ℕ × ℕ) (Refusal Reason)) (z : Answer). bytes_left a (salvage_of z) out) e reads ∙ ap (λ (z : List ℕ). over z out) same_text in
         (e, l, ap (take (length w)) b ∙ take_at w (drop (length w) out) (length w) refl)

@@ -24,8 +24,10 @@ use Rattle.salvage_laws.proofs.Says.{changes-say}
 use Rattle.salvage_laws.proofs.Theorem.{mended-reads}
 use Rattle.salvage.specs.Salvage.{room_for_all, result_answer, salvage_gives, salvage_at, SalvageIs}
 use Rattle.salvage.specs.Worth.{Worth, salvage_number}
-use Rattle.salvage.specs.declared.SalvageAnswer.{SalvageAnswer}
-use Rattle.salvage.specs.declared.SalvageAnswer.TheVariants.{Done, Refused}
+use Rattle.std.specs.Prelude.{Result, Ok, Err}
+use Rattle.tables.specs.Refusals.{refusal}
+use Rattle.tables.specs.declared.Refusal.{Refusal}
+use Rattle.lists.proofs.Parts.{ok-three}
 
 -- the list of a text that is leniently read
 pub changes-are : (t : List ℕ) (ts : List Tree) → read_lenient t ≡ accepted ts → text_changes t ≡ changes_of t
@@ -42,29 +44,29 @@ pub record IsDone (w : List ℕ) (cs : List Change) (c : Counts) (n k : ℕ) (ts
   pub shallow : depth_of w ≤ depth_limit
 
 result-done : (w : List ℕ) (cs : List Change) (ts : List Tree) (enough : Bool) (c : Counts) (n k : ℕ)
-    → Done c n k ≡ result_answer (counts_of (tables ts)) w cs enough → IsDone w cs c n k ts
+    → Ok (c, n, k) ≡ result_answer (counts_of (tables ts)) w cs enough → IsDone w cs c n k ts
 result-done w cs ts enough c n k e = go (ltb text_limit (length w)) refl (ltb depth_limit (depth_of w)) refl enough e
   where
     go : (l : Bool) → ltb text_limit (length w) ≡ l → (d : Bool) → ltb depth_limit (depth_of w) ≡ d → (s : Bool)
-        → Done c n k ≡ pick l (Refused TextTooLong 0) (pick d (Refused TooDeep 0) (pick s (Done (counts_of (tables ts)) (length w) (length cs)) (Refused NoRoom 0))) → IsDone w cs c n k ts
+        → ◌≡◌ {A = Result (Counts × ℕ × ℕ) (Refusal Reason)} (Ok (c, n, k)) (pick l (Err (refusal TextTooLong 0)) (pick d (Err (refusal TooDeep 0)) (pick s (Ok (counts_of (tables ts), length w, length cs)) (Err (refusal NoRoom 0))))) → IsDone w cs c n k ts
     go true p d q s h = never cc
     go false p true q s h = never cc
     go false p false q false h = never cc
-    go false p false q true h = record { counts = cc; long = cc; count = cc; short = ltb-false text_limit (length w) p; shallow = ltb-false depth_limit (depth_of w) q }
+    go false p false q true h = let z = ok-three h in record { counts = z.0; long = z.1; count = z.2; short = ltb-false text_limit (length w) p; shallow = ltb-false depth_limit (depth_of w) q }
 
 module _ (t : List ℕ) (before : Lent) (rows room : ℕ) (c : Counts) (n k : ℕ) where
-  pub done-read : Done c n k ≡ salvage_gives (read_lenient t) (text_changes t) before rows room
+  pub done-read : Ok (c, n, k) ≡ salvage_gives (read_lenient t) (text_changes t) before rows room
       → (ts : List Tree) × (read_lenient t ≡ accepted ts) × IsDone (writing (mended ts)) (text_changes t) c n k ts
   unfolding salvage_gives
   done-read e = go (read_lenient t) refl e
     where
-      go : (a : Answer) → read_lenient t ≡ a → Done c n k ≡ salvage_gives a (text_changes t) before rows room
+      go : (a : Answer) → read_lenient t ≡ a → Ok (c, n, k) ≡ salvage_gives a (text_changes t) before rows room
           → (ts : List Tree) × (read_lenient t ≡ accepted ts) × IsDone (writing (mended ts)) (text_changes t) c n k ts
       go (refused r p) q h = never cc
       go (accepted ts) q h =
           (ts, q, result-done (writing (mended ts)) (text_changes t) ts (room_for_all (tables ts) before (writing (mended ts)) (text_changes t) rows room) c n k h)
 
-module _ {t : List ℕ} {before after : Lent} {list list' out out' : List ℕ} {c : Counts} {n k : ℕ} (x : SalvageIs t before after list list' out out' (Done c n k)) where
+module _ {t : List ℕ} {before after : Lent} {list list' out out' : List ℕ} {c : Counts} {n k : ℕ} (x : SalvageIs t before after list list' out out' (Ok (c, n, k))) where
   pub first-bytes : (ts : List Tree) → read_lenient t ≡ accepted ts → n ≡ length (writing (mended ts)) → take n out' ≡ writing (mended ts)
   first-bytes ts h l =
       ap₂ (λ (a : ℕ) (z : List ℕ). take a z) l (x.bytes ∙ ap (λ (a : Answer). over (salvage_of a) out) h)
@@ -96,7 +98,7 @@ pub salvage-numbers : (t : List ℕ) (before : Lent) (list out : List ℕ) → F
 unfolding salvage_gives
 salvage-numbers t before list out = go (read_lenient t) refl
   where
-    few : SalvageAnswer → Type 0
+    few : Result (Counts × ℕ × ℕ) (Refusal Reason) → Type 0
     few a = FewNumbers (salvage_number a)
 
     go : (a : Answer) → read_lenient t ≡ a → FewNumbers (salvage_number (salvage_gives a (text_changes t) before (length list) (length out)))

@@ -1,5 +1,5 @@
 -- What is left to do once all is decided: the record lies in the tables, and there is room. Nothing public is stated by these.
-use Rattle.std.specs.Prelude.{◌/◌, ◌≤◌, ◌≡◌}
+use Rattle.std.specs.Prelude.{◌/◌, ◌≤◌, ◌≡◌, Result, Ok}
 use Rattle.lists.specs.Prelude.{ℕ, true, List, length}
 use Rattle.tables.specs.Memory.{Memory, memory}
 use Rattle.tables.specs.Numbers.{text_limit}
@@ -11,8 +11,8 @@ use Rattle.serialize.specs.Form.{writing}
 use Rattle.salvage_mend.specs.Changes.{Change}
 use Rattle.salvage_mend.specs.Mend.{mended}
 use Rattle.salvage_list.specs.ListRows.{change_rows}
-use Rattle.salvage.specs.declared.SalvageAnswer.{SalvageAnswer}
-use Rattle.salvage.specs.declared.SalvageAnswer.TheVariants.{Done}
+use Rattle.tables.specs.declared.Reason.{Reason}
+use Rattle.tables.specs.declared.Refusal.{Refusal}
 
 -- a text that is used whole, and its tables
 abbrev pub whole_text : List ℕ → Counts → (trees nodes properties values : List ℕ) → Memory
@@ -27,7 +27,7 @@ pub record Decided (m : Memory) (cs : List Change) (list out : List ℕ) (k : �
   pub rows : k ≤ length list / 3
 
 -- the result and the list are written whole
-pub record WrittenWhole (m : Memory) (cs : List Change) (list list' out out' : List ℕ) (r : SalvageAnswer) : Type 0 where
-  pub answer : r ≡ Done m.counts (length (writing (mended (record_in m)))) (length cs)
+pub record WrittenWhole (m : Memory) (cs : List Change) (list list' out out' : List ℕ) (r : Result (Counts × ℕ × ℕ) (Refusal Reason)) : Type 0 where
+  pub answer : r ≡ Ok (m.counts, length (writing (mended (record_in m))), length cs)
   pub changes : list' ≡ over (change_rows cs) list
   pub bytes : out' ≡ over (writing (mended (record_in m))) out

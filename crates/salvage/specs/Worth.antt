@@ -1,5 +1,5 @@
 -- What a salvaged text is worth.
-use Rattle.std.specs.Prelude.{◌≡◌}
+use Rattle.std.specs.Prelude.{◌≡◌, Result, Ok, Err}
 use Rattle.lists.specs.Prelude.{ℕ, List, length}
 use Rattle.tables.specs.Record.{Tree}
 use Rattle.tables.specs.declared.Counts.{Counts}
@@ -11,8 +11,8 @@ use Rattle.serialize_laws.specs.Same.{ReadsBack}
 use Rattle.salvage_mend.specs.Changes.{changed}
 use Rattle.salvage_mend.specs.Mend.{mended}
 use Rattle.salvage_list.specs.ListRows.{text_changes}
-use Rattle.salvage.specs.declared.SalvageAnswer.{SalvageAnswer}
-use Rattle.salvage.specs.declared.SalvageAnswer.TheVariants.{Done, Refused}
+use Rattle.tables.specs.declared.Reason.{Reason}
+use Rattle.tables.specs.declared.Refusal.{Refusal}
 
 -- of text t the bytes w, and k changes: w is the writing of the mended lenient record, strict reading accepts it with that record, and the list leaves nothing unsaid (SCOPE 295)
 pub record Worth (t : List ℕ) (c : Counts) (w : List ℕ) (k : ℕ) : Type 0 where
@@ -25,6 +25,6 @@ pub record Worth (t : List ℕ) (c : Counts) (w : List ℕ) (k : ℕ) : Type 0 w
   pub says : changed (text_changes t) trees ≡ mended trees
 
 -- the number of an answer; 0 where it is done
-abbrev pub salvage_number : SalvageAnswer → ℕ
-salvage_number (Done c n k) = 0
-salvage_number (Refused r p) = number_of r
+abbrev pub salvage_number : Result (Counts × ℕ × ℕ) (Refusal Reason) → ℕ
+salvage_number (Ok (c, n, k)) = 0
+salvage_number (Err e) = number_of e.reason

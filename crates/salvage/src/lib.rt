@@ -11,14 +11,7 @@ ghost use Rattle.salvage.specs.Salvage.{SalvageIs};
 ghost use Rattle.salvage.specs.LocalsRecord.{whole_text, Decided, WrittenWhole};
 
 use salvage_measure::Weighed;
-use tables::{Counts, Lenient, Reason};
-
-// The counts of the lenient reading, the bytes and the changes that were written; or why it is refused and the place.
-#[derive(Clone, Copy)]
-pub enum SalvageAnswer {
-    Done(Counts, usize, usize),
-    Refused(Reason, usize),
-}
+use tables::{Counts, LenientRefusal, Reason, Refusal};
 
 // Numbers in a row of the list.
 const CHANGE_STRIDE: usize = 3;
@@ -46,7 +39,7 @@ fn write_record(
     weighed: Weighed,
     changes: &mut [u32],
     out: &mut [u8],
-) -> SalvageAnswer
+) -> Result<(Counts, usize, usize), Refusal<Reason>>
     requires { Decided (whole_text text.now counts trees.now nodes.now properties.now values.now)
         (text_changes text.now) changes.old out.old count × SlicesTold text.now weighed }
     ensures { WrittenWhole
@@ -66,7 +59,7 @@ fn write_record(
     if 0 < count {
         put_list(text, weighed, changes);
     }
-    SalvageAnswer::Done(counts, n, count)
+    Ok((counts, n, count))
 }
 
 // Reads a text leniently into the lent tables, writes the mended record to `out` and what was changed to `changes`.
@@ -78,7 +71,7 @@ pub fn salvage(
     values: &mut [u32],
     changes: &mut [u32],
     out: &mut [u8],
-) -> SalvageAnswer
+) -> Result<(Counts, usize, usize), Refusal<Reason>>
     ensures { SalvageIs text.now
         (lent trees.old nodes.old properties.old values.old)
         (lent trees.new nodes.new properties.new values.new)
@@ -90,24 +83,50 @@ pub fn salvage(
     let bytes = result.bytes;
     let depth = result.depth;
     if tables::TEXT_LIMIT < bytes {
-        return SalvageAnswer::Refused(Reason::TextTooLong, 0);
+        return Err(Refusal {
+            reason: Reason::TextTooLong,
+            place: 0,
+        });
     }
     if tables::DEPTH_LIMIT < depth {
-        return SalvageAnswer::Refused(Reason::TooDeep, 0);
+        return Err(Refusal {
+            reason: Reason::TooDeep,
+            place: 0,
+        });
     }
     let count = weighed.changes;
     if changes.len() / CHANGE_STRIDE < count {
-        return SalvageAnswer::Refused(Reason::NoRoom, 0);
+        return Err(Refusal {
+            reason: Reason::NoRoom,
+            place: 0,
+        });
     }
     if out.len() < bytes {
-        return SalvageAnswer::Refused(Reason::NoRoom, 0);
+        return Err(Refusal {
+            reason: Reason::NoRoom,
+            place: 0,
+        });
     }
     match reader::read_known(text, known, trees, nodes, properties, values) {
-        Lenient::TextTooLong => SalvageAnswer::Refused(Reason::TextTooLong, 0),
-        Lenient::NotUtf8(place) => SalvageAnswer::Refused(Reason::NotUtf8, place),
-        Lenient::TooDeep => SalvageAnswer::Refused(Reason::TooDeep, 0),
-        Lenient::NoRoom => SalvageAnswer::Refused(Reason::NoRoom, 0),
-        Lenient::Accepted(counts) => write_record(
+        Err(refused) => match refused {
+            LenientRefusal::TextTooLong => Err(Refusal {
+                reason: Reason::TextTooLong,
+                place: 0,
+            }),
+            LenientRefusal::NotUtf8(place) => Err(Refusal {
+                reason: Reason::NotUtf8,
+                place,
+            }),
+            LenientRefusal::TooDeep => Err(Refusal {
+                reason: Reason::TooDeep,
+                place: 0,
+            }),
+            LenientRefusal::NoRoom => Err(Refusal {
+                reason: Reason::NoRoom,
+                place: 0,
+            }),
+        },
+        Ok(counts) => write_record(
             text, counts, trees, nodes, properties, values, count, weighed, changes, out,
         ),
     }

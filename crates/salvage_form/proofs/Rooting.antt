@@ -5,8 +5,6 @@ use Rattle.values.specs.Read.{read_identifier}
 use Rattle.lexer.specs.Token.{Prop, Tok, prop}
 use Rattle.lexer.specs.Step.{vals_at, prop_at}
 use Rattle.parser.specs.Game.{game_vals, game_props, props}
-use Rattle.parser_game.specs.declared.GameType.{GameType}
-use Rattle.parser_game.specs.declared.GameType.TheVariants.{Is, Refused}
 use Rattle.parser_game.specs.LocalsGame.{type_of}
 use Rattle.fit.specs.Record.{raws_of}
 use Rattle.go_size.specs.Root.{size_of_values, size_in}
@@ -19,6 +17,8 @@ use Rattle.salvage_form.specs.Rooted.{root_rule}
 use Rattle.salvage_form.specs.LocalsRooted.{ruled_by}
 use Rattle.salvage_form.specs.declared.root.RootRule.{RootRule}
 use Rattle.salvage_form.proofs.Roots.{Gathered, rule-good, rule-bad, gathered-other, gathered-one, gathered-by, gathered_none, as_is, game-by, game-absent, sizes_among, size-by, size-absent}
+use Rattle.std.specs.Prelude.{Result, Ok, Err}
+use Rattle.tables.specs.declared.Reason.{Reason}
 
 pub neither : (a b : Bool) → (a || b) ≡ false → (a ≡ false) × (b ≡ false)
 neither true b h = absurd (false≢true (sym h))
@@ -44,12 +44,12 @@ module _ {X : Type 0} {f : List Prop → List X} {of : Prop → X} {s : List ℕ
           (subst (λ (v : ℕ). Gathered f of s l r' found v) (sym (em ∙ ap (λ (u : Bool). pick u j k) hb)) (gathered-other x w step i j e r' q eb hb))
 
 module _ {s : List ℕ} {l r : List Tok} {found : Bool} {k : ℕ} (e : props r ≡ []) where
-  pub game-from : Gathered gms_among as_is s l r found k → {x : GameType} → x ≡ pick found (type_of (game_vals (vals_at s k))) (Is 0) → x ≡ type_of (game_props (gms_among (props l)))
+  pub game-from : Gathered gms_among as_is s l r found k → {x : Result ℕ Reason} → x ≡ pick found (type_of (game_vals (vals_at s k))) (Ok 0) → x ≡ type_of (game_props (gms_among (props l)))
   game-from y {x} h = by found refl
     where
       by : (c : Bool) → found ≡ c → x ≡ type_of (game_props (gms_among (props l)))
-      by true hc = let z = gathered-by y refl e hc in game-by (props l) s z.0 k z.1 (h ∙ ap (λ (u : Bool). pick u (type_of (game_vals (vals_at s k))) (Is 0)) hc)
-      by false hc = h ∙ ap (λ (u : Bool). pick u (type_of (game_vals (vals_at s k))) (Is 0)) hc ∙ game-absent (props l) (gathered_none y refl e hc)
+      by true hc = let z = gathered-by y refl e hc in game-by (props l) s z.0 k z.1 (h ∙ ap (λ (u : Bool). pick u (type_of (game_vals (vals_at s k))) (Ok 0)) hc)
+      by false hc = h ∙ ap (λ (u : Bool). pick u (type_of (game_vals (vals_at s k))) (Ok 0)) hc ∙ game-absent (props l) (gathered_none y refl e hc)
 
   pub size-from : Gathered sizes_among raws_of s l r found k → {x : RootSize} → x ≡ pick found (size_of_values (raws_at s k)) Absent → x ≡ size_in (map property_of (props l))
   size-from y {x} h = by found refl
@@ -58,9 +58,9 @@ module _ {s : List ℕ} {l r : List Tok} {found : Bool} {k : ℕ} (e : props r �
       by true hc = let z = gathered-by y refl e hc in size-by (props l) s z.0 k z.1 (h ∙ ap (λ (u : Bool). pick u (size_of_values (raws_at s k)) Absent) hc)
       by false hc = h ∙ ap (λ (u : Bool). pick u (size_of_values (raws_at s k)) Absent) hc ∙ size-absent (props l) (gathered_none y refl e hc)
 
-pub rule-is : (ps : List Prop) {z : RootSize} → z ≡ size_in (map property_of ps) → {x : GameType} → x ≡ type_of (game_props (gms_among ps)) → {r : RootRule} → r ≡ ruled_by x z → r ≡ root_rule ps
+pub rule-is : (ps : List Prop) {z : RootSize} → z ≡ size_in (map property_of ps) → {x : Result ℕ Reason} → x ≡ type_of (game_props (gms_among ps)) → {r : RootRule} → r ≡ ruled_by x z → r ≡ root_rule ps
 rule-is ps {z} ez {x} ex {r} h = by x refl
   where
-    by : (y : GameType) → x ≡ y → r ≡ root_rule ps
-    by (Is k) e = h ∙ ap (λ (g : GameType). ruled_by g z) e ∙ rule-good ps ez ex e refl
-    by (Refused q) e = h ∙ ap (λ (g : GameType). ruled_by g z) e ∙ rule-bad ps ez ex e refl
+    by : (y : Result ℕ Reason) → x ≡ y → r ≡ root_rule ps
+    by (Ok k) e = h ∙ ap (λ (g : Result ℕ Reason). ruled_by g z) e ∙ rule-good ps ez ex e refl
+    by (Err q) e = h ∙ ap (λ (g : Result ℕ Reason). ruled_by g z) e ∙ rule-bad ps ez ex e refl

@@ -14,14 +14,10 @@ use Rattle.tables.specs.declared.Reason.{Reason}
 use Rattle.tables.specs.declared.Reason.TheVariants.{UnexpectedProperty}
 use Rattle.tables.specs.Record.{Node, Tree}
 use Rattle.parser.specs.Game.{GM, game_vals, game_props, props}
-use Rattle.parser_game.specs.declared.GameType.{GameType}
-use Rattle.parser_game.specs.declared.GameType.TheVariants.{Is, Refused}
 use Rattle.parser_game.specs.LocalsGame.{type_of}
 use Rattle.fit.specs.Record.{raws_of}
 use Rattle.go_size.specs.Size.{size_of}
 use Rattle.go_size.specs.Root.{SZ, sizes_in, root_size, size_of_values, size_by, size_in}
-use Rattle.go_size.specs.declared.Size.{Size}
-use Rattle.go_size.specs.declared.Size.TheVariants.{Bad, Board}
 use Rattle.go_size.specs.declared.RootSize.{RootSize}
 use Rattle.go_size.specs.declared.RootSize.TheVariants.{Absent, Sized, Wrong}
 use Rattle.fit_rule.specs.Rule.{property_of, rule_by, size_of_tree, rule_of}
@@ -32,6 +28,7 @@ use Rattle.salvage_form.specs.Measured.{raws_at}
 use Rattle.salvage_form.specs.Rooted.{root_rule}
 use Rattle.salvage_form.specs.declared.root.RootRule.{RootRule}
 use Rattle.salvage_form.proofs.Scanned.{raws-more, raws-shut}
+use Rattle.std.specs.Prelude.{Option, Some, None, Result, Ok, Err}
 
 -- ---- what is picked of the properties of l is xs, and then what is picked of those of r
 
@@ -102,14 +99,14 @@ pub gm-step : (p : Prop) (ps : List Prop) → gms_among (p ∷ ps) ≡ pick (sam
 gm-step p ps = refl
 
 module _ (ps : List Prop) where
-  pub game-twice : Twice (gms_among ps) → Refused UnexpectedProperty ≡ type_of (game_props (gms_among ps))
+  pub game-twice : Twice (gms_among ps) → Err UnexpectedProperty ≡ type_of (game_props (gms_among ps))
   game-twice t = ap (λ (z : List Prop). type_of (game_props z)) (sym t.is)
 
-  pub game-by : (s : List ℕ) (i k : ℕ) → gms_among ps ≡ prop_at s i k ∷ [] → {x : GameType} → x ≡ type_of (game_vals (vals_at s k)) → x ≡ type_of (game_props (gms_among ps))
+  pub game-by : (s : List ℕ) (i k : ℕ) → gms_among ps ≡ prop_at s i k ∷ [] → {x : Result ℕ Reason} → x ≡ type_of (game_vals (vals_at s k)) → x ≡ type_of (game_props (gms_among ps))
   unfolding prop_at
   game-by s i k e h = h ∙ ap (λ (z : List Prop). type_of (game_props z)) (sym e)
 
-  pub game-absent : gms_among ps ≡ [] → Is 0 ≡ type_of (game_props (gms_among ps))
+  pub game-absent : gms_among ps ≡ [] → Ok 0 ≡ type_of (game_props (gms_among ps))
   game-absent e = ap (λ (z : List Prop). type_of (game_props z)) (sym e)
 
 -- ---- SZ
@@ -133,11 +130,11 @@ module _ (ps : List Prop) where
   unfolding size_in
   size-absent e = ap size_by (sym e)
 
-module _ (v : List ℕ) {x : Size} (e : x ≡ size_of (read_value v)) where
-  pub board-bad : x ≡ Bad → Wrong ≡ root_size (size_of (read_value v))
+module _ (v : List ℕ) {x : Option (ℕ × ℕ)} (e : x ≡ size_of (read_value v)) where
+  pub board-bad : x ≡ None → Wrong ≡ root_size (size_of (read_value v))
   board-bad h = ap root_size (sym h ∙ e)
 
-  pub board-sized : {a b : ℕ} → x ≡ Board a b → Sized a b ≡ root_size (size_of (read_value v))
+  pub board-sized : {a b : ℕ} → x ≡ Some (a, b) → Sized a b ≡ root_size (size_of (read_value v))
   board-sized h = ap root_size (sym h ∙ e)
 
 pub values-none : (s : List ℕ) (k : ℕ) {x : ValueStep} → x ≡ value_step_at s k → OneOf (1 ∷ 2 ∷ []) (tag_of value-step.the_type x) → Wrong ≡ size_of_values (raws_at s k)
@@ -162,12 +159,12 @@ rule-parts ps = ap (rule_by (kept_game (game_props (gms_among ps)))) (size-mende
 abbrev ruled : ℕ → Bool → RootRule
 ruled k b = record { rule = k; bad = b }
 
-module _ (ps : List Prop) {z : RootSize} (ez : z ≡ size_in (map property_of ps)) {x : GameType} (ex : x ≡ type_of (game_props (gms_among ps))) {n : ℕ} where
-  pub rule-good : {k : ℕ} → x ≡ Is k → n ≡ rule_by k z → ruled n false ≡ root_rule ps
+module _ (ps : List Prop) {z : RootSize} (ez : z ≡ size_in (map property_of ps)) {x : Result ℕ Reason} (ex : x ≡ type_of (game_props (gms_among ps))) {n : ℕ} where
+  pub rule-good : {k : ℕ} → x ≡ Ok k → n ≡ rule_by k z → ruled n false ≡ root_rule ps
   unfolding root_rule
   rule-good e h = ap₂ ruled (h ∙ ap₂ rule_by (type-told (game_props (gms_among ps)) ex e) ez ∙ sym (rule-parts ps)) (good-told (game_props (gms_among ps)) ex e)
 
-  pub rule-bad : {r : Reason} → x ≡ Refused r → n ≡ rule_by 0 z → ruled n true ≡ root_rule ps
+  pub rule-bad : {r : Reason} → x ≡ Err r → n ≡ rule_by 0 z → ruled n true ≡ root_rule ps
   unfolding root_rule
   rule-bad e h = ap₂ ruled (h ∙ ap₂ rule_by (none_told (game_props (gms_among ps)) ex e) ez ∙ sym (rule-parts ps)) (bad-told (game_props (gms_among ps)) ex e)
 

@@ -1,5 +1,5 @@
 // The rule of a tree and whether its root's GMs are removed, by the properties that follow the root's token in the text.
-ghost use Rattle.std.specs.Prelude.{◌≡◌, map};
+ghost use Rattle.std.specs.Prelude.{◌≡◌, map, Ok};
 ghost use Rattle.values.specs.Read.{read_value};
 ghost use Rattle.lexer.specs.Token.{lex_at};
 ghost use Rattle.lists.specs.Pick.{pick};
@@ -7,7 +7,6 @@ ghost use Rattle.lexer.specs.Step.{vals_at};
 ghost use Rattle.parser.specs.Game.{props, game_vals, game_props};
 ghost use Rattle.parser_game.specs.LocalsGame.{type_of};
 ghost use Rattle.go_size.specs.Size.{size_of};
-ghost use Rattle.parser_game.specs.declared.GameType.TheVariants.{Is};
 ghost use Rattle.go_size.specs.Root.{root_size, size_of_values, size_in};
 ghost use Rattle.go_size.specs.declared.RootSize.TheVariants.{Absent};
 ghost use Rattle.fit_rule.specs.Rule.{property_of};
@@ -16,10 +15,9 @@ ghost use Rattle.salvage_form.specs.Measured.{raws_at};
 ghost use Rattle.salvage_form.specs.Rooted.{root_rule};
 ghost use Rattle.salvage_form.specs.LocalsRooted.{ruled_by};
 
-use go_size::{RootSize, Size};
+use go_size::RootSize;
 use lexer::Step;
 use lexer_scan::ValueStep;
-use parser_game::GameType;
 use tables::Reason;
 
 // The rule of a mended tree, and whether its root's GMs are removed.
@@ -30,7 +28,7 @@ pub struct RootRule {
 }
 
 // The game type that the properties from a place on give by those that read GM, or why they give none.
-fn root_game(s: &[u8], from: usize) -> GameType
+fn root_game(s: &[u8], from: usize) -> Result<u32, Reason>
     ensures { result ≡ type_of (game_props (gms_among (props (lex_at s.now from).toks))) }
 {
     let mut at = from;
@@ -44,7 +42,7 @@ fn root_game(s: &[u8], from: usize) -> GameType
         at = e;
         if parts_props::reads_as(&s[i..j], b"GM") {
             if found {
-                return GameType::Refused(Reason::UnexpectedProperty);
+                return Err(Reason::UnexpectedProperty);
             }
             found = true;
             k = j;
@@ -53,7 +51,7 @@ fn root_game(s: &[u8], from: usize) -> GameType
     if found {
         return parser_game::game_values(s, k);
     }
-    GameType::Is(0)
+    Ok(0)
 }
 
 // The size that a value says.
@@ -61,8 +59,8 @@ fn board_size(value: &[u8]) -> RootSize
     ensures { result ≡ root_size (size_of (read_value value.now)) }
 {
     match go_size::read_size(value) {
-        Size::Bad => RootSize::Wrong,
-        Size::Board(x, y) => RootSize::Sized(x, y),
+        None => RootSize::Wrong,
+        Some((x, y)) => RootSize::Sized(x, y),
     }
 }
 
@@ -127,25 +125,25 @@ fn size_found(s: &[u8], found: bool, k: usize) -> RootSize
 }
 
 // The game type, where none or one of the properties reads GM: the place of its first `[`.
-fn game_found(s: &[u8], found: bool, k: usize) -> GameType
-    ensures { result ≡ pick found (type_of (game_vals (vals_at s.now k))) (Is 0) }
+fn game_found(s: &[u8], found: bool, k: usize) -> Result<u32, Reason>
+    ensures { result ≡ pick found (type_of (game_vals (vals_at s.now k))) (Ok 0) }
 {
     if found {
         return parser_game::game_values(s, k);
     }
-    GameType::Is(0)
+    Ok(0)
 }
 
 // By the game type and the size.
-fn rule_by(game: GameType, size: RootSize) -> RootRule
+fn rule_by(game: Result<u32, Reason>, size: RootSize) -> RootRule
     ensures { result ≡ ruled_by game size }
 {
     match game {
-        GameType::Is(k) => RootRule {
+        Ok(k) => RootRule {
             rule: fit_rule::rule_of(k, size),
             bad: false,
         },
-        GameType::Refused(_) => RootRule {
+        Err(_) => RootRule {
             rule: fit_rule::rule_of(0, size),
             bad: true,
         },

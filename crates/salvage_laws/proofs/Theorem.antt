@@ -24,7 +24,7 @@ use Rattle.serialize_laws.proofs.Aside.{written-alike, written_twice}
 use Rattle.serialize_laws.specs.Back.{BeginsAll, Named}
 use Rattle.serialize_laws.specs.Depth.{depth_of}
 use Rattle.serialize_laws.proofs.Sounded.{PreTrees, back-again}
-use Rattle.serialize_laws.proofs.Sounding.{Some, some-sliced, sound-trees, few-trees, writable}
+use Rattle.serialize_laws.proofs.Sounding.{HasSlice, some-sliced, sound-trees, few-trees, writable}
 use Rattle.serialize_laws.proofs.Theorem.{form-back-within, form-too-deep, named-nodes, named-trees}
 use Rattle.serialize_laws.proofs.Written.{PlainTree}
 use Rattle.salvage_mend.specs.Mend.{mend_tree, mended}
@@ -55,7 +55,7 @@ module _ (len : Bool) (t : List ℕ) (ts : List Tree) (r : Reading len t ts) whe
   some-tree : 0 < length ts
   some-tree =
       grew-some len 0 r.k r.toks ts r.grew
-      (subst Some r.cuts (some-sliced len (split len (splitting 0 0 [] []) (tokenize r.ink t).toks)))
+      (subst HasSlice r.cuts (some-sliced len (split len (splitting 0 0 [] []) (tokenize r.ink t).toks)))
 
   mended-form : All HasProper (all_props (all_nodes ts)) → Form (mended ts)
   mended-form h =

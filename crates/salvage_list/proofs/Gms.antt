@@ -5,10 +5,9 @@ use Rattle.lexer.specs.Token.{Prop, Tok, prop}
 use Rattle.lexer.specs.Step.{vals_at, prop_at}
 use Rattle.tables.specs.declared.Reason.{Reason}
 use Rattle.parser.specs.Game.{Game, is, no_game, game_vals, game_props, props}
-use Rattle.parser_game.specs.declared.GameType.{GameType}
-use Rattle.parser_game.specs.declared.GameType.TheVariants.{Is, Refused}
 use Rattle.parser_game.specs.LocalsGame.{type_of}
 use Rattle.salvage_mend.specs.Mend.{reads_gm, gms_among, gms_bad}
+use Rattle.std.specs.Prelude.{Result, Ok, Err}
 
 -- of the properties of l, those that read GM are ps and then those of r
 pub record Gathered (s : List ℕ) (l r : List Tok) (found : Bool) (k : ℕ) : Type 0 where
@@ -58,10 +57,10 @@ module _ {s : List ℕ} {l r : List Tok} {found : Bool} {k : ℕ} (x : Gathered 
 
 -- ---- the answer of the one GM
 
-pub game-is : (g : Game) {x : GameType} {k : ℕ} → x ≡ type_of g → x ≡ Is k → false ≡ gms_bad g
+pub game-is : (g : Game) {x : Result ℕ Reason} {k : ℕ} → x ≡ type_of g → x ≡ Ok k → false ≡ gms_bad g
 game-is (is k) e q = refl
-game-is (no_game r) {x} {k} e q = never (let z : Refused r ≡ Is k = sym e ∙ q in cc)
+game-is (no_game r) {x} {k} e q = never (let z : Err r ≡ Ok k = sym e ∙ q in cc)
 
-pub game-no : (g : Game) {x : GameType} {r : Reason} → x ≡ type_of g → x ≡ Refused r → true ≡ gms_bad g
+pub game-no : (g : Game) {x : Result ℕ Reason} {r : Reason} → x ≡ type_of g → x ≡ Err r → true ≡ gms_bad g
 game-no (no_game r) e q = refl
-game-no (is k) {x} {r} e q = never (let z : Is k ≡ Refused r = sym e ∙ q in cc)
+game-no (is k) {x} {r} e q = never (let z : Ok k ≡ Err r = sym e ∙ q in cc)

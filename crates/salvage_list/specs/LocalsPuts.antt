@@ -1,13 +1,11 @@
 -- Entries put into the lent rows, in the code's own terms. Nothing public is stated by these.
-use Rattle.std.specs.Prelude.{◌+◌, ◌*◌, ◌<◌, ◌≡◌, ◌&&◌, ◌∷◌}
+use Rattle.std.specs.Prelude.{◌+◌, ◌*◌, ◌<◌, ◌≡◌, ◌&&◌, ◌∷◌, Option, Some, None}
 use Rattle.lists.specs.Prelude.{ℕ, Bool, List, [], length, pick}
 use Rattle.lists.specs.Same.{same}
 use Rattle.lists.specs.Put.{PutIs}
 use Rattle.values.specs.Read.{read_identifier}
 use Rattle.parser.specs.Game.{GM}
 use Rattle.salvage_mend.specs.Changes.{Change, empty_root, cut_short, tail_dropped}
-use Rattle.salvage_list.specs.declared.Tail.{Tail}
-use Rattle.salvage_list.specs.declared.Tail.TheVariants.{At, None}
 use Rattle.salvage_list.specs.ListRows.{change_rows}
 
 -- more than any number of an entry
@@ -32,6 +30,6 @@ abbrev pub cut_if : Bool → (tree place : ℕ) → List Change
 cut_if b i o = pick b (cut_short i o ∷ []) []
 
 -- the entry of the tail, in a text of n bytes
-abbrev pub TailIs : (n : ℕ) → List Change → Tail → Type 0
-TailIs n cs (At o) = (cs ≡ tail_dropped o ∷ []) × (o < n)
+abbrev pub TailIs : (n : ℕ) → List Change → Option ℕ → Type 0
+TailIs n cs (Some o) = (cs ≡ tail_dropped o ∷ []) × (o < n)
 TailIs n cs None = cs ≡ []

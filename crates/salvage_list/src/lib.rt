@@ -26,13 +26,6 @@ struct Behind {
     entries: usize,
 }
 
-// The place of the first token that is in no slice; or there is none.
-#[derive(Clone, Copy)]
-enum Tail {
-    At(usize),
-    None,
-}
-
 // The entry of an empty root, where a tree has no node.
 fn put_root(tree: usize, none: bool, e: usize, rows: &mut [u32]) -> usize
     requires { (e ≤ entry_limit) × (tree ≤ entry_limit) }
@@ -80,7 +73,7 @@ fn put_tree(
 }
 
 // The first token from a place on, failing or not.
-fn tail_at(s: &[u8], at: usize) -> Tail
+fn tail_at(s: &[u8], at: usize) -> Option<usize>
     ensures { TailIs (length s.now) (tail_of (lex_at s.now at).toks (lex_at s.now at).end) result }
 {
     match lexer::next_token(s, at) {
@@ -88,8 +81,8 @@ fn tail_at(s: &[u8], at: usize) -> Tail
         | Step::End(i)
         | Step::Node(i)
         | Step::Property(i, _, _)
-        | Step::Refused(_, i) => Tail::At(i),
-        Step::Done => Tail::None,
+        | Step::Refused(_, i) => Some(i),
+        Step::Done => None,
     }
 }
 
@@ -99,8 +92,8 @@ fn put_tail(s: &[u8], at: usize, e: usize, rows: &mut [u32]) -> usize
     ensures { EntriesPut rows.old e (tail_of (lex_at s.now at).toks (lex_at s.now at).end) result rows.new }
 {
     match tail_at(s, at) {
-        Tail::At(i) => walk::put_entry(rows, e, 5, 0, i),
-        Tail::None => e,
+        Some(i) => walk::put_entry(rows, e, 5, 0, i),
+        None => e,
     }
 }
 

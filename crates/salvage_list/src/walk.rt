@@ -10,7 +10,6 @@ ghost use Rattle.salvage_list.specs.LocalsPuts.{entry_limit, EntriesPut, entry_k
 ghost use Rattle.salvage_list.specs.LocalsWalk.{StandReady, StoodIs};
 
 use lexer::Step;
-use parser_game::GameType;
 use tables::NONE;
 
 // Where a walk ends: the place behind the slice, the next node, property and entry; whether the tree is cut short, and at which place.
@@ -24,25 +23,12 @@ pub struct Stood {
     pub place: usize,
 }
 
-// Three numbers put from a place on, where there is room for all.
-fn put3(t: &mut [u32], at: usize, kind: u32, number: u32, place: u32)
-    ensures { PutWhole t.old at (kind ∷ number ∷ place ∷ []) t.new }
-{
-    if at < t.len() {
-        if 2 < t.len() - at {
-            t[at] = kind;
-            t[at + 1] = number;
-            t[at + 2] = place;
-        }
-    }
-}
-
 // Entry e, where there is room; the number of the next.
 pub fn put_entry(rows: &mut [u32], e: usize, kind: u32, number: usize, place: usize) -> usize
     requires { (e ≤ entry_limit) × (number ≤ entry_limit) × (place ≤ entry_limit) }
     ensures { (result ≡ e + 1) × PutWhole rows.old (e * 3) (kind ∷ number ∷ place ∷ []) rows.new }
 {
-    put3(rows, e * 3, kind, number as u32, place as u32);
+    store_numbers::put(rows, e * 3, [kind, number as u32, place as u32]);
     e + 1
 }
 
@@ -87,8 +73,8 @@ fn no_game(s: &[u8], k: usize) -> bool
     ensures { result ≡ gms_bad (game_vals (vals_at s.now k)) }
 {
     match parser_game::game_values(s, k) {
-        GameType::Is(_) => false,
-        GameType::Refused(_) => true,
+        Ok(_) => false,
+        Err(_) => true,
     }
 }
 

@@ -13,7 +13,7 @@ ghost use Rattle.salvage_measure.specs.LocalsMeasure.{measured, TokensWeighed, S
 
 use lexer::Step;
 use parser::Survey;
-use reader::Known;
+use tables::Counts;
 use text_utf8::Trimmed;
 
 // How many bytes a text has, and how deep its trees stand in each other.
@@ -150,13 +150,13 @@ pub fn weigh(text: &[u8]) -> Weighed
 }
 
 // The same of a text of which the census has said this: where it counts the rows, the slices are known and not looked for.
-pub fn weigh_known(text: &[u8], known: Known) -> Weighed
+pub fn weigh_known(text: &[u8], known: Option<(usize, usize, Counts)>) -> Weighed
     requires { known ≡ known_of text.now }
     ensures { WeighedIs (text_measure text.now) (text_changes text.now) result × SlicesTold text.now result }
 {
     match known {
-        Known::Nothing => weigh(text),
-        Known::Rows(first, last, counts) => weigh_slices(&text[..last], first, counts.trees),
+        None => weigh(text),
+        Some((first, last, counts)) => weigh_slices(&text[..last], first, counts.trees),
     }
 }
 

@@ -5,20 +5,19 @@ use Rattle.tables.specs.Columns.{root_at, first_prop_at, prop_count_at}
 use Rattle.parts_props.specs.Props.{properties_at}
 use Rattle.parser.specs.Game.{Game, is, no_game}
 use Rattle.parser_game.specs.LocalsGame.{type_of}
-use Rattle.parser_game.specs.declared.GameType.{GameType}
-use Rattle.parser_game.specs.declared.GameType.TheVariants.{Is, Refused}
 use Rattle.fit_rule.specs.Rule.{root_properties_at}
 use Rattle.salvage_mend.specs.Mend.{kept_game, gms_bad}
 use Rattle.salvage_rows.specs.LocalsGM.{game_in, kept_at}
+use Rattle.std.specs.Prelude.{Result, Ok, Err}
 
 -- the type and the badness, of the code's answer
-abbrev kept_of : GameType → ℕ
-kept_of (Is k) = k
-kept_of (Refused r) = 0
+abbrev kept_of : Result ℕ Reason → ℕ
+kept_of (Ok k) = k
+kept_of (Err r) = 0
 
-abbrev bad_of : GameType → Bool
-bad_of (Is k) = false
-bad_of (Refused r) = true
+abbrev bad_of : Result ℕ Reason → Bool
+bad_of (Ok k) = false
+bad_of (Err r) = true
 
 kept_of_lem : (g : Game) → kept_of (type_of g) ≡ kept_game g
 kept_of_lem (is k) = refl
@@ -28,17 +27,17 @@ bad-of : (g : Game) → bad_of (type_of g) ≡ gms_bad g
 bad-of (is k) = refl
 bad-of (no_game r) = refl
 
-module _ (g : Game) {x : GameType} (e : x ≡ type_of g) where
-  pub good-told : {k : ℕ} → x ≡ Is k → false ≡ gms_bad g
+module _ (g : Game) {x : Result ℕ Reason} (e : x ≡ type_of g) where
+  pub good-told : {k : ℕ} → x ≡ Ok k → false ≡ gms_bad g
   good-told h = ap bad_of (sym h ∙ e) ∙ bad-of g
 
-  pub bad-told : {r : Reason} → x ≡ Refused r → true ≡ gms_bad g
+  pub bad-told : {r : Reason} → x ≡ Err r → true ≡ gms_bad g
   bad-told h = ap bad_of (sym h ∙ e) ∙ bad-of g
 
-  pub type-told : {k : ℕ} → x ≡ Is k → k ≡ kept_game g
+  pub type-told : {k : ℕ} → x ≡ Ok k → k ≡ kept_game g
   type-told h = ap kept_of (sym h ∙ e) ∙ kept_of_lem g
 
-  pub none_told : {r : Reason} → x ≡ Refused r → 0 ≡ kept_game g
+  pub none_told : {r : Reason} → x ≡ Err r → 0 ≡ kept_game g
   none_told h = ap kept_of (sym h ∙ e) ∙ kept_of_lem g
 
 module _ (t tr nd pr vl : List ℕ) (r : ℕ) where

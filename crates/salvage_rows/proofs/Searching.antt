@@ -8,9 +8,9 @@ use Rattle.parts_props.specs.Props.{rows_from, named_at, property_at, properties
 use Rattle.tables.specs.declared.Reason.TheVariants.{UnexpectedProperty, InvalidGameType}
 use Rattle.parser.specs.Game.{GM, game_of}
 use Rattle.parser_game.specs.LocalsGame.{type_of}
-use Rattle.parser_game.specs.declared.GameType.TheVariants.{Is, Refused}
 use Rattle.salvage_rows.specs.LocalsGM.{gms_in, game_of_values, game_by, game_in}
 use Rattle.salvage_rows.specs.Locals.{NextGM}
+use Rattle.std.specs.Prelude.{Ok, Err}
 
 module _ (text pr vl : List ℕ) where
   -- the GM of the rows from p up to n
@@ -41,14 +41,14 @@ module _ (text pr vl : List ℕ) where
         let f : rows_from pr first count ≡ to - first = omega arith in
         ap (λ (n : ℕ). game_by (gms_in (tabulate (property_at text pr vl) first n))) f ∙ ap game_by (x.rest vl)
 
-    pub game-absent : to ≤ p → Is 0 ≡ type_of (game_in (properties_at text pr vl first count))
+    pub game-absent : to ≤ p → Ok 0 ≡ type_of (game_in (properties_at text pr vl first count))
     game-absent h = ap type_of (sym (whole ∙ ap game_by (gms-end p to h)))
 
     module _ (h : p < to) (q : ℕ) (y : NextGM text pr (p + 1) to q) where
       first_one : game_in (properties_at text pr vl first count) ≡ game_by ((property_at text pr vl p).raws ∷ gms_to q to)
       first_one = whole ∙ ap game_by (gms-here p to h (x.here h)) ∙ ap (λ (z : List (List (List ℕ))). game_by ((property_at text pr vl p).raws ∷ z)) (y.rest vl)
 
-      pub game-several : q < to → Refused UnexpectedProperty ≡ type_of (game_in (properties_at text pr vl first count))
+      pub game-several : q < to → Err UnexpectedProperty ≡ type_of (game_in (properties_at text pr vl first count))
       game-several l = ap type_of (sym (first_one ∙ ap (λ (z : List (List (List ℕ))). game_by ((property_at text pr vl p).raws ∷ z)) (gms-here q to l (y.here l))))
 
       pub game-single : to ≤ q → game_of_values (values_at text vl (first_val_at pr p) (val_count_at pr p)) ≡ game_in (properties_at text pr vl first count)
@@ -56,7 +56,7 @@ module _ (text pr vl : List ℕ) where
 
 -- exactly one value is wanted
 module _ (text vl : List ℕ) (first : ℕ) where
-  pub values-wrong : (count : ℕ) → (count ≡ 1 → ⊥) → Refused InvalidGameType ≡ type_of (game_of_values (values_at text vl first count))
+  pub values-wrong : (count : ℕ) → (count ≡ 1 → ⊥) → Err InvalidGameType ≡ type_of (game_of_values (values_at text vl first count))
   unfolding game_of_values values_at
   values-wrong zero h = refl
   values-wrong (suc zero) h = absurd (h refl)

@@ -9,15 +9,14 @@ ghost use Rattle.parser_game.specs.LocalsGame.{type_of};
 ghost use Rattle.salvage_rows.specs.LocalsGM.{game_of_values, game_in, bad_in, kept_at};
 ghost use Rattle.salvage_rows.specs.Locals.{NextGM};
 
-use parser_game::GameType;
 use tables::Reason;
 
 // The game type that the values of a GM say: exactly one is wanted.
-fn one_game(text: &[u8], values: &[u32], first: usize, count: usize) -> GameType
+fn one_game(text: &[u8], values: &[u32], first: usize, count: usize) -> Result<u32, Reason>
     ensures { result ≡ type_of (game_of_values (values_at text.now values.now first count)) }
 {
     if count != 1 {
-        return GameType::Refused(Reason::InvalidGameType);
+        return Err(Reason::InvalidGameType);
     }
     let value = parts::value_at(text, values, first, 0);
     parser_game::game_of(value)
@@ -43,17 +42,23 @@ fn next_gm(text: &[u8], properties: &[u32], from: usize, to: usize) -> usize
 }
 
 // The game type that the properties of `count` rows from `first` on say.
-fn game_in(text: &[u8], properties: &[u32], values: &[u32], first: usize, count: usize) -> GameType
+fn game_in(
+    text: &[u8],
+    properties: &[u32],
+    values: &[u32],
+    first: usize,
+    count: usize,
+) -> Result<u32, Reason>
     ensures { result ≡ type_of (game_in (properties_at text.now properties.now values.now first count)) }
 {
     let to = first + parts_props::row_count(properties, first, count);
     let p = next_gm(text, properties, first, to);
     if to <= p {
-        return GameType::Is(0);
+        return Ok(0);
     }
     let q = next_gm(text, properties, p + 1, to);
     if q < to {
-        return GameType::Refused(Reason::UnexpectedProperty);
+        return Err(Reason::UnexpectedProperty);
     }
     let start = lists::wide(properties[p * tables::PROPERTY_STRIDE + tables::PROPERTY_FIRST]);
     let many = lists::wide(properties[p * tables::PROPERTY_STRIDE + tables::PROPERTY_COUNT]);
@@ -65,8 +70,8 @@ pub fn gms_bad(text: &[u8], properties: &[u32], values: &[u32], first: usize, co
     ensures { result ≡ bad_in text.now properties.now values.now first count }
 {
     match game_in(text, properties, values, first, count) {
-        GameType::Is(_) => false,
-        GameType::Refused(_) => true,
+        Ok(_) => false,
+        Err(_) => true,
     }
 }
 
@@ -91,7 +96,7 @@ pub fn kept_type(
     let first = lists::wide(nodes[root * tables::NODE_STRIDE + tables::NODE_FIRST]);
     let count = lists::wide(nodes[root * tables::NODE_STRIDE + tables::NODE_COUNT]);
     match game_in(text, properties, values, first, count) {
-        GameType::Is(k) => k,
-        GameType::Refused(_) => 0,
+        Ok(k) => k,
+        Err(_) => 0,
     }
 }

@@ -13,8 +13,6 @@ use Rattle.reader.specs.Lent.{Lent, roomy}
 use Rattle.reader.proofs.Rooms.{tree-count}
 use Rattle.reader_laws.proofs.Enough.{strict-enough}
 use Rattle.serialize.specs.Form.{writing, written, WriteIs}
-use Rattle.serialize.specs.declared.Written.{Written}
-use Rattle.serialize.specs.declared.Written.TheVariants.{Wrote, Refused as NotWritten}
 use Rattle.season_tag.specs.Tag.{tag_of}
 use Rattle.season_tally.specs.Tally.{tally_of, counts_as, is_black, is_white, is_passed}
 use Rattle.season_tally.proofs.Writes.{wrote-first}
@@ -27,10 +25,12 @@ use Rattle.season_totals.specs.declared.Line.TheVariants.{Unread, Refused, Count
 use Rattle.season_totals.specs.declared.Tally.{Tally}
 use Rattle.season_totals.proofs.Theorems.{totals-fit}
 use Rattle.season.specs.Season.{written_with, line_by, line_of, RecordLineIs, SeasonLine}
+use Rattle.std.specs.Prelude.{Result, Ok, Err}
+use Rattle.tables.specs.declared.Reason.{Reason}
 
-by-counted : (w : Written) (ts : List Tree) (c : Tally) (g : ℕ) → Counted c g ≡ line_by w ts → (c ≡ tally_of ts) × (g ≡ tag_of (writing ts))
-by-counted (Wrote n) ts c g e = (cc, cc)
-by-counted (NotWritten r) ts c g e = never cc
+by-counted : (w : Result ℕ Reason) (ts : List Tree) (c : Tally) (g : ℕ) → Counted c g ≡ line_by w ts → (c ≡ tally_of ts) × (g ≡ tag_of (writing ts))
+by-counted (Ok n) ts c g e = (cc, cc)
+by-counted (Err r) ts c g e = never cc
 
 -- what a counted line says of a text: it was read as a record, and these are the record's tally and the tag of its writing
 pub line-counts : (a : Answer) (before : Lent) (room : ℕ) (c : Tally) (g : ℕ) → Counted c g ≡ line_of a before room
@@ -45,7 +45,7 @@ line-counts (accepted ts) before room c g e = go (roomy (tables ts) before) e
 
 -- the tag of a counted record is that of the bytes which the writer gives for the same record, in any room
 pub line-tag : (m : Memory) (out out' : List ℕ) (c : Tally) (g : ℕ) → RecordLineIs m out out' (Counted c g)
-    → (lent bytes : List ℕ) (n : ℕ) → WriteIs m lent bytes (Wrote n) → g ≡ tag_of (take n bytes)
+    → (lent bytes : List ℕ) (n : ℕ) → WriteIs m lent bytes (Ok n) → g ≡ tag_of (take n bytes)
 line-tag m out out' c g x lent bytes n w =
     (by-counted (written m (length out)) (record_in m) c g x.line).1 ∙ ap tag_of (sym (wrote-first m lent bytes w refl))
 

@@ -1,5 +1,5 @@
 -- The line of a text in a season's report, and of a record: a function of the text and of what is lent.
-use Rattle.std.specs.Prelude.{◌≤◌, ◌≡◌, ◌⊎◌}
+use Rattle.std.specs.Prelude.{◌≤◌, ◌≡◌, ◌⊎◌, Result, Ok, Err}
 use Rattle.lists.specs.Prelude.{ℕ, List, ltb, length, pick}
 use Rattle.tables.specs.Record.{Tree, all_nodes, all_props}
 use Rattle.tables.specs.Rows.{tables}
@@ -11,23 +11,22 @@ use Rattle.parser.specs.Read.{Answer, refused, accepted, read_strict}
 use Rattle.reader.specs.Lent.{Lent, roomy, leaves}
 use Rattle.serialize.specs.Branch.{nameless}
 use Rattle.serialize.specs.Form.{writing, written, output}
-use Rattle.serialize.specs.declared.Written.{Written}
-use Rattle.serialize.specs.declared.Written.TheVariants.{Wrote, Refused as NotWritten}
 use Rattle.season_tag.specs.Tag.{tag_of}
 use Rattle.season_tally.specs.Tally.{tally_of}
 use Rattle.season_totals.specs.declared.Line.{Line}
 use Rattle.season_totals.specs.declared.Line.TheVariants.{Unread, Refused, Counted}
+use Rattle.tables.specs.declared.Reason.{Reason}
 
 -- what the writer answers of a record, with so many bytes lent: an identifier that reads as empty, then a writing that is longer, is refused
-abbrev pub written_with : List Tree → (room : ℕ) → Written
+abbrev pub written_with : List Tree → (room : ℕ) → Result ℕ Reason
 written_with ts room =
-    pick (nameless (all_props (all_nodes ts))) (NotWritten EmptyIdentifier)
-    (pick (ltb room (length (writing ts))) (NotWritten NoRoom) (Wrote (length (writing ts))))
+    pick (nameless (all_props (all_nodes ts))) (Err EmptyIdentifier)
+    (pick (ltb room (length (writing ts))) (Err NoRoom) (Ok (length (writing ts))))
 
 -- the line of a record by what the writer answers: its tally and the tag of its writing, or the number of the refusal
-abbrev pub line_by : Written → List Tree → Line
-line_by (Wrote n) ts = Counted (tally_of ts) (tag_of (writing ts))
-line_by (NotWritten r) ts = Refused (number_of r)
+abbrev pub line_by : Result ℕ Reason → List Tree → Line
+line_by (Ok n) ts = Counted (tally_of ts) (tag_of (writing ts))
+line_by (Err r) ts = Refused (number_of r)
 
 -- the line of a text: refused by its strict reading; by too few rows, 14; as the writer does, 15 and 14; else counted
 unfoldable pub line_of : Answer → Lent → (room : ℕ) → Line

@@ -6,9 +6,8 @@ ghost use Rattle.parser.specs.Read.{read_strict};
 ghost use Rattle.reader.specs.Lent.{lent};
 ghost use Rattle.season.specs.Season.{LineIs, RecordLineIs};
 
-use season_tally::WrittenTally;
 use season_totals::Line;
-use tables::{Counts, Reading};
+use tables::{Counts, Refusal};
 
 // The line of a record in memory, whose writing is put into `out`: its tally and the tag of its writing, or the number of a refusal: 19, 15, 14.
 pub fn record_line(
@@ -26,8 +25,8 @@ pub fn record_line(
         out.old out.new result }
 {
     match season_tally::write_tally(text, used, counts, trees, nodes, properties, values, out) {
-        WrittenTally::Undone(reason) => Line::Refused(tables::number(reason)),
-        WrittenTally::Done(_, tally, tag) => Line::Counted(tally, tag),
+        Err(reason) => Line::Refused(u32::from(reason)),
+        Ok((_, tally, tag)) => Line::Counted(tally, tag),
     }
 }
 
@@ -46,8 +45,8 @@ pub fn line(
         out.old out.new result }
 {
     match reader::read_strict(text, trees, nodes, properties, values) {
-        Reading::Refused(reason, _) => Line::Refused(tables::number(reason)),
-        Reading::Accepted(counts) => {
+        Err(refused) => Line::Refused(u32::from(refused.reason)),
+        Ok(counts) => {
             record_line(
                 text,
                 text.len(),

@@ -27,11 +27,11 @@ use Rattle.ask.proofs.Goes.{go-of-rows}
 use Rattle.ask.proofs.Search.{tree-here, tree-on, tree-end, tree-first}
 use Rattle.season_totals.specs.declared.Tally.{Tally}
 use Rattle.season_tally.specs.declared.Moves.{Moves}
-use Rattle.season_tally.specs.declared.TallyAnswer.TheVariants.{Tallied, NotFitting}
 use Rattle.tables.specs.Memory.{Memory}
 use Rattle.fit.specs.Fit.{Fit}
 use Rattle.season_tally.specs.Tally.{played_by, counts_as, tally_of, tally_answer}
 use Rattle.season_tally.specs.Locals.{played_at, next_first, BelowAll, Counted, Goes, RootsLent}
+use Rattle.std.specs.Prelude.{Some, None}
 
 -- nothing counted yet
 abbrev pub no_moves : Moves
@@ -174,10 +174,10 @@ module _ {t : List ℕ} {c : Counts} {tr nd pr vl : List ℕ} (f : Clauses t c t
 
 -- the answer
 module _ (m : Memory) where
-  pub tally-unfit : Fit m ≡ false → NotFitting ≡ tally_answer m
+  pub tally-unfit : Fit m ≡ false → None ≡ tally_answer m
   unfolding tally_answer
   tally-unfit h = rw h
 
-  pub tally-fit : Fit m ≡ true → (r : Tally) → r ≡ tally_of (record_in m) → Tallied r ≡ tally_answer m
+  pub tally-fit : Fit m ≡ true → (r : Tally) → r ≡ tally_of (record_in m) → Some r ≡ tally_answer m
   unfolding tally_answer
   tally-fit h r e = rw (h, e)

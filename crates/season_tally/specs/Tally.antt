@@ -1,5 +1,5 @@
 -- The tally of a record: by the read identifier and the Go value of each property, as SCOPE 97 numbers them. Properties are counted, not nodes.
-use Rattle.std.specs.Prelude.{◌≡◌, ◌∷◌}
+use Rattle.std.specs.Prelude.{◌≡◌, ◌∷◌, Option, Some, None, Result, Ok, Err}
 use Rattle.lists.specs.Prelude.{ℕ, List, [], length, get_or, pick}
 use Rattle.lists.specs.Same.{same}
 use Rattle.values.specs.Read.{read_identifier}
@@ -12,16 +12,11 @@ use Rattle.fit.specs.Fit.{Fit}
 use Rattle.fit.specs.Record.{record_in}
 use Rattle.ask.specs.Ask.{no_prop, go_at}
 use Rattle.serialize.specs.Form.{writing, written, output}
-use Rattle.serialize.specs.declared.Written.{Written}
-use Rattle.serialize.specs.declared.Written.TheVariants.{Wrote, Refused}
 use Rattle.season_tag.specs.Tag.{tag_of}
 use Rattle.season_totals.specs.declared.Tally.{Tally}
 use Rattle.season_tally.specs.declared.Played.{Played}
 use Rattle.season_tally.specs.declared.Played.TheVariants.{Black, White, Passed, Nothing}
-use Rattle.season_tally.specs.declared.TallyAnswer.{TallyAnswer}
-use Rattle.season_tally.specs.declared.TallyAnswer.TheVariants.{Tallied, NotFitting}
-use Rattle.season_tally.specs.declared.WrittenTally.{WrittenTally}
-use Rattle.season_tally.specs.declared.WrittenTally.TheVariants.{Done, Undone}
+use Rattle.tables.specs.declared.Reason.{Reason}
 
 -- a value of a colour's move: a point is that colour's, a pass is a pass; an invalid one counts nowhere
 abbrev pub moved_by : (mine : Played) → Value → Played
@@ -74,15 +69,15 @@ tally_of ts =
     }
 
 -- 19 where the tables don't fit the text, else the tally of the record that they denote
-unfoldable pub tally_answer : Memory → TallyAnswer
-tally_answer m = pick (Fit m) (Tallied (tally_of (record_in m))) NotFitting
+unfoldable pub tally_answer : Memory → Option Tally
+tally_answer m = pick (Fit m) (Some (tally_of (record_in m))) None
 
 -- what the writer answers, with the record's tally and the tag of its writing where it wrote
-abbrev pub tally_with : Written → List Tree → WrittenTally
-tally_with (Wrote n) ts = Done n (tally_of ts) (tag_of (writing ts))
-tally_with (Refused r) ts = Undone r
+abbrev pub tally_with : Result ℕ Reason → List Tree → Result (ℕ × Tally × ℕ) Reason
+tally_with (Ok n) ts = Ok (n, tally_of ts, tag_of (writing ts))
+tally_with (Err r) ts = Err r
 
 -- the answer, and the lent bytes after it as the writer leaves them
-pub record WriteTallyIs (m : Memory) (out out' : List ℕ) (r : WrittenTally) : Type 0 where
+pub record WriteTallyIs (m : Memory) (out out' : List ℕ) (r : Result (ℕ × Tally × ℕ) Reason) : Type 0 where
   pub answer : r ≡ tally_with (written m (length out)) (record_in m)
   pub bytes : out' ≡ output (written m (length out)) (writing (record_in m)) out

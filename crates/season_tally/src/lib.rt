@@ -15,7 +15,6 @@ ghost use Rattle.season_tally.specs.Locals.{RootsLent, mover_of, played_at, next
 use go_points::Value;
 use go_shape::Shape;
 use season_totals::Tally;
-use serialize::Written;
 use tables::{Counts, Reason};
 
 // What a property counts as: a move of a colour to a point, a pass of either, or nothing.
@@ -25,20 +24,6 @@ pub enum Played {
     White,
     Passed,
     Nothing,
-}
-
-// A tally, or that the tables don't fit the text.
-#[derive(Clone, Copy)]
-pub enum TallyAnswer {
-    Tallied(Tally),
-    NotFitting,
-}
-
-// A record that was written: how many bytes that took, its tally and their tag; or why it was not.
-#[derive(Clone, Copy)]
-pub enum WrittenTally {
-    Done(usize, Tally, u64),
-    Undone(Reason),
 }
 
 // Moves of each colour, and passes.
@@ -324,12 +309,12 @@ pub fn tally(
     nodes: &[u32],
     properties: &[u32],
     values: &[u32],
-) -> TallyAnswer
+) -> Option<Tally>
     ensures { result ≡ tally_answer
         (memory text.now used counts trees.now nodes.now properties.now values.now) }
 {
     if !fit::fits(text, used, counts, trees, nodes, properties, values) {
-        return TallyAnswer::NotFitting;
+        return None;
     }
     let all = count(
         text,
@@ -342,7 +327,7 @@ pub fn tally(
         &text[..0],
     );
     let tally = all.tally;
-    TallyAnswer::Tallied(tally)
+    Some(tally)
 }
 
 // The tally of a record that is written into `out`, and the tag of its writing: one fitting check for all. Refused as the writer does: 19, 15, 14.
@@ -355,14 +340,14 @@ pub fn write_tally(
     properties: &[u32],
     values: &[u32],
     out: &mut [u8],
-) -> WrittenTally
+) -> Result<(usize, Tally, u64), Reason>
     ensures { WriteTallyIs
         (memory text.now used counts trees.now nodes.now properties.now values.now)
         out.old out.new result }
 {
     match serialize::write(text, used, counts, trees, nodes, properties, values, out) {
-        Written::Refused(reason) => WrittenTally::Undone(reason),
-        Written::Wrote(n) => {
+        Err(reason) => Err(reason),
+        Ok(n) => {
             let all = count(
                 text,
                 used,
@@ -374,7 +359,7 @@ pub fn write_tally(
                 &out[..n],
             );
             let tally = all.tally;
-            WrittenTally::Done(n, tally, all.tag)
+            Ok((n, tally, all.tag))
         }
     }
 }

@@ -10,9 +10,9 @@ use Rattle.serialize.specs.Form.{writing, amplest, written_length}
 use Rattle.serialize.specs.Locals.{write_answer}
 use Rattle.serialize.specs.LocalsWalk.{links_text, names_good}
 use Rattle.serialize.specs.Branch.{nameless}
-use Rattle.serialize.specs.declared.Written.TheVariants.{Wrote as Done, Refused}
 use Rattle.serialize.proofs.AllNames.{names-are}
 use Rattle.serialize.proofs.Linked.{linked-is}
+use Rattle.std.specs.Prelude.{Ok, Err}
 
 module _ (m : Memory) where
   abbrev w : List ℕ
@@ -21,7 +21,7 @@ module _ (m : Memory) where
   abbrev blank : Bool
   blank = nameless (all_props (all_nodes (record_in m)))
 
-  pub length-unfit : {f : Bool} → f ≡ Fit m → f ≡ false → Refused NotFitting ≡ written_length m
+  pub length-unfit : {f : Bool} → f ≡ Fit m → f ≡ false → Err NotFitting ≡ written_length m
   length-unfit e h = ap (λ (z : Bool). write_answer z blank (ltb amplest (length w)) w) (sym h ∙ e)
 
   module _ (fit : Fit m ≡ true) where
@@ -34,7 +34,7 @@ module _ (m : Memory) where
     names : names_good (text_in m) m.properties m.counts.properties ≡ not blank
     names = names-are m fit
 
-    pub length-nameless : names_good (text_in m) m.properties m.counts.properties ≡ false → Refused EmptyIdentifier ≡ written_length m
+    pub length-nameless : names_good (text_in m) m.properties m.counts.properties ≡ false → Err EmptyIdentifier ≡ written_length m
     length-nameless h = decided (not-false blank (sym names ∙ h)) refl
 
     module _ (good : names_good (text_in m) m.properties m.counts.properties ≡ true) {e : List ℕ} {need : ℕ}
@@ -42,10 +42,10 @@ module _ (m : Memory) where
       named : blank ≡ false
       named = not-true blank (sym names ∙ good)
 
-      pub length-beyond : need ≡ 2 ^ 64 - 1 → Refused NoRoom ≡ written_length m
+      pub length-beyond : need ≡ 2 ^ 64 - 1 → Err NoRoom ≡ written_length m
       length-beyond h = decided named (lt-ltb amplest (length w) (omega (arith, x.place, h, ap length (linked-is m fit))))
 
-      pub length-done : (need ≡ 2 ^ 64 - 1 → ⊥) → Done need ≡ written_length m
+      pub length-done : (need ≡ 2 ^ 64 - 1 → ⊥) → Ok need ≡ written_length m
       length-done h =
           let q : need ≡ length w = omega (arith, x.place, h, ap length (linked-is m fit)) in
-          ap Done q ∙ decided named (le-ltb amplest (length w) (omega (arith, x.place, h, ap length (linked-is m fit))))
+          ap Ok q ∙ decided named (le-ltb amplest (length w) (omega (arith, x.place, h, ap length (linked-is m fit))))

@@ -20,11 +20,11 @@ use Rattle.serialize.specs.Form.{writing, written, WriteIs}
 use Rattle.serialize.specs.Locals.{write_answer, EndHeld, NodesHeld}
 use Rattle.serialize.specs.LocalsWalk.{corner_end, node_by, links_text, names_good}
 use Rattle.serialize.specs.Branch.{nameless}
-use Rattle.serialize.specs.declared.Written.TheVariants.{Wrote as Done, Refused}
 use Rattle.serialize.proofs.AllNames.{names-are}
 use Rattle.serialize.proofs.Corners.{node-calm}
 use Rattle.serialize.proofs.Linked.{linked-is}
 use Rattle.tables.specs.LocalsNames.{NameHeld}
+use Rattle.std.specs.Prelude.{Ok, Err}
 
 -- the measure leaves its empty part, and so the bytes lent
 measure-kept : {w e : List ℕ} {need : ℕ} (out : List ℕ) → Wrote w [] 0 e need → e ++ out ≡ out
@@ -44,7 +44,7 @@ module _ (m : Memory) (out : List ℕ) where
   abbrev short : Bool
   short = ltb (length out) (length (writing trees))
 
-  pub write-unfit : {f : Bool} → f ≡ Fit m → f ≡ false → WriteIs m out out (Refused NotFitting)
+  pub write-unfit : {f : Bool} → f ≡ Fit m → f ≡ false → WriteIs m out out (Err NotFitting)
   write-unfit e h = record { is = ap (λ (z : Bool). write_answer z blank short (writing trees)) (sym h ∙ e); bytes = refl }
 
   module _ (fit : Fit m ≡ true) where
@@ -87,7 +87,7 @@ module _ (m : Memory) (out : List ℕ) where
     names : names_good (text_in m) m.properties m.counts.properties ≡ not blank
     names = names-are m fit
 
-    pub write-nameless : names_good (text_in m) m.properties m.counts.properties ≡ false → WriteIs m out out (Refused EmptyIdentifier)
+    pub write-nameless : names_good (text_in m) m.properties m.counts.properties ≡ false → WriteIs m out out (Err EmptyIdentifier)
     write-nameless h = record { is = decided (not-false blank (sym names ∙ h)) refl; bytes = refl }
 
     module _ (good : names_good (text_in m) m.properties m.counts.properties ≡ true) (small : length out < 2 ^ 63) where
@@ -101,7 +101,7 @@ module _ (m : Memory) (out : List ℕ) where
       named = not-true blank (sym names ∙ good)
 
       module _ {e : List ℕ} {need : ℕ} (x : Wrote walked [] 0 e need) where
-        pub write-short : length (e ++ out) < need → WriteIs m out (e ++ out) (Refused NoRoom)
+        pub write-short : length (e ++ out) < need → WriteIs m out (e ++ out) (Err NoRoom)
         write-short h =
             let k = measure-kept out x in
             record {
@@ -109,13 +109,13 @@ module _ (m : Memory) (out : List ℕ) where
               bytes = k;
             }
 
-        pub write_done : need ≤ length (e ++ out) → {out2 : List ℕ} {n : ℕ} → Wrote walked (e ++ out) 0 out2 n → WriteIs m out out2 (Done n)
+        pub write_done : need ≤ length (e ++ out) → {out2 : List ℕ} {n : ℕ} → Wrote walked (e ++ out) 0 out2 n → WriteIs m out out2 (Ok n)
         write_done h {out2} {n} y =
             let k = measure-kept out x in
             let l : length walked ≤ length out = omega (arith, x.place, ap length k) in
             let q : n ≡ length walked = omega (arith, y.place) in
             let w : out2 ≡ walked ++ drop (length walked) out = wrote-all (subst (λ (z : List ℕ). Wrote walked z 0 out2 n) k y) l in
             record {
-              is = ap Done (q ∙ ap length same) ∙ decided named (le-ltb (length out) (length (writing trees)) (omega (arith, ap length same)));
+              is = ap Ok (q ∙ ap length same) ∙ decided named (le-ltb (length out) (length (writing trees)) (omega (arith, ap length same)));
               bytes = w ∙ ap₂ (λ (u : List ℕ) (i : ℕ). u ++ drop i out) same (sym q);
             }

@@ -1,14 +1,13 @@
 -- What the writer's own functions promise and ask of each other.
-use Rattle.std.specs.Prelude.{◌+◌, ◌/◌, ◌<◌, ◌≤◌, ◌-◌, ◌≡◌}
+use Rattle.std.specs.Prelude.{◌+◌, ◌/◌, ◌<◌, ◌≤◌, ◌-◌, ◌≡◌, Result, Ok, Err}
 use Rattle.lists.specs.Prelude.{ℕ, suc, Bool, true, not, List, length, pick}
 use Rattle.tables.specs.Numbers.{none}
 use Rattle.tables.specs.Columns.{node_stride, value_stride, parent_at, first_prop_at, prop_count_at, val_from_at, val_to_at}
 use Rattle.fit_nodes.specs.Locals.{Ruled}
 use Rattle.fit_nodes.specs.Nodes.{on_path}
 use Rattle.tables.specs.declared.Reason.TheVariants.{NoRoom, EmptyIdentifier, NotFitting}
-use Rattle.serialize.specs.declared.Written.{Written}
-use Rattle.serialize.specs.declared.Written.TheVariants.{Wrote, Refused}
 use Rattle.tables.specs.LocalsNames.{NameHeld}
+use Rattle.tables.specs.declared.Reason.{Reason}
 
 -- the rows of node k and of its parent are there
 pub record Placed (nd : List ℕ) (k : ℕ) : Type 0 where
@@ -39,5 +38,5 @@ abbrev pub NodeHeld : (t nd pr : List ℕ) (k : ℕ) → Type 0
 NodeHeld t nd pr k = NodesHeld t nd pr (suc k)
 
 -- the writer's answer by its tests: do the tables fit; does an identifier read as empty; is the writing w longer than the bytes lent
-abbrev pub write_answer : (fits blank short : Bool) → (w : List ℕ) → Written
-write_answer fits blank short w = pick (not fits) (Refused NotFitting) (pick blank (Refused EmptyIdentifier) (pick short (Refused NoRoom) (Wrote (length w))))
+abbrev pub write_answer : (fits blank short : Bool) → (w : List ℕ) → Result ℕ Reason
+write_answer fits blank short w = pick (not fits) (Err NotFitting) (pick blank (Err EmptyIdentifier) (pick short (Err NoRoom) (Ok (length w))))

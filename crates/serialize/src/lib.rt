@@ -16,13 +16,6 @@ ghost use Rattle.tables.specs.Memory.{memory};
 
 use tables::Reason;
 
-// A writing: its number of bytes, or why it is refused.
-#[derive(Clone, Copy)]
-pub enum Written {
-    Wrote(usize),
-    Refused(tables::Reason),
-}
-
 // The writing into `out`, measured before its first byte is written.
 pub fn write(
     text: &[u8],
@@ -33,17 +26,17 @@ pub fn write(
     properties: &[u32],
     values: &[u32],
     out: &mut [u8],
-) -> Written
+) -> Result<usize, Reason>
     ensures { WriteIs
         (memory text.now used counts trees.now nodes.now properties.now values.now)
         out.old out.new result }
 {
     if !fit::fits(text, used, counts, trees, nodes, properties, values) {
-        return Written::Refused(Reason::NotFitting);
+        return Err(Reason::NotFitting);
     }
     let used_text = &text[..used];
     if !names::names_good(used_text, properties, counts.properties) {
-        return Written::Refused(Reason::EmptyIdentifier);
+        return Err(Reason::EmptyIdentifier);
     }
     let n = counts.nodes;
     let corners = walk::any_corner(used_text, values, counts.values);
@@ -59,12 +52,12 @@ pub fn write(
         false,
     );
     if out.len() < need {
-        return Written::Refused(Reason::NoRoom);
+        return Err(Reason::NoRoom);
     }
     let length = walk::put_all(
         out, used_text, trees, nodes, n, properties, values, corners, false,
     );
-    Written::Wrote(length)
+    Ok(length)
 }
 
 // The length of the writing without an output: what `write` answers where there is room for anything.
@@ -76,16 +69,16 @@ pub fn write_length(
     nodes: &[u32],
     properties: &[u32],
     values: &[u32],
-) -> Written
+) -> Result<usize, Reason>
     ensures { result ≡ written_length
         (memory text.now used counts trees.now nodes.now properties.now values.now) }
 {
     if !fit::fits(text, used, counts, trees, nodes, properties, values) {
-        return Written::Refused(Reason::NotFitting);
+        return Err(Reason::NotFitting);
     }
     let used_text = &text[..used];
     if !names::names_good(used_text, properties, counts.properties) {
-        return Written::Refused(Reason::EmptyIdentifier);
+        return Err(Reason::EmptyIdentifier);
     }
     let corners = walk::any_corner(used_text, values, counts.values);
     let mut none = [0u8; 1];
@@ -101,9 +94,9 @@ pub fn write_length(
         false,
     );
     if need == 0xffff_ffff_ffff_ffff {
-        return Written::Refused(Reason::NoRoom);
+        return Err(Reason::NoRoom);
     }
-    Written::Wrote(need)
+    Ok(need)
 }
 
 // The writing of the mended record into `out`, as far as it has room, of tables that fit.

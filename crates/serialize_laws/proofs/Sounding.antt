@@ -25,21 +25,21 @@ use Rattle.serialize_laws.specs.Back.{Named, BeginsAll, Each, toks_of}
 use Rattle.serialize_laws.proofs.Sounded.{PreNodes, PreTrees, back-again, all-trees}
 use Rattle.parser.proofs.Answers.{not-both}
 
-abbrev pub Some : Slices → Type 0
-Some (no n) = Unit {0}
-Some (slices ss) = 0 < length ss
+abbrev pub HasSlice : Slices → Type 0
+HasSlice (no n) = Unit {0}
+HasSlice (slices ss) = 0 < length ss
 
-some-deep : (b : Bool) (ss : List (List Tok)) → 0 < length ss → Some (pick b (no TooDeep) (slices ss))
+some-deep : (b : Bool) (ss : List (List Tok)) → 0 < length ss → HasSlice (pick b (no TooDeep) (slices ss))
 some-deep true ss h = tt
 some-deep false ss h = h
 
-some-filled : (len : Bool) (m : ℕ) (ss : List (List Tok)) → Some (filled len m ss)
+some-filled : (len : Bool) (m : ℕ) (ss : List (List Tok)) → HasSlice (filled len m ss)
 some-filled true m [] = omega arith
 some-filled false m [] = tt
 some-filled len m (s ∷ ss) = some-deep (ltb depth_limit m) (reverse (s ∷ ss)) (omega (arith, length-reverse (s ∷ ss)))
 
 -- splitting that is not refused gives a slice
-pub some-sliced : (len : Bool) (x : Splitting) → Some (sliced len x)
+pub some-sliced : (len : Bool) (x : Splitting) → HasSlice (sliced len x)
 some-sliced len (splitting zero m cur ss) = some-filled len m ss
 some-sliced true (splitting (suc d) m cur ss) = some-deep (ltb depth_limit m) (reverse (reverse cur ∷ ss)) (omega (arith, length-reverse (reverse cur ∷ ss)))
 some-sliced false (splitting (suc d) m cur ss) = tt
@@ -56,7 +56,7 @@ pre-answer ss (trees_so_far n vs) ts e h b k l =
     (subst (PreTrees 0) w g.2, sym (ap length w) ∙ g.3)
 pre-answer ss (no_trees j) ts e h b k l = not-both j 0 ts h
 
-pre-planted : (x : Slices) (ts : List Tree) → parse_slices false x ≡ accepted ts → Each Leads x → OkSlices x → Within none x → Some x
+pre-planted : (x : Slices) (ts : List Tree) → parse_slices false x ≡ accepted ts → Each Leads x → OkSlices x → Within none x → HasSlice x
     → PreTrees 0 ts × (0 < length ts)
 pre-planted (no n) ts h b k l m = not-both n 0 ts h
 pre-planted (slices ss) ts h b k l m =

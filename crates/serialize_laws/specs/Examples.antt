@@ -1,5 +1,5 @@
 -- The scope's examples P1 to P10: one table, one statement.
-use Rattle.std.specs.Prelude.{◌≡◌, ◌∷◌, ◌++◌}
+use Rattle.std.specs.Prelude.{◌≡◌, ◌∷◌, ◌++◌, Result, Ok, Err}
 use Rattle.lists.specs.Prelude.{refl, ℕ, zero, suc, List, [], length, take, Bool}
 use Prim.Native.String.{String}
 use Rattle.text_chars.specs.White.{white}
@@ -26,12 +26,10 @@ use Rattle.fit.specs.Record.{record_in}
 use Rattle.parser.specs.Examples.{bytes, strict, lenient}
 use Rattle.parser.specs.Read.{Answer, refused, accepted, read}
 use Rattle.edit_answer.specs.Answer.{outcome_of, edited_for}
-use Rattle.edit_answer.specs.declared.Edited.{Edited}
-use Rattle.edit_answer.specs.declared.Edited.TheVariants.{Changed, Refused}
 use Rattle.edit.specs.Lent.{memory_after}
 use Rattle.serialize.specs.Form.{writing, written, output}
-use Rattle.serialize.specs.declared.Written.{Written}
-use Rattle.serialize.specs.declared.Written.TheVariants as writer
+use Rattle.tables.specs.declared.Reason.{Reason}
+use Rattle.tables.specs.declared.Refusal.{Refusal}
 
 -- what is done with a text: it is read; or read strictly and written; or read strictly and value k edited
 pub data Deed : Type 0 where
@@ -110,9 +108,9 @@ zeros zero = []
 zeros (suc n) = 0 ∷ zeros n
 
 -- a writing shown: as many of the bytes lent as were written
-abbrev pub written_says : Written → (out : List ℕ) → Says
-written_says (writer.Wrote n) out = text (take n out)
-written_says (writer.Refused r) out = number (number_of r) 0
+abbrev pub written_says : Result ℕ Reason → (out : List ℕ) → Says
+written_says (Ok n) out = text (take n out)
+written_says (Err r) out = number (number_of r) 0
 
 -- what was read of a text, written into 100 bytes
 abbrev pub write_says : List ℕ → Answer → Says
@@ -122,9 +120,9 @@ write_says t (accepted ts) =
     written_says w (output w (writing (record_in (held t (tables ts)))) (zeros 100))
 
 -- an edit shown, with the memory after it
-abbrev pub edited_says : Edited → Memory → Says
-edited_says (Refused r p) m = number (number_of r) p
-edited_says (Changed n) m = edited n m.text m.trees m.nodes m.properties m.values
+abbrev pub edited_says : Result ℕ (Refusal Reason) → Memory → Says
+edited_says (Err e) m = number (number_of e.reason) e.place
+edited_says (Ok n) m = edited n m.text m.trees m.nodes m.properties m.values
 
 -- the text t, read, with value k edited
 abbrev pub edit_says : List ℕ → ℕ → List ℕ → Answer → Says

@@ -36,11 +36,10 @@ ghost use Rattle.c_tokens.specs.Tokens.{TrimIs, TokenIs, ValueIs};
 ghost use Rattle.tables.specs.Memory.{memory};
 ghost use Rattle.c_version.specs.Version.{version};
 
-use ask::Refusal;
 use c_answers::{SgfDisplay, SgfEdit, SgfGoValue, SgfReading, SgfSpan, SgfWriting};
 use c_tokens::{SgfToken, SgfTrim, SgfValue};
 use go_shape::Shape;
-use tables::Counts;
+use tables::{Counts, Reason};
 use value_display::Kind;
 
 // The version of the library: major * 65536 + minor * 256 + patch.
@@ -196,12 +195,12 @@ pub fn sgf_display_value(kind: u32, raw: &[u8], out: &mut [u8]) -> SgfDisplay
 }
 
 // The number of a refusal, 0 for none.
-fn refusal_number(refusal: Refusal) -> u32
+fn refusal_number(refusal: Option<Reason>) -> u32
     ensures { result ≡ refusal_number refusal }
 {
     match refusal {
-        Refusal::Not => 0,
-        Refusal::Because(reason) => tables::number(reason),
+        None => 0,
+        Some(reason) => u32::from(reason),
     }
 }
 

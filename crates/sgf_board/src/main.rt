@@ -10,7 +10,7 @@ ghost use Rattle.std.specs.Prelude.{◌≤◌, length};
 
 use board::SgfBoard;
 use std::env::{Env, FillError};
-use tables::{Counts, Reading};
+use tables::{Counts, Refusal};
 
 // Words and a number.
 pub fn say_count(words: &[u8], n: u64) {
@@ -190,12 +190,12 @@ fn show(rt: &HostRuntime, text: &[u8]) {
     let mut properties = tool::property_rows();
     let mut values = tool::pair_rows();
     match reader::read_strict(text, &mut trees, &mut nodes, &mut properties, &mut values) {
-        Reading::Accepted(counts) => {
+        Ok(counts) => {
             let node = asked_node(rt, counts, &trees, &nodes);
             show_node(text, counts, &trees, &nodes, &properties, &values, node);
         }
-        Reading::Refused(reason, place) => {
-            say_refused(tables::number(reason), place);
+        Err(Refusal { reason, place }) => {
+            say_refused(u32::from(reason), place);
             io::write_all(1, b"\n");
         }
     }

@@ -3,12 +3,11 @@
 
 ghost use Rattle.std.specs.Prelude.{◌≤◌, length};
 
-use feed_apply::Applied;
 use std::env::{Env, FillError};
 use std::fs::File;
 use std::io::Read;
 use std::os::fd::AsRawFd;
-use tables::{Counts, Reading};
+use tables::{Counts, Refusal};
 
 // How long a file is. Where it cannot be read, that is said.
 #[derive(Clone, Copy)]
@@ -42,11 +41,11 @@ fn say_corrected(
     feed: &[u8],
 ) {
     match feed_apply::apply(text, used, counts, trees, nodes, properties, values, feed) {
-        Applied::Changed(n) => {
+        Ok(n) => {
             io::write_all(1, tool::first(text, n));
         }
-        Applied::Refused(refusal, place) => {
-            say_refused(feed_check::feed_number(refusal), place);
+        Err(refused) => {
+            say_refused(u32::from(refused.reason), refused.place);
         }
     }
 }
@@ -63,7 +62,7 @@ fn correct(text: &mut [u8], used: usize, feed: &[u8]) {
         &mut properties,
         &mut values,
     ) {
-        Reading::Accepted(counts) => {
+        Ok(counts) => {
             say_corrected(
                 text,
                 used,
@@ -75,8 +74,8 @@ fn correct(text: &mut [u8], used: usize, feed: &[u8]) {
                 feed,
             );
         }
-        Reading::Refused(reason, place) => {
-            say_refused(tables::number(reason), place);
+        Err(refused) => {
+            say_refused(u32::from(refused.reason), refused.place);
         }
     }
 }

@@ -1,7 +1,7 @@
 // Standard input, a line `K BYTES` for each correction, as a feed; a line that is none, and a number too large for a feed, are said in one line.
 #![tactic(auto)]
 
-use feed::make::Made;
+use feed::make::MakeFault;
 
 // The first line feed from a place on; the end where there is none.
 fn line_end(text: &[u8], at: usize) -> usize {
@@ -124,8 +124,8 @@ fn checked(text: &[u8]) -> Lines {
     Lines::Good(count)
 }
 
-fn write_made(out: &[u8], made: Made) {
-    if let Made::Bytes(n) = made {
+fn write_made(out: &[u8], made: Result<usize, MakeFault>) {
+    if let Ok(n) = made {
         io::write_all(1, tool::first(out, n));
     }
 }

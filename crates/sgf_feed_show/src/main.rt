@@ -1,14 +1,11 @@
 // Standard input, a feed, as lines `K BYTES`; a malformed one is one line.
 #![tactic(auto)]
 
-use feed::Next;
-use feed_numerals::Numeral;
-
 fn show(feed: &[u8], count: usize, size: usize) {
     let mut low: usize = 0;
     let mut at = size;
     for _ in 0..count {
-        let Next::One(value, from, to) = feed::next_at(feed, low, at) else {
+        let Some((value, from, to)) = feed::next_at(feed, low, at) else {
             return;
         };
         io::print_decimal(1, value as u64);
@@ -27,7 +24,7 @@ fn show_feed(feed: &[u8]) {
         io::write_all(1, b"refused 24 at 0\n");
         return;
     }
-    if let Numeral::Is(count, size) = feed_numerals::read_numeral(feed, 0) {
+    if let Some((count, size)) = feed_numerals::read_numeral(feed, 0) {
         show(feed, count, size);
     }
 }

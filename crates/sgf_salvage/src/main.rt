@@ -3,7 +3,7 @@
 
 ghost use Rattle.std.specs.Prelude.{◌<◌};
 
-use salvage::SalvageAnswer;
+use tables::Refusal;
 
 fn say_refused(number: u32, place: usize) {
     let mut line = io::buffer();
@@ -67,14 +67,14 @@ fn say_text(text: &[u8]) {
         &mut changes,
         &mut out,
     ) {
-        SalvageAnswer::Done(_, length, count) => {
+        Ok((_, length, count)) => {
             say_changes(&changes, count);
             io::write_all(1, b"record\n");
             io::write_all(1, tool::first(&out, length));
             io::write_all(1, b"\n");
         }
-        SalvageAnswer::Refused(reason, place) => {
-            say_refused(tables::number(reason), place);
+        Err(Refusal { reason, place }) => {
+            say_refused(u32::from(reason), place);
         }
     }
 }

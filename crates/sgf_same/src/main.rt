@@ -3,12 +3,11 @@
 
 ghost use Rattle.std.specs.Prelude.{◌≤◌, length};
 
-use serialize::Written;
 use std::env::{Env, FillError};
 use std::fs::File;
 use std::io::Read;
 use std::os::fd::AsRawFd;
-use tables::{Counts, Reading};
+use tables::{Counts, Refusal};
 
 // How long a writing is. Where there is none, that is said.
 #[derive(Clone, Copy)]
@@ -54,8 +53,8 @@ fn write_record(
         values,
         out,
     ) {
-        Written::Wrote(n) => Outcome::Bytes(n),
-        Written::Refused(reason) => say_refused(name, tables::number(reason), 0),
+        Ok(n) => Outcome::Bytes(n),
+        Err(reason) => say_refused(name, u32::from(reason), 0),
     }
 }
 
@@ -65,7 +64,7 @@ fn write_text(name: &[u8], text: &[u8], out: &mut [u8]) -> Outcome {
     let mut properties = tool::property_rows();
     let mut values = tool::pair_rows();
     match reader::read_strict(text, &mut trees, &mut nodes, &mut properties, &mut values) {
-        Reading::Accepted(counts) => write_record(
+        Ok(counts) => write_record(
             name,
             text,
             counts,
@@ -75,7 +74,7 @@ fn write_text(name: &[u8], text: &[u8], out: &mut [u8]) -> Outcome {
             &values,
             out,
         ),
-        Reading::Refused(reason, place) => say_refused(name, tables::number(reason), place),
+        Err(Refusal { reason, place }) => say_refused(name, u32::from(reason), place),
     }
 }
 

@@ -10,7 +10,7 @@ ghost use Rattle.std.specs.Prelude.{◌<◌, ◌≤◌, length};
 
 use go_size::RootSize;
 use std::env::{Env, FillError};
-use tables::{Counts, Lenient, Reading, Reason};
+use tables::{Counts, LenientRefusal, Reason, Refusal};
 
 pub fn say_count(words: &[u8], n: usize) {
     let mut line = io::buffer();
@@ -157,10 +157,10 @@ fn show(text: &[u8]) {
     let mut properties = tool::property_rows();
     let mut values = tool::pair_rows();
     match reader::read_strict(text, &mut trees, &mut nodes, &mut properties, &mut values) {
-        Reading::Accepted(counts) => {
+        Ok(counts) => {
             say_record(text, counts, &trees, &nodes, &properties, &values);
         }
-        Reading::Refused(reason, place) => {
+        Err(Refusal { reason, place }) => {
             words::say_refused(text, reason, place);
         }
     }
@@ -173,13 +173,13 @@ fn show_lenient(text: &[u8]) {
     let mut properties = tool::property_rows();
     let mut values = tool::pair_rows();
     match reader::read_lenient(text, &mut trees, &mut nodes, &mut properties, &mut values) {
-        Lenient::Accepted(counts) => {
+        Ok(counts) => {
             say_record(text, counts, &trees, &nodes, &properties, &values);
         }
-        Lenient::TextTooLong => words::say_refused(text, Reason::TextTooLong, 0),
-        Lenient::NotUtf8(place) => words::say_refused(text, Reason::NotUtf8, place),
-        Lenient::TooDeep => words::say_refused(text, Reason::TooDeep, 0),
-        Lenient::NoRoom => words::say_refused(text, Reason::NoRoom, 0),
+        Err(LenientRefusal::TextTooLong) => words::say_refused(text, Reason::TextTooLong, 0),
+        Err(LenientRefusal::NotUtf8(place)) => words::say_refused(text, Reason::NotUtf8, place),
+        Err(LenientRefusal::TooDeep) => words::say_refused(text, Reason::TooDeep, 0),
+        Err(LenientRefusal::NoRoom) => words::say_refused(text, Reason::NoRoom, 0),
     }
 }
 

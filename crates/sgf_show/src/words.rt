@@ -97,7 +97,7 @@ fn say_number(number: u32, place: usize) {
 
 // Numbers 2 to 5 have a place.
 pub fn say_refused(text: &[u8], reason: Reason, place: usize) {
-    let number = tables::number(reason);
+    let number = u32::from(reason);
     say_number(number, place);
     io::write_all(1, b": ");
     say_meaning(reason);

@@ -50,7 +50,7 @@ fn say_next(text: &[u8], at: usize) -> usize {
             say_property(text, i, k, to);
         }
         Step::Refused(f, i) => {
-            say_refused(lexer::number(f), i);
+            say_refused(u32::from(f), i);
         }
         Step::Done => {
             io::write_all(1, b"done");

@@ -3,7 +3,7 @@
 
 ghost use Rattle.std.specs.Prelude.{◌<◌, ◌≤◌};
 
-use tables::{Counts, Reading};
+use tables::{Counts, Refusal};
 
 fn say_refused(number: u32, place: usize) {
     let mut line = io::buffer();
@@ -62,11 +62,11 @@ fn say_text(text: &[u8]) {
     let mut properties = tool::property_rows();
     let mut values = tool::pair_rows();
     match reader::read_strict(text, &mut trees, &mut nodes, &mut properties, &mut values) {
-        Reading::Accepted(counts) => {
+        Ok(counts) => {
             say_values(text, counts, &properties, &values);
         }
-        Reading::Refused(reason, place) => {
-            say_refused(tables::number(reason), place);
+        Err(Refusal { reason, place }) => {
+            say_refused(u32::from(reason), place);
         }
     }
 }

@@ -1,8 +1,7 @@
 // Standard input read strictly and written to standard output with a line feed; a refusal is one line.
 #![tactic(auto)]
 
-use serialize::Written;
-use tables::{Counts, Reading};
+use tables::{Counts, Refusal};
 
 fn say_refused(number: u32, place: usize) {
     let mut line = io::buffer();
@@ -30,12 +29,12 @@ fn say_written(
         values,
         out,
     ) {
-        Written::Wrote(n) => {
+        Ok(n) => {
             io::write_all(1, &out[..n]);
             io::write_all(1, b"\n");
         }
-        Written::Refused(reason) => {
-            say_refused(tables::number(reason), 0);
+        Err(reason) => {
+            say_refused(u32::from(reason), 0);
         }
     }
 }
@@ -46,12 +45,12 @@ fn say_text(text: &[u8]) {
     let mut properties = tool::property_rows();
     let mut values = tool::pair_rows();
     match reader::read_strict(text, &mut trees, &mut nodes, &mut properties, &mut values) {
-        Reading::Accepted(counts) => {
+        Ok(counts) => {
             let mut out = tool::out_room();
             say_written(text, counts, &trees, &nodes, &properties, &values, &mut out);
         }
-        Reading::Refused(reason, place) => {
-            say_refused(tables::number(reason), place);
+        Err(Refusal { reason, place }) => {
+            say_refused(u32::from(reason), place);
         }
     }
 }

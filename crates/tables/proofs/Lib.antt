@@ -7,4 +7,5 @@ pub mod Lengths
 pub mod Levels
 pub mod Links
 pub mod Moved
+pub mod Refusals
 pub mod Tabulate

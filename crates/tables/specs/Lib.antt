@@ -9,4 +9,5 @@ pub mod Memory
 pub mod Move
 pub mod Numbers
 pub mod Record
+pub mod Refusals
 pub mod Rows

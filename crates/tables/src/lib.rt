@@ -78,58 +78,61 @@ pub enum Reason {
     NotFitting,
 }
 
-// A reading: the counts, or why it is refused and the place.
+// What is refused, and the place in the text that it speaks of, 0 where it speaks of none.
 #[derive(Clone, Copy)]
-pub enum Reading {
-    Accepted(Counts),
-    Refused(Reason, usize),
+pub struct Refusal<R> {
+    pub reason: R,
+    pub place: usize,
 }
 
-// A lenient reading: the counts, or one of the four refusals that it has, with the place of the one that has a place.
+// Why a lenient reading is refused: the one that has a place with it.
 #[derive(Clone, Copy)]
-pub enum Lenient {
-    Accepted(Counts),
+pub enum LenientRefusal {
     TextTooLong,
     NotUtf8(usize),
     TooDeep,
     NoRoom,
 }
 
-// The number of a refusal.
-pub fn number(reason: Reason) -> u32
-    ensures { result ≡ number_of reason }
-{
-    match reason {
-        Reason::TextTooLong => 1,
-        Reason::NotUtf8 => 2,
-        Reason::MissingPropertyIdentifier => 3,
-        Reason::UnexpectedEndOfPropertyIdentifier => 4,
-        Reason::UnexpectedEndOfPropertyValue => 5,
-        Reason::UnexpectedGameTreeEnd => 6,
-        Reason::UnexpectedEndOfData => 7,
-        Reason::NoGameTrees => 8,
-        Reason::TooDeep => 9,
-        Reason::UnexpectedGameTreeStart => 10,
-        Reason::UnexpectedProperty => 11,
-        Reason::InvalidGameType => 12,
-        Reason::NoRoom => 14,
-        Reason::EmptyIdentifier => 15,
-        Reason::NoSuchNumber => 16,
-        Reason::GameTypeFixed => 17,
-        Reason::NotClosed => 18,
-        Reason::NotFitting => 19,
+impl From<Reason> for u32 {
+    ghost from_gives = { λ reason to. to ≡ number_of reason };
+
+    // The number of a refusal.
+    fn from(reason: Reason) -> u32 {
+        match reason {
+            Reason::TextTooLong => 1,
+            Reason::NotUtf8 => 2,
+            Reason::MissingPropertyIdentifier => 3,
+            Reason::UnexpectedEndOfPropertyIdentifier => 4,
+            Reason::UnexpectedEndOfPropertyValue => 5,
+            Reason::UnexpectedGameTreeEnd => 6,
+            Reason::UnexpectedEndOfData => 7,
+            Reason::NoGameTrees => 8,
+            Reason::TooDeep => 9,
+            Reason::UnexpectedGameTreeStart => 10,
+            Reason::UnexpectedProperty => 11,
+            Reason::InvalidGameType => 12,
+            Reason::NoRoom => 14,
+            Reason::EmptyIdentifier => 15,
+            Reason::NoSuchNumber => 16,
+            Reason::GameTypeFixed => 17,
+            Reason::NotClosed => 18,
+            Reason::NotFitting => 19,
+        }
     }
 }
 
-// A token's fault as a reason.
-pub fn fault_reason(fault: lexer::Fault) -> Reason
-    ensures { result ≡ reason_of fault }
-{
-    match fault {
-        lexer::Fault::MissingPropertyIdentifier => Reason::MissingPropertyIdentifier,
-        lexer::Fault::UnexpectedEndOfPropertyIdentifier =>
-            Reason::UnexpectedEndOfPropertyIdentifier,
-        lexer::Fault::UnexpectedEndOfPropertyValue => Reason::UnexpectedEndOfPropertyValue,
+impl From<lexer::Fault> for Reason {
+    ghost from_gives = { λ fault to. to ≡ reason_of fault };
+
+    // A token's fault as a reason.
+    fn from(fault: lexer::Fault) -> Reason {
+        match fault {
+            lexer::Fault::MissingPropertyIdentifier => Reason::MissingPropertyIdentifier,
+            lexer::Fault::UnexpectedEndOfPropertyIdentifier =>
+                Reason::UnexpectedEndOfPropertyIdentifier,
+            lexer::Fault::UnexpectedEndOfPropertyValue => Reason::UnexpectedEndOfPropertyValue,
+        }
     }
 }
 

@@ -6,13 +6,6 @@ ghost use Rattle.text_chars.specs.White.{within, white};
 ghost use Rattle.text_chars.specs.Table.{listed, scalar};
 ghost use Rattle.text_chars.specs.LocalsDecode.{decoded};
 
-// The character at a place: how many bytes it has and whether it is white space; or none.
-#[derive(Clone, Copy)]
-pub enum Decoded {
-    Character(usize, bool),
-    Bad,
-}
-
 // Unicode White_Space. Most characters beyond Latin are beyond U+3000.
 pub fn is_white(c: u32) -> bool
     ensures { result ≡ white c }
@@ -118,36 +111,36 @@ fn scalar4(b: u8, c: u8, d: u8, e: u8) -> u32
 }
 
 // The character at `i`, beyond ASCII.
-fn wide_at(s: &[u8], i: usize) -> Decoded
+fn wide_at(s: &[u8], i: usize) -> Option<(usize, bool)>
     requires { (i < length s.now) × (128 ≤ get_or s.now i 0) }
     ensures { result ≡ decoded (drop i s.now) }
 {
     let b = s[i];
     let c = byte_at(s, i + 1);
     if two(b, c) {
-        return Decoded::Character(2, is_white(scalar2(b, c)));
+        return Some((2, is_white(scalar2(b, c))));
     }
     let d = byte_at(s, i + 2);
     if three(b, c, d) {
-        return Decoded::Character(3, is_white(scalar3(b, c, d)));
+        return Some((3, is_white(scalar3(b, c, d))));
     }
     let e = byte_at(s, i + 3);
     if four(b, c, d, e) {
-        return Decoded::Character(4, is_white(scalar4(b, c, d, e)));
+        return Some((4, is_white(scalar4(b, c, d, e))));
     }
-    Decoded::Bad
+    None
 }
 
 // The character at `i`; none past the end.
-pub fn char_at(s: &[u8], i: usize) -> Decoded
+pub fn char_at(s: &[u8], i: usize) -> Option<(usize, bool)>
     ensures { result ≡ decoded (drop i s.now) }
 {
     if s.len() <= i {
-        return Decoded::Bad;
+        return None;
     }
     let b = s[i];
     if b < 128 {
-        return Decoded::Character(1, is_white(b as u32));
+        return Some((1, is_white(b as u32)));
     }
     wide_at(s, i)
 }

@@ -1,7 +1,6 @@
 -- The turns of the loop of `trim`: what the machine gives from here, as from the start. Assumes nothing.
 use Rattle.lists.proofs.Prelude.{◌≡◌, refl, sym, ap, ◌∙◌, ℕ, ◌+◌, ◌-◌, ◌≤◌, ◌<◌, arith, Bool, true, false, List, length, drop, get_or, drop_of_length-le, eq-eqb, ne_eqb}
 use Rattle.text_utf8.specs.declared.Trimmed.TheVariants.{NotUtf8, Blank, Kept}
-use Rattle.text_chars.specs.declared.Decoded.TheVariants.{Character, Bad}
 use Rattle.text_utf8.specs.declared.Seen.{Seen}
 use Rattle.text_chars.specs.White.{white}
 use Rattle.text_utf8.specs.Text.{Ink, blank, inked, mark, whole, utfs}
@@ -11,6 +10,7 @@ use Rattle.text_utf8.specs.Locals.{ink_of, Plain}
 use Rattle.text_utf8.proofs.Blocks.{plain-taken}
 use Rattle.text_utf8.proofs.Decoding.{decoded-taken, decoded-bad}
 use Rattle.text_chars.proofs.Wide.{decoded-1}
+use Rattle.std.specs.Prelude.{Some, None}
 
 pub ink-none : (k : Seen) → k.last ≡ 0 → ink_of k ≡ blank
 ink-none k e = rw (eq-eqb k.last 0 e)
@@ -40,7 +40,7 @@ unfolding trimmed
 onward-start s = refl
 
 module _ (s : List ℕ) (k : Seen) (i : ℕ) (inv : Onward s k i) where
-  pub turn : (w : ℕ) (x : Bool) (k' : Seen) → decoded (drop i s) ≡ Character w x → ink_of k' ≡ mark x (ink_of k) i (i + w) → Onward s k' (i + w)
+  pub turn : (w : ℕ) (x : Bool) (k' : Seen) → decoded (drop i s) ≡ Some (w, x) → ink_of k' ≡ mark x (ink_of k) i (i + w) → Onward s k' (i + w)
   turn w x k' d e = ap (λ (z : Ink). trim_of (utfs (whole z) (i + w) (drop (i + w) s))) e ∙ ap trim_of (sym (decoded-taken s i w x d (ink_of k))) ∙ inv
 
   pub turn-ascii : (x : Bool) (k' : Seen) → i < length s → get_or s i 0 < 128 → x ≡ white (get_or s i 0) → ink_of k' ≡ mark x (ink_of k) i (i + 1) → Onward s k' (i + 1)
@@ -56,7 +56,7 @@ module _ (s : List ℕ) (k : Seen) (i : ℕ) (inv : Onward s k i) where
       ∙ inv in
       rw e at x
 
-  pub stop-bad : i < length s → decoded (drop i s) ≡ Bad → NotUtf8 i ≡ trimmed s
+  pub stop-bad : i < length s → decoded (drop i s) ≡ None → NotUtf8 i ≡ trimmed s
   stop-bad h d = sym (decoded-bad s i h d (ink_of k)) ∙ inv
 
   end : length s ≤ i → trim_of (whole (ink_of k)) ≡ trimmed s

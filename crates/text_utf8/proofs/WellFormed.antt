@@ -2,8 +2,6 @@
 use Rattle.lists.proofs.Prelude.{◌≡◌, refl, sym, ap, ◌∙◌, subst, ◌⊎◌, inl, inr, ⊎_elim, ℕ, zero, suc, ◌+◌, ◌<◌, arith, Bool, true, false, List, [], ◌∷◌, length, take, drop, get_or, length-drop, take-append-drop, drop-drop, length-take-le}
 use Rattle.lists.proofs.Places.{drop-next}
 use Rattle.text_utf8.specs.declared.Trimmed.TheVariants.{NotUtf8}
-use Rattle.text_chars.specs.declared.Decoded.{Decoded}
-use Rattle.text_chars.specs.declared.Decoded.TheVariants.{Character, Bad}
 use Rattle.text_chars.specs.White.{white}
 use Rattle.text_utf8.specs.Text.{Ink, blank, inked, mark, Utf, whole, utfs}
 use Rattle.text_utf8.specs.Trim.{trim_of, trimmed}
@@ -15,6 +13,7 @@ use Rattle.text_utf8.proofs.Steps.{place, place_is, utfs-append}
 use Rattle.text_utf8.proofs.Cut.{unlisted-bad}
 use Rattle.text_utf8.proofs.Taken.{listed-taken}
 use Rattle.text_utf8.proofs.Decoding.{decoded-listed, decoded-none}
+use Rattle.std.specs.Prelude.{Option, Some, None}
 
 bad-later : (t : List ℕ) (n p : ℕ) → listed n t ≡ true → BadFrom (drop n t) p → BadFrom t (n + p)
 bad-later t n p h x =
@@ -25,7 +24,7 @@ bad-later t n p h x =
       here = λ m. ap (listed m) (sym (drop-drop p n t)) ∙ x.here m;
     }
 
-bad-here : (b : ℕ) (cs : List ℕ) → decoded (b ∷ cs) ≡ Bad → BadFrom (b ∷ cs) 0
+bad-here : (b : ℕ) (cs : List ℕ) → decoded (b ∷ cs) ≡ None → BadFrom (b ∷ cs) 0
 bad-here b cs h = record { inside = omega arith; before = empty; here = λ n. go n (listed n (b ∷ cs)) refl }
   where
     go : (n : ℕ) (x : Bool) → listed n (b ∷ cs) ≡ x → x ≡ false
@@ -40,12 +39,12 @@ one_more : (t : List ℕ) → ((u : List ℕ) → length u < length t → WellOr
 one_more [] f = inl empty
 one_more (b ∷ cs) f = go (decoded (b ∷ cs)) refl
   where
-    go : (d : Decoded) → decoded (b ∷ cs) ≡ d → WellOrBad (b ∷ cs)
-    go (Character w x) e =
+    go : (d : Option (ℕ × Bool)) → decoded (b ∷ cs) ≡ d → WellOrBad (b ∷ cs)
+    go (Some (w, x)) e =
         let h = (decoded-listed (b ∷ cs) w x e).0 in
         ⊎_elim (λ y. inl (begins w h y)) (λ y. inr (w + y.0, bad-later (b ∷ cs) w y.0 h y.1))
         (f (drop w (b ∷ cs)) (omega (arith, listed-long w (b ∷ cs) h, length-drop w (b ∷ cs))))
-    go Bad e = inr (0, bad-here b cs e)
+    go None e = inr (0, bad-here b cs e)
 
 shorter : (m : ℕ) (t : List ℕ) → length t < m → WellOrBad t
 shorter zero t l = absurd (omega arith)

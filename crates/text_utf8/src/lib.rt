@@ -5,8 +5,6 @@ ghost use Rattle.text_utf8.specs.Text.{mark};
 ghost use Rattle.text_utf8.specs.Locals.{ink_of, Plain};
 ghost use Rattle.text_utf8.specs.Trim.{trimmed};
 
-use text_chars::Decoded;
-
 // What a text keeps when it is trimmed: it is not UTF-8 (the start of the first bad sequence); nothing but white space; or first and last place.
 #[derive(Clone, Copy)]
 pub enum Trimmed {
@@ -111,7 +109,7 @@ pub fn trim(text: &[u8]) -> Trimmed
             i += 1;
             continue;
         }
-        let Decoded::Character(width, white) = text_chars::char_at(text, i) else {
+        let Some((width, white)) = text_chars::char_at(text, i) else {
             return Trimmed::NotUtf8(i);
         };
         seen = marked(seen, white, i, i + width);

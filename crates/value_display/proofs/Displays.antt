@@ -6,13 +6,11 @@ use Rattle.value_display.specs.LocalsShowing.{DisplaysAt}
 use Rattle.store_bytes.specs.LocalsWrote.{Wrote}
 use Rattle.value_display.specs.declared.Kind.{Kind}
 use Rattle.value_display.specs.declared.Kind.TheVariants.{Text, SimpleText}
-use Rattle.values.specs.declared.read.ReadStep.{ReadStep}
-use Rattle.values.specs.declared.read.ReadStep.TheVariants.{Byte, End}
-use Rattle.value_display.specs.declared.Displayed.TheVariants.{Length, NoRoom}
 use Rattle.store_bytes.proofs.Lists.{sets-out}
 use Rattle.store_bytes.proofs.Written.{wrote_none, wrote-more, wrote-is, wrote-all}
+use Rattle.std.specs.Prelude.{Option, Some, None}
 
-module _ (s : List ℕ) (at : ℕ) (r : ReadStep) {kind : Kind} where
+module _ (s : List ℕ) (at : ℕ) (r : Option (ℕ × ℕ)) {kind : Kind} where
   pub shows-text : kind ≡ Text → DisplaysAt format_text s at r → DisplaysAt (display_text kind) s at r
   unfolding display_text
   shows-text e h = subst (λ k. DisplaysAt (display_text k) s at r) (sym e) h
@@ -31,7 +29,7 @@ pub display-first : (kind : Kind) (raw out : List ℕ) → Displaying kind raw o
 display-first kind raw out = record { done = []; is = refl; wrote = wrote_none out 0 (omega arith) }
 
 module _ (kind : Kind) (raw : List ℕ) {out₀ out : List ℕ} {at to : ℕ} (d : Displaying kind raw out₀ out at to) where
-  pub display-next : {out' : List ℕ} {b n to' : ℕ} → length out₀ < 2 ^ 64 → DisplaysAt (display_text kind) raw at (Byte b n) → Wrote (b ∷ []) out to out' to' → Displaying kind raw out₀ out' n to'
+  pub display-next : {out' : List ℕ} {b n to' : ℕ} → length out₀ < 2 ^ 64 → DisplaysAt (display_text kind) raw at (Some (b, n)) → Wrote (b ∷ []) out to out' to' → Displaying kind raw out₀ out' n to'
   display-next {b = b} {n} l st w =
       record {
         done = d.done ++ (b ∷ []);
@@ -39,7 +37,7 @@ module _ (kind : Kind) (raw : List ℕ) {out₀ out : List ℕ} {at to : ℕ} (d
         wrote = wrote-more l d.wrote w;
       }
 
-  pub display-end : DisplaysAt (display_text kind) raw at End → Wrote (display_text kind (read_value raw)) out₀ 0 out to
+  pub display-end : DisplaysAt (display_text kind) raw at None → Wrote (display_text kind (read_value raw)) out₀ 0 out to
   display-end st = wrote-is (sym (d.is ∙ ap (λ z. d.done ++ z) st ∙ append-nil d.done)) d.wrote
 
 module _ (w out : List ℕ) (b : length out < 2 ^ 63) where
@@ -55,14 +53,14 @@ module _ (w out : List ℕ) (b : length out < 2 ^ 63) where
       go false q = lt-leb need (length out) (omega (arith, m.place, leb-false (length w) (length out) q))
 
   module _ {r : Bool} {out1 : List ℕ} (e : r ≡ leb (length w) (length out)) (k : out1 ≡ out) where
-    pub display-refused : r ≡ false → (NoRoom ≡ displayed w out) × (out1 ≡ displayed_in w out)
+    pub display-refused : r ≡ false → (None ≡ displayed w out) × (out1 ≡ displayed_in w out)
     unfolding displayed displayed_in
     display-refused t = (rw (sym e ∙ t), rw (sym e ∙ t) k)
 
-    pub display-done : {out2 : List ℕ} {n : ℕ} → r ≡ true → Wrote w out1 0 out2 n → (Length n ≡ displayed w out) × (out2 ≡ displayed_in w out)
+    pub display-done : {out2 : List ℕ} {n : ℕ} → r ≡ true → Wrote w out1 0 out2 n → (Some n ≡ displayed w out) × (out2 ≡ displayed_in w out)
     unfolding displayed displayed_in
     display-done {out2} {n} t x =
         let s = leb-true (length w) (length out) (sym e ∙ t) in
         let p = x.place in
         let q : n ≡ length w = omega arith in
-        (rw (sym e ∙ t) (ap Length q), rw (sym e ∙ t) (wrote-all (subst (λ z. Wrote w z 0 out2 n) k x) s))
+        (rw (sym e ∙ t) (ap Some q), rw (sym e ∙ t) (wrote-all (subst (λ z. Wrote w z 0 out2 n) k x) s))

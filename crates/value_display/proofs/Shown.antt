@@ -3,14 +3,14 @@ use Rattle.lists.proofs.Prelude.{ℕ, ◌≤◌, ◌≡◌, refl, sym, ap, ◌�
 use Rattle.values.specs.Read.{read_value}
 use Rattle.value_display.specs.Display.{blank1, blank2, blank3, format_text}
 use Rattle.value_display.specs.LocalsShowing.{DisplaysAt, Peeks, FormatsAt, Past}
-use Rattle.values.specs.declared.read.ReadStep.TheVariants.{Byte, End}
 use Rattle.value_display.proofs.Formats.{format-blank1, format-blank2, format-blank3, format-plain}
+use Rattle.std.specs.Prelude.{Some, None}
 
 module _ (f : List ℕ → List ℕ) (s : List ℕ) (at : ℕ) where
-  pub peek-byte : {b n : ℕ} → DisplaysAt f s at (Byte b n) → Peeks f s at b n
+  pub peek-byte : {b n : ℕ} → DisplaysAt f s at (Some (b, n)) → Peeks f s at b n
   peek-byte st = record { first = rw st.0; rest = rw st.0; onward = omega (arith, st.1); within = λ h. st.2 }
 
-  pub peek-end : DisplaysAt f s at End → Peeks f s at 0 at
+  pub peek-end : DisplaysAt f s at None → Peeks f s at 0 at
   peek-end st = record { first = rw st; rest = rw st; onward = le_refl at; within = λ h. h }
 
 -- white space of more than one byte begins with a byte from C2 to E3

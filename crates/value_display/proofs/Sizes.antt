@@ -3,9 +3,9 @@ use Rattle.lists.proofs.Prelude.{ℕ, zero, suc, ◌≤◌, ◌≡◌, Bool, tru
 use Rattle.lists.proofs.Pick.{pick-elim}
 use Rattle.values.specs.Read.{read_from, read_value}
 use Rattle.value_display.specs.Display.{Item, blank1, blank2, blank3, plain, removed, escaped, item_of, format_from, format_text, pairs_spaced, spaced, one_line, display_text, displayed}
-use Rattle.value_display.specs.declared.Displayed.TheVariants.{Length}
 use Rattle.value_display.specs.declared.Kind.{Kind}
 use Rattle.value_display.specs.declared.Kind.TheVariants.{Text, SimpleText}
+use Rattle.std.specs.Prelude.{Some}
 
 read_length : (escape : Bool) (s : List ℕ) → length (read_from escape s) ≤ length s
 unfolding read_from
@@ -61,6 +61,6 @@ shown-length Text raw = omega (arith, format-length 0 (read_value raw), read_len
 shown-length SimpleText raw = omega (arith, line-length (format_text (read_value raw)), format-length 0 (read_value raw), read_length false raw)
 
 -- so a display with that many bytes lent is never refused
-pub display-fits : (kind : Kind) (raw out : List ℕ) → length raw ≤ length out → displayed (display_text kind (read_value raw)) out ≡ Length (length (display_text kind (read_value raw)))
+pub display-fits : (kind : Kind) (raw out : List ℕ) → length raw ≤ length out → displayed (display_text kind (read_value raw)) out ≡ Some (length (display_text kind (read_value raw)))
 unfolding displayed
 display-fits kind raw out h = rw (le-leb (length (display_text kind (read_value raw))) (length out) (omega (arith, shown-length kind raw)))

@@ -3,20 +3,20 @@ use Rattle.lists.proofs.Prelude.{ℕ, ◌≤◌, ◌≡◌, sym, ap, ◌∙◌, 
 use Rattle.values.specs.Read.{read_value}
 use Rattle.value_display.specs.Display.{format_text}
 use Rattle.value_display.specs.LocalsShowing.{DisplaysAt, FormatsAt, other_break, Past}
-use Rattle.values.specs.declared.read.ReadStep.TheVariants.{Byte, End}
 use Rattle.values.proofs.Steps.{Steps}
 use Rattle.value_display.proofs.Formats.{format-empty, format-last, format-shown, format-removed}
+use Rattle.std.specs.Prelude.{Some, None}
 
 -- nothing that is shown stands between `from` and `at`
 abbrev pub Same : List ℕ → (from at : ℕ) → Type 0
 Same s from at = (format_text (read_value (drop from s)) ≡ format_text (read_value (drop at s))) × (from ≤ at)
 
 module _ (s : List ℕ) {from at : ℕ} (inv : Same s from at) where
-  pub text-end : Steps s at End → DisplaysAt format_text s from End
+  pub text-end : Steps s at None → DisplaysAt format_text s from None
   text-end st = inv.0 ∙ ap format_text st ∙ format-empty
 
-  module _ {b n : ℕ} (st : Steps s at (Byte b n)) where
-    pub text-plain : {x m : ℕ} → FormatsAt b s n x m → DisplaysAt format_text s from (Byte x m)
+  module _ {b n : ℕ} (st : Steps s at (Some (b, n))) where
+    pub text-plain : {x m : ℕ} → FormatsAt b s n x m → DisplaysAt format_text s from (Some (x, m))
     text-plain p = (inv.0 ∙ ap format_text st.0 ∙ p.first, omega (arith, inv.1, st.1, p.onward), p.within st.2)
 
     module _ (e : b ≡ 0x5c) where
@@ -24,7 +24,7 @@ module _ (s : List ℕ) {from at : ℕ} (inv : Same s from at) where
       read-slash = st.0 ∙ ap (λ (z : ℕ). z ∷ read_value (drop n s)) e
 
       -- a backslash that is the last of all
-      pub text-last : Steps s n End → DisplaysAt format_text s from (Byte b n)
+      pub text-last : Steps s n None → DisplaysAt format_text s from (Some (b, n))
       text-last end = (
         inv.0
             ∙ ap format_text (read-slash ∙ ap (λ (z : List ℕ). 0x5c ∷ z) end)
@@ -35,8 +35,8 @@ module _ (s : List ℕ) {from at : ℕ} (inv : Same s from at) where
         st.2,
       )
 
-      module _ {c m other : ℕ} (st2 : Steps s n (Byte c m)) (o : other ≡ other_break c) where
-        pub text-shown : other ≡ 0 → DisplaysAt format_text s from (Byte c m)
+      module _ {c m other : ℕ} (st2 : Steps s n (Some (c, m))) (o : other ≡ other_break c) where
+        pub text-shown : other ≡ 0 → DisplaysAt format_text s from (Some (c, m))
         text-shown z = (
           inv.0 ∙ ap format_text (read-slash ∙ ap (λ (z : List ℕ). 0x5c ∷ z) st2.0) ∙ format-shown c (read_value (drop m s)) o z,
           omega (arith, inv.1, st.1, st2.1),

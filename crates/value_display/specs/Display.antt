@@ -1,8 +1,6 @@
 -- Text display: `format_text` and the replacements of `SimpleText`, over bytes of UTF-8.
-use Rattle.std.specs.Prelude.{◌&&◌, ◌||◌, ◌∷◌, ◌++◌}
+use Rattle.std.specs.Prelude.{◌&&◌, ◌||◌, ◌∷◌, ◌++◌, Option, Some, None}
 use Rattle.lists.specs.Prelude.{ℕ, zero, suc, Bool, List, [], map, leb, eqb, length, get_or, drop, pick}
-use Rattle.value_display.specs.declared.Displayed.{Displayed}
-use Rattle.value_display.specs.declared.Displayed.TheVariants.{Length, NoRoom}
 use Rattle.value_display.specs.declared.Kind.{Kind}
 use Rattle.value_display.specs.declared.Kind.TheVariants.{Text, SimpleText}
 
@@ -77,8 +75,8 @@ display_text Text bs = format_text bs
 display_text SimpleText bs = one_line (format_text bs)
 
 -- the answer to a display of `text` in `out`: its length, or that it has no room
-unfoldable pub displayed : (text out : List ℕ) → Displayed
-displayed text out = pick (leb (length text) (length out)) (Length (length text)) NoRoom
+unfoldable pub displayed : (text out : List ℕ) → Option ℕ
+displayed text out = pick (leb (length text) (length out)) (Some (length text)) None
 
 -- the lent bytes after it: the text and then what was there, or all that was there (SCOPE 57)
 unfoldable pub displayed_in : (text out : List ℕ) → List ℕ

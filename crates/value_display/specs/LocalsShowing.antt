@@ -1,15 +1,13 @@
 -- What the cursors of text display promise.
-use Rattle.std.specs.Prelude.{◌≤◌, ◌<◌, ◌≡◌, ◌∷◌}
+use Rattle.std.specs.Prelude.{◌≤◌, ◌<◌, ◌≡◌, ◌∷◌, Option, Some, None}
 use Rattle.lists.specs.Prelude.{ℕ, List, [], eqb, length, get_or, drop, pick}
 use Rattle.value_display.specs.Display.{format_text}
 use Rattle.values.specs.Read.{read_value}
-use Rattle.values.specs.declared.read.ReadStep.{ReadStep}
-use Rattle.values.specs.declared.read.ReadStep.TheVariants.{Byte, End}
 
 -- a byte is the first that f shows of the read value from `at` on, and the next place is further on
-abbrev pub DisplaysAt : (List ℕ → List ℕ) → List ℕ → ℕ → ReadStep → Type 0
-DisplaysAt f s at (Byte b n) = (f (read_value (drop at s)) ≡ b ∷ f (read_value (drop n s))) × (at < n) × (n ≤ length s)
-DisplaysAt f s at End = f (read_value (drop at s)) ≡ []
+abbrev pub DisplaysAt : (List ℕ → List ℕ) → List ℕ → ℕ → Option (ℕ × ℕ) → Type 0
+DisplaysAt f s at (Some (b, n)) = (f (read_value (drop at s)) ≡ b ∷ f (read_value (drop n s))) × (at < n) × (n ≤ length s)
+DisplaysAt f s at None = f (read_value (drop at s)) ≡ []
 
 -- the byte that f shows first, or 0 at the end, and the place after it
 pub record Peeks (f : List ℕ → List ℕ) (s : List ℕ) (at byte next : ℕ) : Type 0 where

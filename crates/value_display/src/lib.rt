@@ -7,19 +7,10 @@ ghost use Rattle.value_display.specs.Display.{blank1, blank2, blank3, format_tex
 ghost use Rattle.value_display.specs.LocalsShowing.{DisplaysAt, Peeks, FormatsAt, other_break, Past};
 ghost use Rattle.store_bytes.specs.LocalsWrote.{Wrote};
 
-use values::read::ReadStep;
-
 #[derive(Clone, Copy)]
 pub enum Kind {
     Text,
     SimpleText,
-}
-
-// How many bytes a text has that was displayed, or that they exceed those lent.
-#[derive(Clone, Copy)]
-pub enum Displayed {
-    Length(usize),
-    NoRoom,
 }
 
 // A byte ahead, 0 at the end, and the place after it.
@@ -59,7 +50,7 @@ fn is_blank3(a: u8, b: u8, c: u8) -> bool
 fn peek(s: &[u8], at: usize) -> Ahead
     ensures { Peeks (λ z. z) s.now at result.byte result.next }
 {
-    let ReadStep::Byte(b, n) = values::read::next_read(s, at) else {
+    let Some((b, n)) = values::read::next_read(s, at) else {
         return Ahead { byte: 0, next: at };
     };
     Ahead { byte: b, next: n }
@@ -121,25 +112,25 @@ fn past(s: &[u8], at: usize, other: u8) -> usize
 }
 
 // The next byte that `format_text` shows.
-fn next_text(s: &[u8], from: usize) -> ReadStep
+fn next_text(s: &[u8], from: usize) -> Option<(u8, usize)>
     ensures { DisplaysAt format_text s.now from result }
 {
     let mut at = from;
     // A loop: `at` moves past a break that is not shown.
     loop {
-        let ReadStep::Byte(b, n) = values::read::next_read(s, at) else {
-            return ReadStep::End;
+        let Some((b, n)) = values::read::next_read(s, at) else {
+            return None;
         };
         if b != b'\\' {
             let p = plain_byte(s, b, n);
-            return ReadStep::Byte(p.byte, p.next);
+            return Some((p.byte, p.next));
         }
-        let ReadStep::Byte(c, m) = values::read::next_read(s, n) else {
-            return ReadStep::Byte(b, n);
+        let Some((c, m)) = values::read::next_read(s, n) else {
+            return Some((b, n));
         };
         let other = other_break(c);
         if other == 0 {
-            return ReadStep::Byte(c, m);
+            return Some((c, m));
         }
         at = past(s, m, other);
     }
@@ -149,41 +140,41 @@ fn next_text(s: &[u8], from: usize) -> ReadStep
 fn peek_text(s: &[u8], at: usize) -> Ahead
     ensures { Peeks format_text s.now at result.byte result.next }
 {
-    let ReadStep::Byte(b, n) = next_text(s, at) else {
+    let Some((b, n)) = next_text(s, at) else {
         return Ahead { byte: 0, next: at };
     };
     Ahead { byte: b, next: n }
 }
 
 // The next byte that `SimpleText` shows: of line breaks CR LF is one space first, then LF CR, then each.
-fn next_simple(s: &[u8], at: usize) -> ReadStep
+fn next_simple(s: &[u8], at: usize) -> Option<(u8, usize)>
     ensures { DisplaysAt (λ z. one_line (format_text z)) s.now at result }
 {
-    let ReadStep::Byte(b, n) = next_text(s, at) else {
-        return ReadStep::End;
+    let Some((b, n)) = next_text(s, at) else {
+        return None;
     };
     if other_break(b) == 0 {
-        return ReadStep::Byte(b, n);
+        return Some((b, n));
     }
     let second = peek_text(s, n);
     if b == b'\r' {
         if second.byte == b'\n' {
-            return ReadStep::Byte(b' ', second.next);
+            return Some((b' ', second.next));
         }
-        return ReadStep::Byte(b' ', n);
+        return Some((b' ', n));
     }
     if second.byte != b'\r' {
-        return ReadStep::Byte(b' ', n);
+        return Some((b' ', n));
     }
     let third = peek_text(s, second.next);
     if third.byte == b'\n' {
-        return ReadStep::Byte(b' ', n);
+        return Some((b' ', n));
     }
-    ReadStep::Byte(b' ', second.next)
+    Some((b' ', second.next))
 }
 
 // The next byte of what is shown, by the kind.
-fn next_shown(kind: Kind, s: &[u8], at: usize) -> ReadStep
+fn next_shown(kind: Kind, s: &[u8], at: usize) -> Option<(u8, usize)>
     ensures { DisplaysAt (display_text kind) s.now at result }
 {
     match kind {
@@ -200,7 +191,7 @@ fn put_shown(kind: Kind, raw: &[u8], out: &mut [u8]) -> usize
     let mut to: usize = 0;
     // A loop: `at` moves by what the next shown byte takes.
     loop {
-        let ReadStep::Byte(b, n) = next_shown(kind, raw, at) else {
+        let Some((b, n)) = next_shown(kind, raw, at) else {
             return to;
         };
         to = store_bytes::put_byte(out, to, b);
@@ -221,13 +212,13 @@ fn has_room(kind: Kind, raw: &[u8], out: &mut [u8]) -> bool
 }
 
 // Displays a raw value in the output, or changes nothing where it has no room for all of it.
-pub fn display(kind: Kind, raw: &[u8], out: &mut [u8]) -> Displayed
+pub fn display(kind: Kind, raw: &[u8], out: &mut [u8]) -> Option<usize>
     ensures value { result ≡ displayed (display_text kind (read_value raw.now)) out.old }
     ensures out_after { out.new ≡ displayed_in (display_text kind (read_value raw.now)) out.old }
 {
     if !has_room(kind, raw, out) {
-        return Displayed::NoRoom;
+        return None;
     }
     let length = put_shown(kind, raw, out);
-    Displayed::Length(length)
+    Some(length)
 }

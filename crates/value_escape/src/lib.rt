@@ -6,8 +6,6 @@ ghost use Rattle.store_bytes.specs.LocalsWrote.{Wrote};
 ghost use Rattle.value_display.specs.Display.{displayed, displayed_in};
 ghost use Rattle.value_escape.specs.Escape.{escaped_byte, escaped_text};
 
-use value_display::Displayed;
-
 // One byte, behind a backslash where it wants one, put into the output where it has room; the place after it.
 fn put_escaped(out: &mut [u8], at: usize, b: u8) -> usize
     ensures { Wrote (escaped_byte b) out.old at out.new result }
@@ -40,13 +38,13 @@ fn has_room(text: &[u8], out: &mut [u8]) -> bool
 }
 
 // Plain text escaped in the output, or nothing changed where it has no room for all of it.
-pub fn escape(text: &[u8], out: &mut [u8]) -> Displayed
+pub fn escape(text: &[u8], out: &mut [u8]) -> Option<usize>
     ensures value { result ≡ displayed (escaped_text text.now) out.old }
     ensures out_after { out.new ≡ displayed_in (escaped_text text.now) out.old }
 {
     if !has_room(text, out) {
-        return Displayed::NoRoom;
+        return None;
     }
     let length = put_text(text, out);
-    Displayed::Length(length)
+    Some(length)
 }

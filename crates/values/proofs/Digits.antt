@@ -4,8 +4,8 @@ use Rattle.values.specs.Read.{read_value}
 use Rattle.values.specs.Decimal.{signed, digit_of, digits_from, decimal_of}
 use Rattle.values.specs.declared.decimal.Number.{Number}
 use Rattle.values.specs.declared.decimal.Number.TheVariants.{Bad}
-use Rattle.values.specs.declared.read.ReadStep.TheVariants.{Byte, End}
 use Rattle.values.proofs.Steps.{Steps}
+use Rattle.std.specs.Prelude.{Some, None}
 
 pick_same : (b : Bool) (n : Number) → pick b n n ≡ n
 pick_same true n = refl
@@ -30,15 +30,15 @@ pub record Head : Type 0 where
   pub inv : digits_from any minus most acc (read_value (drop at s)) ≡ answer
 
 module _ (h : Head) where
-  pub digits-end : Steps h.s h.at End → h.any ≡ true → h.acc ≤ h.most → signed h.minus h.acc ≡ h.answer
+  pub digits-end : Steps h.s h.at None → h.any ≡ true → h.acc ≤ h.most → signed h.minus h.acc ≡ h.answer
   unfolding digits_from
   digits-end st a l = rw (st, a, le-leb h.acc h.most l) at h.inv
 
-  pub digits-none : Steps h.s h.at End → h.any ≡ false → Bad ≡ h.answer
+  pub digits-none : Steps h.s h.at None → h.any ≡ false → Bad ≡ h.answer
   unfolding digits_from
   digits-none st a = rw (st, a) at h.inv
 
-  module _ (b n d : ℕ) (st : Steps h.s h.at (Byte b n)) (e : d ≡ digit_of b) where
+  module _ (b n d : ℕ) (st : Steps h.s h.at (Some (b, n))) (e : d ≡ digit_of b) where
     digits-turn : pick (leb d 9) (digits_from true h.minus h.most (h.acc * 10 + d) (read_value (drop n h.s))) Bad ≡ h.answer
     unfolding digits_from
     digits-turn = rw e (rw st.0 at h.inv)
@@ -54,11 +54,11 @@ module _ (h : Head) where
     digits-on l = rw (le-leb d 9 l) at digits-turn
 
 module _ (most : ℕ) (s : List ℕ) where
-  pub decimal-empty : Steps s 0 End → Bad ≡ decimal_of most (read_value s)
+  pub decimal-empty : Steps s 0 None → Bad ≡ decimal_of most (read_value s)
   unfolding decimal_of
   decimal-empty st = rw st
 
-  module _ (b n : ℕ) (st : Steps s 0 (Byte b n)) where
+  module _ (b n : ℕ) (st : Steps s 0 (Some (b, n))) where
     pub decimal-plus : b ≡ 0x2b → digits_from false false most 0 (read_value (drop n s)) ≡ decimal_of most (read_value s)
     unfolding decimal_of
     decimal-plus e = rw (st.0, eq-eqb b 0x2b e)

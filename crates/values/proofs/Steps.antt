@@ -2,21 +2,20 @@
 use Rattle.lists.proofs.Prelude.{ℕ, suc, ◌+◌, ◌≤◌, ◌<◌, ◌≡◌, sym, ap, ◌∙◌, subst, true, false, List, [], ◌∷◌, add-one, add-two, arith, ltb, eqb, length, get_or, drop, drop_of_length-le, drop-cons, ltb-true, ltb-false, pick}
 use Rattle.lists.proofs.Pick.{pick-elim}
 use Rattle.values.specs.Read.{read_from, read_value, next_read}
-use Rattle.values.specs.declared.read.ReadStep.{ReadStep}
-use Rattle.values.specs.declared.read.ReadStep.TheVariants.{Byte, End}
+use Rattle.std.specs.Prelude.{Option, Some, None}
 
 -- a byte is the first of the read value from `at` on, and the next place is further on
-abbrev pub Steps : List ℕ → ℕ → ReadStep → Type 0
-Steps s at (Byte b n) = (read_value (drop at s) ≡ b ∷ read_value (drop n s)) × (at < n) × (n ≤ length s)
-Steps s at End = read_value (drop at s) ≡ []
+abbrev pub Steps : List ℕ → ℕ → Option (ℕ × ℕ) → Type 0
+Steps s at (Some (b, n)) = (read_value (drop at s) ≡ b ∷ read_value (drop n s)) × (at < n) × (n ≤ length s)
+Steps s at None = read_value (drop at s) ≡ []
 
 module _ (s : List ℕ) (at : ℕ) where
-  read_past : length s ≤ at → Steps s at End
+  read_past : length s ≤ at → Steps s at None
   unfolding read_from
   read_past h = rw (drop_of_length-le s h)
 
   module _ (h : at < length s) where
-    read-escaped : eqb (get_or s at 0) 0x5c ≡ true → Steps s at (pick (ltb (at + 1) (length s)) (Byte (get_or s (at + 1) 0) (at + 2)) End)
+    read-escaped : eqb (get_or s at 0) 0x5c ≡ true → Steps s at (pick (ltb (at + 1) (length s)) (Some (get_or s (at + 1) 0, at + 2)) None)
     unfolding read_from
     read-escaped e =
         pick-elim (Steps s at) (ltb (at + 1) (length s))
@@ -29,7 +28,7 @@ module _ (s : List ℕ) (at : ℕ) where
         let l2 : length s ≤ suc at = omega arith in
         rw (drop-cons s at 0 h, e, drop_of_length-le s l2))
 
-    read_plain : eqb (get_or s at 0) 0x5c ≡ false → Steps s at (Byte (get_or s at 0) (at + 1))
+    read_plain : eqb (get_or s at 0) 0x5c ≡ false → Steps s at (Some (get_or s at 0, at + 1))
     unfolding read_from
     read_plain e = (rw (add-one, drop-cons s at 0 h, e), omega arith, omega arith)
 
@@ -41,9 +40,9 @@ module _ (s : List ℕ) (at : ℕ) where
       (λ l. read_past (ltb-false at (length s) l))
 
   -- what a call of `next_read` gave
-  pub stepped : {r q : ReadStep} → r ≡ next_read s at → r ≡ q → Steps s at q
+  pub stepped : {r q : Option (ℕ × ℕ)} → r ≡ next_read s at → r ≡ q → Steps s at q
   stepped e f = subst (Steps s at) (sym e ∙ f) next-read-steps
 
 -- a byte, and what is read behind it
-pub read-cons : (s : List ℕ) {at b n : ℕ} {bs : List ℕ} → Steps s at (Byte b n) → read_value (drop n s) ≡ bs → read_value (drop at s) ≡ b ∷ bs
+pub read-cons : (s : List ℕ) {at b n : ℕ} {bs : List ℕ} → Steps s at (Some (b, n)) → read_value (drop n s) ≡ bs → read_value (drop at s) ≡ b ∷ bs
 read-cons s {b = b} st e = st.0 ∙ ap (λ (z : List ℕ). b ∷ z) e

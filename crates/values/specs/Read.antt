@@ -1,8 +1,6 @@
 -- Read values and read identifiers: what raw bytes read as.
-use Rattle.std.specs.Prelude.{◌+◌, ◌&&◌, ◌∷◌}
+use Rattle.std.specs.Prelude.{◌+◌, ◌&&◌, ◌∷◌, Option, Some, None}
 use Rattle.lists.specs.Prelude.{ℕ, Bool, true, false, List, [], leb, ltb, eqb, length, get_or, pick}
-use Rattle.values.specs.declared.read.ReadStep.{ReadStep}
-use Rattle.values.specs.declared.read.ReadStep.TheVariants.{Byte, End}
 
 -- each unescaped backslash is dropped and what follows it is kept; true: an escape is pending
 unfoldable pub read_from : Bool → List ℕ → List ℕ
@@ -20,8 +18,8 @@ read_identifier [] = []
 read_identifier (b ∷ bs) = pick (leb 0x41 b && leb b 0x5a) (b ∷ read_identifier bs) (read_identifier bs)
 
 -- the next read byte at a place of raw bytes, and the place after it
-unfoldable pub next_read : List ℕ → ℕ → ReadStep
+unfoldable pub next_read : List ℕ → ℕ → Option (ℕ × ℕ)
 next_read s at =
     pick (ltb at (length s))
-    (pick (eqb (get_or s at 0) 0x5c) (pick (ltb (at + 1) (length s)) (Byte (get_or s (at + 1) 0) (at + 2)) End) (Byte (get_or s at 0) (at + 1)))
-    End
+    (pick (eqb (get_or s at 0) 0x5c) (pick (ltb (at + 1) (length s)) (Some (get_or s (at + 1) 0, at + 2)) None) (Some (get_or s at 0, at + 1)))
+    None

@@ -3,8 +3,6 @@ ghost use Rattle.std.specs.Prelude.{◌≡◌, false, ◌-◌, ◌^◌, min, dro
 ghost use Rattle.values.specs.Read.{read_value};
 ghost use Rattle.values.specs.Decimal.{digit_of, digits_from, decimal_of};
 
-use crate::read::ReadStep;
-
 // A number by its sign and its size, or none.
 #[derive(Clone, Copy)]
 pub enum Number {
@@ -36,8 +34,8 @@ fn digits_at(s: &[u8], from: usize, minus: bool, most: u64) -> Number
     // A loop: `at` moves by what the next read byte takes.
     loop {
         match crate::read::next_read(s, at) {
-            ReadStep::End => break,
-            ReadStep::Byte(b, next) => {
+            None => break,
+            Some((b, next)) => {
                 let d = digit_of(b);
                 if 9 < d {
                     return Number::Bad;
@@ -71,8 +69,8 @@ pub fn decimal_within(s: &[u8], most: u64) -> Number
     // The largest bound whose minus still fits a u64.
     let bound = most.min(0xffff_ffff_ffff_fffe);
     match crate::read::next_read(s, 0) {
-        ReadStep::End => Number::Bad,
-        ReadStep::Byte(b, next) => {
+        None => Number::Bad,
+        Some((b, next)) => {
             if b == b'+' {
                 return digits_at(s, next, false, bound);
             }

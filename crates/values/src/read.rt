@@ -2,26 +2,19 @@
 ghost use Rattle.std.specs.Prelude.{◌≡◌};
 ghost use Rattle.values.specs.Read.{next_read};
 
-// What stands at a place of raw bytes: the next read byte and the place after it, or the end.
-#[derive(Clone, Copy)]
-pub enum ReadStep {
-    Byte(u8, usize),
-    End,
-}
-
 // The next byte of the read value.
-pub fn next_read(s: &[u8], at: usize) -> ReadStep
+pub fn next_read(s: &[u8], at: usize) -> Option<(u8, usize)>
     ensures { result ≡ next_read s.now at }
 {
     if s.len() <= at {
-        return ReadStep::End;
+        return None;
     }
     let b = s[at];
     if b != b'\\' {
-        return ReadStep::Byte(b, at + 1);
+        return Some((b, at + 1));
     }
     if s.len() <= at + 1 {
-        return ReadStep::End;
+        return None;
     }
-    ReadStep::Byte(s[at + 1], at + 2)
+    Some((s[at + 1], at + 2))
 }

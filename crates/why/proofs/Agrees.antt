@@ -20,13 +20,13 @@ use Rattle.parser_tree.proofs.Bounded.{Mild, mild-walked}
 use Rattle.why_blame.specs.Cuts.{fault_fact, deep_at, loose, cut_deep, cut_slices, cutting, cut_tokens}
 use Rattle.why_blame.specs.Numbered.{fact_reason}
 use Rattle.why_blame.specs.declared.Fact.TheVariants.{TooDeep, Length}
-use Rattle.why_blame.specs.declared.Blamed.{Blamed}
-use Rattle.why_blame.specs.declared.Blamed.TheVariants.{No, By}
-use Rattle.why_blame.specs.declared.Cutting.{Cutting}
-use Rattle.why_blame.specs.declared.Cutting.TheVariants.{Wrong, Slices}
 use Rattle.why.specs.Trees.{slices_blame}
 use Rattle.why.specs.Why.{accepted_slices, cut_blame, tokens_blame, trim_blame, text_blame}
 use Rattle.why.proofs.Trees.{Agree, slices-agree}
+use Rattle.std.specs.Prelude.{Option, Some, None, Result, Ok, Err}
+use Rattle.tables.specs.Refusals.{refusal}
+use Rattle.why_blame.specs.declared.Fact.{Fact}
+use Rattle.tables.specs.declared.Refusal.{Refusal}
 
 -- ---- lenient trees are never refused
 
@@ -50,30 +50,30 @@ grown-all x [] h = h
 grown-all (trees_so_far n ts) (s ∷ us) h = grown-all (tree_of_game true n (find_gametype s) s ts) us (grown-game n (find_gametype s) s ts)
 grown-all (no_trees r) (s ∷ us) h = absurd h
 
-grown-agrees : (x : Trees) → Grown x → Agree (answer x) No
+grown-agrees : (x : Trees) → Grown x → Agree (answer x) None
 grown-agrees (trees_so_far n ts) h = tt
 grown-agrees (no_trees r) h = absurd h
 
 -- ---- splitting
 
 -- by the slices that are accepted
-abbrev blame_by : Bool → List (List Tok) → Cutting → Blamed
-blame_by len us (Wrong f p) = By f p
-blame_by true us (Slices k q) = No
-blame_by false us (Slices k q) = slices_blame 0 0 us
+abbrev blame_by : Bool → List (List Tok) → Result (ℕ × ℕ) (Refusal Fact) → Option (Refusal Fact)
+blame_by len us (Err e) = Some (refusal e.reason e.place)
+blame_by true us (Ok (k, q)) = None
+blame_by false us (Ok (k, q)) = slices_blame 0 0 us
 
-cut-strict : (ts : List Tok) (c : Cutting) → cut_blame false ts c ≡ blame_by false (accepted_slices (split_by_gametree false ts)) c
-cut-strict ts (Wrong f p) = refl
-cut-strict ts (Slices k q) = refl
+cut-strict : (ts : List Tok) (c : Result (ℕ × ℕ) (Refusal Fact)) → cut_blame false ts c ≡ blame_by false (accepted_slices (split_by_gametree false ts)) c
+cut-strict ts (Err e) = refl
+cut-strict ts (Ok (k, q)) = refl
 
-cut-lenient : (ts : List Tok) (us : List (List Tok)) (c : Cutting) → cut_blame true ts c ≡ blame_by true us c
-cut-lenient ts us (Wrong f p) = refl
-cut-lenient ts us (Slices k q) = refl
+cut-lenient : (ts : List Tok) (us : List (List Tok)) (c : Result (ℕ × ℕ) (Refusal Fact)) → cut_blame true ts c ≡ blame_by true us c
+cut-lenient ts us (Err e) = refl
+cut-lenient ts us (Ok (k, q)) = refl
 
 deep-agrees : (len : Bool) (n : ℕ) (l : Lexed) (m : ℕ) (us : List (List Tok)) → Agree (parse_slices len (deep m us)) (blame_by len (accepted_slices (deep m us)) (cut_deep len n l m us))
 deep-agrees len n l m us = go len (ltb depth_limit m)
   where
-    go : (b c : Bool) → Agree (parse_slices b (pick c (no too_deep) (slices us))) (blame_by b (accepted_slices (pick c (no too_deep) (slices us))) (pick c (Wrong TooDeep (deep_at len l.toks)) (Slices (length us) (loose n us l))))
+    go : (b c : Bool) → Agree (parse_slices b (pick c (no too_deep) (slices us))) (blame_by b (accepted_slices (pick c (no too_deep) (slices us))) (pick c (Err (refusal TooDeep (deep_at len l.toks))) (Ok (length us, loose n us l))))
     go b true = refl
     go true false = grown-agrees (parse_gametrees true (trees_so_far 0 []) us) (grown-all (trees_so_far 0 []) us tt)
     go false false = slices-agree 0 0 [] us
@@ -147,6 +147,6 @@ module _ (len : Bool) (t : List ℕ) where
   pub text-agrees : Agree (read len t) (text_blame len t)
   text-agrees = go (ltb text_limit (length t)) refl
     where
-      go : (b : Bool) → ltb text_limit (length t) ≡ b → Agree (read len t) (pick b (By (Length (length t)) 0) (trim_blame len t (trimmed t)))
-      go true e = subst⁻¹ (λ (a : Answer). Agree a (By (Length (length t)) 0)) (text-long len t (ltb-true text_limit (length t) e)) refl
+      go : (b : Bool) → ltb text_limit (length t) ≡ b → Agree (read len t) (pick b (Some (refusal (Length (length t)) 0)) (trim_blame len t (trimmed t)))
+      go true e = subst⁻¹ (λ (a : Answer). Agree a (Some (refusal (Length (length t)) 0))) (text-long len t (ltb-true text_limit (length t) e)) refl
       go false e = subst⁻¹ (λ (a : Answer). Agree a (trim_blame len t (trimmed t))) (text-trimmed len t (ltb-false text_limit (length t) e)) (trim-agrees (trimmed t) refl)

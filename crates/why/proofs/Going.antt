@@ -15,10 +15,11 @@ use Rattle.parser_tree.proofs.Lines.{Line, line_first, line-open, line-shut, lin
 use Rattle.parser_tree.proofs.Behind.{Skipping, skipping-first, skipping-start, skipping-end, skipping-last, slice-last, slice-end, shallow-end}
 use Rattle.why_blame.specs.Blame.{nowhere, found, blame, is_stopped}
 use Rattle.why_blame.specs.declared.Fact.TheVariants.{EmptyList, EndBeyond}
-use Rattle.why_blame.specs.declared.Blamed.TheVariants.{By}
 use Rattle.why_blame.proofs.Found.{blame-on, blame-here}
 use Rattle.why.specs.Trees.{top_node, stop_blame, tree_blame, nodes_of}
 use Rattle.why.specs.LocalsTrees.{slice_at, SliceReady, SoundSlice}
+use Rattle.std.specs.Prelude.{Some}
+use Rattle.tables.specs.Refusals.{refusal}
 
 -- before the first token
 abbrev pub unwalked : Walk
@@ -106,10 +107,10 @@ module _ {u : List ℕ} {from base : ℕ} {a : List ℕ} {at d cur n : ℕ} {g :
             ∙ ap (λ (z : ℕ). pick (may_open base z (stack_of a d)) (walk cur (cur ∷ stack_of a d) false x.ns) (stopped UnexpectedGameTreeStart)) (sym x.count)
             ∙ ap (λ (z : Bool). pick z (walk cur (cur ∷ stack_of a d) false x.ns) (stopped UnexpectedGameTreeStart)) (sym (m ∙ may-within a d base n x.deep))
 
-        pub start-stops : b ≡ false → {p : ℕ} → p ≡ top_node (stack_of a d) → tree_blame base (slice_at u from) ≡ By (EmptyList p) i
+        pub start-stops : b ≡ false → {p : ℕ} → p ≡ top_node (stack_of a d) → tree_blame base (slice_at u from) ≡ Some (refusal (EmptyList p) i)
         start-stops f e =
             stops-here (start i) (slice_from (suc d) (lex_at u (i + 1)).toks) start-slice (start-walk ∙ ap (λ (z : Bool). pick z (walk cur (cur ∷ stack_of a d) false x.ns) (stopped UnexpectedGameTreeStart)) f)
-            ∙ ap (λ (z : ℕ). By (EmptyList z) i) (sym e)
+            ∙ ap (λ (z : ℕ). Some (refusal (EmptyList z) i)) (sym e)
 
         pub going_start : b ≡ true → {a' : List ℕ} → a' ≡ set a d cur → Going u from base a' (i + 1) (d + 1) cur n false
         unfolding Shallow
@@ -143,7 +144,7 @@ module _ {u : List ℕ} {from base : ℕ} {a : List ℕ} {at d cur n : ℕ} {g :
       last-slice : d ≤ 1 → slice_from d (lex_at u at).toks ≡ end i ∷ []
       last-slice h = ap (λ (z : Lexed). slice_from d z.toks) q ∙ slice-last d i (lex_at u (i + 1)).toks h
 
-      pub end-stops : d ≡ 0 → tree_blame base (slice_at u from) ≡ By EndBeyond i
+      pub end-stops : d ≡ 0 → tree_blame base (slice_at u from) ≡ Some (refusal EndBeyond i)
       end-stops z = stops-here (end i) [] (last-slice (omega arith)) (ap (λ (st : List ℕ). closes false cur st x.ns) (stack-none a d z))
 
       popped : (d ≡ 0 → ⊥) → walks false base here (end i) ≡ walk (get_or a (d - 1) 0) (stack_of a (d - 1)) false x.ns

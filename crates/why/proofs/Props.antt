@@ -13,10 +13,11 @@ use Rattle.parser_tree.proofs.Lines.{Line, line-prop, line-node}
 use Rattle.parser_tree.proofs.Behind.{skipping-node, skipping-prop, skipping-over}
 use Rattle.why_blame.specs.Blame.{blame, is_stopped}
 use Rattle.why_blame.specs.declared.Fact.TheVariants.{Stray}
-use Rattle.why_blame.specs.declared.Blamed.TheVariants.{By}
 use Rattle.why.specs.Trees.{top_node, tree_blame}
 use Rattle.why.specs.LocalsTrees.{slice_at, SoundSlice}
 use Rattle.why.proofs.Going.{Going, here, blames-on, walkeds-on, stops-here, sound-by}
+use Rattle.std.specs.Prelude.{Some}
+use Rattle.tables.specs.Refusals.{refusal}
 
 module _ {u : List ℕ} {from base : ℕ} {a : List ℕ} {at d cur n : ℕ} {g : Bool} (x : Going u from base a at d cur n g) where
   module _ {i : ℕ} (lo : at ≤ i) (hi : i < length u) where
@@ -54,7 +55,7 @@ module _ {u : List ℕ} {from base : ℕ} {a : List ℕ} {at d cur n : ℕ} {g :
     unfolding slice_from
     prop-slice = ap (λ (z : Lexed). slice_from d z.toks) q
 
-    pub prop-stops : g ≡ false → tree_blame base (slice_at u from) ≡ By Stray i
+    pub prop-stops : g ≡ false → tree_blame base (slice_at u from) ≡ Some (refusal Stray i)
     unfolding prop_at
     prop-stops f = stops-here x (prop (prop_at u i k) e) (slice_from d (lex_at u e).toks) prop-slice {r = UnexpectedProperty} (ap (λ (z : Bool). gated false z (prop_at u i k) cur (stack_of a d) x.ns) f)
 

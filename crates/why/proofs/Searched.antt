@@ -10,12 +10,11 @@ use Rattle.why_blame.specs.Cuts.{first_place}
 use Rattle.why_blame.specs.Games.{game_blame}
 use Rattle.why_blame.specs.declared.Fact.{Fact}
 use Rattle.why_blame.specs.declared.Fact.TheVariants.{NoNode}
-use Rattle.why_blame.specs.declared.Blamed.{Blamed}
-use Rattle.why_blame.specs.declared.Blamed.TheVariants.{No, By}
 use Rattle.why.specs.Trees.{or_blame, tree_blame, nodes_in, empty_blame, slice_blame, slices_blame}
 use Rattle.why.specs.LocalsTrees.{slice_at, SliceReady, SoundSlice, FoundIn, Searching}
-use Rattle.why.specs.declared.tree.TreeWalked.{TreeWalked}
-use Rattle.why.specs.declared.tree.TreeWalked.TheVariants.{Stopped, Tree}
+use Rattle.std.specs.Prelude.{Option, Some, None, Result, Ok, Err}
+use Rattle.tables.specs.Refusals.{refusal}
+use Rattle.tables.specs.declared.Refusal.{Refusal}
 
 pub searching-first : {u : List ℕ} {from count : ℕ} → SlicesReady false u from count → Searching u from count from 0 0
 searching-first {u} {from} {count} x =
@@ -42,7 +41,7 @@ place-slice (node o ∷ ts) e h = refl
 place-slice (prop p q ∷ ts) e h = refl
 
 module _ {u : List ℕ} {from count at base k : ℕ} (x : Searching u from count at base k) where
-  pub searched-end : count ≤ k → No ≡ slices_blame 0 0 (first_slices count (lex_at u from).toks)
+  pub searched-end : count ≤ k → None ≡ slices_blame 0 0 (first_slices count (lex_at u from).toks)
   unfolding first_slices
   searched-end h =
       let e : count - k ≡ 0 = omega arith in
@@ -56,38 +55,38 @@ module _ {u : List ℕ} {from count at base k : ℕ} (x : Searching u from count
     pub slice-ready : SliceReady u at base
     slice-ready = record { short = x.short; inside = x.inside; nodes = x.nodes; shallow = (subst (All (Shallow 0)) next x.shallow).0 }
 
-    abbrev Rest : Blamed
+    abbrev Rest : Option (Refusal Fact)
     Rest = slices_blame (suc k) (base + nodes_in base (slice_at u at)) (first_slices (count - (k + 1)) (rest_from 0 (lex_at u at).toks))
 
     whole : slices_blame 0 0 (first_slices count (lex_at u from).toks) ≡ or_blame (slice_blame k base (slice_at u at)) Rest
     whole = x.same ∙ ap (slices_blame k base) next
 
-    module _ {r : Blamed} (e : r ≡ game_blame k (props_named GM (props (drop 2 (slice_at u at))))) where
-      pub searched-game : {f : Fact} {p : ℕ} → r ≡ By f p → By f p ≡ slices_blame 0 0 (first_slices count (lex_at u from).toks)
+    module _ {r : Option (Refusal Fact)} (e : r ≡ game_blame k (props_named GM (props (drop 2 (slice_at u at))))) where
+      pub searched-game : {f : Fact} {p : ℕ} → r ≡ Some (refusal f p) → Some (refusal f p) ≡ slices_blame 0 0 (first_slices count (lex_at u from).toks)
       searched-game q =
-          sym (whole ∙ ap (λ (z : Blamed). or_blame (or_blame z (or_blame (tree_blame base (slice_at u at)) (empty_blame k (nodes_in base (slice_at u at)) (slice_at u at)))) Rest) (sym e ∙ q))
+          sym (whole ∙ ap (λ (z : Option (Refusal Fact)). or_blame (or_blame z (or_blame (tree_blame base (slice_at u at)) (empty_blame k (nodes_in base (slice_at u at)) (slice_at u at)))) Rest) (sym e ∙ q))
 
-      module _ (q : r ≡ No) where
+      module _ (q : r ≡ None) where
         typed : slices_blame 0 0 (first_slices count (lex_at u from).toks) ≡ or_blame (or_blame (tree_blame base (slice_at u at)) (empty_blame k (nodes_in base (slice_at u at)) (slice_at u at))) Rest
-        typed = whole ∙ ap (λ (z : Blamed). or_blame (or_blame z (or_blame (tree_blame base (slice_at u at)) (empty_blame k (nodes_in base (slice_at u at)) (slice_at u at)))) Rest) (sym e ∙ q)
+        typed = whole ∙ ap (λ (z : Option (Refusal Fact)). or_blame (or_blame z (or_blame (tree_blame base (slice_at u at)) (empty_blame k (nodes_in base (slice_at u at)) (slice_at u at)))) Rest) (sym e ∙ q)
 
-        module _ {w : TreeWalked} (y : FoundIn u at base w) where
-          pub searched-stop : {f : Fact} {p : ℕ} → w ≡ Stopped f p → By f p ≡ slices_blame 0 0 (first_slices count (lex_at u from).toks)
+        module _ {w : Result (ℕ × ℕ) (Refusal Fact)} (y : FoundIn u at base w) where
+          pub searched-stop : {f : Fact} {p : ℕ} → w ≡ Err (refusal f p) → Some (refusal f p) ≡ slices_blame 0 0 (first_slices count (lex_at u from).toks)
           searched-stop g =
-              sym (typed ∙ ap (λ (z : Blamed). or_blame (or_blame z (empty_blame k (nodes_in base (slice_at u at)) (slice_at u at))) Rest) (subst (FoundIn u at base) g y))
+              sym (typed ∙ ap (λ (z : Option (Refusal Fact)). or_blame (or_blame z (empty_blame k (nodes_in base (slice_at u at)) (slice_at u at))) Rest) (subst (FoundIn u at base) g y))
 
-          module _ {b n : ℕ} (g : w ≡ Tree b n) where
+          module _ {b n : ℕ} (g : w ≡ Ok (b, n)) where
             grown : SoundSlice u at base b n
             grown = subst (FoundIn u at base) g y
 
             walked-well : slices_blame 0 0 (first_slices count (lex_at u from).toks) ≡ or_blame (empty_blame k (nodes_in base (slice_at u at)) (slice_at u at)) Rest
-            walked-well = typed ∙ ap (λ (z : Blamed). or_blame (or_blame z (empty_blame k (nodes_in base (slice_at u at)) (slice_at u at))) Rest) grown.none-stops
+            walked-well = typed ∙ ap (λ (z : Option (Refusal Fact)). or_blame (or_blame z (empty_blame k (nodes_in base (slice_at u at)) (slice_at u at))) Rest) grown.none-stops
 
-            pub searched-empty : n ≡ base → {p : ℕ} → p ≡ first_place 0 (lex_at u at).toks (lex_at u at).end → By (NoNode k) p ≡ slices_blame 0 0 (first_slices count (lex_at u from).toks)
+            pub searched-empty : n ≡ base → {p : ℕ} → p ≡ first_place 0 (lex_at u at).toks (lex_at u at).end → Some (refusal (NoNode k) p) ≡ slices_blame 0 0 (first_slices count (lex_at u from).toks)
             searched-empty c {p} d =
                 let i = grown.count in
                 let z : nodes_in base (slice_at u at) ≡ 0 = omega arith in
-                ap (By (NoNode k)) (d ∙ place-slice (lex_at u at).toks (lex_at u at).end x.calm)
+                ap (λ (z : ℕ). Some (refusal (NoNode k) z)) (d ∙ place-slice (lex_at u at).toks (lex_at u at).end x.calm)
                 ∙ sym (walked-well ∙ ap (λ (m : ℕ). or_blame (empty_blame k m (slice_at u at)) Rest) z)
 
             some : (m : ℕ) → (n ≡ base → ⊥) → n ≡ base + m → or_blame (empty_blame k m (slice_at u at)) Rest ≡ Rest

@@ -15,24 +15,26 @@ use Rattle.parser.specs.Read.{Answer, refused, accepted, Trees, trees_so_far, no
 use Rattle.why_blame.specs.Blame.{found, blame, is_stopped}
 use Rattle.why_blame.specs.Games.{values_blame, game_blame}
 use Rattle.why_blame.specs.Numbered.{fact_reason}
-use Rattle.why_blame.specs.declared.Blamed.{Blamed}
-use Rattle.why_blame.specs.declared.Blamed.TheVariants.{No, By}
 use Rattle.why.specs.Trees.{or_blame, stop_blame, tree_blame, nodes_of, empty_blame, slices_blame}
+use Rattle.std.specs.Prelude.{Option, Some, None}
+use Rattle.tables.specs.Refusals.{refusal}
+use Rattle.why_blame.specs.declared.Fact.{Fact}
+use Rattle.tables.specs.declared.Refusal.{Refusal}
 
 -- refused by the number of the fact, or accepted with nothing to blame
-abbrev pub Agree : Answer → Blamed → Type 0
-Agree (refused r p) No = ⊥
-Agree (refused r p) (By f q) = fact_reason f ≡ r
-Agree (accepted ts) No = Unit {0}
-Agree (accepted ts) (By f q) = ⊥
+abbrev pub Agree : Answer → Option (Refusal Fact) → Type 0
+Agree (refused r p) None = ⊥
+Agree (refused r p) (Some e) = fact_reason e.reason ≡ r
+Agree (accepted ts) None = Unit {0}
+Agree (accepted ts) (Some e) = ⊥
 
 -- ---- the game type
 
-abbrev AgreeGame : Game → Blamed → Type 0
-AgreeGame (is k) No = Unit {0}
-AgreeGame (is k) (By f p) = ⊥
-AgreeGame (no_game r) No = ⊥
-AgreeGame (no_game r) (By f p) = fact_reason f ≡ r
+abbrev AgreeGame : Game → Option (Refusal Fact) → Type 0
+AgreeGame (is k) None = Unit {0}
+AgreeGame (is k) (Some e) = ⊥
+AgreeGame (no_game r) None = ⊥
+AgreeGame (no_game r) (Some e) = fact_reason e.reason ≡ r
 
 vals-agree : (at : ℕ) (vs : List Val) → AgreeGame (game_vals vs) (values_blame at vs (game_vals vs))
 vals-agree at [] = refl
@@ -48,12 +50,12 @@ game-agrees n (p ∷ q ∷ ps) = refl
 
 -- ---- the walk
 
-abbrev AgreeWalk : Walk → Blamed → Type 0
-AgreeWalk (walk cur st g ns) No = Unit {0}
-AgreeWalk (walk cur st g ns) (By f p) = ⊥
+abbrev AgreeWalk : Walk → Option (Refusal Fact) → Type 0
+AgreeWalk (walk cur st g ns) None = Unit {0}
+AgreeWalk (walk cur st g ns) (Some e) = ⊥
 AgreeWalk (halted ns) b = ⊥
-AgreeWalk (stopped r) No = ⊥
-AgreeWalk (stopped r) (By f p) = fact_reason f ≡ r
+AgreeWalk (stopped r) None = ⊥
+AgreeWalk (stopped r) (Some e) = fact_reason e.reason ≡ r
 
 -- the reason that a token stops a tree with
 abbrev token_reason : Tok → Reason
@@ -111,21 +113,21 @@ slices-agree n base ts [] = tt
 slices-agree n base ts (s ∷ us) =
     typed (find_gametype s) (game_blame n (props_named GM (props (drop 2 s)))) (game-agrees n (props_named GM (props (drop 2 s)))) (λ b os. slices-agree (suc n) b os us)
   where
-    no-tree : (r : Reason) (b : Blamed) → AgreeGame (no_game r) b → (c : Blamed) → Agree (answer (parse_gametrees false (no_trees r) us)) (or_blame (or_blame b c) (slices_blame (suc n) (base + length (nodes_of (walked false base (walk none [] false []) s))) us))
-    no-tree r No h c = absurd h
-    no-tree r (By f p) h c = subst⁻¹ (λ (z : Trees). Agree (answer z) (By f p)) (none-stay r us) h
+    no-tree : (r : Reason) (b : Option (Refusal Fact)) → AgreeGame (no_game r) b → (c : Option (Refusal Fact)) → Agree (answer (parse_gametrees false (no_trees r) us)) (or_blame (or_blame b c) (slices_blame (suc n) (base + length (nodes_of (walked false base (walk none [] false []) s))) us))
+    no-tree r None h c = absurd h
+    no-tree r (Some e) h c = subst⁻¹ (λ (z : Trees). Agree (answer z) (Some (refusal e.reason e.place))) (none-stay r us) h
 
-    grown : (k : ℕ) (w : Walk) (b : Blamed) → AgreeWalk w b → ((b : ℕ) (os : List Tree) → Agree (answer (parse_gametrees false (trees_so_far b os) us)) (slices_blame (suc n) b us))
+    grown : (k : ℕ) (w : Walk) (b : Option (Refusal Fact)) → AgreeWalk w b → ((b : ℕ) (os : List Tree) → Agree (answer (parse_gametrees false (trees_so_far b os) us)) (slices_blame (suc n) b us))
         → Agree (answer (parse_gametrees false (tree_of_walk false base k w ts) us)) (or_blame (or_blame b (empty_blame n (length (nodes_of w)) s)) (slices_blame (suc n) (base + length (nodes_of w)) us))
-    grown k (walk c st g []) No h ih = subst⁻¹ (λ (z : Trees). Agree (answer z) (empty_blame n 0 s)) (none-stay _ us) refl
-    grown k (walk c st g (m ∷ ms)) No h ih = ih (base + length (m ∷ ms)) _
-    grown k (walk c st g ns) (By f p) h ih = absurd h
+    grown k (walk c st g []) None h ih = subst⁻¹ (λ (z : Trees). Agree (answer z) (empty_blame n 0 s)) (none-stay _ us) refl
+    grown k (walk c st g (m ∷ ms)) None h ih = ih (base + length (m ∷ ms)) _
+    grown k (walk c st g ns) (Some e) h ih = absurd h
     grown k (halted ns) b h ih = absurd h
-    grown k (stopped r) No h ih = absurd h
-    grown k (stopped r) (By f p) h ih = subst⁻¹ (λ (z : Trees). Agree (answer z) (By f p)) (none-stay r us) h
+    grown k (stopped r) None h ih = absurd h
+    grown k (stopped r) (Some e) h ih = subst⁻¹ (λ (z : Trees). Agree (answer z) (Some (refusal e.reason e.place))) (none-stay r us) h
 
-    typed : (g : Game) (b : Blamed) → AgreeGame g b → ((b : ℕ) (os : List Tree) → Agree (answer (parse_gametrees false (trees_so_far b os) us)) (slices_blame (suc n) b us))
+    typed : (g : Game) (b : Option (Refusal Fact)) → AgreeGame g b → ((b : ℕ) (os : List Tree) → Agree (answer (parse_gametrees false (trees_so_far b os) us)) (slices_blame (suc n) b us))
         → Agree (answer (parse_gametrees false (tree_of_game false base g s ts) us)) (or_blame (or_blame b (or_blame (tree_blame base s) (empty_blame n (length (nodes_of (walked false base (walk none [] false []) s))) s))) (slices_blame (suc n) (base + length (nodes_of (walked false base (walk none [] false []) s))) us))
-    typed (is k) No h ih = grown k (walked false base (walk none [] false []) s) (tree_blame base s) (walk-agrees base none [] false [] [] s) ih
-    typed (is k) (By f p) h ih = absurd h
+    typed (is k) None h ih = grown k (walked false base (walk none [] false []) s) (tree_blame base s) (walk-agrees base none [] false [] [] s) ih
+    typed (is k) (Some e) h ih = absurd h
     typed (no_game r) b h ih = no-tree r b h (or_blame (tree_blame base s) (empty_blame n (length (nodes_of (walked false base (walk none [] false []) s))) s))

@@ -14,18 +14,9 @@ ghost use Rattle.why_blame.specs.Cuts.{cut_tokens};
 ghost use Rattle.why.specs.Why.{tokens_blame, cut_loose, explained};
 ghost use Rattle.why.specs.LocalsSought.{sought_by, sought_in, SoughtIs};
 
-use parser_census::Census;
-use tables::{Counts, Lenient, Reading};
+use tables::{Counts, Refusal};
 use text_utf8::Trimmed;
-use tree::TreeWalked;
-use why_blame::{Blamed, Cutting, Fact};
-
-// The explanation: the counts and the place of the first token in no slice; or the fact and the place of the token to blame.
-#[derive(Clone, Copy)]
-pub enum Why {
-    Accepted(Counts, usize),
-    Refused(Fact, usize),
-}
+use why_blame::Fact;
 
 // What is found before rows are counted: nothing is odd, and the counts; nothing is to blame; each with the place of the first token in no slice. Or the fact and the place of the token to blame.
 #[derive(Clone, Copy)]
@@ -36,7 +27,7 @@ enum Sought {
 }
 
 // The slices from a place on, one after the other: game type, tree, nodes.
-fn in_slices(s: &[u8], from: usize, count: usize) -> Blamed
+fn in_slices(s: &[u8], from: usize, count: usize) -> Option<Refusal<Fact>>
     requires { SlicesReady false s.now from count }
     ensures { result ≡ slices_blame 0 0 (first_slices count (lex_at s.now from).toks) }
 {
@@ -44,16 +35,19 @@ fn in_slices(s: &[u8], from: usize, count: usize) -> Blamed
     let mut base: usize = 0;
     for k in 0..count {
         match why_blame::game::in_game(s, at, k) {
-            Blamed::By(fact, place) => return Blamed::By(fact, place),
-            Blamed::No => {
+            Some(blamed) => return Some(blamed),
+            None => {
                 match tree::walk_slice(s, at, base) {
-                    TreeWalked::Stopped(fact, place) => return Blamed::By(fact, place),
-                    TreeWalked::Tree(next, n) => {
+                    Err(refused) => return Some(Refusal {
+                        reason: refused.reason,
+                        place: refused.place,
+                    }),
+                    Ok((next, n)) => {
                         if n == base {
-                            return Blamed::By(
-                                Fact::NoNode(k),
-                                why_blame::split::first_place(s, at, 0),
-                            );
+                            return Some(Refusal {
+                                reason: Fact::NoNode(k),
+                                place: why_blame::split::first_place(s, at, 0),
+                            });
                         }
                         at = next;
                         base = n;
@@ -62,7 +56,7 @@ fn in_slices(s: &[u8], from: usize, count: usize) -> Blamed
             }
         }
     }
-    Blamed::No
+    None
 }
 
 // The tokens from a place on, in a text of `size` bytes: faults and splitting in one pass, then the slices in one walk.
@@ -72,14 +66,14 @@ fn in_tokens(s: &[u8], from: usize, size: usize, lenient: bool) -> Sought
         (cut_loose size (cut_tokens lenient size (lex_at s.now from))) }
 {
     match why_blame::split::in_split(s, from, size, lenient) {
-        Cutting::Wrong(fact, place) => Sought::Wrong(fact, place),
-        Cutting::Slices(count, loose) => {
+        Err(refused) => Sought::Wrong(refused.reason, refused.place),
+        Ok((count, loose)) => {
             if lenient {
                 return Sought::Sound(loose);
             }
             match in_slices(s, from, count) {
-                Blamed::By(fact, place) => Sought::Wrong(fact, place),
-                Blamed::No => Sought::Sound(loose),
+                Some(blamed) => Sought::Wrong(blamed.reason, blamed.place),
+                None => Sought::Sound(loose),
             }
         }
     }
@@ -93,7 +87,7 @@ fn in_part(s: &[u8], from: usize, size: usize, lenient: bool) -> Sought
         (cut_loose size (cut_tokens lenient size (lex_at s.now from)))) }
 {
     match parser_census::take_census(s, from) {
-        Census::Simple(t, n, p, v) => Sought::Simple(
+        Some((t, n, p, v)) => Sought::Simple(
             Counts {
                 trees: t,
                 nodes: n,
@@ -102,7 +96,7 @@ fn in_part(s: &[u8], from: usize, size: usize, lenient: bool) -> Sought
             },
             size,
         ),
-        Census::Odd => in_tokens(s, from, size, lenient),
+        None => in_tokens(s, from, size, lenient),
     }
 }
 
@@ -121,32 +115,44 @@ fn in_text(text: &[u8], lenient: bool) -> Sought
 }
 
 // Why a text is refused where it is read strictly. Rows are counted only where something is odd and nothing is to blame.
-pub fn strict(text: &[u8]) -> Why
+pub fn strict(text: &[u8]) -> Result<(Counts, usize), Refusal<Fact>>
     ensures { result ≡ explained false text.now }
 {
     match in_text(text, false) {
-        Sought::Simple(counts, loose) => Why::Accepted(counts, loose),
-        Sought::Wrong(fact, place) => Why::Refused(fact, place),
+        Sought::Simple(counts, loose) => Ok((counts, loose)),
+        Sought::Wrong(fact, place) => Err(Refusal {
+            reason: fact,
+            place,
+        }),
         Sought::Sound(loose) => {
             match reader::count_strict(text) {
-                Reading::Accepted(counts) => Why::Accepted(counts, loose),
-                Reading::Refused(_, _) => Why::Refused(Fact::NoEnd, 0),
+                Ok(counts) => Ok((counts, loose)),
+                Err(_) => Err(Refusal {
+                    reason: Fact::NoEnd,
+                    place: 0,
+                }),
             }
         }
     }
 }
 
 // Why a text is refused where it is read leniently.
-pub fn lenient(text: &[u8]) -> Why
+pub fn lenient(text: &[u8]) -> Result<(Counts, usize), Refusal<Fact>>
     ensures { result ≡ explained true text.now }
 {
     match in_text(text, true) {
-        Sought::Simple(counts, loose) => Why::Accepted(counts, loose),
-        Sought::Wrong(fact, place) => Why::Refused(fact, place),
+        Sought::Simple(counts, loose) => Ok((counts, loose)),
+        Sought::Wrong(fact, place) => Err(Refusal {
+            reason: fact,
+            place,
+        }),
         Sought::Sound(loose) => {
             match reader::count_lenient(text) {
-                Lenient::Accepted(counts) => Why::Accepted(counts, loose),
-                _ => Why::Refused(Fact::NoEnd, 0),
+                Ok(counts) => Ok((counts, loose)),
+                Err(_) => Err(Refusal {
+                    reason: Fact::NoEnd,
+                    place: 0,
+                }),
             }
         }
     }

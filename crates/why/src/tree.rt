@@ -5,15 +5,8 @@ ghost use Rattle.why.specs.Trees.{top_node};
 ghost use Rattle.why.specs.LocalsTrees.{SliceReady, FoundIn};
 
 use lexer::Step;
-use tables::NONE;
+use tables::{NONE, Refusal};
 use why_blame::Fact;
-
-// Where the tree stops, and why; or the place behind the slice and the number of the next node.
-#[derive(Clone, Copy)]
-pub enum TreeWalked {
-    Stopped(Fact, usize),
-    Tree(usize, usize),
-}
 
 // The node on top of the stack.
 fn top(stack: &[u32; 1024], depth: usize) -> u32
@@ -27,7 +20,7 @@ fn top(stack: &[u32; 1024], depth: usize) -> u32
 }
 
 // The slice that starts at a place, its first node numbered `base`.
-pub fn walk_slice(s: &[u8], from: usize, base: usize) -> TreeWalked
+pub fn walk_slice(s: &[u8], from: usize, base: usize) -> Result<(usize, usize), Refusal<Fact>>
     requires { SliceReady s.now from base }
     ensures { FoundIn s.now from base result }
 {
@@ -42,7 +35,10 @@ pub fn walk_slice(s: &[u8], from: usize, base: usize) -> TreeWalked
         match lexer::next_token(s, at) {
             Step::Start(i) => {
                 if !parser_step::may_open(&stack, depth, base, n) {
-                    return TreeWalked::Stopped(Fact::EmptyList(top(&stack, depth)), i);
+                    return Err(Refusal {
+                        reason: Fact::EmptyList(top(&stack, depth)),
+                        place: i,
+                    });
                 }
                 stack[depth] = cur;
                 depth += 1;
@@ -51,10 +47,13 @@ pub fn walk_slice(s: &[u8], from: usize, base: usize) -> TreeWalked
             }
             Step::End(i) => {
                 if depth == 0 {
-                    return TreeWalked::Stopped(Fact::EndBeyond, i);
+                    return Err(Refusal {
+                        reason: Fact::EndBeyond,
+                        place: i,
+                    });
                 }
                 if depth == 1 {
-                    return TreeWalked::Tree(i + 1, n);
+                    return Ok((i + 1, n));
                 }
                 depth -= 1;
                 cur = stack[depth];
@@ -69,12 +68,15 @@ pub fn walk_slice(s: &[u8], from: usize, base: usize) -> TreeWalked
             }
             Step::Property(i, _, e) => {
                 if !follows {
-                    return TreeWalked::Stopped(Fact::Stray, i);
+                    return Err(Refusal {
+                        reason: Fact::Stray,
+                        place: i,
+                    });
                 }
                 at = e;
             }
-            Step::Refused(_, _) => return TreeWalked::Tree(at, n),
-            Step::Done => return TreeWalked::Tree(at, n),
+            Step::Refused(_, _) => return Ok((at, n)),
+            Step::Done => return Ok((at, n)),
         }
     }
 }

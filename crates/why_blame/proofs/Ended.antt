@@ -9,8 +9,11 @@ use Rattle.why_blame.specs.Blame.{blame, split_wrong, blame_place}
 use Rattle.why_blame.specs.Cuts.{wrong_at, deep_at, sliced_tokens, first_place, loose, cut_deep, cut_slices, cutting, cut_tokens}
 use Rattle.why_blame.specs.LocalsCuts.{unsplit, Seen, StopsBy}
 use Rattle.why_blame.specs.declared.Fact.TheVariants.{EndBeyond, StaysOpen, NoEnd, TooDeep}
-use Rattle.why_blame.specs.declared.Cutting.TheVariants.{Wrong, Slices}
 use Rattle.why_blame.proofs.Cuts.{sliced-snoc}
+use Rattle.std.specs.Prelude.{Ok, Err, Result}
+use Rattle.tables.specs.Refusals.{refusal}
+use Rattle.why_blame.specs.declared.Fact.{Fact}
+use Rattle.tables.specs.declared.Refusal.{Refusal}
 
 drop-front : (xs ys : List Tok) → drop (length xs) (xs ++ ys) ≡ ys
 drop-front xs ys = let e : length xs ≡ length xs + 0 = omega arith in ap (λ (k : ℕ). drop k (xs ++ ys)) e ∙ drop-append-add xs ys 0
@@ -57,25 +60,25 @@ module _ {u : List ℕ} {from at d m n behind deep : ℕ} (x : Seen u from at d 
       x.ends
 
   -- by the depth
-  deep-by : (len : Bool) (ss : List (List Tok)) {k q : ℕ} → length ss ≡ k → loose size ss L ≡ q → pick (ltb depth_limit m) (Wrong TooDeep deep) (Slices k q) ≡ cut_deep len size L m ss
+  deep-by : (len : Bool) (ss : List (List Tok)) {k q : ℕ} → length ss ≡ k → loose size ss L ≡ q → pick (ltb depth_limit m) (Err (refusal TooDeep deep)) (Ok (k, q)) ≡ cut_deep len size L m ss
   deep-by len ss {k} {q} e f = go (ltb depth_limit m) refl
     where
-      go : (b : Bool) → ltb depth_limit m ≡ b → pick b (Wrong TooDeep deep) (Slices k q) ≡ pick b (Wrong TooDeep (deep_at len L.toks)) (Slices (length ss) (loose size ss L))
-      go true h = ap (Wrong TooDeep) (sym (x.deep_is len h))
-      go false h = ap (λ (z : ℕ). Slices z q) (sym e) ∙ ap (Slices (length ss)) (sym f)
+      go : (b : Bool) → ltb depth_limit m ≡ b → pick {A = Result (ℕ × ℕ) (Refusal Fact)} b (Err (refusal TooDeep deep)) (Ok (k, q)) ≡ pick b (Err (refusal TooDeep (deep_at len L.toks))) (Ok (length ss, loose size ss L))
+      go true h = ap (λ (z : ℕ). Err (refusal TooDeep z)) (sym (x.deep_is len h))
+      go false h = ap (λ (z : ℕ). Ok (z, q)) (sym e) ∙ ap (λ (z : ℕ). Ok ((length ss), z)) (sym f)
 
   -- no slice is open
-  slices-by : (len : Bool) → (n ≡ 0 → ⊥) → pick (ltb depth_limit m) (Wrong TooDeep deep) (Slices n Behind) ≡ cut_slices len size L m x.ss
+  slices-by : (len : Bool) → (n ≡ 0 → ⊥) → pick (ltb depth_limit m) (Err (refusal TooDeep deep)) (Ok (n, Behind)) ≡ cut_slices len size L m x.ss
   slices-by len h =
       deep-by len (reverse x.ss) (length-reverse x.ss ∙ x.count) loose-shut
       ∙ sym (some_left len size L m x.ss (λ z. h (sym x.count ∙ z)))
 
-  lenient-none : n ≡ 0 → Slices 0 Behind ≡ cut_slices true size L m x.ss
+  lenient-none : n ≡ 0 → Ok (0, Behind) ≡ cut_slices true size L m x.ss
   lenient-none h =
       let e = none_left x.ss (x.count ∙ h) in
-      ap (Slices 0) (sym (ap (λ (z : List (List Tok)). loose size (reverse z) L) (sym e) ∙ loose-shut)) ∙ ap (cut_slices true size L m) (sym e)
+      ap (λ (z : ℕ). Ok (0, z)) (sym (ap (λ (z : List (List Tok)). loose size (reverse z) L) (sym e) ∙ loose-shut)) ∙ ap (cut_slices true size L m) (sym e)
 
-  strict_none : n ≡ 0 → Wrong NoEnd 0 ≡ cut_slices false size L m x.ss
+  strict_none : n ≡ 0 → Err (refusal NoEnd 0) ≡ cut_slices false size L m x.ss
   strict_none h = ap (cut_slices false size L m) (sym (none_left x.ss (x.count ∙ h)))
 
   -- ---- no token is left
@@ -91,17 +94,17 @@ module _ {u : List ℕ} {from at d m n behind deep : ℕ} (x : Seen u from at d 
     open-lenient zero g = absurd (g refl)
     open-lenient (suc k) g = refl
 
-    pub cut-open-lenient : (d ≡ 0 → ⊥) → pick (ltb depth_limit m) (Wrong TooDeep deep) (Slices (n + 1) Here) ≡ cut_tokens true size L
+    pub cut-open-lenient : (d ≡ 0 → ⊥) → pick (ltb depth_limit m) (Err (refusal TooDeep deep)) (Ok (n + 1, Here)) ≡ cut_tokens true size L
     cut-open-lenient g =
         let c = x.count in
         let r = length-reverse (reverse x.cur ∷ x.ss) in
         deep-by true (reverse (reverse x.cur ∷ x.ss)) (omega arith) loose_open ∙ open-lenient d g ∙ sym (ended-as true)
 
-    open-strict : (k : ℕ) (q : ℕ) → (k ≡ 0 → ⊥) → q ≡ first_place 0 (reverse x.cur) done → Wrong (StaysOpen k) q ≡ cutting false size L (splitting k m x.cur x.ss)
+    open-strict : (k : ℕ) (q : ℕ) → (k ≡ 0 → ⊥) → q ≡ first_place 0 (reverse x.cur) done → Err (refusal (StaysOpen k) q) ≡ cutting false size L (splitting k m x.cur x.ss)
     open-strict zero q g e = absurd (g refl)
-    open-strict (suc k) q g e = ap (Wrong (StaysOpen (suc k))) e
+    open-strict (suc k) q g e = ap (λ (z : ℕ). Err (refusal (StaysOpen (suc k)) z)) e
 
-    pub cut-open-strict : (d ≡ 0 → ⊥) → Wrong (StaysOpen d) (first_place 0 (lex_at u behind).toks (lex_at u behind).end) ≡ cut_tokens false size L
+    pub cut-open-strict : (d ≡ 0 → ⊥) → Err (refusal (StaysOpen d) (first_place 0 (lex_at u behind).toks (lex_at u behind).end)) ≡ cut_tokens false size L
     cut-open-strict g =
         let b = x.begun in
         let r = length-reverse x.cur in
@@ -131,9 +134,9 @@ module _ {u : List ℕ} {from at d m n behind deep : ℕ} (x : Seen u from at d 
         ∙ ap (λ (k : ℕ). blame (splits false) split_wrong (splitting k m x.cur x.ss) x.pre (end i ∷ (lex_at u (i + 1)).toks)) z)
         ∙ ap (λ (k : ℕ). i) z
 
-    pub cut-beyond : Wrong EndBeyond (first_place 0 (lex_at u at).toks (lex_at u at).end) ≡ cut_tokens false size L
+    pub cut-beyond : Err (refusal EndBeyond (first_place 0 (lex_at u at).toks (lex_at u at).end)) ≡ cut_tokens false size L
     cut-beyond =
-        ap (Wrong EndBeyond) (ap (λ (l : Lexed). first_place 0 l.toks l.end) q ∙ sym wrong-place)
+        ap (λ (z : ℕ). Err (refusal EndBeyond z)) (ap (λ (l : Lexed). first_place 0 l.toks l.end) q ∙ sym wrong-place)
         ∙ sym (ap (cutting false size L) (beyond-as false ∙ wrong_stays false UnexpectedGameTreeEnd (lex_at u (i + 1)).toks))
 
   -- ---- by where the pass stops
@@ -144,13 +147,13 @@ module _ {u : List ℕ} {from at d m n behind deep : ℕ} (x : Seen u from at d 
   shut_by false len s z h = ended-shut s len z
 
   module _ {b len : Bool} (s : StopsBy b u at d) (h : b ≡ true → len ≡ true) (z : d ≡ 0) where
-    pub cut-shut : (n ≡ 0 → ⊥) → pick (ltb depth_limit m) (Wrong TooDeep deep) (Slices n Behind) ≡ cut_tokens len size L
+    pub cut-shut : (n ≡ 0 → ⊥) → pick (ltb depth_limit m) (Err (refusal TooDeep deep)) (Ok (n, Behind)) ≡ cut_tokens len size L
     cut-shut g = slices-by len g ∙ sym (shut_by b len s z h)
 
-    pub cut-none-lenient : n ≡ 0 → len ≡ true → Slices 0 Behind ≡ cut_tokens len size L
+    pub cut-none-lenient : n ≡ 0 → len ≡ true → Ok (0, Behind) ≡ cut_tokens len size L
     cut-none-lenient g e = lenient-none g ∙ sym (ap (λ (l : Bool). cut_slices l size L m x.ss) e) ∙ sym (shut_by b len s z h)
 
-    pub cut-none-strict : n ≡ 0 → len ≡ false → Wrong NoEnd 0 ≡ cut_tokens len size L
+    pub cut-none-strict : n ≡ 0 → len ≡ false → Err (refusal NoEnd 0) ≡ cut_tokens len size L
     cut-none-strict g e = strict_none g ∙ sym (ap (λ (l : Bool). cut_slices l size L m x.ss) e) ∙ sym (shut_by b len s z h)
 
 -- an open slice is not stopped by an end

@@ -10,16 +10,15 @@ use Rattle.lexer.proofs.Listed.{vals-more}
 use Rattle.parser.specs.Game.{props, props_named, GM, Game, is, no_game, game_vals}
 use Rattle.parser.specs.LocalsSlice.{slice_from}
 use Rattle.parser_game.specs.LocalsGame.{type_of, behind_of}
-use Rattle.parser_game.specs.declared.GameType.{GameType}
-use Rattle.parser_game.specs.declared.GameType.TheVariants.{Is, Refused}
 use Rattle.parser_game.proofs.Gather.{two-less}
 use Rattle.why_blame.specs.Games.{values_fact, values_blame, game_blame}
 use Rattle.why_blame.specs.LocalsGames.{FoundIs}
-use Rattle.why_blame.specs.declared.game.FoundGm.{FoundGm}
-use Rattle.why_blame.specs.declared.game.FoundGm.TheVariants.{None, Gm}
 use Rattle.why_blame.specs.declared.Fact.TheVariants.{SecondGm, GmValues, GmNumber}
-use Rattle.why_blame.specs.declared.Blamed.{Blamed}
-use Rattle.why_blame.specs.declared.Blamed.TheVariants.{No, By}
+use Rattle.std.specs.Prelude.{Option, Some, None, Result, Ok, Err}
+use Rattle.tables.specs.Refusals.{refusal}
+use Rattle.why_blame.specs.declared.Fact.{Fact}
+use Rattle.tables.specs.declared.Reason.{Reason}
+use Rattle.tables.specs.declared.Refusal.{Refusal}
 
 -- ---- one property
 
@@ -63,12 +62,12 @@ module _ {u : List ℕ} {from i n : ℕ} (x : Counted u from i n) where
 
 -- ---- one GM
 
-values-no : (at : ℕ) (vs : List Val) (g : Game) {t : GameType} {k : ℕ} → t ≡ type_of g → t ≡ Is k → No ≡ values_blame at vs g
+values-no : (at : ℕ) (vs : List Val) (g : Game) {t : Result ℕ Reason} {k : ℕ} → t ≡ type_of g → t ≡ Ok k → None ≡ values_blame at vs g
 values-no at vs (is k) e q = refl
-values-no at vs (no_game r) e q = never (let z : Refused r ≡ Is _ = sym e ∙ q in cc)
+values-no at vs (no_game r) e q = never (let z : Err r ≡ Ok _ = sym e ∙ q in cc)
 
-values-by : (at : ℕ) (vs : List Val) (g : Game) {t : GameType} {r : _} → t ≡ type_of g → t ≡ Refused r → By (values_fact vs) at ≡ values_blame at vs g
-values-by at vs (is k) e q = never (let z : Is k ≡ Refused _ = sym e ∙ q in cc)
+values-by : (at : ℕ) (vs : List Val) (g : Game) {t : Result ℕ Reason} {r : _} → t ≡ type_of g → t ≡ Err r → Some (refusal (values_fact vs) at) ≡ values_blame at vs g
+values-by at vs (is k) e q = never (let z : Ok k ≡ Err _ = sym e ∙ q in cc)
 values-by at vs (no_game r) e q = refl
 
 fact-one : (vs : List Val) {n : ℕ} → n ≡ length vs → n ≡ 1 → GmNumber ≡ values_fact vs
@@ -81,39 +80,39 @@ fact-other [] e q = ap GmValues e
 fact-other (v ∷ []) e q = absurd (q e)
 fact-other (v ∷ w ∷ vs) e q = ap GmValues e
 
-module _ (u : List ℕ) (at k : ℕ) {t : GameType} (e : t ≡ type_of (game_vals (vals_at u k))) where
-  abbrev Out : Blamed
+module _ (u : List ℕ) (at k : ℕ) {t : Result ℕ Reason} (e : t ≡ type_of (game_vals (vals_at u k))) where
+  abbrev Out : Option (Refusal Fact)
   Out = values_blame at (vals_at u k) (game_vals (vals_at u k))
 
-  pub typed_no : {g : ℕ} → t ≡ Is g → No ≡ Out
+  pub typed_no : {g : ℕ} → t ≡ Ok g → None ≡ Out
   typed_no q = values-no at (vals_at u k) (game_vals (vals_at u k)) e q
 
-  pub typed-number : {r : _} {n : ℕ} → t ≡ Refused r → n ≡ length (vals_at u k) → n ≡ 1 → By GmNumber at ≡ Out
-  typed-number q c o = ap (λ (f : _). By f at) (fact-one (vals_at u k) c o) ∙ values-by at (vals_at u k) (game_vals (vals_at u k)) e q
+  pub typed-number : {r : _} {n : ℕ} → t ≡ Err r → n ≡ length (vals_at u k) → n ≡ 1 → Some (refusal GmNumber at) ≡ Out
+  typed-number q c o = ap (λ (f : _). Some (refusal f at)) (fact-one (vals_at u k) c o) ∙ values-by at (vals_at u k) (game_vals (vals_at u k)) e q
 
-  pub typed-values : {r : _} {n : ℕ} → t ≡ Refused r → n ≡ length (vals_at u k) → (n ≡ 1 → ⊥) → By (GmValues n) at ≡ Out
-  typed-values q c o = ap (λ (f : _). By f at) (fact-other (vals_at u k) c o) ∙ values-by at (vals_at u k) (game_vals (vals_at u k)) e q
+  pub typed-values : {r : _} {n : ℕ} → t ≡ Err r → n ≡ length (vals_at u k) → (n ≡ 1 → ⊥) → Some (refusal (GmValues n) at) ≡ Out
+  typed-values q c o = ap (λ (f : _). Some (refusal f at)) (fact-other (vals_at u k) c o) ∙ values-by at (vals_at u k) (game_vals (vals_at u k)) e q
 
 -- ---- the slice
 
-module _ (u : List ℕ) (from a b n : ℕ) (ea : (lex_at u a).toks ≡ behind_of (lex_at u from).toks) (eb : (lex_at u b).toks ≡ behind_of (lex_at u a).toks) (x : FoundGm) (f : FoundIs u (lex_at u b).toks x) where
-  abbrev Slice : Blamed
+module _ (u : List ℕ) (from a b n : ℕ) (ea : (lex_at u a).toks ≡ behind_of (lex_at u from).toks) (eb : (lex_at u b).toks ≡ behind_of (lex_at u a).toks) (x : Option (ℕ × ℕ × ℕ)) (f : FoundIs u (lex_at u b).toks x) where
+  abbrev Slice : Option (Refusal Fact)
   Slice = game_blame n (props_named GM (props (drop 2 (slice_from 0 (lex_at u from).toks))))
 
   slice-as : Slice ≡ game_blame n (props_named GM (props (lex_at u b).toks))
   slice-as = ap (λ (z : List Prop). game_blame n (props_named GM z)) (two-less (lex_at u from).toks ∙ ap props (sym (eb ∙ ap behind_of ea)))
 
-  pub game-none : x ≡ None → No ≡ Slice
+  pub game-none : x ≡ None → None ≡ Slice
   game-none q = sym (slice-as ∙ ap (game_blame n) (subst (FoundIs u (lex_at u b).toks) q f))
 
-  module _ {i k e : ℕ} (q : x ≡ Gm i k e) (y : FoundGm) (g : FoundIs u (lex_at u e).toks y) where
+  module _ {i k e : ℕ} (q : x ≡ Some (i, k, e)) (y : Option (ℕ × ℕ × ℕ)) (g : FoundIs u (lex_at u e).toks y) where
     first : props_named GM (props (lex_at u b).toks) ≡ prop_at u i k ∷ props_named GM (props (lex_at u e).toks)
     first = subst (FoundIs u (lex_at u b).toks) q f
 
-    pub game-one : y ≡ None → {r : Blamed} → r ≡ values_blame i (vals_at u k) (game_vals (vals_at u k)) → r ≡ Slice
+    pub game-one : y ≡ None → {r : Option (Refusal Fact)} → r ≡ values_blame i (vals_at u k) (game_vals (vals_at u k)) → r ≡ Slice
     unfolding prop_at
     game-one w e = e ∙ sym (slice-as ∙ ap (game_blame n) (first ∙ ap (λ (z : List Prop). prop_at u i k ∷ z) (subst (FoundIs u (lex_at u _).toks) w g)))
 
-    pub game-two : {j h o : ℕ} → y ≡ Gm j h o → By (SecondGm n) j ≡ Slice
+    pub game-two : {j h o : ℕ} → y ≡ Some (j, h, o) → Some (refusal (SecondGm n) j) ≡ Slice
     unfolding prop_at
     game-two w = sym (slice-as ∙ ap (game_blame n) (first ∙ ap (λ (z : List Prop). prop_at u i k ∷ z) (subst (FoundIs u (lex_at u _).toks) w g)))

@@ -1,5 +1,5 @@
 -- Tokens and splitting, explained: the fact that refuses them, and the place of the token to blame.
-use Rattle.std.specs.Prelude.{◌+◌, ◌∷◌, ◌++◌}
+use Rattle.std.specs.Prelude.{◌+◌, ◌∷◌, ◌++◌, Result, Ok, Err}
 use Rattle.lists.specs.Prelude.{ℕ, zero, suc, Bool, true, false, List, [], reverse, length, drop, leb, ltb, pick}
 use Rattle.lexer.specs.Token.{Tok, End, done, broken, Lexed, token_place}
 use Rattle.lexer.specs.declared.Fault.{Fault}
@@ -9,8 +9,8 @@ use Rattle.parser.specs.Split.{Splitting, splitting, over, wrong, splits, split}
 use Rattle.why_blame.specs.Blame.{blame, split_wrong, is_deep, blame_place}
 use Rattle.why_blame.specs.declared.Fact.{Fact}
 use Rattle.why_blame.specs.declared.Fact.TheVariants.{NoBracket, Foreign, NotClosed, EndBeyond, StaysOpen, NoEnd, TooDeep}
-use Rattle.why_blame.specs.declared.Cutting.{Cutting}
-use Rattle.why_blame.specs.declared.Cutting.TheVariants.{Wrong, Slices}
+use Rattle.tables.specs.Refusals.{refusal}
+use Rattle.tables.specs.declared.Refusal.{Refusal}
 
 -- ---- faults of the tokens (3 to 5)
 
@@ -51,29 +51,29 @@ abbrev pub loose : (n : ℕ) → List (List Tok) → Lexed → ℕ
 loose n ss l = first_place n (drop (length (sliced_tokens ss)) l.toks) l.end
 
 -- slices, unless a token of them is too deep (SCOPE 266)
-abbrev pub cut_deep : Bool → (n : ℕ) → Lexed → (m : ℕ) → List (List Tok) → Cutting
-cut_deep len n l m ss = pick (ltb depth_limit m) (Wrong TooDeep (deep_at len l.toks)) (Slices (length ss) (loose n ss l))
+abbrev pub cut_deep : Bool → (n : ℕ) → Lexed → (m : ℕ) → List (List Tok) → Result (ℕ × ℕ) (Refusal Fact)
+cut_deep len n l m ss = pick (ltb depth_limit m) (Err (refusal TooDeep (deep_at len l.toks))) (Ok (length ss, loose n ss l))
 
 -- without any slice strict reading finds no end
-abbrev pub cut_slices : Bool → (n : ℕ) → Lexed → (m : ℕ) → List (List Tok) → Cutting
-cut_slices true n l m [] = Slices 0 (loose n [] l)
-cut_slices false n l m [] = Wrong NoEnd 0
+abbrev pub cut_slices : Bool → (n : ℕ) → Lexed → (m : ℕ) → List (List Tok) → Result (ℕ × ℕ) (Refusal Fact)
+cut_slices true n l m [] = Ok (0, loose n [] l)
+cut_slices false n l m [] = Err (refusal NoEnd 0)
 cut_slices len n l m (s ∷ ss) = cut_deep len n l m (reverse (s ∷ ss))
 
 -- after the last token, in the order of `parser/specs/Split.sliced`: the fact and its place; or how many slices, and the first token in none (SCOPE 264, 265)
-abbrev pub cutting : Bool → (n : ℕ) → Lexed → Splitting → Cutting
+abbrev pub cutting : Bool → (n : ℕ) → Lexed → Splitting → Result (ℕ × ℕ) (Refusal Fact)
 cutting len n l (splitting zero m cur ss) = cut_slices len n l m ss
 cutting true n l (splitting (suc d) m cur ss) = cut_deep true n l m (reverse (reverse cur ∷ ss))
-cutting false n l (splitting (suc d) m cur ss) = Wrong (StaysOpen (suc d)) (first_place 0 (reverse cur) done)
+cutting false n l (splitting (suc d) m cur ss) = Err (refusal (StaysOpen (suc d)) (first_place 0 (reverse cur) done))
 cutting len n l (over m ss) = cut_slices len n l m ss
-cutting len n l (wrong r) = Wrong EndBeyond (wrong_at l.toks)
+cutting len n l (wrong r) = Err (refusal EndBeyond (wrong_at l.toks))
 
 -- of all tokens
-abbrev pub cut_tokens : Bool → (n : ℕ) → Lexed → Cutting
+abbrev pub cut_tokens : Bool → (n : ℕ) → Lexed → Result (ℕ × ℕ) (Refusal Fact)
 cut_tokens len n l = cutting len n l (split len (splitting 0 0 [] []) l.toks)
 
 -- of the tokens of u, whose end is e: strict splitting is refused by the first fault, before all else
-abbrev pub tokens_cut : Bool → (n : ℕ) → List ℕ → Lexed → (e : End) → Cutting
+abbrev pub tokens_cut : Bool → (n : ℕ) → List ℕ → Lexed → (e : End) → Result (ℕ × ℕ) (Refusal Fact)
 tokens_cut true n u l e = cut_tokens true n l
 tokens_cut false n u l done = cut_tokens false n l
-tokens_cut false n u l (broken f s) = Wrong (fault_fact u f s) s
+tokens_cut false n u l (broken f s) = Err (refusal (fault_fact u f s) s)

@@ -10,20 +10,13 @@ ghost use Rattle.parser_game.specs.LocalsGame.{behind_of};
 ghost use Rattle.why_blame.specs.Games.{values_blame, game_blame};
 ghost use Rattle.why_blame.specs.LocalsGames.{FoundIs};
 
-use crate::{Blamed, Fact};
+use crate::Fact;
 use lexer::Step;
 use lexer_scan::ValueStep;
-use parser_game::GameType;
-
-// A property named GM: where it starts, its first `[`, where it ends; or none.
-#[derive(Clone, Copy)]
-enum FoundGm {
-    None,
-    Gm(usize, usize, usize),
-}
+use tables::Refusal;
 
 // The first GM of the properties that stand from a place on.
-fn find_gm(s: &[u8], from: usize) -> FoundGm
+fn find_gm(s: &[u8], from: usize) -> Option<(usize, usize, usize)>
     ensures { FoundIs s.now (lex_at s.now from).toks result }
 {
     let mut at = from;
@@ -33,11 +26,11 @@ fn find_gm(s: &[u8], from: usize) -> FoundGm
             break;
         };
         if parser_game::is_gm(s, i, k) {
-            return FoundGm::Gm(i, k, e);
+            return Some((i, k, e));
         }
         at = e;
     }
-    FoundGm::None
+    None
 }
 
 // How many values stand from a place on.
@@ -58,32 +51,41 @@ fn count_values(s: &[u8], from: usize) -> usize
 }
 
 // The one GM at a place, by its values from k on.
-fn in_values(s: &[u8], at: usize, k: usize) -> Blamed
+fn in_values(s: &[u8], at: usize, k: usize) -> Option<Refusal<Fact>>
     ensures { result ≡ values_blame at (vals_at s.now k) (game_vals (vals_at s.now k)) }
 {
     match parser_game::game_values(s, k) {
-        GameType::Is(_) => Blamed::No,
-        GameType::Refused(_) => {
+        Ok(_) => None,
+        Err(_) => {
             let count = count_values(s, k);
             if count == 1 {
-                return Blamed::By(Fact::GmNumber, at);
+                return Some(Refusal {
+                    reason: Fact::GmNumber,
+                    place: at,
+                });
             }
-            Blamed::By(Fact::GmValues(count), at)
+            Some(Refusal {
+                reason: Fact::GmValues(count),
+                place: at,
+            })
         }
     }
 }
 
 // The game type of slice n, which starts at a place: two tokens are skipped, then `GM` is looked for.
-pub fn in_game(s: &[u8], from: usize, n: usize) -> Blamed
+pub fn in_game(s: &[u8], from: usize, n: usize) -> Option<Refusal<Fact>>
     ensures { result ≡ game_blame n (props_named GM (props (drop 2 (slice_from 0 (lex_at s.now from).toks)))) }
 {
     let second = parser_game::behind(s, from);
     match find_gm(s, parser_game::behind(s, second)) {
-        FoundGm::None => Blamed::No,
-        FoundGm::Gm(i, k, e) => {
+        None => None,
+        Some((i, k, e)) => {
             match find_gm(s, e) {
-                FoundGm::None => in_values(s, i, k),
-                FoundGm::Gm(j, _, _) => Blamed::By(Fact::SecondGm(n), j),
+                None => in_values(s, i, k),
+                Some((j, _, _)) => Some(Refusal {
+                    reason: Fact::SecondGm(n),
+                    place: j,
+                }),
             }
         }
     }

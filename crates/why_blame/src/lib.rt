@@ -27,20 +27,6 @@ pub enum Fact {
     GmNumber,
 }
 
-// Nothing to blame; or a fact and the place.
-#[derive(Clone, Copy)]
-pub enum Blamed {
-    No,
-    By(Fact, usize),
-}
-
-// How splitting ends: with a fact and the place; or so many slices, and the place of the first token in none of them.
-#[derive(Clone, Copy)]
-pub enum Cutting {
-    Wrong(Fact, usize),
-    Slices(usize, usize),
-}
-
 // The first place at or after `from` whose byte is not ASCII.
 fn foreign_at(s: &[u8], from: usize) -> usize
     ensures { result ≡ foreign_from from (drop from s.now) }

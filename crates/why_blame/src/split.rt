@@ -1,16 +1,16 @@
 // Splitting, explained.
-ghost use Rattle.std.specs.Prelude.{◌≡◌, true, false, ltb};
+ghost use Rattle.std.specs.Prelude.{◌≡◌, true, false, ltb, Ok, Err};
 ghost use Rattle.lists.specs.Pick.{pick};
 ghost use Rattle.lexer.specs.Token.{lex_at};
 ghost use Rattle.tables.specs.Numbers.{depth_limit};
 ghost use Rattle.why_blame.specs.declared.Fact.TheVariants.{TooDeep};
-ghost use Rattle.why_blame.specs.declared.Cutting.TheVariants.{Wrong, Slices};
 ghost use Rattle.why_blame.specs.Cuts.{first_place, cut_tokens, tokens_cut};
 ghost use Rattle.why_blame.specs.LocalsCuts.{ending_of, Seen, StopsBy};
+ghost use Rattle.tables.specs.Refusals.{refusal};
 
-use crate::{Cutting, Fact};
+use crate::Fact;
 use lexer::Step;
-use tables::DEPTH_LIMIT;
+use tables::{DEPTH_LIMIT, Refusal};
 
 // Where splitting stops: the depth, the greatest depth, how many slices, the place behind the last of them, where the depth came above the limit, where the next token is looked for, and whether that is an end at depth 0.
 #[derive(Clone, Copy)]
@@ -123,13 +123,21 @@ pub fn first_place(s: &[u8], from: usize, none: usize) -> usize
 }
 
 // So many slices, unless a token is too deep.
-fn unless_deep(deepest: usize, deep: usize, count: usize, place: usize) -> Cutting
-    ensures { result ≡ pick (ltb depth_limit deepest) (Wrong TooDeep deep) (Slices count place) }
+fn unless_deep(
+    deepest: usize,
+    deep: usize,
+    count: usize,
+    place: usize,
+) -> Result<(usize, usize), Refusal<Fact>>
+    ensures { result ≡ pick (ltb depth_limit deepest) (Err (refusal TooDeep deep)) (Ok (count, place)) }
 {
     if DEPTH_LIMIT < deepest {
-        return Cutting::Wrong(Fact::TooDeep, deep);
+        return Err(Refusal {
+            reason: Fact::TooDeep,
+            place: deep,
+        });
     }
-    Cutting::Slices(count, place)
+    Ok((count, place))
 }
 
 // The first fault from a place on.
@@ -153,27 +161,39 @@ fn first_fault(s: &[u8], from: usize) -> Ending
 }
 
 // The tokens from a place on, in a text of `size` bytes, split strictly. A fault is looked for where splitting stops: no token before has one.
-fn split_strict(s: &[u8], from: usize, size: usize) -> Cutting
+fn split_strict(s: &[u8], from: usize, size: usize) -> Result<(usize, usize), Refusal<Fact>>
     ensures { result ≡ tokens_cut false size s.now (lex_at s.now from) (lex_at s.now from).end }
 {
     let x = split_tokens(s, from);
     if let Ending::Broken(fault, i) = first_fault(s, x.at) {
-        return Cutting::Wrong(crate::in_token(s, fault, i), i);
+        return Err(Refusal {
+            reason: crate::in_token(s, fault, i),
+            place: i,
+        });
     }
     if x.beyond {
-        return Cutting::Wrong(Fact::EndBeyond, first_place(s, x.at, 0));
+        return Err(Refusal {
+            reason: Fact::EndBeyond,
+            place: first_place(s, x.at, 0),
+        });
     }
     if x.depth != 0 {
-        return Cutting::Wrong(Fact::StaysOpen(x.depth), first_place(s, x.behind, 0));
+        return Err(Refusal {
+            reason: Fact::StaysOpen(x.depth),
+            place: first_place(s, x.behind, 0),
+        });
     }
     if x.slices == 0 {
-        return Cutting::Wrong(Fact::NoEnd, 0);
+        return Err(Refusal {
+            reason: Fact::NoEnd,
+            place: 0,
+        });
     }
     unless_deep(x.deepest, x.deep, x.slices, first_place(s, x.behind, size))
 }
 
 // The same, split leniently.
-fn split_lenient(s: &[u8], from: usize, size: usize) -> Cutting
+fn split_lenient(s: &[u8], from: usize, size: usize) -> Result<(usize, usize), Refusal<Fact>>
     ensures { result ≡ cut_tokens true size (lex_at s.now from) }
 {
     let x = split_tokens(s, from);
@@ -181,13 +201,18 @@ fn split_lenient(s: &[u8], from: usize, size: usize) -> Cutting
         return unless_deep(x.deepest, x.deep, x.slices + 1, first_place(s, x.at, size));
     }
     if x.slices == 0 {
-        return Cutting::Slices(0, first_place(s, x.behind, size));
+        return Ok((0, first_place(s, x.behind, size)));
     }
     unless_deep(x.deepest, x.deep, x.slices, first_place(s, x.behind, size))
 }
 
 // The tokens from a place on, in a text of `size` bytes, split strictly or leniently. Strictly a fault comes first.
-pub fn in_split(s: &[u8], from: usize, size: usize, lenient: bool) -> Cutting
+pub fn in_split(
+    s: &[u8],
+    from: usize,
+    size: usize,
+    lenient: bool,
+) -> Result<(usize, usize), Refusal<Fact>>
     ensures { result ≡ tokens_cut lenient size s.now (lex_at s.now from) (lex_at s.now from).end }
 {
     if lenient {

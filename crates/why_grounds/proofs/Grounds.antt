@@ -7,9 +7,10 @@ use Rattle.why_blame.specs.Numbered.{fact_reason}
 use Rattle.why_blame.specs.declared.Fact.{Fact}
 use Rattle.why_blame.specs.declared.Fact.TheVariants.{Length, BadSequence, NoBracket, Foreign, NotClosed, EndBeyond, StaysOpen, NoNode, NoEnd, TooDeep, EmptyList, SecondGm, Stray, GmValues, GmNumber}
 use Rattle.why.specs.Why.{explained}
-use Rattle.why.specs.declared.Why.TheVariants.{Refused}
 use Rattle.why_grounds.specs.Ground.{Ground, LenientGround}
 use Rattle.why_grounds.proofs.Agrees.{why-refused}
+use Rattle.std.specs.Prelude.{Err}
+use Rattle.tables.specs.Refusals.{refusal}
 
 module _ (t : List ℕ) where
   -- ---- strict
@@ -32,7 +33,7 @@ module _ (t : List ℕ) where
   ground-of GmNumber o e = ((strict-12 t o).0 e).0
 
   -- what is explained by a fact has the scope's condition of it, and nothing earlier
-  pub why-ground : (f : Fact) (p : ℕ) → explained false t ≡ Refused f p → Ground t f
+  pub why-ground : (f : Fact) (p : ℕ) → explained false t ≡ Err (refusal f p) → Ground t f
   why-ground f p e = let w = why-refused false t e in ground-of f w.0 w.1
 
   -- and that condition gives the number, whatever is explained
@@ -73,5 +74,5 @@ module _ (t : List ℕ) where
   lenient-of GmNumber o e = only-mild t e
 
   -- the same of a lenient explanation: 1, 2, 9 and no other
-  pub why-ground-lenient : (f : Fact) (p : ℕ) → explained true t ≡ Refused f p → LenientGround t f
+  pub why-ground-lenient : (f : Fact) (p : ℕ) → explained true t ≡ Err (refusal f p) → LenientGround t f
   why-ground-lenient f p e = let w = why-refused true t e in lenient-of f w.0 w.1

@@ -1,13 +1,13 @@
 -- Short texts and what their explanations are: one table, one statement.
-use Rattle.std.specs.Prelude.{◌≡◌, ◌∷◌, ◌++◌}
+use Rattle.std.specs.Prelude.{◌≡◌, ◌∷◌, ◌++◌, Result, Ok, Err}
 use Rattle.lists.specs.Prelude.{ℕ, Bool, List, [], map}
 use Rattle.tables.specs.Numbers.{none}
 use Rattle.parser.specs.Examples.{bytes, strict, lenient}
 use Rattle.why_blame.specs.declared.Fact.{Fact}
 use Rattle.why_blame.specs.declared.Fact.TheVariants.{BadSequence, NoBracket, Foreign, NotClosed, EndBeyond, StaysOpen, NoNode, NoEnd, EmptyList, SecondGm, Stray, GmValues, GmNumber}
 use Rattle.why.specs.Why.{explained}
-use Rattle.why.specs.declared.Why.{Why}
-use Rattle.why.specs.declared.Why.TheVariants.{Accepted, Refused}
+use Rattle.tables.specs.declared.Counts.{Counts}
+use Rattle.tables.specs.declared.Refusal.{Refusal}
 
 -- what is told of a text: the fact and its place; or the place where reading ended
 pub data Telling : Type 0 where
@@ -15,9 +15,9 @@ pub data Telling : Type 0 where
   ends : (place : ℕ) → Telling
 
 -- of an explanation
-abbrev pub telling_of : Why → Telling
-telling_of (Accepted c q) = ends q
-telling_of (Refused f p) = by f p
+abbrev pub telling_of : Result (Counts × ℕ) (Refusal Fact) → Telling
+telling_of (Ok (c, q)) = ends q
+telling_of (Err e) = by e.reason e.place
 
 -- a text, how it is read, and what is told
 pub record Asked : Type 0 where

@@ -128,17 +128,17 @@ some-sliced len (t ∷ xs) (wrong r) h = some-sliced len xs (wrong r) h
 
 -- ---- every slice has a token
 
-abbrev pub Some : List Tok → Type 0
-Some [] = ⊥
-Some (t ∷ ts) = Unit {0}
+abbrev pub HasToken : List Tok → Type 0
+HasToken [] = ⊥
+HasToken (t ∷ ts) = Unit {0}
 
 -- of slices, the first of which is at depth d
 abbrev SomeFrom : ℕ → List (List Tok) → Type 0
 SomeFrom d [] = Unit {0}
-SomeFrom zero (s ∷ ss) = Some s × All Some ss
-SomeFrom (suc d) (s ∷ ss) = All Some ss
+SomeFrom zero (s ∷ ss) = HasToken s × All HasToken ss
+SomeFrom (suc d) (s ∷ ss) = All HasToken ss
 
-some-rest : (d : ℕ) (s : List Tok) (ss : List (List Tok)) → SomeFrom d (s ∷ ss) → All Some ss
+some-rest : (d : ℕ) (s : List Tok) (ss : List (List Tok)) → SomeFrom d (s ∷ ss) → All HasToken ss
 some-rest zero s ss h = h.1
 some-rest (suc d) s ss h = h
 
@@ -147,7 +147,7 @@ some-on t d e [] h = tt
 some-on t zero e (s ∷ ss) h = (tt, some-rest e s ss h)
 some-on t (suc d) e (s ∷ ss) h = some-rest e s ss h
 
-some-zero : (ss : List (List Tok)) → SomeFrom 0 ss → All Some ss
+some-zero : (ss : List (List Tok)) → SomeFrom 0 ss → All HasToken ss
 some-zero [] h = tt
 some-zero (s ∷ ss) h = h
 
@@ -162,5 +162,5 @@ some-from (end o ∷ ts) (suc (suc d)) = some-on (end o) (suc (suc d)) (suc d) (
 some-from (node o ∷ ts) d = some-on (node o) d d (slices_from d ts) (some-from ts d)
 some-from (prop p e ∷ ts) d = some-on (prop p e) d d (slices_from d ts) (some-from ts d)
 
-pub slices-some : (ts : List Tok) → All Some (slices_from 0 ts)
+pub slices-some : (ts : List Tok) → All HasToken (slices_from 0 ts)
 slices-some ts = some-zero (slices_from 0 ts) (some-from ts 0)

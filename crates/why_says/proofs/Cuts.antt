@@ -12,7 +12,7 @@ use Rattle.why_blame.specs.Blame.{Blame, nowhere, found, blame, split_wrong, is_
 use Rattle.why_blame.specs.Cuts.{wrong_at, deep_at, first_place}
 use Rattle.why_blame.proofs.Found.{Says, blame-says, split-folds}
 use Rattle.why_says.specs.Says.{TokenAt, HeadAt, ExceedsAt, OpenAt, DeepAt}
-use Rattle.why_says.proofs.Counts.{Counted, Counts, counts, Some, slices-some}
+use Rattle.why_says.proofs.Counts.{Counted, Counts, counts, HasToken, slices-some}
 
 -- ---- where a token stands
 
@@ -97,7 +97,7 @@ module _ (ts : List Tok) where
 
   -- ---- the slice that stays open
 
-  pub head_at : (s : List Tok) → Some s → HeadAt s (first_place 0 s done)
+  pub head_at : (s : List Tok) → HasToken s → HeadAt s (first_place 0 s done)
   head_at [] h = absurd h
   head_at (t ∷ s) h = (t, s, refl, token-at t refl)
 
@@ -112,5 +112,5 @@ module _ (ts : List Tok) where
         shut = reverse ss;
         last = reverse cur;
         are = q;
-        head = head_at (reverse cur) (all_right Some (reverse ss) (reverse cur ∷ []) (subst (λ (z : List (List Tok)). All Some z) q (slices-some ts))).0;
+        head = head_at (reverse cur) (all_right HasToken (reverse ss) (reverse cur ∷ []) (subst (λ (z : List (List Tok)). All HasToken z) q (slices-some ts))).0;
       }

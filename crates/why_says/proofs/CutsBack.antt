@@ -12,12 +12,13 @@ use Rattle.parser.proofs.Surveys.{wrong_stays}
 use Rattle.why_blame.specs.Blame.{blame, split_wrong, is_deep, blame_place}
 use Rattle.why_blame.specs.Cuts.{wrong_at, deep_at, first_place, loose, cut_deep, cut_slices, cutting, cut_tokens}
 use Rattle.why_blame.specs.declared.Fact.TheVariants.{EndBeyond, StaysOpen, NoEnd, TooDeep}
-use Rattle.why_blame.specs.declared.Cutting.TheVariants.{Wrong, Slices}
 use Rattle.why_blame.proofs.Found.{folds, split-folds}
 use Rattle.why_says.specs.Says.{HeadAt, ExceedsAt, OpenAt, DeepAt}
 use Rattle.why_says.proofs.Along.{found_at, right-back, NotDeep, deep_back}
 use Rattle.why_says.proofs.Counts.{Counted, Counts, counts, Going, going, Sliced, some-sliced}
 use Rattle.why_says.proofs.Cuts.{at-token, begun, open-found}
+use Rattle.std.specs.Prelude.{Ok, Err}
+use Rattle.tables.specs.Refusals.{refusal}
 
 -- ---- where splitting comes to
 
@@ -80,32 +81,32 @@ module _ (n : ℕ) (l : Lexed) where
         ∙ ap blame_place (found_at (splits false) split_wrong (λ (s : Splitting). split_wrong s ≡ false) (right-back false) (λ _ h. h) begun x.before (end p) x.behind
         (ap split_wrong f) (ap (λ (z : Splitting). split_wrong (splits false z (end p))) f))
 
-    pub exceeds-cut : cut_tokens false n l ≡ Wrong EndBeyond p
-    exceeds-cut = ap (cutting false n l) exceeds-wrong ∙ ap (Wrong EndBeyond) exceeds-place
+    pub exceeds-cut : cut_tokens false n l ≡ Err (refusal EndBeyond p)
+    exceeds-cut = ap (cutting false n l) exceeds-wrong ∙ ap (λ (z : ℕ). Err (refusal EndBeyond z)) exceeds-place
 
   -- ---- 7
 
-  pub open-cut : {d p : ℕ} → Covered 0 l.toks → OpenAt l.toks d p → cut_tokens false n l ≡ Wrong (StaysOpen d) p
+  pub open-cut : {d p : ℕ} → Covered 0 l.toks → OpenAt l.toks d p → cut_tokens false n l ≡ Err (refusal (StaysOpen d) p)
   open-cut {d} {p} cv x = go d x.some (let q = c.counted.count in let e = x.more in omega arith) refl
     where
       c : Comes-to false l.toks
       c = comes-to false l.toks cv
 
-      go : (k : ℕ) → 0 < k → c.d ≡ k → k ≡ d → cut_tokens false n l ≡ Wrong (StaysOpen d) p
+      go : (k : ℕ) → 0 < k → c.d ≡ k → k ≡ d → cut_tokens false n l ≡ Err (refusal (StaysOpen d) p)
       go zero h e w = absurd (omega arith)
       go (suc k) h e w =
           let q = c.is ∙ ap (λ (z : ℕ). splitting z c.m c.cur c.ss) e in
           let y = open-found l.toks k c.m c.cur c.ss q in
           let z : y.last ≡ x.last = snoc-last y.shut x.shut y.last x.last (sym y.are ∙ x.are) in
-          ap (cutting false n l) q ∙ ap (λ (z : ℕ). Wrong (StaysOpen z) (first_place 0 (reverse c.cur) done)) w
-          ∙ ap (Wrong (StaysOpen d)) (sym (head-place x.last x.head ∙ ap (λ (s : List Tok). first_place 0 s done) (sym z) ∙ sym (head-place y.last y.head)))
+          ap (cutting false n l) q ∙ ap (λ (z : ℕ). Err (refusal (StaysOpen z) (first_place 0 (reverse c.cur) done))) w
+          ∙ ap (λ (z : ℕ). Err (refusal (StaysOpen d) z)) (sym (head-place x.last x.head ∙ ap (λ (s : List Tok). first_place 0 s done) (sym z) ∙ sym (head-place y.last y.head)))
 
   -- ---- 8
 
-  pub none-cut : Covered 0 l.toks → starts l.toks ≡ ends l.toks → ends l.toks ≡ 0 → cut_tokens false n l ≡ Wrong NoEnd 0
+  pub none-cut : Covered 0 l.toks → starts l.toks ≡ ends l.toks → ends l.toks ≡ 0 → cut_tokens false n l ≡ Err (refusal NoEnd 0)
   none-cut cv e z = go (split false begun l.toks) (comes l.toks 0 0 [] [] cv)
     where
-      go : (x : Splitting) → Comes (ends l.toks) (starts l.toks) 0 0 x → cutting false n l x ≡ Wrong NoEnd 0
+      go : (x : Splitting) → Comes (ends l.toks) (starts l.toks) 0 0 x → cutting false n l x ≡ Err (refusal NoEnd 0)
       go (splitting zero m cur []) k = refl
       go (splitting zero m cur (s ∷ ss)) (a, b, c, h) = absurd (omega (arith, c, z))
       go (splitting (suc d) m cur ss) (a, b, c, h) = absurd (omega (arith, a, e))
@@ -148,28 +149,28 @@ module _ (n : ℕ) (l : Lexed) where
         ap (split len begun) x.are ∙ split-append len begun x.before (start p ∷ x.behind)
         ∙ ap (λ (z : Splitting). split len z (start p ∷ x.behind)) c.is
 
-    cut-deep : (m : ℕ) (us : List (List Tok)) → max c.m (suc c.d) ≤ m → cut_deep len n l m us ≡ Wrong TooDeep p
+    cut-deep : (m : ℕ) (us : List (List Tok)) → max c.m (suc c.d) ≤ m → cut_deep len n l m us ≡ Err (refusal TooDeep p)
     cut-deep m us h =
-        ap (λ (b : Bool). pick b (Wrong TooDeep (deep_at len l.toks)) (Slices (length us) (loose n us l))) (lt-ltb depth_limit m (let q = full in omega arith))
-        ∙ ap (Wrong TooDeep) deep-place
+        ap (λ (b : Bool). pick b (Err (refusal TooDeep (deep_at len l.toks))) (Ok (length us, loose n us l))) (lt-ltb depth_limit m (let q = full in omega arith))
+        ∙ ap (λ (z : ℕ). Err (refusal TooDeep z)) deep-place
 
-    cut-slices : (m : ℕ) (ss : List (List Tok)) → max c.m (suc c.d) ≤ m → (0 < m → 0 < length ss) → cut_slices len n l m ss ≡ Wrong TooDeep p
+    cut-slices : (m : ℕ) (ss : List (List Tok)) → max c.m (suc c.d) ≤ m → (0 < m → 0 < length ss) → cut_slices len n l m ss ≡ Err (refusal TooDeep p)
     cut-slices m [] h g = absurd (omega (arith, g (omega arith)))
     cut-slices m (s ∷ ss) h g = cut-deep m (reverse (s ∷ ss)) h
 
-  pub deep-lenient : {p : ℕ} → DeepAt l.toks p → cut_tokens true n l ≡ Wrong TooDeep p
+  pub deep-lenient : {p : ℕ} → DeepAt l.toks p → cut_tokens true n l ≡ Err (refusal TooDeep p)
   unfolding then
   deep-lenient {p} x =
       ap (cutting true n l) (whole true x)
       ∙ go (split true (then true x) x.behind) (counts true x.behind _ _ _ _) (some-sliced true x.behind (then true x) (λ z _. absurd (omega arith)))
     where
-      go : (y : Splitting) → Counts true (suc (c true x).d) (max (c true x).m (suc (c true x).d)) x.behind y → Sliced y → cutting true n l y ≡ Wrong TooDeep p
+      go : (y : Splitting) → Counts true (suc (c true x).d) (max (c true x).m (suc (c true x).d)) x.behind y → Sliced y → cutting true n l y ≡ Err (refusal TooDeep p)
       go (splitting zero m cur ss) k h = cut-slices true x m ss k.low (h refl)
       go (splitting (suc d) m cur ss) k h = cut-deep true x m (reverse (reverse cur ∷ ss)) k.low
       go (over m ss) k h = cut-slices true x m ss k.1 h
       go (wrong r) k h = never cc
 
-  pub deep-strict : {p : ℕ} → Balanced l.toks → DeepAt l.toks p → cut_tokens false n l ≡ Wrong TooDeep p
+  pub deep-strict : {p : ℕ} → Balanced l.toks → DeepAt l.toks p → cut_tokens false n l ≡ Err (refusal TooDeep p)
   unfolding then
   deep-strict {p} b x =
       go (split false begun l.toks) (comes l.toks 0 0 [] [] b.covered)
@@ -177,7 +178,7 @@ module _ (n : ℕ) (l : Lexed) where
       (some-sliced false l.toks begun (λ _ h. absurd (omega (arith, h))))
     where
       go : (y : Splitting) → Comes (ends l.toks) (starts l.toks) 0 0 y → Counts false (suc (c false x).d) (max (c false x).m (suc (c false x).d)) x.behind y → Sliced y
-          → cutting false n l y ≡ Wrong TooDeep p
+          → cutting false n l y ≡ Err (refusal TooDeep p)
       go (splitting zero m cur ss) a k h = cut-slices false x m ss k.low (h refl)
       go (splitting (suc d) m cur ss) a k h = absurd (omega (arith, a.0, b.equal))
       go (over m ss) a k h = absurd a

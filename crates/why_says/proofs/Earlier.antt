@@ -13,7 +13,6 @@ use Rattle.reader_exactly.specs.When.{Valid, tokens_of, FailsAt, Lexes, Splits}
 use Rattle.reader_exactly.proofs.Stages.{fails-broken, not-deep}
 use Rattle.why_blame.specs.declared.Fact.{Fact}
 use Rattle.why_blame.specs.declared.Fact.TheVariants.{Length, BadSequence, NoBracket, Foreign, NotClosed, EndBeyond, StaysOpen, NoNode, NoEnd, TooDeep as too_deep, EmptyList, SecondGm, Stray, GmValues, GmNumber}
-use Rattle.why_blame.specs.declared.Cutting.TheVariants.{Wrong, Slices}
 use Rattle.why_says.specs.Says.{FactSays}
 use Rattle.why_says.specs.Clear.{Clear, LenientClear, stage_of}
 use Rattle.why_says.proofs.Scanned.{missing-fails, foreign-fails, unclosed-fails}
@@ -21,6 +20,9 @@ use Rattle.why_says.proofs.Counts.{Going, going}
 use Rattle.why_says.proofs.Cuts.{begun}
 use Rattle.why_says.proofs.CutsBack.{exceeds-wrong, deep-strict}
 use Rattle.why_says.proofs.TreesBack.{sliced-cut}
+use Rattle.std.specs.Prelude.{Ok, Err, Result}
+use Rattle.tables.specs.Refusals.{refusal}
+use Rattle.tables.specs.declared.Refusal.{Refusal}
 
 module _ (t : List ℕ) where
   abbrev L : Lexed
@@ -78,7 +80,7 @@ module _ (t : List ℕ) where
   deep-refuted : Splits t → {p : ℕ} → FactSays t too_deep p → ⊥
   deep-refuted s {p} x =
       let y = sliced-cut (length t) L (split false begun L.toks) (slices_from 0 L.toks) (not-deep L.toks s.balanced s.shallow) in
-      let z : Wrong too_deep p ≡ Slices y.0 y.1 = sym (deep-strict (length t) L s.balanced x) ∙ y.2 in
+      let z : ◌≡◌ {A = Result (ℕ × ℕ) (Refusal Fact)} (Err (refusal too_deep p)) (Ok (y.0, y.1)) = sym (deep-strict (length t) L s.balanced x) ∙ y.2 in
       never cc
 
   last-stage : (f : Fact) → stage_of f ≤ 7

@@ -7,10 +7,7 @@ use Rattle.reader.specs.Lent.{rows_counted}
 use Rattle.reader_exactly.specs.Slicing.{Iff}
 use Rattle.why_blame.specs.Numbered.{fact_reason}
 use Rattle.why_blame.specs.declared.Fact.{Fact}
-use Rattle.why_blame.specs.declared.Blamed.{Blamed}
-use Rattle.why_blame.specs.declared.Blamed.TheVariants.{By}
 use Rattle.why.specs.Why.{text_blame, trim_loose, explained_by, explained}
-use Rattle.why.specs.declared.Why.TheVariants.{Refused}
 use Rattle.why.proofs.Trees.{Agree}
 use Rattle.why.proofs.Agrees.{text-agrees}
 use Rattle.why_says.specs.Says.{FactSays}
@@ -18,23 +15,27 @@ use Rattle.why_says.specs.Clear.{Clear, LenientClear, stage_of}
 use Rattle.why_says.proofs.Earlier.{earlier-refuted, earlier-refuted-lenient}
 use Rattle.why_says.proofs.Exactly.{says-blamed, says-blamed-lenient}
 use Rattle.why_says.proofs.Says.{why-says, why-clear, why-clear-lenient}
+use Rattle.std.specs.Prelude.{Option, Some, Err}
+use Rattle.tables.specs.Refusals.{refusal}
+use Rattle.tables.specs.declared.Refusal.{Refusal}
+use Rattle.tables.proofs.Refusals.{some-refusal}
 
 module _ (t : List ℕ) where
-  module _ (len : Bool) {f : Fact} {p : ℕ} (e : text_blame len t ≡ By f p) where
+  module _ (len : Bool) {f : Fact} {p : ℕ} (e : text_blame len t ≡ Some (refusal f p)) where
     blamed-number : (place : ℕ) × (read len t ≡ refused (fact_reason f) place)
     blamed-number = go (read len t) refl (subst (Agree (read len t)) e (text-agrees len t))
       where
-        go : (a : Answer) → read len t ≡ a → Agree a (By f p) → (place : ℕ) × (read len t ≡ refused (fact_reason f) place)
+        go : (a : Answer) → read len t ≡ a → Agree a (Some (refusal f p)) → (place : ℕ) × (read len t ≡ refused (fact_reason f) place)
         go (refused r o) q h = (o, q ∙ ap (λ (z : Reason). refused z o) (sym h))
         go (accepted ts) q h = absurd h
 
-    blamed-why : explained len t ≡ Refused f p
+    blamed-why : explained len t ≡ Err (refusal f p)
     blamed-why =
         ap (λ (a : Answer). explained_by (rows_counted a) (text_blame len t) (trim_loose len t (trimmed t))) blamed-number.1
-        ∙ ap (λ (b : Blamed). explained_by (rows_counted (refused (fact_reason f) blamed-number.0)) b (trim_loose len t (trimmed t))) e
+        ∙ ap (λ (b : Option (Refusal Fact)). explained_by (rows_counted (refused (fact_reason f) blamed-number.0)) b (trim_loose len t (trimmed t))) e
 
-  same-blame : (len : Bool) {f g : Fact} {p q : ℕ} → text_blame len t ≡ By f p → text_blame len t ≡ By g q → (f ≡ g) × (p ≡ q)
-  same-blame len {f} {g} {p} {q} a b = let z : By f p ≡ By g q = sym a ∙ b in (cc, cc)
+  same-blame : (len : Bool) {f g : Fact} {p q : ℕ} → text_blame len t ≡ Some (refusal f p) → text_blame len t ≡ Some (refusal g q) → (f ≡ g) × (p ≡ q)
+  same-blame len {f} {g} {p} {q} a b = some-refusal (sym a ∙ b)
 
   -- ---- strict
 
@@ -43,7 +44,7 @@ module _ (t : List ℕ) where
   says-number f p x c = blamed-number false (says-blamed t f p x c)
 
   -- a text is explained by a fact and a place exactly when the fact holds of it there and nothing earlier applies
-  pub why-exactly : (f : Fact) (p : ℕ) → Iff (explained false t ≡ Refused f p) (FactSays t f p × Clear t f)
+  pub why-exactly : (f : Fact) (p : ℕ) → Iff (explained false t ≡ Err (refusal f p)) (FactSays t f p × Clear t f)
   why-exactly f p = ((λ e. (why-says t false f p e, why-clear t f p e)), λ h. blamed-why false (says-blamed t f p h.0 h.1))
 
   -- and no fact that stands earlier in the scope's order holds of it, at any place
@@ -59,7 +60,7 @@ module _ (t : List ℕ) where
   pub says-number-lenient : (f : Fact) (p : ℕ) → FactSays t f p → LenientClear t f → (place : ℕ) × (read true t ≡ refused (fact_reason f) place)
   says-number-lenient f p x c = blamed-number true (says-blamed-lenient t f p x c)
 
-  pub why-exactly-lenient : (f : Fact) (p : ℕ) → Iff (explained true t ≡ Refused f p) (FactSays t f p × LenientClear t f)
+  pub why-exactly-lenient : (f : Fact) (p : ℕ) → Iff (explained true t ≡ Err (refusal f p)) (FactSays t f p × LenientClear t f)
   why-exactly-lenient f p = ((λ e. (why-says t true f p e, why-clear-lenient t f p e)), λ h. blamed-why true (says-blamed-lenient t f p h.0 h.1))
 
   -- of the facts that a lenient reading has, none that stands earlier holds

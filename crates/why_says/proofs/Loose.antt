@@ -18,17 +18,17 @@ use Rattle.reader_exactly.specs.When.{tokens_in, tokens_of}
 use Rattle.reader_exactly.proofs.Standing.{slices-are}
 use Rattle.why_blame.specs.Cuts.{deep_at, sliced_tokens, first_place, loose, cut_deep, cut_slices, cutting, cut_tokens}
 use Rattle.why_blame.specs.declared.Fact.TheVariants.{Length, TooDeep}
-use Rattle.why_blame.specs.declared.Blamed.{Blamed}
-use Rattle.why_blame.specs.declared.Blamed.TheVariants.{No, By}
-use Rattle.why_blame.specs.declared.Cutting.{Cutting}
-use Rattle.why_blame.specs.declared.Cutting.TheVariants.{Wrong, Slices}
 use Rattle.why.specs.Why.{cut_blame, tokens_blame, trim_blame, text_blame, cut_loose, trim_loose, explained_by, explained}
-use Rattle.why.specs.declared.Why.TheVariants.{Accepted}
 use Rattle.why.proofs.Trees.{Agree}
 use Rattle.why.proofs.Agrees.{text-agrees}
 use Rattle.why_grounds.proofs.Agrees.{why-accepted}
 use Rattle.why_says.specs.Behind.{SlicesThen, RestAt, LooseAt}
 use Rattle.why_says.proofs.Cuts.{token-at, at-token, begun}
+use Rattle.std.specs.Prelude.{Option, Some, None, Result, Ok, Err}
+use Rattle.tables.specs.Refusals.{refusal}
+use Rattle.why_blame.specs.declared.Fact.{Fact}
+use Rattle.tables.specs.declared.Refusal.{Refusal}
+use Rattle.lists.proofs.Parts.{ok-two}
 
 -- ---- slices are the first tokens, one after the other
 
@@ -78,19 +78,19 @@ module _ (n : ℕ) (l : Lexed) where
   abbrev Stands : Splitting → ℕ → Type 0
   Stands x q = Right x × (q ≡ loose n (reverse (standing x)) l)
 
-  deep-stands : (len : Bool) (m : ℕ) (us : List (List Tok)) {k q : ℕ} → cut_deep len n l m us ≡ Slices k q → q ≡ loose n us l
+  deep-stands : (len : Bool) (m : ℕ) (us : List (List Tok)) {k q : ℕ} → cut_deep len n l m us ≡ Ok (k, q) → q ≡ loose n us l
   deep-stands len m us {k} {q} e = go (ltb depth_limit m) e
     where
-      go : (b : Bool) → pick b (Wrong TooDeep (deep_at len l.toks)) (Slices (length us) (loose n us l)) ≡ Slices k q → q ≡ loose n us l
+      go : (b : Bool) → pick {A = Result (ℕ × ℕ) (Refusal Fact)} b (Err (refusal TooDeep (deep_at len l.toks))) (Ok (length us, loose n us l)) ≡ Ok (k, q) → q ≡ loose n us l
       go true e = never cc
-      go false e = cc
+      go false e = sym (ok-two e).1
 
-  slices-stand : (len : Bool) (m : ℕ) (ss : List (List Tok)) {k q : ℕ} → cut_slices len n l m ss ≡ Slices k q → q ≡ loose n (reverse ss) l
-  slices-stand true m [] e = cc
+  slices-stand : (len : Bool) (m : ℕ) (ss : List (List Tok)) {k q : ℕ} → cut_slices len n l m ss ≡ Ok (k, q) → q ≡ loose n (reverse ss) l
+  slices-stand true m [] e = sym (ok-two e).1
   slices-stand false m [] e = never cc
   slices-stand len m (s ∷ ss) e = deep-stands len m (reverse (s ∷ ss)) e
 
-  cut_stands : (len : Bool) (x : Splitting) {k q : ℕ} → cutting len n l x ≡ Slices k q → Stands x q
+  cut_stands : (len : Bool) (x : Splitting) {k q : ℕ} → cutting len n l x ≡ Ok (k, q) → Stands x q
   cut_stands len (splitting zero m cur ss) e = (tt, slices-stand len m ss e)
   cut_stands true (splitting (suc d) m cur ss) e = (tt, deep-stands true m (reverse (reverse cur ∷ ss)) e)
   cut_stands false (splitting (suc d) m cur ss) e = never cc
@@ -98,7 +98,7 @@ module _ (n : ℕ) (l : Lexed) where
   cut_stands len (wrong r) e = never cc
 
   -- the rest behind the slices begins there
-  cut-rest : (len : Bool) {k q : ℕ} → cut_tokens len n l ≡ Slices k q → (rest : List Tok) × (l.toks ≡ sliced_tokens (slices_from 0 l.toks) ++ rest) × (q ≡ first_place n rest l.end)
+  cut-rest : (len : Bool) {k q : ℕ} → cut_tokens len n l ≡ Ok (k, q) → (rest : List Tok) × (l.toks ≡ sliced_tokens (slices_from 0 l.toks) ++ rest) × (q ≡ first_place n rest l.end)
   cut-rest len {k} {q} e =
       let x = cut_stands len (split len begun l.toks) e in
       let y = slices-front l.toks 0 in
@@ -112,17 +112,17 @@ module _ (n : ℕ) (l : Lexed) where
 
   -- ---- where nothing is blamed there are slices
 
-  cut-unblamed : (len : Bool) (c : Cutting) → cut_blame len l.toks c ≡ No → (k : ℕ) × (c ≡ Slices k (cut_loose n c))
-  cut-unblamed len (Wrong f p) e = never cc
-  cut-unblamed len (Slices k q) e = (k, refl)
+  cut-unblamed : (len : Bool) (c : Result (ℕ × ℕ) (Refusal Fact)) → cut_blame len l.toks c ≡ None → (k : ℕ) × (c ≡ Ok (k, cut_loose n c))
+  cut-unblamed len (Err r) e = never cc
+  cut-unblamed len (Ok (k, q)) e = (k, refl)
 
-  tokens-unblamed : (len : Bool) (u : List ℕ) (e : End) → tokens_blame len n u l e ≡ No → (k : ℕ) × (cut_tokens len n l ≡ Slices k (cut_loose n (cut_tokens len n l)))
+  tokens-unblamed : (len : Bool) (u : List ℕ) (e : End) → tokens_blame len n u l e ≡ None → (k : ℕ) × (cut_tokens len n l ≡ Ok (k, cut_loose n (cut_tokens len n l)))
   tokens-unblamed true u e h = cut-unblamed true (cut_tokens true n l) h
   tokens-unblamed false u done h = cut-unblamed false (cut_tokens false n l) h
   tokens-unblamed false u (broken f s) h = never cc
 
 module _ (len : Bool) (t : List ℕ) where
-  trim-loose : (x : Trimmed) → trimmed t ≡ x → trim_blame len t x ≡ No → LooseAt t (trim_loose len t x)
+  trim-loose : (x : Trimmed) → trimmed t ≡ x → trim_blame len t x ≡ None → LooseAt t (trim_loose len t x)
   unfolding slices_from
   trim-loose (NotUtf8 p) k h = never cc
   trim-loose Blank k h =
@@ -143,22 +143,22 @@ module _ (len : Bool) (t : List ℕ) where
         place = place_rest (length t) z.0 (tokens_of t).end (z.2 ∙ ap (λ (w : Lexed). first_place (length t) z.0 w.end) e);
       }
 
-  text-loose : text_blame len t ≡ No → LooseAt t (trim_loose len t (trimmed t))
+  text-loose : text_blame len t ≡ None → LooseAt t (trim_loose len t (trimmed t))
   text-loose h = go (ltb text_limit (length t)) h
     where
-      go : (b : Bool) → pick b (By (Length (length t)) 0) (trim_blame len t (trimmed t)) ≡ No → LooseAt t (trim_loose len t (trimmed t))
+      go : (b : Bool) → pick b (Some (refusal (Length (length t)) 0)) (trim_blame len t (trimmed t)) ≡ None → LooseAt t (trim_loose len t (trimmed t))
       go true e = never cc
       go false e = trim-loose (trimmed t) refl e
 
   -- the place of an accepted text is that of the first token in no slice
-  pub why-loose : (c : Counts) (q : ℕ) → explained len t ≡ Accepted c q → LooseAt t q
+  pub why-loose : (c : Counts) (q : ℕ) → explained len t ≡ Ok (c, q) → LooseAt t q
   why-loose c q e = go (read len t) (text_blame len t) refl (text-agrees len t) e
     where
-      go : (a : Answer) (b : Blamed) → text_blame len t ≡ b → Agree a b → explained_by (rows_counted a) b (trim_loose len t (trimmed t)) ≡ Accepted c q → LooseAt t q
-      go (refused r o) No w h x = absurd h
-      go (refused r o) (By f p) w h x = never cc
-      go (accepted ts) No w h x = let z : trim_loose len t (trimmed t) ≡ q = cc in subst (LooseAt t) z (text-loose w)
-      go (accepted ts) (By f p) w h x = absurd h
+      go : (a : Answer) (b : Option (Refusal Fact)) → text_blame len t ≡ b → Agree a b → explained_by (rows_counted a) b (trim_loose len t (trimmed t)) ≡ Ok (c, q) → LooseAt t q
+      go (refused r o) None w h x = absurd h
+      go (refused r o) (Some e) w h x = never cc
+      go (accepted ts) None w h x = let z : trim_loose len t (trimmed t) ≡ q = (ok-two x).1 in subst (LooseAt t) z (text-loose w)
+      go (accepted ts) (Some e) w h x = absurd h
 
 -- and there is no second such place
 pub loose-once : (t : List ℕ) (p q : ℕ) → LooseAt t p → LooseAt t q → p ≡ q
@@ -173,11 +173,11 @@ loose-once t p q x y = place_is x ∙ ap (λ (z : List Tok). first_place (length
         (then-sliced (slices_from 0 (tokens_of t).toks) z.rest (tokens_of t).toks z.are) ∙ drop-front (sliced_tokens (slices_from 0 (tokens_of t).toks)) z.rest)
 
 -- a text is explained by counts and a place exactly when it is accepted with them, and that is the place
-pub accepted-exactly : (len : Bool) (t : List ℕ) (c : Counts) (q : ℕ) → Iff (explained len t ≡ Accepted c q) ((ts : List Tree) × (read len t ≡ accepted ts) × (c ≡ counts_of (tables ts)) × LooseAt t q)
+pub accepted-exactly : (len : Bool) (t : List ℕ) (c : Counts) (q : ℕ) → Iff (explained len t ≡ Ok (c, q)) ((ts : List Tree) × (read len t ≡ accepted ts) × (c ≡ counts_of (tables ts)) × LooseAt t q)
 accepted-exactly len t c q = ((λ e. let x = why-accepted len t e in (x.0, x.1, x.2, why-loose len t c q e)), λ h. back h.0 h.1 h.2 h.3)
   where
-    back : (ts : List Tree) → read len t ≡ accepted ts → c ≡ counts_of (tables ts) → LooseAt t q → explained len t ≡ Accepted c q
+    back : (ts : List Tree) → read len t ≡ accepted ts → c ≡ counts_of (tables ts) → LooseAt t q → explained len t ≡ Ok (c, q)
     back ts r k l =
         let y = trim_loose len t (trimmed t) in
-        let e : explained len t ≡ Accepted (counts_of (tables ts)) y = ap (λ (a : Answer). explained_by (rows_counted a) (text_blame len t) y) r in
-        e ∙ ap (λ (z : Counts). Accepted z y) (sym k) ∙ ap (Accepted c) (loose-once t y q (why-loose len t (counts_of (tables ts)) y e) l)
+        let e : explained len t ≡ Ok (counts_of (tables ts), y) = ap (λ (a : Answer). explained_by (rows_counted a) (text_blame len t) y) r in
+        e ∙ ap (λ (z : Counts). Ok (z, y)) (sym k) ∙ ap (λ (z : ℕ). Ok (c, z)) (loose-once t y q (why-loose len t (counts_of (tables ts)) y e) l)

@@ -9,9 +9,10 @@ use Rattle.reader_exactly.specs.Slicing.{slices_from}
 use Rattle.reader_exactly.specs.When.{tokens_of, First, nodes}
 use Rattle.why_blame.specs.declared.Fact.TheVariants.{EmptyList}
 use Rattle.why.specs.Why.{explained}
-use Rattle.why.specs.declared.Why.TheVariants.{Refused}
 use Rattle.why_says.specs.Says.{EmptyListAt, NumberedListAt}
 use Rattle.why_says.proofs.Says.{why-says}
+use Rattle.std.specs.Prelude.{Err}
+use Rattle.tables.specs.Refusals.{refusal}
 
 -- "none", or the number of one of n nodes
 abbrev OfNodes : (n q : ℕ) → Type 0
@@ -63,7 +64,7 @@ module _ (base : ℕ) where
       ((front, cur, st, g, ns, c, e), h.2.0)
 
 -- an explanation by an empty list: its node is "none", or stands before the start to blame and is numbered so
-pub empty-numbered : (t : List ℕ) (q p : ℕ) → explained false t ≡ Refused (EmptyList q) p → First (NumberedListAt q p) (slices_from 0 (tokens_of t).toks)
+pub empty-numbered : (t : List ℕ) (q p : ℕ) → explained false t ≡ Err (refusal (EmptyList q) p) → First (NumberedListAt q p) (slices_from 0 (tokens_of t).toks)
 empty-numbered t q p e =
     let x = why-says t false (EmptyList q) p e in
     record {

@@ -1,5 +1,5 @@
 -- What is explained by a fact is so in the scope's words, with the number in the fact and the place, and nothing earlier applies. Assumes nothing.
-use Rattle.lists.proofs.Prelude.{ℕ, zero, suc, ◌+◌, ◌≤◌, ◌<◌, ◌≡◌, refl, sym, ap, ◌∙◌, subst, subst⁻¹, Bool, true, false, List, [], ◌∷◌, reverse, arith, length, length-take-le, take, drop, ltb, ltb-true, ltb-false, pick}
+use Rattle.lists.proofs.Prelude.{ℕ, zero, suc, ◌+◌, ◌≤◌, ◌<◌, ◌≡◌, refl, sym, ap, ◌∙◌, subst, subst⁻¹, Bool, true, false, List, [], ◌∷◌, reverse, arith, length, length-take-le, take, drop, ltb, ltb-true, ltb-false, pick, ap₂}
 use Rattle.lists.proofs.Tests.{never}
 use Rattle.lists.specs.All.{All}
 use Rattle.text_utf8.specs.Trim.{trimmed}
@@ -22,11 +22,7 @@ use Rattle.why_blame.specs.Blame.{split_wrong, is_deep}
 use Rattle.why_blame.specs.Cuts.{fault_fact, deep_at, loose, cut_deep, cut_slices, cutting}
 use Rattle.why_blame.specs.declared.Fact.{Fact}
 use Rattle.why_blame.specs.declared.Fact.TheVariants.{Length, BadSequence, TooDeep}
-use Rattle.why_blame.specs.declared.Blamed.{Blamed}
-use Rattle.why_blame.specs.declared.Blamed.TheVariants.{No, By}
-use Rattle.why_blame.specs.declared.Cutting.TheVariants.{Wrong, Slices}
 use Rattle.why.specs.Why.{cut_blame, tokens_blame, kept_blame, trim_blame, text_blame, trim_loose, explained_by, explained}
-use Rattle.why.specs.declared.Why.TheVariants.{Refused}
 use Rattle.why.proofs.Trees.{Agree}
 use Rattle.why.proofs.Agrees.{text-agrees}
 use Rattle.why_says.specs.Says.{FactSays}
@@ -37,6 +33,10 @@ use Rattle.why_says.proofs.Counts.{Counted, Counts, counts}
 use Rattle.why_says.proofs.Cuts.{begun, deep-found, wrong-found, open-found}
 use Rattle.why_says.proofs.Held.{ClearIn, Held}
 use Rattle.why_says.proofs.Trees.{trees-hold}
+use Rattle.std.specs.Prelude.{Option, Some, None, Ok, Err}
+use Rattle.tables.specs.Refusals.{refusal}
+use Rattle.tables.specs.declared.Refusal.{Refusal}
+use Rattle.tables.proofs.Refusals.{err-refusal}
 
 module _ (t : List ℕ) where
   abbrev L : Lexed
@@ -47,7 +47,7 @@ module _ (t : List ℕ) where
   abbrev at-fault : (a l : ℕ) → trimmed t ≡ Kept a l → (f : Fault) (s : ℕ) → (lex_at (take l t) a).end ≡ broken f s → FailsAt t f s
   at-fault a l k f s q = let r = fault-only (take l t) a f s q in record { first = a; last = l; at = r.0; kept = k; reached = r.1; fails = r.2 }
 
-  fault-holds : Valid t → (a l : ℕ) → trimmed t ≡ Kept a l → (f : Fault) (s : ℕ) → (lex_at (take l t) a).end ≡ broken f s → Held false t (By (fault_fact (take l t) f s) s)
+  fault-holds : Valid t → (a l : ℕ) → trimmed t ≡ Kept a l → (f : Fault) (s : ℕ) → (lex_at (take l t) a).end ≡ broken f s → Held false t (Some (refusal (fault_fact (take l t) f s) s))
   fault-holds v a l k f s q = go f q
     where
       kept : length (take l t) ≡ l
@@ -56,7 +56,7 @@ module _ (t : List ℕ) where
       same : take (length (take l t)) t ≡ take l t
       same = ap (λ (z : ℕ). take z t) kept
 
-      go : (f : Fault) → (lex_at (take l t) a).end ≡ broken f s → Held false t (By (fault_fact (take l t) f s) s)
+      go : (f : Fault) → (lex_at (take l t) a).end ≡ broken f s → Held false t (Some (refusal (fault_fact (take l t) f s) s))
       go MissingPropertyIdentifier q =
           let x = at-fault a l k MissingPropertyIdentifier s q in
           ((fails-property t x, kept, subst⁻¹ (λ (u : List ℕ). All Crossed (drop s u)) same (missing-crossed (take l t) s (refused-scan (take l t) x.at MissingPropertyIdentifier s x.fails).0)), v)
@@ -77,7 +77,7 @@ module _ (t : List ℕ) where
         deep : (m : ℕ) (ss : List (List Tok)) → (ltb depth_limit m ≡ true → is_deep (split true begun L.toks) ≡ true) → Held true t (cut_blame true L.toks (cut_deep true n L m ss))
         deep m ss h = by (ltb depth_limit m) refl
           where
-            by : (b : Bool) → ltb depth_limit m ≡ b → Held true t (cut_blame true L.toks (pick b (Wrong TooDeep (deep_at true L.toks)) (Slices (length ss) (loose n ss L))))
+            by : (b : Bool) → ltb depth_limit m ≡ b → Held true t (cut_blame true L.toks (pick b (Err (refusal TooDeep (deep_at true L.toks))) (Ok (length ss, loose n ss L))))
             by true q = (deep-found L.toks true (h q), v)
             by false q = tt
 
@@ -109,7 +109,7 @@ module _ (t : List ℕ) where
         k = subst (Comes (ends L.toks) (starts L.toks) 0 0) e (comes L.toks 0 0 [] [] c.covered)
 
         by : (b : Bool) → ltb depth_limit m ≡ b
-            → Held false t (cut_blame false L.toks (pick b (Wrong TooDeep (deep_at false L.toks)) (Slices (length (reverse (s ∷ ss))) (loose n (reverse (s ∷ ss)) L))))
+            → Held false t (cut_blame false L.toks (pick b (Err (refusal TooDeep (deep_at false L.toks))) (Ok (length (reverse (s ∷ ss)), loose n (reverse (s ∷ ss)) L))))
         by true q = (deep-found L.toks false (ap is_deep e ∙ q), (l, record { covered = c.covered; equal = omega (arith, c.count); some = omega (arith, k.2) }))
         by false q = trees-hold t l
     cut-strict l (splitting (suc d) m cur ss) e =
@@ -121,7 +121,7 @@ module _ (t : List ℕ) where
   -- ---- the tokens
 
   module _ (v : Valid t) (u : List ℕ) where
-    tokens-hold : (len : Bool) → ((f : Fault) (s : ℕ) → L.end ≡ broken f s → Held false t (By (fault_fact u f s) s)) → Held len t (tokens_blame len (length t) u L L.end)
+    tokens-hold : (len : Bool) → ((f : Fault) (s : ℕ) → L.end ≡ broken f s → Held false t (Some (refusal (fault_fact u f s) s))) → Held len t (tokens_blame len (length t) u L L.end)
     tokens-hold true h = cut-lenient (length t) v (split true begun L.toks) refl
     tokens-hold false h = go L.end refl
       where
@@ -129,7 +129,7 @@ module _ (t : List ℕ) where
         go done q = cut-strict (length t) (record { valid = v; faultless = q }) (split false begun L.toks) refl
         go (broken f s) q = h f s q
 
-    lexed-hold : (len : Bool) (x : Lexed) → L ≡ x → ((f : Fault) (s : ℕ) → x.end ≡ broken f s → Held false t (By (fault_fact u f s) s)) → Held len t (tokens_blame len (length t) u x x.end)
+    lexed-hold : (len : Bool) (x : Lexed) → L ≡ x → ((f : Fault) (s : ℕ) → x.end ≡ broken f s → Held false t (Some (refusal (fault_fact u f s) s))) → Held len t (tokens_blame len (length t) u x x.end)
     lexed-hold len x e h = subst (λ (z : Lexed). Held len t (tokens_blame len (length t) u z z.end)) e (tokens-hold len (λ f s q. h f s (ap (λ (z : Lexed). z.end) (sym e) ∙ q)))
 
   blank-holds : (len : Bool) → Valid t → trimmed t ≡ Blank → Held len t (kept_blame len t 0 0)
@@ -157,27 +157,27 @@ module _ (t : List ℕ) where
     text-holds : Held len t (text_blame len t)
     text-holds = go (ltb text_limit (length t)) refl
       where
-        go : (b : Bool) → ltb text_limit (length t) ≡ b → Held len t (pick b (By (Length (length t)) 0) (trim_blame len t (trimmed t)))
+        go : (b : Bool) → ltb text_limit (length t) ≡ b → Held len t (pick b (Some (refusal (Length (length t)) 0)) (trim_blame len t (trimmed t)))
         go true e = ((refl, ltb-true text_limit (length t) e, refl), clear-1 len (length t))
         go false e = trim-holds (ltb-false text_limit (length t) e) (trimmed t) refl
 
     -- what is explained is what is blamed
-    pub why-blamed : {f : Fact} {p : ℕ} → explained len t ≡ Refused f p → text_blame len t ≡ By f p
+    pub why-blamed : {f : Fact} {p : ℕ} → explained len t ≡ Err (refusal f p) → text_blame len t ≡ Some (refusal f p)
     why-blamed {f} {p} e = go (read len t) (text_blame len t) (text-agrees len t) e
       where
-        go : (a : Answer) (b : Blamed) → Agree a b → explained_by (rows_counted a) b (trim_loose len t (trimmed t)) ≡ Refused f p → b ≡ By f p
-        go (refused r o) No h q = absurd h
-        go (refused r o) (By g q) h w = cc
+        go : (a : Answer) (b : Option (Refusal Fact)) → Agree a b → explained_by (rows_counted a) b (trim_loose len t (trimmed t)) ≡ Err (refusal f p) → b ≡ Some (refusal f p)
+        go (refused r o) None h q = absurd h
+        go (refused r o) (Some e) h w = let z = err-refusal w in ap₂ (λ (x : Fact) (y : ℕ). Some (refusal x y)) z.0 z.1
         go (accepted ts) b h q = never cc
 
     -- the fact holds of the text, with the number in it and the place
-    pub why-says : (f : Fact) (p : ℕ) → explained len t ≡ Refused f p → FactSays t f p
+    pub why-says : (f : Fact) (p : ℕ) → explained len t ≡ Err (refusal f p) → FactSays t f p
     why-says f p e = (subst (Held len t) (why-blamed e) text-holds).0
 
   -- nothing earlier applies
-  pub why-clear : (f : Fact) (p : ℕ) → explained false t ≡ Refused f p → Clear t f
+  pub why-clear : (f : Fact) (p : ℕ) → explained false t ≡ Err (refusal f p) → Clear t f
   why-clear f p e = (subst (Held false t) (why-blamed false e) (text-holds false)).1
 
   -- the same of a lenient explanation: 1, 2, 9 and no other
-  pub why-clear-lenient : (f : Fact) (p : ℕ) → explained true t ≡ Refused f p → LenientClear t f
+  pub why-clear-lenient : (f : Fact) (p : ℕ) → explained true t ≡ Err (refusal f p) → LenientClear t f
   why-clear-lenient f p e = (subst (Held true t) (why-blamed true e) (text-holds true)).1

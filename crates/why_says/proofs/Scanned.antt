@@ -4,8 +4,6 @@ use Rattle.lists.proofs.Pick.{pick-elim}
 use Rattle.lists.proofs.Tests.{never}
 use Rattle.lists.specs.All.{All}
 use Rattle.lexer_close.specs.Close.{close_at}
-use Rattle.lexer_close.specs.declared.Close.{Close}
-use Rattle.lexer_close.specs.declared.Close.TheVariants.{At, Open}
 use Rattle.lexer_scan.specs.Scan.{skip_at, ident_at, value_step_at, values_end_at, on_close}
 use Rattle.lexer_scan.specs.declared.Ident.{Ident}
 use Rattle.lexer_scan.specs.declared.Ident.TheVariants.{Opens, Missing, Foreign}
@@ -23,6 +21,7 @@ use Rattle.lexer_laws.proofs.Exactly.{IdentIs, ident-is, ident-exactly, CloseIs,
 use Rattle.reader_exactly.specs.When.{FailsAt}
 use Rattle.why_blame.specs.Cuts.{foreign_from}
 use Rattle.why_says.specs.Scans.{PropertyIn, PropertyAt, Crossed, MeetsForeign, ReachesByValues, none_more, one_more, StaysUnclosed}
+use Rattle.std.specs.Prelude.{Option, Some, None}
 
 module _ (u : List ℕ) where
   -- ---- what the scan found where a token fails
@@ -30,7 +29,7 @@ module _ (u : List ℕ) where
   abbrev FaultScan : Fault → ℕ → Type 0
   FaultScan MissingPropertyIdentifier p = ident_at u p ≡ Missing
   FaultScan UnexpectedEndOfPropertyIdentifier p = ident_at u p ≡ Foreign
-  FaultScan UnexpectedEndOfPropertyValue p = (k : ℕ) × (ident_at u p ≡ Opens k) × (values_end_at u k ≡ Open)
+  FaultScan UnexpectedEndOfPropertyValue p = (k : ℕ) × (ident_at u p ≡ Opens k) × (values_end_at u k ≡ None)
 
   -- of a token that begins at j
   abbrev StepScan : ℕ → Step → Type 0
@@ -47,9 +46,9 @@ module _ (u : List ℕ) where
   ident-scan : (i : ℕ) (x : Ident) → PropertyIn u i → ident_at u i ≡ x → HeadScan i (on_ident i x)
   ident-scan i (Opens k) h e = go (values_end_at u k) refl
     where
-      go : (z : Close) → values_end_at u k ≡ z → StepScan i (on_values i k z)
-      go (At j) q = tt
-      go Open q = ((k, e, q), refl, h)
+      go : (z : Option ℕ) → values_end_at u k ≡ z → StepScan i (on_values i k z)
+      go (Some j) q = tt
+      go None q = ((k, e, q), refl, h)
   ident-scan i Missing h e = (e, refl, h)
   ident-scan i Foreign h e = (e, refl, h)
 
@@ -123,9 +122,9 @@ module _ (u : List ℕ) where
   unfolding value_step_at
   unclosed_at p first k e r q = go (eqb (get_or u k 0) 0x5b) refl q
     where
-      shut : (z : Close) → close_at u (k + 1) ≡ z → on_close u k z ≡ Unclosed → CloseIs false (k + 1) (drop (k + 1) u) Open
-      shut (At j) f h = never cc
-      shut Open f h = subst (CloseIs false (k + 1) (drop (k + 1) u)) f (close-is false (k + 1) (drop (k + 1) u))
+      shut : (z : Option ℕ) → close_at u (k + 1) ≡ z → on_close u k z ≡ Unclosed → CloseIs false (k + 1) (drop (k + 1) u) None
+      shut (Some j) f h = never cc
+      shut None f h = subst (CloseIs false (k + 1) (drop (k + 1) u)) f (close-is false (k + 1) (drop (k + 1) u))
 
       go : (b : Bool) → eqb (get_or u k 0) 0x5b ≡ b → pick b (on_close u k (close_at u (k + 1))) NoMore ≡ Unclosed → StaysUnclosed u p
       go true f h =
@@ -136,28 +135,28 @@ module _ (u : List ℕ) where
   reach-on first k a e n none_more q = one_more a e n q none_more
   reach-on first k a e n (one_more b c m f r) q = one_more b c m f (reach-on m k a e n r q)
 
-  unclosed-from : (f p first k : ℕ) → length u - k < f → ident_at u p ≡ Opens first → ReachesByValues u first k → values_end_at u k ≡ Open → StaysUnclosed u p
+  unclosed-from : (f p first k : ℕ) → length u - k < f → ident_at u p ≡ Opens first → ReachesByValues u first k → values_end_at u k ≡ None → StaysUnclosed u p
   unclosed-from zero p first k l e r q = absurd (omega arith)
   unclosed-from (suc f) p first k l e r q = go (value_step_at u k) refl (unclosed-from f)
     where
       go : (v : ValueStep) → value_step_at u k ≡ v
-          → ((p first k : ℕ) → length u - k < f → ident_at u p ≡ Opens first → ReachesByValues u first k → values_end_at u k ≡ Open → StaysUnclosed u p) → StaysUnclosed u p
+          → ((p first k : ℕ) → length u - k < f → ident_at u p ≡ Opens first → ReachesByValues u first k → values_end_at u k ≡ None → StaysUnclosed u p) → StaysUnclosed u p
       go (Value a b n) h ih = let i = value-is u k a b n h in ih p first n (omega arith) e (reach-on first k a b n r h) (sym (values-more u k a b n h) ∙ q)
-      go NoMore h ih = let z : At k ≡ Open = sym (values-none u k h) ∙ q in never cc
+      go NoMore h ih = let z : Some k ≡ None = sym (values-none u k h) ∙ q in never cc
       go Unclosed h ih = unclosed_at p first k e r h
 
-  pub stays-unclosed : (p k : ℕ) → ident_at u p ≡ Opens k → values_end_at u k ≡ Open → StaysUnclosed u p
+  pub stays-unclosed : (p k : ℕ) → ident_at u p ≡ Opens k → values_end_at u k ≡ None → StaysUnclosed u p
   stays-unclosed p k e q = unclosed-from (suc (length u)) p k k (omega arith) e none_more q
 
   values-reached : (i k : ℕ) → ReachesByValues u i k → values_end_at u i ≡ values_end_at u k
   values-reached i k none_more = refl
   values-reached i k (one_more a e n q r) = values-more u i a e n q ∙ values-reached n k r
 
-  unclosed-step : (k : ℕ) → get_or u k 0 ≡ 0x5b → CloseIs false (k + 1) (drop (k + 1) u) Open → value_step_at u k ≡ Unclosed
+  unclosed-step : (k : ℕ) → get_or u k 0 ≡ 0x5b → CloseIs false (k + 1) (drop (k + 1) u) None → value_step_at u k ≡ Unclosed
   unfolding value_step_at
   unclosed-step k o h =
       ap (λ (z : ℕ). pick (eqb z 0x5b) (on_close u k (close_at u (k + 1))) NoMore) o
-      ∙ ap (on_close u k) (close-exactly false (k + 1) (drop (k + 1) u) Open h)
+      ∙ ap (on_close u k) (close-exactly false (k + 1) (drop (k + 1) u) None h)
 
   pub unclosed-scan : {p : ℕ} → StaysUnclosed u p → FaultScan UnexpectedEndOfPropertyValue p
   unclosed-scan x =

@@ -20,33 +20,38 @@ use Rattle.reader_exactly.proofs.Walking.{WalkWhy, walked-why}
 use Rattle.why_blame.specs.Blame.{Blame, nowhere, found, blame, is_stopped}
 use Rattle.why_blame.specs.Games.{values_blame, game_blame}
 use Rattle.why_blame.specs.declared.Fact.TheVariants.{Length, BadSequence, NoBracket, Foreign, NotClosed, EndBeyond, StaysOpen, NoNode, NoEnd, TooDeep, EmptyList, SecondGm, Stray, GmValues, GmNumber}
-use Rattle.why_blame.specs.declared.Blamed.{Blamed}
-use Rattle.why_blame.specs.declared.Blamed.TheVariants.{No, By}
 use Rattle.why_blame.proofs.Found.{Says, blame-says, walk-folds}
 use Rattle.why.specs.Trees.{or_blame, stop_blame, tree_blame, nodes_of, nodes_in, empty_blame, slice_blame}
 use Rattle.why_says.specs.Says.{NodelessAt, EmptyListAt, StrayAt, SecondAt, ValuesAt, NumberAt}
-use Rattle.why_says.proofs.Counts.{Some}
+use Rattle.why_says.proofs.Counts.{HasToken}
 use Rattle.why_says.proofs.Cuts.{head_at}
+use Rattle.std.specs.Prelude.{Option, Some, None}
+use Rattle.tables.specs.Refusals.{refusal}
+use Rattle.why_blame.specs.declared.Fact.{Fact}
+use Rattle.tables.specs.declared.Refusal.{Refusal}
 
 -- ---- what is said of one slice, number n, behind `base` nodes
 
-abbrev pub SliceSays : (n base : ℕ) → List Tok → Blamed → Type 0
-SliceSays n base s No = Unit {0}
-SliceSays n base s (By (Length k) p) = ⊥
-SliceSays n base s (By BadSequence p) = ⊥
-SliceSays n base s (By (NoBracket e) p) = ⊥
-SliceSays n base s (By (Foreign e) p) = ⊥
-SliceSays n base s (By (NotClosed e) p) = ⊥
-SliceSays n base s (By EndBeyond p) = ⊥
-SliceSays n base s (By (StaysOpen d) p) = ⊥
-SliceSays n base s (By (NoNode k) p) = (k ≡ n) × NodelessAt p base s
-SliceSays n base s (By NoEnd p) = ⊥
-SliceSays n base s (By TooDeep p) = ⊥
-SliceSays n base s (By (EmptyList q) p) = EmptyListAt q p base s
-SliceSays n base s (By (SecondGm k) p) = (k ≡ n) × SecondAt p base s
-SliceSays n base s (By Stray p) = StrayAt p base s
-SliceSays n base s (By (GmValues k) p) = ValuesAt k p base s
-SliceSays n base s (By GmNumber p) = NumberAt p base s
+abbrev pub FactSays : (n base : ℕ) → List Tok → Fact → ℕ → Type 0
+FactSays n base s (Length k) p = ⊥
+FactSays n base s BadSequence p = ⊥
+FactSays n base s (NoBracket e) p = ⊥
+FactSays n base s (Foreign e) p = ⊥
+FactSays n base s (NotClosed e) p = ⊥
+FactSays n base s EndBeyond p = ⊥
+FactSays n base s (StaysOpen d) p = ⊥
+FactSays n base s (NoNode k) p = (k ≡ n) × NodelessAt p base s
+FactSays n base s NoEnd p = ⊥
+FactSays n base s TooDeep p = ⊥
+FactSays n base s (EmptyList q) p = EmptyListAt q p base s
+FactSays n base s (SecondGm k) p = (k ≡ n) × SecondAt p base s
+FactSays n base s Stray p = StrayAt p base s
+FactSays n base s (GmValues k) p = ValuesAt k p base s
+FactSays n base s GmNumber p = NumberAt p base s
+
+abbrev pub SliceSays : (n base : ℕ) → List Tok → Option (Refusal Fact) → Type 0
+SliceSays n base s None = Unit {0}
+SliceSays n base s (Some e) = FactSays n base s e.reason e.place
 
 -- where a property may follow there is a node
 abbrev Ready : Walk → Type 0
@@ -76,9 +81,9 @@ new = walk none [] false []
 
 module _ (n base : ℕ) (s : List Tok) where
   -- blamed as is said; or a tree
-  abbrev pub Out : List Tree → Blamed → Type 0
-  Out ts No = (us : List Tree) × (parse_gametree false (trees_so_far base ts) s ≡ trees_so_far (base + nodes_in base s) us)
-  Out ts (By f p) = SliceSays n base s (By f p)
+  abbrev pub Out : List Tree → Option (Refusal Fact) → Type 0
+  Out ts None = (us : List Tree) × (parse_gametree false (trees_so_far base ts) s ≡ trees_so_far (base + nodes_in base s) us)
+  Out ts (Some e) = SliceSays n base s (Some (refusal e.reason e.place))
 
   -- ---- the game type
 
@@ -97,11 +102,11 @@ module _ (n base : ℕ) (s : List Tok) where
   game-says (p ∷ []) e = vals-say p e p.vals refl
   game-says (p ∷ q ∷ ps) e = (refl, (p, q, ps, e, refl))
 
-  pub game-typed : (ps : List Prop) → game_blame n ps ≡ No → (k : ℕ) × (game_props ps ≡ is k)
+  pub game-typed : (ps : List Prop) → game_blame n ps ≡ None → (k : ℕ) × (game_props ps ≡ is k)
   game-typed [] e = (0, refl)
   game-typed (p ∷ []) e = go (game_vals p.vals) refl e
     where
-      go : (g : Game) → game_vals p.vals ≡ g → values_blame p.from p.vals g ≡ No → (k : ℕ) × (game_vals p.vals ≡ is k)
+      go : (g : Game) → game_vals p.vals ≡ g → values_blame p.from p.vals g ≡ None → (k : ℕ) × (game_vals p.vals ≡ is k)
       go (is k) f h = (k, f)
       go (no_game r) f h = never cc
   game-typed (p ∷ q ∷ ps) e = never cc
@@ -147,7 +152,7 @@ module _ (n base : ℕ) (s : List Tok) where
         let q = sym (walk-folds false base is_stopped new front) ∙ x.state in
         stop-says w front t x.behind x.are q (subst Ready q (ready base new front tt)) x.sound x.here
 
-    tree-ends : (b : Blame Walk) → Says (walks false base) is_stopped new s b → stop_blame b ≡ No → is_stopped W ≡ false
+    tree-ends : (b : Blame Walk) → Says (walks false base) is_stopped new s b → stop_blame b ≡ None → is_stopped W ≡ false
     tree-ends nowhere x e = ap is_stopped (sym (walk-folds false base is_stopped new s)) ∙ x
     tree-ends (found w front (start o)) x e = never cc
     tree-ends (found w front (end o)) x e = never cc
@@ -159,7 +164,7 @@ module _ (n base : ℕ) (s : List Tok) where
     grown : (ts : List Tree) (w : Walk) → W ≡ w → parse_gametree false (trees_so_far base ts) s ≡ tree_of_walk false base k w ts
     grown ts w e = ap (λ (g : Game). tree_of_game false base g s ts) typed ∙ ap (λ (z : Walk). tree_of_walk false base k z ts) e
 
-    walked-out : (ts : List Tree) → Some s → (w : Walk) → W ≡ w → is_stopped w ≡ false → WalkWhy base s k typed w → Out ts (empty_blame n (length (nodes_of w)) s)
+    walked-out : (ts : List Tree) → HasToken s → (w : Walk) → W ≡ w → is_stopped w ≡ false → WalkWhy base s k typed w → Out ts (empty_blame n (length (nodes_of w)) s)
     walked-out ts so (walk c st g []) e f h =
         (refl, (record { type = k; typed = typed; cur = c; stack = st; gate = g; made = []; ends_so = e; none_in = sym h }, head_at s s so))
     walked-out ts so (walk c st g (m ∷ ms)) e f h =
@@ -168,19 +173,19 @@ module _ (n base : ℕ) (s : List Tok) where
     walked-out ts so (halted ns) e f h = absurd h
     walked-out ts so (stopped r) e f h = absurd (false≢true (sym f))
 
-    tree-out : (ts : List Tree) → Some s → Out ts (or_blame (tree_blame base s) (empty_blame n (nodes_in base s) s))
+    tree-out : (ts : List Tree) → HasToken s → Out ts (or_blame (tree_blame base s) (empty_blame n (nodes_in base s) s))
     tree-out ts so = go (tree_blame base s) (tree-says B x) (λ e. walked-out ts so W refl (tree-ends B x e) (walked-why base s k typed cv))
       where
         x : Says (walks false base) is_stopped new s B
         x = blame-says (walks false base) is_stopped new s refl
 
-        go : (b : Blamed) → SliceSays n base s b → (b ≡ No → Out ts (empty_blame n (nodes_in base s) s)) → Out ts (or_blame b (empty_blame n (nodes_in base s) s))
-        go No h g = g refl
-        go (By f p) h g = h
+        go : (b : Option (Refusal Fact)) → SliceSays n base s b → (b ≡ None → Out ts (empty_blame n (nodes_in base s) s)) → Out ts (or_blame b (empty_blame n (nodes_in base s) s))
+        go None h g = g refl
+        go (Some e) h g = h
 
-  pub slice_out : Covered 0 s → Some s → (ts : List Tree) → Out ts (slice_blame n base s)
+  pub slice_out : Covered 0 s → HasToken s → (ts : List Tree) → Out ts (slice_blame n base s)
   slice_out cv so ts = go (game_blame n (games s)) refl (game-says (games s) refl)
     where
-      go : (b : Blamed) → game_blame n (games s) ≡ b → SliceSays n base s b → Out ts (or_blame b (or_blame (tree_blame base s) (empty_blame n (nodes_in base s) s)))
-      go No e h = let y = game-typed (games s) e in tree-out y.0 y.1 cv ts so
-      go (By f p) e h = h
+      go : (b : Option (Refusal Fact)) → game_blame n (games s) ≡ b → SliceSays n base s b → Out ts (or_blame b (or_blame (tree_blame base s) (empty_blame n (nodes_in base s) s)))
+      go None e h = let y = game-typed (games s) e in tree-out y.0 y.1 cv ts so
+      go (Some r) e h = h

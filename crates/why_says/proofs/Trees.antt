@@ -14,13 +14,14 @@ use Rattle.reader_exactly.proofs.Firm.{slices-covered}
 use Rattle.reader_exactly.proofs.Stages.{too-deep, not-deep, split-cases}
 use Rattle.why_blame.specs.declared.Fact.{Fact}
 use Rattle.why_blame.specs.declared.Fact.TheVariants.{Length, BadSequence, NoBracket, Foreign, NotClosed, EndBeyond, StaysOpen, NoNode, NoEnd, TooDeep, EmptyList, SecondGm, Stray, GmValues, GmNumber}
-use Rattle.why_blame.specs.declared.Blamed.{Blamed}
-use Rattle.why_blame.specs.declared.Blamed.TheVariants.{No, By}
 use Rattle.why.specs.Trees.{or_blame, nodes_in, slice_blame, slices_blame}
 use Rattle.why.specs.Why.{accepted_slices}
-use Rattle.why_says.proofs.Counts.{Some, slices-some}
+use Rattle.why_says.proofs.Counts.{HasToken, slices-some}
 use Rattle.why_says.proofs.Held.{Held}
 use Rattle.why_says.proofs.Slices.{SliceSays, Out, slice_out}
+use Rattle.std.specs.Prelude.{Option, Some, None}
+use Rattle.tables.specs.Refusals.{refusal}
+use Rattle.tables.specs.declared.Refusal.{Refusal}
 
 module _ (t : List ℕ) where
   abbrev all : List (List Tok)
@@ -32,7 +33,7 @@ module _ (t : List ℕ) where
       first_of : (P : ℕ → List Tok → Type 0) → P base s → First P all
       first_of P x = record { before = before; slice = s; after = after; are = e; nodes = base; trees = ts; trees-are = h; holds = x }
 
-      says_first : (f : Fact) (p : ℕ) → SliceSays (length before) base s (By f p) → Held false t (By f p)
+      says_first : (f : Fact) (p : ℕ) → SliceSays (length before) base s (Some (refusal f p)) → Held false t (Some (refusal f p))
       unfolding first_of
       says_first (Length k) p x = absurd x
       says_first BadSequence p x = absurd x
@@ -50,7 +51,7 @@ module _ (t : List ℕ) where
       says_first (GmValues k) p x = (first_of _ x, sp)
       says_first GmNumber p x = (first_of _ x, sp)
 
-    slices-hold : (us before : List (List Tok)) → all ≡ before ++ us → All (Covered 0) us → All Some us → (base : ℕ) (ts : List Tree)
+    slices-hold : (us before : List (List Tok)) → all ≡ before ++ us → All (Covered 0) us → All HasToken us → (base : ℕ) (ts : List Tree)
         → parse_gametrees false (trees_so_far 0 []) before ≡ trees_so_far base ts → Held false t (slices_blame (length before) base us)
     slices-hold [] before e cv so base ts h = tt
     slices-hold (s ∷ us) before e cv so base ts h =
@@ -62,11 +63,11 @@ module _ (t : List ℕ) where
         one_more : length (before ++ (s ∷ [])) ≡ suc (length before)
         one_more = let l = length-append before (s ∷ []) in omega arith
 
-        go : (b : Blamed) → Out (length before) base s ts b
+        go : (b : Option (Refusal Fact)) → Out (length before) base s ts b
             → ((vs : List Tree) → parse_gametree false (trees_so_far base ts) s ≡ trees_so_far (base + nodes_in base s) vs → Held false t (slices_blame (suc (length before)) (base + nodes_in base s) us))
             → Held false t (or_blame b (slices_blame (suc (length before)) (base + nodes_in base s) us))
-        go No x ih = ih x.0 x.1
-        go (By f p) x ih = says_first before s us e base ts h f p x
+        go None x ih = ih x.0 x.1
+        go (Some r) x ih = says_first before s us e base ts h r.reason r.place x
 
   -- what strict reading blames behind splitting
   pub trees-hold : Lexes t → Held false t (slices_blame 0 0 (accepted_slices (split_by_gametree false (tokens_of t).toks)))

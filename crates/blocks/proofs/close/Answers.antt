@@ -19,4 +19,4 @@ pub returns-else-room-n : goal.returns-else-room-n
 returns-else-room-n c = closes-rows c.args.state c.args.rows.now c.if-state-ne0.false c.in-Rows.count c.wide-n.result c.wide-n.ensures _ _ (sym c.in-Rows.is ∙ c.closing_of.ensures ∙ ap closing c.known_of.ensures) c.if-room-n.false c.accept.ensures c.clear.ensures
 
 pub returns-else-room-n-2 : goal.returns-else-room-n-2
-returns-else-room-n-2 c = closes-last c.args.state c.args.rows.now c.if-state-ne0.false c.in-Last.count c.wide-n-in-Last.result c.wide-n-in-Last.ensures _ _ c.in-Last.from c.in-Last.to (sym c.in-Last.is ∙ c.closing_of.ensures ∙ ap closing c.known_of.ensures) c.if-room-n-2.false c.accept-in-Last.ensures _ c.put3.ensures c.clear-in-Last.ensures
+returns-else-room-n-2 c = closes-last c.args.state c.args.rows.now c.if-state-ne0.false c.in-Last.count c.wide-n-in-Last.result c.wide-n-in-Last.ensures _ _ c.in-Last.from c.in-Last.to (sym c.in-Last.is ∙ c.closing_of.ensures ∙ ap closing c.known_of.ensures) c.if-room-n-2.false c.accept-in-Last.ensures _ c.put.ensures c.clear-in-Last.ensures

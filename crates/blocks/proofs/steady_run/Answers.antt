@@ -3,10 +3,11 @@ use Rattle.blocks.proofs.Taking.{block_more}
 use Rattle.blocks.specs.LocalsSteady.{PairIs, steady_at}
 use Rattle.blocks.specs.Room.{room}
 use Rattle.tables.specs.Numbers.{text_limit}
-use Rattle.blocks.specs.declared.Pair.{Pair}
 use Rattle.lists.proofs.Tests.{and_both}
 use Rattle.lists.proofs.Prelude.{arith, ◌+◌, ◌<◌, refl, sym, ◌∙◌, subst, get_or}
 use Rattle.blocks.proofs.steady_run.Goals as goal
+use Rattle.std.specs.Prelude.{Option}
+use Rattle.blocks_step.specs.declared.Phase.{Phase}
 
 pub loop-i-init : goal.loop-i-init
 loop-i-init c = (refl, omega arith, c.requires.0, c.requires.1, refl)
@@ -15,16 +16,16 @@ pub pair_run-requires : goal.pair_run-requires
 pair_run-requires c = c.loop-i-test.true
 
 pub overflow_add-i : goal.overflow_add-i
-overflow_add-i c = (let x = (subst (λ (z : Pair). PairIs c.loop-i.p c.args.bytes.now c.loop-i.i z) c.in-Past.is c.pair_run.ensures).pair.room in omega arith)
+overflow_add-i c = (let x = (subst (λ (z : Option Phase). PairIs c.loop-i.p c.args.bytes.now c.loop-i.i z) c.in-Some.is c.pair_run.ensures).pair.room in omega arith)
 
 pub overflow_add-place : goal.overflow_add-place
 overflow_add-place c = omega (arith, c.if-place.false)
 
-pub loop-i-smaller-in-Past : goal.loop-i-smaller-in-Past
-loop-i-smaller-in-Past c = (let x = (subst (λ (z : Pair). PairIs c.loop-i.p c.args.bytes.now c.loop-i.i z) c.in-Past.is c.pair_run.ensures).pair.room in omega arith)
+pub loop-i-smaller-in-Some : goal.loop-i-smaller-in-Some
+loop-i-smaller-in-Some c = (let x = (subst (λ (z : Option Phase). PairIs c.loop-i.p c.args.bytes.now c.loop-i.i z) c.in-Some.is c.pair_run.ensures).pair.room in omega arith)
 
-pub loop-i-preserved-in-Past : goal.loop-i-preserved-in-Past
-loop-i-preserved-in-Past c = (let x = (subst (λ (z : Pair). PairIs c.loop-i.p c.args.bytes.now c.loop-i.i z) c.in-Past.is c.pair_run.ensures).pair.room in (c.loop-i.invariant.0, omega (arith, c.loop-i.invariant.1), x, omega arith, block-part c.args.bytes.now c.loop-i.i 4 (room (steady_at c.loop-i.place c.loop-i.ink c.loop-i.p c.loop-i.n) c.loop-i.rows) (room (steady_at (c.loop-i.place + 4) (c.loop-i.place + 4) c.in-Past.q c.loop-i.n) c.loop-i.rows) _ (steady-pair c.loop-i.place c.loop-i.ink c.loop-i.p c.loop-i.n c.loop-i.rows c.args.bytes.now c.loop-i.i c.in-Past.q (omega (arith, c.if-place.false)) (subst (λ (z : Pair). PairIs c.loop-i.p c.args.bytes.now c.loop-i.i z) c.in-Past.is c.pair_run.ensures) c.if-b-eq91.true) c.loop-i.invariant.4))
+pub loop-i-preserved-in-Some : goal.loop-i-preserved-in-Some
+loop-i-preserved-in-Some c = (let x = (subst (λ (z : Option Phase). PairIs c.loop-i.p c.args.bytes.now c.loop-i.i z) c.in-Some.is c.pair_run.ensures).pair.room in (c.loop-i.invariant.0, omega (arith, c.loop-i.invariant.1), x, omega arith, block-part c.args.bytes.now c.loop-i.i 4 (room (steady_at c.loop-i.place c.loop-i.ink c.loop-i.p c.loop-i.n) c.loop-i.rows) (room (steady_at (c.loop-i.place + 4) (c.loop-i.place + 4) c.in-Some.q c.loop-i.n) c.loop-i.rows) _ (steady-pair c.loop-i.place c.loop-i.ink c.loop-i.p c.loop-i.n c.loop-i.rows c.args.bytes.now c.loop-i.i c.in-Some.q (omega (arith, c.if-place.false)) (subst (λ (z : Option Phase). PairIs c.loop-i.p c.args.bytes.now c.loop-i.i z) c.in-Some.is c.pair_run.ensures) c.if-b-eq91.true) c.loop-i.invariant.4))
 
 pub value_run-run-requires : goal.value_run-run-requires
 value_run-run-requires c = c.loop-i.invariant.2

@@ -1,11 +1,11 @@
 use Rattle.lists.proofs.Prelude.{sym, ap}
 use Rattle.ask.specs.Ask.{display_for}
-use Rattle.value_display.specs.declared.Displayed.{Displayed}
 use Rattle.c_answers.specs.Structs.{display_in_c}
 use Rattle.c_answers.proofs.value_in_c.Goals as goal
+use Rattle.std.specs.Prelude.{Option, ℕ}
 
-pub returns-in-Length : goal.returns-in-Length
-returns-in-Length c = ap (λ (d : Displayed). display_in_c (display_for d)) (sym c.in-Length.is)
+pub returns-in-Some : goal.returns-in-Some
+returns-in-Some c = ap (λ (d : Option ℕ). display_in_c (display_for d)) (sym c.in-Some.is)
 
-pub returns-in-NoRoom : goal.returns-in-NoRoom
-returns-in-NoRoom c = ap (λ (d : Displayed). display_in_c (display_for d)) (sym c.in-NoRoom.is)
+pub returns-in-None : goal.returns-in-None
+returns-in-None c = ap (λ (d : Option ℕ). display_in_c (display_for d)) (sym c.in-None.is)

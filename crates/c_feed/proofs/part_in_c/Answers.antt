@@ -9,4 +9,4 @@ pub returns-in-Feed : goal.returns-in-Feed
 returns-in-Feed c = ap part_in_c (sym c.in-Feed.is)
 
 pub returns-in-Refused : goal.returns-in-Refused
-returns-in-Refused c = ap (λ (n : ℕ). part_of n 0 c.in-Refused.place 0 0) c.feed_number.ensures ∙ ap part_in_c (sym c.in-Refused.is)
+returns-in-Refused c = ap (λ (n : ℕ). part_of n 0 c.in-Refused.place 0 0) c.from.ensures ∙ ap part_in_c (sym c.in-Refused.is)

@@ -6,8 +6,8 @@ use Rattle.c_simple.proofs.simple_answer_in_c.Goals as goal
 abbrev refused : ℕ → SgfSimple
 refused n = record { number = n; kind = 0; negative = 0; reserved = 0; size = 0 }
 
-pub returns-in-Given : goal.returns-in-Given
-returns-in-Given c = c.simple_in_c.ensures ∙ ap simple_answer_in_c (sym c.in-Given.is)
+pub returns-in-Ok : goal.returns-in-Ok
+returns-in-Ok c = c.simple_in_c.ensures ∙ ap simple_answer_in_c (sym c.in-Ok.is)
 
-pub returns-in-NoSimple : goal.returns-in-NoSimple
-returns-in-NoSimple c = ap (λ (n : ℕ). refused n) c.number.ensures ∙ ap simple_answer_in_c (sym c.in-NoSimple.is)
+pub returns-in-Err : goal.returns-in-Err
+returns-in-Err c = ap (λ (n : ℕ). refused n) c.from.ensures ∙ ap simple_answer_in_c (sym c.in-Err.is)

@@ -24,7 +24,7 @@ pub returns-in-Property : goal.returns-in-Property
 returns-in-Property c = rw (← c.next_token.ensures, c.in-Property.is) (refl, refl, refl, refl, refl)
 
 pub returns-in-Refused : goal.returns-in-Refused
-returns-in-Refused c = rw (← c.next_token.ensures, c.in-Refused.is) (let e = c.faulty.ensures in (e.0, e.1 ∙ c.number.ensures, e.2, e.3, e.4))
+returns-in-Refused c = rw (← c.next_token.ensures, c.in-Refused.is) (let e = c.faulty.ensures in (e.0, e.1 ∙ c.from.ensures, e.2, e.3, e.4))
 
 pub returns-in-Done : goal.returns-in-Done
 returns-in-Done c = rw (← c.next_token.ensures, c.in-Done.is) c.single-in-Done.ensures

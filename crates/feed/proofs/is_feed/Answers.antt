@@ -3,27 +3,27 @@ use Rattle.feed_numerals.specs.Numeral.{numeral_limit}
 use Rattle.feed.specs.Feed.{Listing}
 use Rattle.feed.specs.LocalsNext.{Lies}
 use Rattle.feed.proofs.Entries.{listed-end, listed-fault, listed-next, listing-fault, listing-begin}
-use Rattle.feed.specs.declared.Next.TheVariants.{One}
 use Rattle.feed.proofs.is_feed.Goals as goal
+use Rattle.std.specs.Prelude.{Some}
 
 pub loop-init : goal.loop-init
 loop-init c = let w = c.args.feed.now in
-    ap (λ (x : Listing). x.whole) (listing-begin w c.in-Is.count c.in-Is.at (sym c.read_numeral.ensures.0 ∙ c.in-Is.is))
+    ap (λ (x : Listing). x.whole) (listing-begin w c.in-Some.count c.in-Some.at (sym c.read_numeral.ensures.0 ∙ c.in-Some.is))
 
 pub returns-in_default-next_at : goal.returns-in_default-next_at
 returns-in_default-next_at c = let w = c.args.feed.now in
     let l = c.loop in
-    sym (l.invariant ∙ ap (λ (x : Listing). x.whole) (listed-fault w (c.in-Is.count - l.counter) l.low l.at (omega (arith, c.loop-test.true)) (sym c.next_at.ensures.0 ∙ c.in_default-next_at.is)))
+    sym (l.invariant ∙ ap (λ (x : Listing). x.whole) (listed-fault w (c.in-Some.count - l.counter) l.low l.at (omega (arith, c.loop-test.true)) (sym c.next_at.ensures.0 ∙ c.in_default-next_at.is)))
 
 pub overflow_add-low : goal.overflow_add-low
 overflow_add-low c = let w = c.args.feed.now in
-    let m : Lies w c.loop.low numeral_limit (One c.in-One.value c.in-One.field-1 c.in-One.to) = subst (Lies w c.loop.low numeral_limit) c.in-One.is c.next_at.ensures.1 in
+    let m : Lies w c.loop.low numeral_limit (Some (c.in-Some-next_at.value, c.in-Some-next_at.field-0-1, c.in-Some-next_at.to)) = subst (Lies w c.loop.low numeral_limit) c.in-Some-next_at.is c.next_at.ensures.1 in
     omega (arith, m.1)
 
 pub loop-preserved : goal.loop-preserved
 loop-preserved c = let w = c.args.feed.now in
     let l = c.loop in
-    l.invariant ∙ ap (λ (x : Listing). x.whole) (listed-next w c.in-Is.count l.counter l.low l.at c.in-One.value c.in-One.field-1 c.in-One.to c.loop-test.true (sym c.next_at.ensures.0 ∙ c.in-One.is))
+    l.invariant ∙ ap (λ (x : Listing). x.whole) (listed-next w c.in-Some.count l.counter l.low l.at c.in-Some-next_at.value c.in-Some-next_at.field-0-1 c.in-Some-next_at.to c.loop-test.true (sym c.next_at.ensures.0 ∙ c.in-Some-next_at.is))
 
 pub returns-in_default : goal.returns-in_default
 returns-in_default c = let w = c.args.feed.now in
@@ -32,5 +32,5 @@ returns-in_default c = let w = c.args.feed.now in
 pub returns : goal.returns
 returns c = let w = c.args.feed.now in
     let l = c.loop in
-    let z : (c.in-Is.count - l.counter) ≡ 0 = omega (arith, c.loop-test.false) in
-    sym (l.invariant ∙ ap (λ (x : Listing). x.whole) (listed-end w (c.in-Is.count - l.counter) l.low l.at z))
+    let z : (c.in-Some.count - l.counter) ≡ 0 = omega (arith, c.loop-test.false) in
+    sym (l.invariant ∙ ap (λ (x : Listing). x.whole) (listed-end w (c.in-Some.count - l.counter) l.low l.at z))

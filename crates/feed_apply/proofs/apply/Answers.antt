@@ -11,7 +11,7 @@ pub measure-change-requires : goal.measure-change-requires
 measure-change-requires c = let a = c.args in
     let m = memory a.text.now a.used a.counts a.trees.now a.nodes.now a.properties.now a.values.now in
     let w = a.feed.now in
-    let q = sym c.check_feed.ensures ∙ c.in-Passed.is in
+    let q = sym c.check_feed.ensures ∙ c.in-Ok.is in
     let f = fits m w q in
     ((fit-lent m f).1.values, spread-short m f w)
 
@@ -19,7 +19,7 @@ pub overflow_sub-kept : goal.overflow_sub-kept
 overflow_sub-kept c = let a = c.args in
     let m = memory a.text.now a.used a.counts a.trees.now a.nodes.now a.properties.now a.values.now in
     let w = a.feed.now in
-    let q = sym c.check_feed.ensures ∙ c.in-Passed.is in
+    let q = sym c.check_feed.ensures ∙ c.in-Ok.is in
     let f = fits m w q in
     let g = c.measure-change.ensures in
     let b = shrunk-spanned a.values.now w a.counts.values in
@@ -27,11 +27,11 @@ overflow_sub-kept c = let a = c.args in
     let n = corrected-length m f w in
     omega (arith, g.1, b, t)
 
-pub overflow_sub-kept-in-Passed : goal.overflow_sub-kept-in-Passed
-overflow_sub-kept-in-Passed c = let a = c.args in
+pub overflow_sub-kept-in-Ok : goal.overflow_sub-kept-in-Ok
+overflow_sub-kept-in-Ok c = let a = c.args in
     let m = memory a.text.now a.used a.counts a.trees.now a.nodes.now a.properties.now a.values.now in
     let w = a.feed.now in
-    let q = sym c.check_feed.ensures ∙ c.in-Passed.is in
+    let q = sym c.check_feed.ensures ∙ c.in-Ok.is in
     let f = fits m w q in
     let g = c.measure-change.ensures in
     let b = shrunk-spanned a.values.now w a.counts.values in
@@ -43,7 +43,7 @@ pub returns-then-kept-change : goal.returns-then-kept-change
 returns-then-kept-change c = let a = c.args in
     let m = memory a.text.now a.used a.counts a.trees.now a.nodes.now a.properties.now a.values.now in
     let w = a.feed.now in
-    let q = sym c.check_feed.ensures ∙ c.in-Passed.is in
+    let q = sym c.check_feed.ensures ∙ c.in-Ok.is in
     let f = fits m w q in
     let g = c.measure-change.ensures in
     let b = shrunk-spanned a.values.now w a.counts.values in
@@ -55,7 +55,7 @@ pub overflow_sub-text : goal.overflow_sub-text
 overflow_sub-text c = let a = c.args in
     let m = memory a.text.now a.used a.counts a.trees.now a.nodes.now a.properties.now a.values.now in
     let w = a.feed.now in
-    let q = sym c.check_feed.ensures ∙ c.in-Passed.is in
+    let q = sym c.check_feed.ensures ∙ c.in-Ok.is in
     let f = fits m w q in
     let g = c.measure-change.ensures in
     let b = shrunk-spanned a.values.now w a.counts.values in
@@ -67,7 +67,7 @@ pub returns-then-text-kept : goal.returns-then-text-kept
 returns-then-text-kept c = let a = c.args in
     let m = memory a.text.now a.used a.counts a.trees.now a.nodes.now a.properties.now a.values.now in
     let w = a.feed.now in
-    let q = sym c.check_feed.ensures ∙ c.in-Passed.is in
+    let q = sym c.check_feed.ensures ∙ c.in-Ok.is in
     let f = fits m w q in
     let g = c.measure-change.ensures in
     let b = shrunk-spanned a.values.now w a.counts.values in
@@ -79,7 +79,7 @@ pub rewrite-requires : goal.rewrite-requires
 rewrite-requires c = let a = c.args in
     let m = memory a.text.now a.used a.counts a.trees.now a.nodes.now a.properties.now a.values.now in
     let w = a.feed.now in
-    let q = sym c.check_feed.ensures ∙ c.in-Passed.is in
+    let q = sym c.check_feed.ensures ∙ c.in-Ok.is in
     let f = fits m w q in
     let g = c.measure-change.ensures in
     let b = shrunk-spanned a.values.now w a.counts.values in
@@ -91,7 +91,7 @@ pub move_properties-requires : goal.move_properties-requires
 move_properties-requires c = let a = c.args in
     let m = memory a.text.now a.used a.counts a.trees.now a.nodes.now a.properties.now a.values.now in
     let w = a.feed.now in
-    let q = sym c.check_feed.ensures ∙ c.in-Passed.is in
+    let q = sym c.check_feed.ensures ∙ c.in-Ok.is in
     let f = fits m w q in
     let g = c.measure-change.ensures in
     let b = shrunk-spanned a.values.now w a.counts.values in
@@ -103,7 +103,7 @@ pub move_values-requires : goal.move_values-requires
 move_values-requires c = let a = c.args in
     let m = memory a.text.now a.used a.counts a.trees.now a.nodes.now a.properties.now a.values.now in
     let w = a.feed.now in
-    let q = sym c.check_feed.ensures ∙ c.in-Passed.is in
+    let q = sym c.check_feed.ensures ∙ c.in-Ok.is in
     let f = fits m w q in
     let g = c.measure-change.ensures in
     let b = shrunk-spanned a.values.now w a.counts.values in
@@ -115,7 +115,7 @@ pub overflow_add-result : goal.overflow_add-result
 overflow_add-result c = let a = c.args in
     let m = memory a.text.now a.used a.counts a.trees.now a.nodes.now a.properties.now a.values.now in
     let w = a.feed.now in
-    let q = sym c.check_feed.ensures ∙ c.in-Passed.is in
+    let q = sym c.check_feed.ensures ∙ c.in-Ok.is in
     let f = fits m w q in
     let g = c.measure-change.ensures in
     let b = shrunk-spanned a.values.now w a.counts.values in
@@ -123,14 +123,14 @@ overflow_add-result c = let a = c.args in
     let n = corrected-length m f w in
     omega (arith, g.0, g.1, b, t, fit-short m f, c.if-kept-change.false)
 
-pub returns-in-Refused : goal.returns-in-Refused
-returns-in-Refused c = apply-refused _ _ _ _ (sym c.check_feed.ensures ∙ c.in-Refused.is)
+pub returns-in-Err : goal.returns-in-Err
+returns-in-Err c = apply-refused _ _ _ _ (sym c.check_feed.ensures ∙ c.in-Err.is)
 
 pub returns-else-text-kept : goal.returns-else-text-kept
 returns-else-text-kept c = let a = c.args in
     let m = memory a.text.now a.used a.counts a.trees.now a.nodes.now a.properties.now a.values.now in
     let w = a.feed.now in
-    let q = sym c.check_feed.ensures ∙ c.in-Passed.is in
+    let q = sym c.check_feed.ensures ∙ c.in-Ok.is in
     let f = fits m w q in
     let g = c.measure-change.ensures in
     let b = shrunk-spanned a.values.now w a.counts.values in

@@ -7,8 +7,8 @@ returns-in_default c = let s = c.args.raw.now in only_none s (stepped s 0 c.next
 
 pub returns-in_default-next_read : goal.returns-in_default-next_read
 returns-in_default-next_read c = let s = c.args.raw.now in
-    only_one s (stepped s 0 c.next_read.ensures c.in-Byte.is) (stepped s c.in-Byte.at c.next_read-2.ensures c.in_default-next_read.is)
+    only_one s (stepped s 0 c.next_read.ensures c.in-Some.is) (stepped s c.in-Some.at c.next_read-2.ensures c.in_default-next_read.is)
 
 pub returns : goal.returns
 returns c = let s = c.args.raw.now in
-    only-more s (stepped s 0 c.next_read.ensures c.in-Byte.is) (stepped s c.in-Byte.at c.next_read-2.ensures c.in-Byte-next_read.is)
+    only-more s (stepped s 0 c.next_read.ensures c.in-Some.is) (stepped s c.in-Some.at c.next_read-2.ensures c.in-Some-next_read.is)

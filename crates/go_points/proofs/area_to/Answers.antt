@@ -16,18 +16,18 @@ pub returns-in_default-next_read : goal.returns-in_default-next_read
 unfolding area_of
 returns-in_default-next_read c = let args = c.args in
     let s = args.s.now in
-    behind args.a args.b (read-cons s (stepped s _ c.next_read.ensures c.in-Byte.is) (stepped s _ c.next_read-2.ensures c.in_default-next_read.is))
+    behind args.a args.b (read-cons s (stepped s _ c.next_read.ensures c.in-Some.is) (stepped s _ c.next_read-2.ensures c.in_default-next_read.is))
 
 pub returns-in_default-next_read-2 : goal.returns-in_default-next_read-2
 unfolding area_of
 returns-in_default-next_read-2 c = let args = c.args in
     let s = args.s.now in
     let next-read = c.next_read in
-    c.area_of.ensures ∙ behind args.a args.b (read-cons s (stepped s _ next-read.ensures c.in-Byte.is) (read-cons s (stepped s _ c.next_read-2.ensures c.in-Byte-next_read.is) (stepped s _ c.next_read-3.ensures c.in_default-next_read-2.is)))
+    c.area_of.ensures ∙ behind args.a args.b (read-cons s (stepped s _ next-read.ensures c.in-Some.is) (read-cons s (stepped s _ c.next_read-2.ensures c.in-Some-next_read.is) (stepped s _ c.next_read-3.ensures c.in_default-next_read-2.is)))
 
 pub returns : goal.returns
 unfolding area_of
 returns c = let args = c.args in
     let s = args.s.now in
     let next-read = c.next_read in
-    behind args.a args.b (read-cons s (stepped s _ next-read.ensures c.in-Byte.is) (read-cons s (stepped s _ c.next_read-2.ensures c.in-Byte-next_read.is) (stepped s _ c.next_read-3.ensures c.in-Byte-next_read-2.is).0))
+    behind args.a args.b (read-cons s (stepped s _ next-read.ensures c.in-Some.is) (read-cons s (stepped s _ c.next_read-2.ensures c.in-Some-next_read.is) (stepped s _ c.next_read-3.ensures c.in-Some-next_read-2.is).0))

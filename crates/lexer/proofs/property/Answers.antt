@@ -1,7 +1,7 @@
 use Rattle.lexer.proofs.property.Goals as goal
 
-pub returns-in-At : goal.returns-in-At
-returns-in-At c = rw (← c.values_end.ensures, c.in-At.is)
+pub returns-in-Some : goal.returns-in-Some
+returns-in-Some c = rw (← c.values_end.ensures, c.in-Some.is)
 
-pub returns-in-Open : goal.returns-in-Open
-returns-in-Open c = rw (← c.values_end.ensures, c.in-Open.is)
+pub returns-in-None : goal.returns-in-None
+returns-in-None c = rw (← c.values_end.ensures, c.in-None.is)

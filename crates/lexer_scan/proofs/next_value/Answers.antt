@@ -14,9 +14,9 @@ returns-in_default c = let s = c.args.s.now in
     sym (value-open s _ c.if-s-at-ne91.false (sym c.quick_end.ensures ∙ c.in_default.is))
 
 pub overflow_add-to : goal.overflow_add-to
-overflow_add-to c = let b = close-bounds c.args.s.now _ _ (sym c.quick_end.ensures ∙ c.in-At.is) in
+overflow_add-to c = let b = close-bounds c.args.s.now _ _ (sym c.quick_end.ensures ∙ c.in-Some.is) in
     omega arith
 
 pub returns : goal.returns
 returns c = let s = c.args.s.now in
-    sym (value_on s _ _ _ c.if-s-at-ne91.false (sym c.quick_end.ensures ∙ c.in-At.is) c.skip_space-next.ensures)
+    sym (value_on s _ _ _ c.if-s-at-ne91.false (sym c.quick_end.ensures ∙ c.in-Some.is) c.skip_space-next.ensures)

@@ -9,18 +9,18 @@ pub loop-i-init : goal.loop-i-init
 loop-i-init c = refl
 
 pub overflow_add-to : goal.overflow_add-to
-overflow_add-to c = let b = close-bounds c.args.s.now _ _ (sym c.quick_end.ensures ∙ c.in-At.is) in
+overflow_add-to c = let b = close-bounds c.args.s.now _ _ (sym c.quick_end.ensures ∙ c.in-Some.is) in
     omega arith
 
 pub loop-i-smaller : goal.loop-i-smaller
 loop-i-smaller c = let s = c.args.s.now in
-    let e : c.skip_space-i.result ≡ skip_at s (c.in-At.to + 1) = c.skip_space-i.ensures in
-    let b = close-bounds s _ _ (sym c.quick_end.ensures ∙ c.in-At.is) in
-    omega (arith, b, skip-bounds s (c.in-At.to + 1), c.if-s-i.false)
+    let e : c.skip_space-i.result ≡ skip_at s (c.in-Some.to + 1) = c.skip_space-i.ensures in
+    let b = close-bounds s _ _ (sym c.quick_end.ensures ∙ c.in-Some.is) in
+    omega (arith, b, skip-bounds s (c.in-Some.to + 1), c.if-s-i.false)
 
 pub loop-i-preserved : goal.loop-i-preserved
 loop-i-preserved c = let s = c.args.s.now in
-    sym (values-more s _ _ _ _ (value_on s _ _ _ c.if-s-i-ne91.false (sym c.quick_end.ensures ∙ c.in-At.is) c.skip_space-i.ensures))
+    sym (values-more s _ _ _ _ (value_on s _ _ _ c.if-s-i-ne91.false (sym c.quick_end.ensures ∙ c.in-Some.is) c.skip_space-i.ensures))
     ∙ c.loop-i.invariant
 
 pub returns-then-s-i : goal.returns-then-s-i

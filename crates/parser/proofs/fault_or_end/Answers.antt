@@ -13,7 +13,7 @@ loop-f-init c = refl
 
 pub returns-in-Refused : goal.returns-in-Refused
 returns-in-Refused c = let s = c.args.s.now in
-    ap (λ (z : Reason). Refused z c.in-Refused.i) c.fault_reason.ensures
+    ap (λ (z : Reason). Refused z c.in-Refused.i) c.from.ensures
     ∙ sym (ap (λ (z : End). survey_strict z (no UnexpectedGameTreeEnd)) (c.loop-f.invariant ∙ ap (λ (z : Lexed). z.end) (meets s _ c.next-stepped.ensures.token-is c.in-Refused.is)))
 
 pub returns-in-Done : goal.returns-in-Done

@@ -18,7 +18,7 @@ pub returns-in-End : goal.returns-in-End
 returns-in-End c = strict-end (stop-as c.split_tokens-x.ensures c.in-End.is) c.fault_or_end.ensures
 
 pub returns-in-Fault : goal.returns-in-Fault
-returns-in-Fault c = ap (λ (z : Reason). Refused z c.in-Fault.i) c.fault_reason.ensures ∙ strict-fault (stop-as c.split_tokens-x.ensures c.in-Fault.is)
+returns-in-Fault c = ap (λ (z : Reason). Refused z c.in-Fault.i) c.from.ensures ∙ strict-fault (stop-as c.split_tokens-x.ensures c.in-Fault.is)
 
 pub returns-else-x-eq0 : goal.returns-else-x-eq0
 returns-else-x-eq0 c = c.unless_deep.ensures ∙ sym (strict-slices (stop-as c.split_tokens-x.ensures c.in-Done.is) c.if-x-ne0.false c.if-x-eq0.false)

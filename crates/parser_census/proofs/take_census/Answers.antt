@@ -108,16 +108,16 @@ pub on_property-mode-requires : goal.on_property-mode-requires
 on_property-mode-requires c = let b = ident-bounds c.args.s.now _ _ (sym c.ident_end.ensures ∙ c.in-Opens.is) in omega arith
 
 pub returns-then-is_odd-5 : goal.returns-then-is_odd-5
-returns-then-is_odd-5 c = odd-prop c.loop-i.invariant c.if-s-i.false (place-name c.loop-i.invariant c.if-b-eq59.false c.if-b-eq40.false c.if-b-eq41.false) (sym c.ident_end.ensures ∙ c.in-Opens.is) (counted-all c.args.s.now _ c.count_values.ensures c.in-All.is) c.on_property-mode.ensures (sym c.is_odd-in-loop-i.ensures ∙ c.if-is_odd-5.true)
+returns-then-is_odd-5 c = odd-prop c.loop-i.invariant c.if-s-i.false (place-name c.loop-i.invariant c.if-b-eq59.false c.if-b-eq40.false c.if-b-eq41.false) (sym c.ident_end.ensures ∙ c.in-Opens.is) (counted-all c.args.s.now _ c.count_values.ensures c.in-Some.is) c.on_property-mode.ensures (sym c.is_odd-in-loop-i.ensures ∙ c.if-is_odd-5.true)
 
 pub overflow_add-p-in-loop-i : goal.overflow_add-p-in-loop-i
 overflow_add-p-in-loop-i c = let g = c.well_formed in let b = c.loop-i.invariant.props in omega (arith, c.if-s-i.false)
 
 pub overflow_add-v-in-loop-i : goal.overflow_add-v-in-loop-i
-overflow_add-v-in-loop-i c = let g = c.well_formed in let w = prop-within c.loop-i.invariant c.if-s-i.false (place-name c.loop-i.invariant c.if-b-eq59.false c.if-b-eq40.false c.if-b-eq41.false) (sym c.ident_end.ensures ∙ c.in-Opens.is) (counted-all c.args.s.now _ c.count_values.ensures c.in-All.is) in omega (arith, w.1, w.2)
+overflow_add-v-in-loop-i c = let g = c.well_formed in let w = prop-within c.loop-i.invariant c.if-s-i.false (place-name c.loop-i.invariant c.if-b-eq59.false c.if-b-eq40.false c.if-b-eq41.false) (sym c.ident_end.ensures ∙ c.in-Opens.is) (counted-all c.args.s.now _ c.count_values.ensures c.in-Some.is) in omega (arith, w.1, w.2)
 
 pub loop-i-smaller : goal.loop-i-smaller
-loop-i-smaller c = let w = prop-within c.loop-i.invariant c.if-s-i.false (place-name c.loop-i.invariant c.if-b-eq59.false c.if-b-eq40.false c.if-b-eq41.false) (sym c.ident_end.ensures ∙ c.in-Opens.is) (counted-all c.args.s.now _ c.count_values.ensures c.in-All.is) in omega (arith, w.0, w.1)
+loop-i-smaller c = let w = prop-within c.loop-i.invariant c.if-s-i.false (place-name c.loop-i.invariant c.if-b-eq59.false c.if-b-eq40.false c.if-b-eq41.false) (sym c.ident_end.ensures ∙ c.in-Opens.is) (counted-all c.args.s.now _ c.count_values.ensures c.in-Some.is) in omega (arith, w.0, w.1)
 
 pub loop-i-preserved : goal.loop-i-preserved
-loop-i-preserved c = place_prop c.loop-i.invariant c.if-s-i.false (place-name c.loop-i.invariant c.if-b-eq59.false c.if-b-eq40.false c.if-b-eq41.false) (sym c.ident_end.ensures ∙ c.in-Opens.is) (counted-all c.args.s.now _ c.count_values.ensures c.in-All.is) c.on_property-mode.ensures
+loop-i-preserved c = place_prop c.loop-i.invariant c.if-s-i.false (place-name c.loop-i.invariant c.if-b-eq59.false c.if-b-eq40.false c.if-b-eq41.false) (sym c.ident_end.ensures ∙ c.in-Opens.is) (counted-all c.args.s.now _ c.count_values.ensures c.in-Some.is) c.on_property-mode.ensures

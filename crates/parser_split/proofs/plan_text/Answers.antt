@@ -5,14 +5,15 @@ use Rattle.text_utf8.proofs.Extent.{trim-bounds}
 use Rattle.tables.specs.Numbers.{text_limit}
 use Rattle.tables.specs.declared.Reason.TheVariants.{TextTooLong}
 use Rattle.parser_split.specs.LocalsPlans.{plan_kept, plan_text}
-use Rattle.parser_split.specs.declared.Plan.TheVariants.{Refused}
 use Rattle.parser_split.proofs.plan_text.Goals as goal
+use Rattle.std.specs.Prelude.{Err}
+use Rattle.tables.specs.Refusals.{refusal}
 
 module _ (len : Bool) (t : List ℕ) where
-  by-limit : {b : Bool} → b ≡ ltb text_limit (length t) → pick b (Refused TextTooLong 0) (plan_kept len t (trimmed t)) ≡ plan_text len t
-  by-limit e = ap (λ (z : Bool). pick z (Refused TextTooLong 0) (plan_kept len t (trimmed t))) e
+  by-limit : {b : Bool} → b ≡ ltb text_limit (length t) → pick b (Err (refusal TextTooLong 0)) (plan_kept len t (trimmed t)) ≡ plan_text len t
+  by-limit e = ap (λ (z : Bool). pick z (Err (refusal TextTooLong 0)) (plan_kept len t (trimmed t))) e
 
-  plan-long : text_limit < length t → Refused TextTooLong 0 ≡ plan_text len t
+  plan-long : text_limit < length t → Err (refusal TextTooLong 0) ≡ plan_text len t
   plan-long h = by-limit (sym (lt-ltb text_limit (length t) h))
 
   plan-short : length t ≤ text_limit → {x y : Trimmed} → x ≡ trimmed t → x ≡ y → plan_kept len t y ≡ plan_text len t

@@ -32,8 +32,8 @@ returns c = let t = c.take_values-taken.ensures in
       ends = t.ends;
       is = rw t.next;
       vals = t.rows;
-      props = subst (λ (z : ℕ). PutWhole c.args.props.now (c.args.w.props * 4) (c.args.i ∷ c.args.k ∷ c.args.w.vals ∷ z ∷ []) c.put4.new.t) (taken-count t) c.put4.ensures;
-      nodes = c.put2.ensures;
+      props = subst (λ (z : ℕ). PutWhole c.args.props.now (c.args.w.props * 4) (c.args.i ∷ c.args.k ∷ c.args.w.vals ∷ z ∷ []) c.put.new.t) (taken-count t) c.put.ensures;
+      nodes = c.put-2.ensures;
       low = t.low;
       inside = t.inside;
     }

@@ -8,4 +8,4 @@ pub returns-then-not-lenient : goal.returns-then-not-lenient
 returns-then-not-lenient c = rw (eq-eqb _ _ c.if-w-base.false, c.if-not-lenient.true) (refl, refl)
 
 pub returns : goal.returns
-returns c = rw (eq-eqb _ _ c.if-w-base.false, c.if-not-lenient.false) (refl, c.put6.ensures)
+returns c = rw (eq-eqb _ _ c.if-w-base.false, c.if-not-lenient.false) (refl, c.put.ensures)

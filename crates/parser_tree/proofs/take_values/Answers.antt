@@ -24,7 +24,7 @@ pub loop-a-smaller : goal.loop-a-smaller
 loop-a-smaller c = let b = value-is _ _ _ _ _ (let found : value_step_at c.args.s.now c.loop-a.i ≡ Value c.in-Value.a c.in-Value.e c.in-Value.next = sym c.next_value.ensures ∙ c.in-Value.is in found) in omega (arith, b.on, b.from, b.forward, b.still)
 
 pub loop-a-preserved : goal.loop-a-preserved
-loop-a-preserved c = taking-more c.loop-a.invariant _ _ _ (let found : value_step_at c.args.s.now c.loop-a.i ≡ Value c.in-Value.a c.in-Value.e c.in-Value.next = sym c.next_value.ensures ∙ c.in-Value.is in found) c.put2.ensures
+loop-a-preserved c = taking-more c.loop-a.invariant _ _ _ (let found : value_step_at c.args.s.now c.loop-a.i ≡ Value c.in-Value.a c.in-Value.e c.in-Value.next = sym c.next_value.ensures ∙ c.in-Value.is in found) c.put.ensures
 
 pub shape_of-vals-in-NoMore : goal.shape_of-vals-in-NoMore
 shape_of-vals-in-NoMore c = taking-long c.loop-a.invariant

@@ -1,18 +1,18 @@
 use Rattle.lists.proofs.Prelude.{arith, refl, length-take-le}
 use Rattle.parser.specs.Read.{read}
-use Rattle.parser_split.specs.declared.Plan.TheVariants.{Slices}
 use Rattle.reader.proofs.Surveyed.{PlanIs, read_as}
 use Rattle.reader.proofs.Texts.{planned}
 use Rattle.reader.proofs.read_odd.Goals as goal
+use Rattle.std.specs.Prelude.{Ok}
 
 pub slice_bounds-read_slices-end : goal.slice_bounds-read_slices-end
-slice_bounds-read_slices-end c = let l = length-take-le c.in-Slices.last c.args.text.now (let plan-is : PlanIs c.args.lenient c.args.text.now (read c.args.lenient c.args.text.now) (Slices c.in-Slices.first c.in-Slices.last c.in-Slices.count) = planned c.args.lenient c.args.text.now c.plan_text.ensures c.in-Slices.is in plan-is).2 in omega arith
+slice_bounds-read_slices-end c = let l = length-take-le c.in-Ok.last c.args.text.now (let plan-is : PlanIs c.args.lenient c.args.text.now (read c.args.lenient c.args.text.now) (Ok (c.in-Ok.first, c.in-Ok.last, c.in-Ok.count)) = planned c.args.lenient c.args.text.now c.plan_text.ensures c.in-Ok.is in plan-is).2 in omega arith
 
 pub read_slices-requires : goal.read_slices-requires
-read_slices-requires c = (let plan-is : PlanIs c.args.lenient c.args.text.now (read c.args.lenient c.args.text.now) (Slices c.in-Slices.first c.in-Slices.last c.in-Slices.count) = planned c.args.lenient c.args.text.now c.plan_text.ensures c.in-Slices.is in plan-is).1
+read_slices-requires c = (let plan-is : PlanIs c.args.lenient c.args.text.now (read c.args.lenient c.args.text.now) (Ok (c.in-Ok.first, c.in-Ok.last, c.in-Ok.count)) = planned c.args.lenient c.args.text.now c.plan_text.ensures c.in-Ok.is in plan-is).1
 
-pub returns-in-Refused : goal.returns-in-Refused
-returns-in-Refused c = read_as (planned c.args.lenient c.args.text.now c.plan_text.ensures c.in-Refused.is) (record { answer = refl; tables = refl })
+pub returns-in-Err : goal.returns-in-Err
+returns-in-Err c = read_as (planned c.args.lenient c.args.text.now c.plan_text.ensures c.in-Err.is) (record { answer = refl; tables = refl })
 
 pub shape_of-trees : goal.shape_of-trees
 shape_of-trees c = c.trees-1.given
@@ -26,5 +26,5 @@ shape_of-properties c = c.properties-1.given
 pub shape_of-values : goal.shape_of-values
 shape_of-values c = c.values-1.given
 
-pub returns-in-Slices : goal.returns-in-Slices
-returns-in-Slices c = read_as (let plan-is : PlanIs c.args.lenient c.args.text.now (read c.args.lenient c.args.text.now) (Slices c.in-Slices.first c.in-Slices.last c.in-Slices.count) = planned c.args.lenient c.args.text.now c.plan_text.ensures c.in-Slices.is in plan-is).0 c.read_slices.ensures
+pub returns-in-Ok : goal.returns-in-Ok
+returns-in-Ok c = read_as (let plan-is : PlanIs c.args.lenient c.args.text.now (read c.args.lenient c.args.text.now) (Ok (c.in-Ok.first, c.in-Ok.last, c.in-Ok.count)) = planned c.args.lenient c.args.text.now c.plan_text.ensures c.in-Ok.is in plan-is).0 c.read_slices.ensures

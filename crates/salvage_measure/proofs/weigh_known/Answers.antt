@@ -6,14 +6,14 @@ use Rattle.lists.proofs.Prelude.{arith, refl, sym, ap, ◌∙◌, length, length
 use Rattle.salvage_measure.proofs.weigh_known.Goals as goal
 
 pub slice_bounds-weigh_slices-end : goal.slice_bounds-weigh_slices-end
-slice_bounds-weigh_slices-end c = let l = length-take-le c.in-Rows.last c.args.text.now (known-inside (known_is c.args.text.now c.requires c.in-Rows.is)) in omega arith
+slice_bounds-weigh_slices-end c = let l = length-take-le c.in-Some.last c.args.text.now (known-inside (known_is c.args.text.now c.requires c.in-Some.is)) in omega arith
 
 pub weigh_slices-requires : goal.weigh_slices-requires
-weigh_slices-requires c = known-listed (known_is c.args.text.now c.requires c.in-Rows.is)
+weigh_slices-requires c = known-listed (known_is c.args.text.now c.requires c.in-Some.is)
 
-pub returns-in-Rows : goal.returns-in-Rows
-returns-in-Rows c = let t = c.args.text.now in
-    let k = known_is t c.requires c.in-Rows.is in (
+pub returns-in-Some : goal.returns-in-Some
+returns-in-Some c = let t = c.args.text.now in
+    let k = known_is t c.requires c.in-Some.is in (
       record {
         result = measured-kept t k.short refl k.kept c.weigh_slices.ensures.0.result;
         changes = c.weigh_slices.ensures.0.changes ∙ ap length (sym (listed_kept t k.short refl k.kept));

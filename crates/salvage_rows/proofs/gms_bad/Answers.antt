@@ -3,10 +3,10 @@ use Rattle.salvage_rows.specs.LocalsGM.{game_in}
 use Rattle.salvage_rows.proofs.Kept.{good-told, bad-told}
 use Rattle.salvage_rows.proofs.gms_bad.Goals as goal
 
-pub returns-in-Is : goal.returns-in-Is
-returns-in-Is c = let args = c.args in
-    good-told (game_in (properties_at args.text.now args.properties.now args.values.now args.first args.count)) c.game_in.ensures c.in-Is.is
+pub returns-in-Ok : goal.returns-in-Ok
+returns-in-Ok c = let args = c.args in
+    good-told (game_in (properties_at args.text.now args.properties.now args.values.now args.first args.count)) c.game_in.ensures c.in-Ok.is
 
-pub returns-in-Refused : goal.returns-in-Refused
-returns-in-Refused c = let args = c.args in
-    bad-told (game_in (properties_at args.text.now args.properties.now args.values.now args.first args.count)) c.game_in.ensures c.in-Refused.is
+pub returns-in-Err : goal.returns-in-Err
+returns-in-Err c = let args = c.args in
+    bad-told (game_in (properties_at args.text.now args.properties.now args.values.now args.first args.count)) c.game_in.ensures c.in-Err.is

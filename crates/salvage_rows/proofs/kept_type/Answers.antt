@@ -11,10 +11,10 @@ pub returns-then-nodes-root : goal.returns-then-nodes-root
 returns-then-nodes-root c = let args = c.args in
     kept-no-node args.text.now args.trees.now args.nodes.now args.properties.now args.values.now args.r c.wide-root.ensures c.if-nodes-root.true
 
-pub returns-in-Is : goal.returns-in-Is
-returns-in-Is c = let args = c.args in
-    kept_there args.text.now args.trees.now args.nodes.now args.properties.now args.values.now args.r c.if-trees-r.false c.wide-root.ensures c.if-nodes-root.false c.wide-first.ensures c.wide-count.ensures (type-told (game_in (properties_at args.text.now args.properties.now args.values.now c.wide-first.result c.wide-count.result)) c.game_in.ensures c.in-Is.is)
+pub returns-in-Ok : goal.returns-in-Ok
+returns-in-Ok c = let args = c.args in
+    kept_there args.text.now args.trees.now args.nodes.now args.properties.now args.values.now args.r c.if-trees-r.false c.wide-root.ensures c.if-nodes-root.false c.wide-first.ensures c.wide-count.ensures (type-told (game_in (properties_at args.text.now args.properties.now args.values.now c.wide-first.result c.wide-count.result)) c.game_in.ensures c.in-Ok.is)
 
-pub returns-in-Refused : goal.returns-in-Refused
-returns-in-Refused c = let args = c.args in
-    kept_there args.text.now args.trees.now args.nodes.now args.properties.now args.values.now args.r c.if-trees-r.false c.wide-root.ensures c.if-nodes-root.false c.wide-first.ensures c.wide-count.ensures (none_told (game_in (properties_at args.text.now args.properties.now args.values.now c.wide-first.result c.wide-count.result)) c.game_in.ensures c.in-Refused.is)
+pub returns-in-Err : goal.returns-in-Err
+returns-in-Err c = let args = c.args in
+    kept_there args.text.now args.trees.now args.nodes.now args.properties.now args.values.now args.r c.if-trees-r.false c.wide-root.ensures c.if-nodes-root.false c.wide-first.ensures c.wide-count.ensures (none_told (game_in (properties_at args.text.now args.properties.now args.values.now c.wide-first.result c.wide-count.result)) c.game_in.ensures c.in-Err.is)

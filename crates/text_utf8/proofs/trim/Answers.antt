@@ -27,21 +27,21 @@ pub returns-in_default : goal.returns-in_default
 returns-in_default c = stop-bad c.args.text.now c.loop-i.seen c.loop-i.i c.loop-i.invariant c.loop-i-test.true (sym c.char_at.ensures ∙ c.in_default.is)
 
 pub overflow_add-i-in-loop-i : goal.overflow_add-i-in-loop-i
-overflow_add-i-in-loop-i c = let d = decoded-within c.args.text.now c.loop-i.i c.in-Character.width c.in-Character.white (sym c.char_at.ensures ∙ c.in-Character.is) in omega arith
+overflow_add-i-in-loop-i c = let d = decoded-within c.args.text.now c.loop-i.i c.in-Some.width c.in-Some.white (sym c.char_at.ensures ∙ c.in-Some.is) in omega arith
 
 pub marked-seen-requires-in-loop-i : goal.marked-seen-requires-in-loop-i
-marked-seen-requires-in-loop-i c = let d = decoded-within c.args.text.now c.loop-i.i c.in-Character.width c.in-Character.white (sym c.char_at.ensures ∙ c.in-Character.is) in omega arith
+marked-seen-requires-in-loop-i c = let d = decoded-within c.args.text.now c.loop-i.i c.in-Some.width c.in-Some.white (sym c.char_at.ensures ∙ c.in-Some.is) in omega arith
 
 pub overflow_add-i-in-loop-i-2 : goal.overflow_add-i-in-loop-i-2
-overflow_add-i-in-loop-i-2 c = let d = decoded-within c.args.text.now c.loop-i.i c.in-Character.width c.in-Character.white (sym c.char_at.ensures ∙ c.in-Character.is) in omega arith
+overflow_add-i-in-loop-i-2 c = let d = decoded-within c.args.text.now c.loop-i.i c.in-Some.width c.in-Some.white (sym c.char_at.ensures ∙ c.in-Some.is) in omega arith
 
 pub loop-i-smaller : goal.loop-i-smaller
-loop-i-smaller c = let d = decoded-within c.args.text.now c.loop-i.i c.in-Character.width c.in-Character.white (sym c.char_at.ensures ∙ c.in-Character.is) in omega arith
+loop-i-smaller c = let d = decoded-within c.args.text.now c.loop-i.i c.in-Some.width c.in-Some.white (sym c.char_at.ensures ∙ c.in-Some.is) in omega arith
 
 pub loop-i-preserved : goal.loop-i-preserved
 loop-i-preserved c =
-    turn c.args.text.now c.loop-i.seen c.loop-i.i c.loop-i.invariant c.in-Character.width c.in-Character.white c.marked-seen-in-loop-i.result
-    (sym c.char_at.ensures ∙ c.in-Character.is) c.marked-seen-in-loop-i.ensures
+    turn c.args.text.now c.loop-i.seen c.loop-i.i c.loop-i.invariant c.in-Some.width c.in-Some.white c.marked-seen-in-loop-i.result
+    (sym c.char_at.ensures ∙ c.in-Some.is) c.marked-seen-in-loop-i.ensures
 
 pub returns-then-seen-eq0 : goal.returns-then-seen-eq0
 returns-then-seen-eq0 c = end-blank c.args.text.now c.loop-i.seen c.loop-i.i c.loop-i.invariant c.loop-i-test.false c.if-seen-eq0.true

@@ -9,4 +9,4 @@ returns-in_default c = let args = c.args in
 pub returns : goal.returns
 returns c = let args = c.args in
     let next-read = c.next_read in
-    peek-byte (λ z. z) args.s.now args.at (stepped args.s.now args.at next-read.ensures c.in-Byte.is)
+    peek-byte (λ z. z) args.s.now args.at (stepped args.s.now args.at next-read.ensures c.in-Some.is)

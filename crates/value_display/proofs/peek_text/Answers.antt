@@ -11,4 +11,4 @@ returns-in_default c = let args = c.args in
 pub returns : goal.returns
 returns c = let args = c.args in
     let next-text = c.next_text in
-    peek-byte format_text args.s.now args.at (subst (DisplaysAt format_text args.s.now args.at) c.in-Byte.is next-text.ensures)
+    peek-byte format_text args.s.now args.at (subst (DisplaysAt format_text args.s.now args.at) c.in-Some.is next-text.ensures)

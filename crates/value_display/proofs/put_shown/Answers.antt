@@ -22,11 +22,11 @@ pub loop-b-smaller : goal.loop-b-smaller
 loop-b-smaller c = let args = c.args in
     let loop = c.loop-b in
     let next-shown = c.next_shown in
-    omega (arith, (subst (DisplaysAt (display_text args.kind) args.raw.now loop.at) c.in-Byte.is next-shown.ensures))
+    omega (arith, (subst (DisplaysAt (display_text args.kind) args.raw.now loop.at) c.in-Some.is next-shown.ensures))
 
 pub loop-b-preserved : goal.loop-b-preserved
 loop-b-preserved c = let args = c.args in
     let good = c.well_formed in
     let loop = c.loop-b in
     let next-shown = c.next_shown in
-    display-next args.kind args.raw.now loop.invariant (omega (arith, good)) (subst (DisplaysAt (display_text args.kind) args.raw.now loop.at) c.in-Byte.is next-shown.ensures) c.put_byte-to.ensures
+    display-next args.kind args.raw.now loop.invariant (omega (arith, good)) (subst (DisplaysAt (display_text args.kind) args.raw.now loop.at) c.in-Some.is next-shown.ensures) c.put_byte-to.ensures

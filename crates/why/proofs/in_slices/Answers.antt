@@ -5,20 +5,20 @@ use Rattle.why.proofs.in_slices.Goals as goal
 pub loop-k-init : goal.loop-k-init
 loop-k-init c = searching-first c.requires
 
-pub returns-in-By : goal.returns-in-By
-returns-in-By c = searched-game c.loop-k.invariant c.loop-k-test.true c.in_game.ensures c.in-By.is
+pub returns-in-Some : goal.returns-in-Some
+returns-in-Some c = searched-game c.loop-k.invariant c.loop-k-test.true c.in_game.ensures c.in-Some.is
 
 pub walk_slice-requires : goal.walk_slice-requires
 walk_slice-requires c = slice-ready c.loop-k.invariant c.loop-k-test.true
 
-pub returns-in-Stopped : goal.returns-in-Stopped
-returns-in-Stopped c = searched-stop c.loop-k.invariant c.loop-k-test.true c.in_game.ensures c.in-No.is c.walk_slice.ensures c.in-Stopped.is
+pub returns-in-Err : goal.returns-in-Err
+returns-in-Err c = searched-stop c.loop-k.invariant c.loop-k-test.true c.in_game.ensures c.in-None.is c.walk_slice.ensures c.in-Err.is
 
 pub returns-then-n-base : goal.returns-then-n-base
-returns-then-n-base c = searched-empty c.loop-k.invariant c.loop-k-test.true c.in_game.ensures c.in-No.is c.walk_slice.ensures c.in-Tree.is c.if-n-base.true c.first_place.ensures
+returns-then-n-base c = searched-empty c.loop-k.invariant c.loop-k-test.true c.in_game.ensures c.in-None.is c.walk_slice.ensures c.in-Ok.is c.if-n-base.true c.first_place.ensures
 
 pub loop-k-preserved : goal.loop-k-preserved
-loop-k-preserved c = searching-more c.loop-k.invariant c.loop-k-test.true c.in_game.ensures c.in-No.is c.walk_slice.ensures c.in-Tree.is c.if-n-base.false
+loop-k-preserved c = searching-more c.loop-k.invariant c.loop-k-test.true c.in_game.ensures c.in-None.is c.walk_slice.ensures c.in-Ok.is c.if-n-base.false
 
 pub returns : goal.returns
 returns c = searched-end c.loop-k.invariant c.loop-k-test.false

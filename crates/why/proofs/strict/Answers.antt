@@ -8,8 +8,8 @@ returns-in-Simple c = simple-told false c.args.text.now c.in_text.ensures c.in-S
 pub returns-in-Wrong : goal.returns-in-Wrong
 returns-in-Wrong c = wrong-told false c.args.text.now c.in_text.ensures c.in-Wrong.is
 
-pub returns-in-Accepted : goal.returns-in-Accepted
-returns-in-Accepted c = sound-told false c.args.text.now c.in_text.ensures c.in-Sound.is c.count_strict.ensures c.in-Accepted.is
+pub returns-in-Ok : goal.returns-in-Ok
+returns-in-Ok c = sound-told false c.args.text.now c.in_text.ensures c.in-Sound.is c.count_strict.ensures c.in-Ok.is
 
-pub returns-in-Refused : goal.returns-in-Refused
-returns-in-Refused c = sound-told false c.args.text.now c.in_text.ensures c.in-Sound.is c.count_strict.ensures c.in-Refused.is
+pub returns-in-Err : goal.returns-in-Err
+returns-in-Err c = sound-told false c.args.text.now c.in_text.ensures c.in-Sound.is c.count_strict.ensures c.in-Err.is

@@ -5,4 +5,4 @@ pub returns : goal.returns
 returns c = let a = c.args in
     let p = c.requires in
     values_moved_lem a.start a.end a.m c.change-by.result c.change-by.ensures p.3 p.4 p.5 a.values.now a.n a.k p.0 p.1 p.2
-    c.put2.ensures c.shift_values.ensures
+    c.put.ensures c.shift_values.ensures

@@ -117,7 +117,7 @@ loop-s-preserved c = let a = c.args in
       vals-more _ _ _ y h
           (omega (arith, c.moved-from.ensures, e, t.0, t.1))
           (omega (arith, c.moved-to.ensures, f', b'.grown, b'.shrunk, g, r))
-          c.put2.ensures,
+          c.put.ensures,
       b',
     )
 

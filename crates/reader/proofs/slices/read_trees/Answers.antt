@@ -9,35 +9,35 @@ loop-k-init c = plant-first _ c.requires.0 c.requires.1
 pub type_unless-requires : goal.type_unless-requires
 type_unless-requires c = plant-go c.loop-k.invariant c.loop-k-test.true
 
-pub shape_of-trees-in-Refused : goal.shape_of-trees-in-Refused
-shape_of-trees-in-Refused c = (plant-keeps c.loop-k.invariant).0
+pub shape_of-trees-in-Err : goal.shape_of-trees-in-Err
+shape_of-trees-in-Err c = (plant-keeps c.loop-k.invariant).0
 
-pub shape_of-nodes-in-Refused : goal.shape_of-nodes-in-Refused
-shape_of-nodes-in-Refused c = (plant-keeps c.loop-k.invariant).1
+pub shape_of-nodes-in-Err : goal.shape_of-nodes-in-Err
+shape_of-nodes-in-Err c = (plant-keeps c.loop-k.invariant).1
 
-pub shape_of-properties-in-Refused : goal.shape_of-properties-in-Refused
-shape_of-properties-in-Refused c = (plant-keeps c.loop-k.invariant).2
+pub shape_of-properties-in-Err : goal.shape_of-properties-in-Err
+shape_of-properties-in-Err c = (plant-keeps c.loop-k.invariant).2
 
-pub shape_of-values-in-Refused : goal.shape_of-values-in-Refused
-shape_of-values-in-Refused c = (plant-keeps c.loop-k.invariant).3
+pub shape_of-values-in-Err : goal.shape_of-values-in-Err
+shape_of-values-in-Err c = (plant-keeps c.loop-k.invariant).3
 
-pub returns-in-Refused : goal.returns-in-Refused
-returns-in-Refused c = plant-no c.loop-k.invariant c.loop-k-test.true c.type_unless.ensures c.in-Refused.is
+pub returns-in-Err : goal.returns-in-Err
+returns-in-Err c = plant-no c.loop-k.invariant c.loop-k-test.true c.type_unless.ensures c.in-Err.is
 
-pub shape_of-trees-in-Refused-walk_tree : goal.shape_of-trees-in-Refused-walk_tree
-shape_of-trees-in-Refused-walk_tree c = (plant-keeps c.loop-k.invariant).0
+pub shape_of-trees-in-Err-walk_tree : goal.shape_of-trees-in-Err-walk_tree
+shape_of-trees-in-Err-walk_tree c = (plant-keeps c.loop-k.invariant).0
 
-pub shape_of-nodes-in-Refused-walk_tree : goal.shape_of-nodes-in-Refused-walk_tree
-shape_of-nodes-in-Refused-walk_tree c = let k = (plant-keeps c.loop-k.invariant) in omega arith
+pub shape_of-nodes-in-Err-walk_tree : goal.shape_of-nodes-in-Err-walk_tree
+shape_of-nodes-in-Err-walk_tree c = let k = (plant-keeps c.loop-k.invariant) in omega arith
 
-pub shape_of-properties-in-Refused-walk_tree : goal.shape_of-properties-in-Refused-walk_tree
-shape_of-properties-in-Refused-walk_tree c = let k = (plant-keeps c.loop-k.invariant) in omega arith
+pub shape_of-properties-in-Err-walk_tree : goal.shape_of-properties-in-Err-walk_tree
+shape_of-properties-in-Err-walk_tree c = let k = (plant-keeps c.loop-k.invariant) in omega arith
 
-pub shape_of-values-in-Refused-walk_tree : goal.shape_of-values-in-Refused-walk_tree
-shape_of-values-in-Refused-walk_tree c = let k = (plant-keeps c.loop-k.invariant) in omega arith
+pub shape_of-values-in-Err-walk_tree : goal.shape_of-values-in-Err-walk_tree
+shape_of-values-in-Err-walk_tree c = let k = (plant-keeps c.loop-k.invariant) in omega arith
 
-pub returns-in-Refused-walk_tree : goal.returns-in-Refused-walk_tree
-returns-in-Refused-walk_tree c = plant-stop c.loop-k.invariant c.loop-k-test.true c.type_unless.ensures c.in-Is.is (walk-refused-as _ _ _ _ _ _ _ _ _ _ _ _ (told (plant-ready c.loop-k.invariant c.loop-k-test.true) _ _ _ _ _ _ c.walk_tree.ensures) c.in-Refused-walk_tree.is)
+pub returns-in-Err-walk_tree : goal.returns-in-Err-walk_tree
+returns-in-Err-walk_tree c = plant-stop c.loop-k.invariant c.loop-k-test.true c.type_unless.ensures c.in-Ok.is (walk-refused-as _ _ _ _ _ _ _ _ _ _ _ _ (told (plant-ready c.loop-k.invariant c.loop-k-test.true) _ _ _ _ _ _ c.walk_tree.ensures) c.in-Err-walk_tree.is)
 
 pub overflow_mul-k : goal.overflow_mul-k
 overflow_mul-k c = let r = c.loop-k.invariant.ready in let b = c.loop-k.invariant.below in omega arith
@@ -46,7 +46,7 @@ pub overflow_cast-n : goal.overflow_cast-n
 overflow_cast-n c = let r = c.loop-k.invariant.ready in let b = c.loop-k.invariant.below in omega arith
 
 pub loop-k-preserved : goal.loop-k-preserved
-loop-k-preserved c = plant-more c.loop-k.invariant c.loop-k-test.true c.type_unless.ensures c.in-Is.is (walk-tree-as _ _ _ _ _ _ _ _ _ _ _ _ (told (plant-ready c.loop-k.invariant c.loop-k-test.true) _ _ _ _ _ _ c.walk_tree.ensures) c.in-Tree.is) c.put2.ensures.is
+loop-k-preserved c = plant-more c.loop-k.invariant c.loop-k-test.true c.type_unless.ensures c.in-Ok.is (walk-tree-as _ _ _ _ _ _ _ _ _ _ _ _ (told (plant-ready c.loop-k.invariant c.loop-k-test.true) _ _ _ _ _ _ c.walk_tree.ensures) c.in-Ok-walk_tree.is) c.put.ensures.is
 
 pub shape_of-trees : goal.shape_of-trees
 shape_of-trees c = (plant-keeps c.loop-k.invariant).0

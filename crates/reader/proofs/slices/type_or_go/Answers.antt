@@ -5,10 +5,10 @@ use Rattle.reader.proofs.Kinded.{type-is, type-go, type-refused}
 use Rattle.reader.proofs.slices.type_or_go.Goals as goal
 
 pub returns-then-lenient : goal.returns-then-lenient
-returns-then-lenient c = type-go (find_gametype (slice_from 0 (lex_at c.args.s.now c.args.at).toks)) c.game_type.ensures _ _ c.in-Refused.is c.if-lenient.true
+returns-then-lenient c = type-go (find_gametype (slice_from 0 (lex_at c.args.s.now c.args.at).toks)) c.game_type.ensures _ _ c.in-Err.is c.if-lenient.true
 
-pub returns-in-Is : goal.returns-in-Is
-returns-in-Is c = type-is (find_gametype (slice_from 0 (lex_at c.args.s.now c.args.at).toks)) c.game_type.ensures c.args.lenient _ c.in-Is.is
+pub returns-in-Ok : goal.returns-in-Ok
+returns-in-Ok c = type-is (find_gametype (slice_from 0 (lex_at c.args.s.now c.args.at).toks)) c.game_type.ensures c.args.lenient _ c.in-Ok.is
 
 pub returns-else-lenient : goal.returns-else-lenient
-returns-else-lenient c = type-refused (find_gametype (slice_from 0 (lex_at c.args.s.now c.args.at).toks)) c.game_type.ensures _ _ c.in-Refused.is c.if-lenient.false
+returns-else-lenient c = type-refused (find_gametype (slice_from 0 (lex_at c.args.s.now c.args.at).toks)) c.game_type.ensures _ _ c.in-Err.is c.if-lenient.false

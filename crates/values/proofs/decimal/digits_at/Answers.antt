@@ -24,28 +24,28 @@ pub returns-then-d-gt9 : goal.returns-then-d-gt9
 returns-then-d-gt9 c =
     digits-bad
     (head c.args.s.now c.args.from c.args.most c.args.minus c.loop-b.any c.loop-b.acc c.loop-b.at c.loop-b.invariant.0)
-    c.in-Byte.b _ c.digit_of-d.result (stepped _ _ c.in-Byte.ensures refl) c.digit_of-d.ensures c.if-d-gt9.true
+    c.in-Some.b _ c.digit_of-d.result (stepped _ _ c.in-Some.ensures refl) c.digit_of-d.ensures c.if-d-gt9.true
 
 pub returns-then-most-acc : goal.returns-then-most-acc
 returns-then-most-acc c =
     digits-large
     (head c.args.s.now c.args.from c.args.most c.args.minus c.loop-b.any c.loop-b.acc c.loop-b.at c.loop-b.invariant.0)
-    c.in-Byte.b _ c.digit_of-d.result (stepped _ _ c.in-Byte.ensures refl) c.digit_of-d.ensures (omega arith)
+    c.in-Some.b _ c.digit_of-d.result (stepped _ _ c.in-Some.ensures refl) c.digit_of-d.ensures (omega arith)
 
 pub returns-then-most-acc-2 : goal.returns-then-most-acc-2
 returns-then-most-acc-2 c =
     digits-large
     (head c.args.s.now c.args.from c.args.most c.args.minus c.loop-b.any c.loop-b.acc c.loop-b.at c.loop-b.invariant.0)
-    c.in-Byte.b _ c.digit_of-d.result (stepped _ _ c.in-Byte.ensures refl) c.digit_of-d.ensures (omega arith)
+    c.in-Some.b _ c.digit_of-d.result (stepped _ _ c.in-Some.ensures refl) c.digit_of-d.ensures (omega arith)
 
 pub loop-b-smaller : goal.loop-b-smaller
-loop-b-smaller c = let h = stepped c.args.s.now c.loop-b.at c.in-Byte.ensures refl in omega arith
+loop-b-smaller c = let h = stepped c.args.s.now c.loop-b.at c.in-Some.ensures refl in omega arith
 
 pub loop-b-preserved : goal.loop-b-preserved
 loop-b-preserved c = (
   digits-on
       (head c.args.s.now c.args.from c.args.most c.args.minus c.loop-b.any c.loop-b.acc c.loop-b.at c.loop-b.invariant.0)
-      c.in-Byte.b _ c.digit_of-d.result (stepped _ _ c.in-Byte.ensures refl) c.digit_of-d.ensures (omega arith),
+      c.in-Some.b _ c.digit_of-d.result (stepped _ _ c.in-Some.ensures refl) c.digit_of-d.ensures (omega arith),
   omega arith,
 )
 
@@ -53,18 +53,18 @@ pub returns-then-not-any : goal.returns-then-not-any
 returns-then-not-any c =
     digits-none
     (head c.args.s.now c.args.from c.args.most c.args.minus c.loop-b.any c.loop-b.acc c.loop-b.at c.loop-b.invariant.0)
-    (stepped _ _ c.in-End.ensures refl) c.if-not-any.true
+    (stepped _ _ c.in-None.ensures refl) c.if-not-any.true
 
 pub returns-then-minus : goal.returns-then-minus
 returns-then-minus c =
     ap (λ b. signed b c.loop-b.acc) (sym c.if-minus.true) ∙
     digits-end
     (head c.args.s.now c.args.from c.args.most c.args.minus c.loop-b.any c.loop-b.acc c.loop-b.at c.loop-b.invariant.0)
-    (stepped _ _ c.in-End.ensures refl) c.if-not-any.false (omega arith)
+    (stepped _ _ c.in-None.ensures refl) c.if-not-any.false (omega arith)
 
 pub returns-else-minus : goal.returns-else-minus
 returns-else-minus c =
     ap (λ b. signed b c.loop-b.acc) (sym c.if-minus.false) ∙
     digits-end
     (head c.args.s.now c.args.from c.args.most c.args.minus c.loop-b.any c.loop-b.acc c.loop-b.at c.loop-b.invariant.0)
-    (stepped _ _ c.in-End.ensures refl) c.if-not-any.false (omega arith)
+    (stepped _ _ c.in-None.ensures refl) c.if-not-any.false (omega arith)

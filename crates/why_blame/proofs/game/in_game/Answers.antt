@@ -5,7 +5,7 @@ pub returns-in-None : goal.returns-in-None
 returns-in-None c = game-none c.args.s.now c.args.from c.behind-second.result c.behind.result c.args.n c.behind-second.ensures c.behind.ensures c.find_gm.result c.find_gm.ensures c.in-None.is
 
 pub returns-in-None-find_gm : goal.returns-in-None-find_gm
-returns-in-None-find_gm c = game-one c.args.s.now c.args.from c.behind-second.result c.behind.result c.args.n c.behind-second.ensures c.behind.ensures c.find_gm.result c.find_gm.ensures c.in-Gm.is c.find_gm-in-Gm.result c.find_gm-in-Gm.ensures c.in-None-find_gm.is c.in_values.ensures
+returns-in-None-find_gm c = game-one c.args.s.now c.args.from c.behind-second.result c.behind.result c.args.n c.behind-second.ensures c.behind.ensures c.find_gm.result c.find_gm.ensures c.in-Some.is c.find_gm-in-Some.result c.find_gm-in-Some.ensures c.in-None-find_gm.is c.in_values.ensures
 
-pub returns-in-Gm-find_gm : goal.returns-in-Gm-find_gm
-returns-in-Gm-find_gm c = game-two c.args.s.now c.args.from c.behind-second.result c.behind.result c.args.n c.behind-second.ensures c.behind.ensures c.find_gm.result c.find_gm.ensures c.in-Gm.is c.find_gm-in-Gm.result c.find_gm-in-Gm.ensures c.in-Gm-find_gm.is
+pub returns-in-Some-find_gm : goal.returns-in-Some-find_gm
+returns-in-Some-find_gm c = game-two c.args.s.now c.args.from c.behind-second.result c.behind.result c.args.n c.behind-second.ensures c.behind.ensures c.find_gm.result c.find_gm.ensures c.in-Some.is c.find_gm-in-Some.result c.find_gm-in-Some.ensures c.in-Some-find_gm.is
