@@ -27,6 +27,7 @@ use Rattle.std.specs.Prelude.{Result, Ok, Err}
 use Rattle.tables.specs.Refusals.{refusal}
 use Rattle.tables.specs.declared.LenientRefusal.{LenientRefusal}
 use Rattle.tables.specs.declared.Refusal.{Refusal}
+use Rattle.tables.proofs.Refusals.{err-refusal}
 
 denoted : (t : List ℕ) (r : Tables) (ts : List Tree) → record_of t r ≡ ts → record_of (take (length t) t) r ≡ ts
 denoted t r ts d = ap (λ (s : List ℕ). record_of s r) (take-length t) ∙ d
@@ -40,14 +41,14 @@ module _ (t : List ℕ) (before : Lent) (list out : List ℕ) where
         record { answer = q.0; tables = z.tables ∙ q.1; changes = refl; bytes = refl }
       where
         go : (a : Answer) → length (salvage_of a) ≤ text_limit → depth_of (salvage_of a) ≤ depth_limit → Err (refusal r p) ≡ answers a before → (Err (refusal r p) ≡ gives t before list out a) × (leaves a before ≡ before)
-        go (refused s q) l d h = (h, refl)
+        go (refused s q) l d h = let z = err-refusal h in (ap₂ (λ (x : Reason) (y : ℕ). Err (refusal x y)) z.0 z.1, refl)
         go (accepted ts) l d h = roomed (roomy (tables ts) before) refl h
           where
             roomed : (b : Bool) → roomy (tables ts) before ≡ b → Err (refusal r p) ≡ pick b (Ok (counts_of (tables ts))) (Err (refusal NoRoom 0))
                 → (Err (refusal r p) ≡ gives t before list out (accepted ts)) × (leaves (accepted ts) before ≡ before)
             roomed true q v = never cc
-            roomed false q v = (
-              v ∙ sym (gives-by t before list out ts (le-ltb text_limit (length (writing (mended ts))) l) (le-ltb depth_limit (depth_of (writing (mended ts))) d) (room_by t before list out ts q refl refl)),
+            roomed false q v = let z = err-refusal v in (
+              ap₂ (λ (x : Reason) (y : ℕ). Err (refusal x y)) z.0 z.1 ∙ sym (gives-by t before list out ts (le-ltb text_limit (length (writing (mended ts))) l) (le-ltb depth_limit (depth_of (writing (mended ts))) d) (room_by t before list out ts q refl refl)),
               ap (λ (b : Bool). pick b (stored (tables ts) before) before) q,
             )
 

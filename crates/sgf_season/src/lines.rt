@@ -28,7 +28,8 @@ impl Stream {
         Some(b)
     }
 
-    // The next line without its line feed, if there is one more: how many of its first bytes were kept, as many as there is room for. The last line may lack its line feed.
+    // The next line without its line feed, if there is one more: how many of its first bytes were kept, as many as there is room for.
+    // The last line may lack its line feed.
     pub fn next_line(
         &mut self,
         file: &mut impl Read,
