@@ -37,6 +37,7 @@ use Rattle.std.specs.Prelude.{Result, Ok, Err}
 use Rattle.tables.specs.Refusals.{refusal}
 use Rattle.tables.specs.declared.Reason.{Reason}
 use Rattle.tables.specs.declared.Refusal.{Refusal}
+use Rattle.tables.proofs.Refusals.{err-refusal}
 
 -- as many properties are counted as the record has
 properties-read : (t : List ℕ) (before after : Lent) (k : Counts) → ReadIs (read_strict t) before after (Ok k)
@@ -164,4 +165,4 @@ module _ (t : List ℕ) (before after : Lent) (k : Counts) (x : ReadIs (read_str
       where
         go : (f : Bool) (z : Counts) → Err (refusal TooDeep p) ≡ pick f (Ok z) (Err (refusal NoRoom 0)) → depth_limit < depth_of (take n out')
         go true z e = never cc
-        go false z e = never cc
+        go false z e = let w = (err-refusal {r = TooDeep} {x = NoRoom} e).0 in never cc

@@ -24,6 +24,7 @@ use Rattle.edit_answer.specs.Answer.{outcome_of, edited_for}
 use Rattle.edit.specs.Lent.{memory_after, EditIs}
 use Rattle.std.specs.Prelude.{Ok, Err}
 use Rattle.tables.specs.Refusals.{refusal}
+use Rattle.tables.proofs.Refusals.{err-refusal}
 
 -- so many rows
 abbrev pub rows : (trees nodes properties values : ℕ) → Counts
@@ -71,7 +72,7 @@ ten-first = refl
 
 -- a reader that looks for room before it looks at the trees
 pub hasty-reader : (after : Lent) (p : ℕ) → ReadIs (read strict (bytes "((;))")) nothing after (Err (refusal NoRoom p)) → ⊥
-hasty-reader after p x = let e = x.answer ∙ ten-first in never cc
+hasty-reader after p x = let w = (err-refusal {r = NoRoom} {x = UnexpectedGameTreeStart} (x.answer ∙ ten-first)).0 in never cc
 
 -- a text of two nodes in memory, with these properties and values
 abbrev held : (text : List ℕ) (used : ℕ) (properties values : List ℕ) → Memory
