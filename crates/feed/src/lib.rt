@@ -13,24 +13,16 @@ ghost use Rattle.feed.specs.LocalsNext.{Lies};
 pub fn next_at(feed: &[u8], low: usize, at: usize) -> Option<(usize, usize, usize)>
     ensures { (result ≡ entry_at feed.now low at) × Lies feed.now low numeral_limit result }
 {
-    match feed_numerals::read_numeral(feed, at) {
-        None => None,
-        Some((value, n)) => {
-            if value < low {
-                return None;
-            }
-            match feed_numerals::read_numeral(feed, at + n) {
-                None => None,
-                Some((size, m)) => {
-                    let from = at + n + m;
-                    if feed.len() - from < size {
-                        return None;
-                    }
-                    Some((value, from, from + size))
-                }
-            }
-        }
+    let (value, n) = feed_numerals::read_numeral(feed, at)?;
+    if value < low {
+        return None;
     }
+    let (size, m) = feed_numerals::read_numeral(feed, at + n)?;
+    let from = at + n + m;
+    if feed.len() - from < size {
+        return None;
+    }
+    Some((value, from, from + size))
 }
 
 // Whether a feed is well-formed, and nothing stands behind its end.
@@ -55,14 +47,10 @@ pub fn is_feed(feed: &[u8]) -> bool
 pub fn find(feed: &[u8], k: usize) -> Option<(usize, usize)>
     ensures { result ≡ found_in (listing feed.now).entries k }
 {
-    let Some((count, mut at)) = feed_numerals::read_numeral(feed, 0) else {
-        return None;
-    };
+    let (count, mut at) = feed_numerals::read_numeral(feed, 0)?;
     let mut low: usize = 0;
     for _ in 0..count {
-        let Some((value, from, to)) = next_at(feed, low, at) else {
-            return None;
-        };
+        let (value, from, to) = next_at(feed, low, at)?;
         if value == k {
             return Some((from, to));
         }
