@@ -1,49 +1,16 @@
 // The depth of a record's writing, from its node rows alone: mending leaves it as it is. Linear in rows that fit: what climbs leaves a node only once.
 #![tactic(auto)]
 
-ghost use Rattle.std.specs.Prelude.{◌≡◌, ◌/◌, ◌-◌, ◌<◌, ◌≤◌, suc, max, min, length};
+ghost use Rattle.std.specs.Prelude.{◌≡◌, ◌/◌, ◌-◌, ◌<◌, ◌≤◌, suc, length};
 ghost use Rattle.tables.specs.Columns.{node_stride, child_at};
 ghost use Rattle.salvage_depth.specs.LocalsDepth.{bracket_at, shut_below, open_at, depth_in};
-
-// The lesser of two numbers.
-fn lesser(a: usize, b: usize) -> usize
-    ensures { result ≡ min a b }
-{
-    if a < b {
-        return a;
-    }
-    b
-}
-
-// The greater.
-fn greater(a: usize, b: usize) -> usize
-    ensures { result ≡ max a b }
-{
-    if a < b {
-        return b;
-    }
-    a
-}
-
-// What is left of `a` without `b`.
-fn without(a: usize, b: usize) -> usize
-    ensures { result ≡ a - b }
-{
-    if a < b {
-        return 0;
-    }
-    a - b
-}
 
 // The first child of node p, 0 where there is no such row.
 fn child_of(nodes: &[u32], p: u32) -> usize
     ensures { result ≡ child_at nodes.now p }
 {
     let at = lists::wide(p) * tables::NODE_STRIDE + tables::NODE_CHILD;
-    if at < nodes.len() {
-        return lists::wide(nodes[at]);
-    }
-    0
+    lists::wide(nodes.get(at).copied().unwrap_or(0))
 }
 
 // 1 where node k stands in brackets, else 0.
@@ -71,6 +38,7 @@ fn shut(nodes: &[u32], k: usize, p: usize) -> usize
 {
     let mut count: usize = 0;
     let mut j = k;
+    // A while: `j` climbs from a node to its parent.
     while j != p {
         count += bracket(nodes, j);
         let up = lists::wide(nodes[j * tables::NODE_STRIDE]);
@@ -91,21 +59,19 @@ fn open_at(nodes: &[u32], k: usize, before: usize) -> usize
         return bracket(nodes, k);
     }
     let ended = shut(nodes, k - 1, lists::wide(nodes[k * tables::NODE_STRIDE]));
-    without(before, ended) + bracket(nodes, k)
+    before.saturating_sub(ended) + bracket(nodes, k)
 }
 
 // The depth of the writing of n nodes.
 pub fn depth_of(nodes: &[u32], n: usize) -> usize
     ensures { result ≡ depth_in nodes.now n }
 {
-    let rows = lesser(n, nodes.len() / tables::NODE_STRIDE);
+    let rows = n.min(nodes.len() / tables::NODE_STRIDE);
     let mut deepest: usize = 0;
     let mut here: usize = 0;
-    let mut k: usize = 0;
-    while k < rows {
+    for k in 0..rows {
         here = open_at(nodes, k, here);
-        deepest = greater(deepest, here);
-        k += 1;
+        deepest = deepest.max(here);
     }
     deepest
 }

@@ -3,7 +3,7 @@ use Rattle.salvage_depth.proofs.Steps.{count-first, count_next, count-last}
 use Rattle.salvage_depth.proofs.depth_of.Goals as goal
 
 pub loop-k-init : goal.loop-k-init
-loop-k-init c = (c.lesser-rows.ensures, omega arith, count-first c.args.nodes.now)
+loop-k-init c = (c.min-rows.ensures, omega arith, count-first c.args.nodes.now)
 
 pub open_at-here-requires : goal.open_at-here-requires
 open_at-here-requires c = let inv = c.loop-k.invariant in
@@ -11,7 +11,7 @@ open_at-here-requires c = let inv = c.loop-k.invariant in
 
 pub loop-k-preserved : goal.loop-k-preserved
 loop-k-preserved c = let inv = c.loop-k.invariant in
-    (inv.0, omega (arith, c.loop-k-test.true), count_next inv.2 c.open_at-here.ensures c.greater-deepest.ensures)
+    (inv.0, omega (arith, c.loop-k-test.true), count_next inv.2 c.open_at-here.ensures c.max-deepest.ensures)
 
 pub returns : goal.returns
 returns c = let inv = c.loop-k.invariant in

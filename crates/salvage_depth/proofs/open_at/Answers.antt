@@ -11,11 +11,11 @@ overflow_add-result c = let args = c.args in
     let pre = c.requires in
     let b = pre.1 in
     let e = c.bracket-2.ensures in
-    let w = c.without.ensures in
+    let w = c.saturating_sub.ensures in
     let l = bracket-least args.nodes.now args.k in
     search rules
 
 pub returns : goal.returns
 returns c = let args = c.args in
     let pre = c.requires in
-    open_next args.nodes.now args.k c.if-k-eq0.false pre.1 pre.2 c.wide.ensures c.shut-ended.ensures c.without.ensures c.bracket-2.ensures
+    open_next args.nodes.now args.k c.if-k-eq0.false pre.1 pre.2 c.wide.ensures c.shut-ended.ensures c.saturating_sub.ensures c.bracket-2.ensures
