@@ -2,14 +2,12 @@
 // many bytes its properties take once it is mended.
 #![tactic(auto)]
 
-ghost use Rattle.std.specs.Prelude.{◌≡◌, true, ◌+◌, ◌≤◌, ◌<◌, max, length};
+ghost use Rattle.std.specs.Prelude.{◌≡◌, true, ◌+◌, ◌≤◌, ◌<◌, length};
 ghost use Rattle.lexer.specs.Token.{lex_at};
 ghost use Rattle.lexer.specs.Step.{prop_at};
-ghost use Rattle.tables.specs.Numbers.{text_limit, depth_limit};
+ghost use Rattle.tables.specs.Numbers.{text_limit};
 ghost use Rattle.parser.specs.Game.{props};
 ghost use Rattle.salvage_form.specs.Rooted.{root_rule};
-ghost use Rattle.parser_tree.specs.LocalsTurns.{BehindIs};
-ghost use Rattle.parser_step.specs.LocalsActs.{stack_of, has_child, may_open};
 ghost use Rattle.salvage_shape.specs.LocalsChain.{sum_in, height_in, chain_height, joined_to, ended_by, brackets_more, cell_at, chain_kept, fresh_of, cells_of, close_all};
 ghost use Rattle.salvage_shape.specs.LocalsSum.{name_stays, rule_after};
 ghost use Rattle.salvage_shape.specs.LocalsWalk.{FateIs, Arrays, ShapeReady, ShapeIs};
@@ -50,27 +48,11 @@ pub struct TreeShape {
     pub listed: usize,
 }
 
-// The greater of two numbers.
-fn greater(a: usize, b: usize) -> usize
-    ensures { result ≡ max a b }
-{
-    if a < b {
-        return b;
-    }
-    a
-}
-
 // The sum, at most the limit.
 fn sum(a: usize, b: usize) -> usize
     ensures { result ≡ sum_in a b }
 {
-    if HEIGHT_LIMIT < a {
-        return HEIGHT_LIMIT;
-    }
-    if HEIGHT_LIMIT - a < b {
-        return HEIGHT_LIMIT;
-    }
-    a + b
+    a.saturating_add(b).min(HEIGHT_LIMIT)
 }
 
 // The height of a node by its children.
@@ -90,7 +72,7 @@ fn height(kids: usize, high: usize) -> usize
 fn chain_height(c: Chain) -> usize
     ensures { result ≡ chain_height c }
 {
-    greater(c.top, sum(c.plus, height(c.kids, c.high)))
+    c.top.max(sum(c.plus, height(c.kids, c.high)))
 }
 
 // A node comes under the current one: into a new list, or into its list.
@@ -117,8 +99,8 @@ fn joined(fresh: bool, c: Chain) -> Chain
     Chain {
         kids: 0,
         high: 0,
-        plus: plus,
-        top: greater(c.top, sum(plus, c.high)),
+        plus,
+        top: c.top.max(sum(plus, c.high)),
     }
 }
 
@@ -140,7 +122,7 @@ fn ended(fresh: bool, c: Chain, e: Chain) -> Chain
     }
     Chain {
         kids: 2,
-        high: greater(e.high, h),
+        high: e.high.max(h),
         plus: e.plus,
         top: e.top,
     }
@@ -197,68 +179,13 @@ fn finish(
     requires { opened ≤ 1024 }
     ensures { result ≡ close_all fresh0 c0 (fresh_of marks.now opened) (cells_of cells.now opened) }
 {
-    let mut depth = opened;
     let mut fresh = fresh0;
     let mut c = c0;
-    while 0 < depth {
-        depth -= 1;
+    for depth in (0..opened).rev() {
         c = ended(fresh, c, load(cells, depth));
         fresh = marks[depth];
     }
     chain_height(c)
-}
-
-// Has the list of a node an element: the node after it exists.
-fn has_child(x: u32, base: usize, n: usize) -> bool
-    ensures { result ≡ has_child base n x }
-{
-    if x == NONE {
-        return base < n;
-    }
-    lists::wide(x) + 1 < n
-}
-
-// May a tree start: the list on top of the stack is not empty.
-fn may_open(stack: &[u32; 1024], depth: usize, base: usize, n: usize) -> bool
-    requires { depth ≤ 1024 }
-    ensures { result ≡ may_open base n (stack_of stack.now depth) }
-{
-    if depth == 0 {
-        return true;
-    }
-    has_child(stack[depth - 1], base, n)
-}
-
-// The place behind the slice in which so many trees are open.
-fn skip_slice(s: &[u8], from: usize, opened: usize) -> usize
-    requires { (length s.now ≤ text_limit) × (from ≤ length s.now) × (opened ≤ depth_limit) }
-    ensures { BehindIs true s.now from opened result }
-{
-    let mut at = from;
-    let mut depth = opened;
-    loop {
-        match lexer::next_token(s, at) {
-            Step::Start(i) => {
-                depth += 1;
-                at = i + 1;
-            }
-            Step::End(i) => {
-                if depth <= 1 {
-                    return i + 1;
-                }
-                depth -= 1;
-                at = i + 1;
-            }
-            Step::Node(i) => {
-                at = i + 1;
-            }
-            Step::Property(_, _, e) => {
-                at = e;
-            }
-            Step::Refused(_, _) => return at,
-            Step::Done => return at,
-        }
-    }
 }
 
 // Does a property stay, by its raw identifier.
@@ -288,15 +215,9 @@ fn fate_at(s: &[u8], root: RootRule, i: usize, k: usize) -> Fate
     }
     let bytes = salvage_form::property_length(s, root.rule, i, k);
     if parts_props::reads_as(name, name) {
-        return Fate {
-            bytes: bytes,
-            listed: 0,
-        };
+        return Fate { bytes, listed: 0 };
     }
-    Fate {
-        bytes: bytes,
-        listed: 1,
-    }
+    Fate { bytes, listed: 1 }
 }
 
 // What holds of the properties of a node that follow a place: of the first node's, what they say; of any other's, the rule so far, and none is removed.
@@ -343,16 +264,17 @@ pub fn shape_of(
     };
     let mut bytes: usize = 0;
     let mut listed: usize = 0;
+    // A loop: `at` moves by the token that it finds.
     loop {
         match lexer::next_token(s, at) {
             Step::Start(i) => {
-                if !may_open(stack, depth, base, n) {
+                if !parser_step::may_open(stack, depth, base, n) {
                     return TreeShape {
-                        next: skip_slice(s, at, depth),
+                        next: parser_tree::skip_slice(s, at, depth),
                         nodes: n - base,
-                        brackets: brackets,
+                        brackets,
                         depth: finish(marks, cells, depth, fresh, c) + 1,
-                        bytes: bytes,
+                        bytes,
                         listed: listed + 1,
                     };
                 }
@@ -368,9 +290,9 @@ pub fn shape_of(
                     return TreeShape {
                         next: i + 1,
                         nodes: n - base,
-                        brackets: brackets,
+                        brackets,
                         depth: finish(marks, cells, depth, fresh, c) + 1,
-                        bytes: bytes,
+                        bytes,
                         listed: listed + (1 - depth),
                     };
                 }
@@ -395,11 +317,11 @@ pub fn shape_of(
             Step::Property(i, k, next) => {
                 if !follows {
                     return TreeShape {
-                        next: skip_slice(s, at, depth),
+                        next: parser_tree::skip_slice(s, at, depth),
                         nodes: n - base,
-                        brackets: brackets,
+                        brackets,
                         depth: finish(marks, cells, depth, fresh, c) + 1,
-                        bytes: bytes,
+                        bytes,
                         listed: listed + 1,
                     };
                 }
@@ -412,20 +334,20 @@ pub fn shape_of(
                 return TreeShape {
                     next: at,
                     nodes: n - base,
-                    brackets: brackets,
+                    brackets,
                     depth: finish(marks, cells, depth, fresh, c) + 1,
-                    bytes: bytes,
-                    listed: listed,
+                    bytes,
+                    listed,
                 };
             }
             Step::Done => {
                 return TreeShape {
                     next: at,
                     nodes: n - base,
-                    brackets: brackets,
+                    brackets,
                     depth: finish(marks, cells, depth, fresh, c) + 1,
-                    bytes: bytes,
-                    listed: listed,
+                    bytes,
+                    listed,
                 };
             }
         }

@@ -8,4 +8,4 @@ pub returns-then-c-eq0 : goal.returns-then-c-eq0
 returns-then-c-eq0 c = joined-none c.args.c c.if-fresh.false c.if-c-eq0.true
 
 pub returns : goal.returns
-returns c = joined-some c.args.c c.if-fresh.false c.if-c-eq0.false c.sum-plus.ensures c.sum.ensures c.greater.ensures
+returns c = joined-some c.args.c c.if-fresh.false c.if-c-eq0.false c.sum-plus.ensures c.sum.ensures c.max.ensures

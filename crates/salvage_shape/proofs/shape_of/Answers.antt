@@ -9,13 +9,11 @@ use Rattle.parser.proofs.Meets.{meets}
 use Rattle.lexer.proofs.Within.{found_within}
 use Rattle.lexer.specs.Token.{Lexed}
 use Rattle.lists.proofs.Prelude.{refl, ap, arith}
+use Rattle.salvage_list.proofs.Stacks.{may-started}
 use Rattle.salvage_shape.proofs.shape_of.Goals as goal
 
 pub loop-i-init : goal.loop-i-init
 loop-i-init c = walking-first _ _ _ c.requires.0 c.requires.1.stack c.requires.1.marks c.requires.1.cells
-
-pub may_open-requires : goal.may_open-requires
-may_open-requires c = c.loop-i.invariant.go.deep
 
 pub skip_slice-requires : goal.skip_slice-requires
 skip_slice-requires c = (c.loop-i.invariant.go.short, c.loop-i.invariant.go.skip.inside, c.loop-i.invariant.go.deep)
@@ -33,7 +31,7 @@ pub overflow_add-result-then-not-may_open : goal.overflow_add-result-then-not-ma
 overflow_add-result-then-not-may_open c = let l = c.loop-i.invariant.sums.few in let s = c.loop-i.invariant.go.short in let i = c.loop-i.invariant.go.skip.inside in omega (arith, l, s, i)
 
 pub returns-then-not-may_open : goal.returns-then-not-may_open
-returns-then-not-may_open c = (let w = (found_within c.args.s.now _ _ _ c.next_token.ensures c.in-Start.is) in start-over c.loop-i.invariant w.0 w.1 (meets c.args.s.now c.loop-i.at c.next_token.ensures c.in-Start.is) c.may_open.ensures c.if-not-may_open.true c.skip_slice.ensures c.finish.ensures, record { stack = c.loop-i.invariant.go.array; marks = c.loop-i.invariant.marked; cells = c.loop-i.invariant.kept })
+returns-then-not-may_open c = (let w = (found_within c.args.s.now _ _ _ c.next_token.ensures c.in-Start.is) in start-over c.loop-i.invariant w.0 w.1 (meets c.args.s.now c.loop-i.at c.next_token.ensures c.in-Start.is) (may-started c.loop-i.stack c.loop-i.depth c.args.base c.loop-i.n c.loop-i.invariant.go.deep c.may_open.ensures) c.if-not-may_open.true c.skip_slice.ensures c.finish.ensures, record { stack = c.loop-i.invariant.go.array; marks = c.loop-i.invariant.marked; cells = c.loop-i.invariant.kept })
 
 pub offset_bounds-stack-depth : goal.offset_bounds-stack-depth
 offset_bounds-stack-depth c = let d = c.loop-i.invariant.go.deep in omega arith
@@ -54,7 +52,7 @@ pub loop-i-smaller-in-Start : goal.loop-i-smaller-in-Start
 loop-i-smaller-in-Start c = let w = (found_within c.args.s.now _ _ _ c.next_token.ensures c.in-Start.is) in omega arith
 
 pub loop-i-preserved-in-Start : goal.loop-i-preserved-in-Start
-loop-i-preserved-in-Start c = let w = (found_within c.args.s.now _ _ _ c.next_token.ensures c.in-Start.is) in walking_start c.loop-i.invariant w.0 w.1 (meets c.args.s.now c.loop-i.at c.next_token.ensures c.in-Start.is) c.may_open.ensures c.if-not-may_open.false (start-deep c.loop-i.invariant.go w.0 w.1 (meets c.args.s.now c.loop-i.at c.next_token.ensures c.in-Start.is)) refl refl
+loop-i-preserved-in-Start c = let w = (found_within c.args.s.now _ _ _ c.next_token.ensures c.in-Start.is) in walking_start c.loop-i.invariant w.0 w.1 (meets c.args.s.now c.loop-i.at c.next_token.ensures c.in-Start.is) (may-started c.loop-i.stack c.loop-i.depth c.args.base c.loop-i.n c.loop-i.invariant.go.deep c.may_open.ensures) c.if-not-may_open.false (start-deep c.loop-i.invariant.go w.0 w.1 (meets c.args.s.now c.loop-i.at c.next_token.ensures c.in-Start.is)) refl refl
 
 pub overflow_add-result-then-depth-le1 : goal.overflow_add-result-then-depth-le1
 overflow_add-result-then-depth-le1 c = let w = (found_within c.args.s.now _ _ _ c.next_token.ensures c.in-End.is) in omega arith
