@@ -11,19 +11,11 @@ use text_utf8::Trimmed;
 fn digit_of(b: u8) -> u8
     ensures { result ≤ 16 }
 {
-    if b < 48 {
-        return 16;
+    match b {
+        b'0'..=b'9' => b - b'0',
+        b'a'..=b'f' => b - b'a' + 10,
+        _ => 16,
     }
-    if b < 58 {
-        return b - 48;
-    }
-    if b < 97 {
-        return 16;
-    }
-    if b < 103 {
-        return b - 87;
-    }
-    16
 }
 
 // The byte that the two hex digits at a place spell; 256 where there are none.
@@ -51,16 +43,14 @@ fn byte_at(line: &[u8], at: usize) -> u32
 fn decode(line: &[u8], bytes: &mut [u8]) -> usize
     ensures { result ≤ length bytes.new }
 {
-    let mut n = 0;
-    while n < bytes.len() {
+    for n in 0..bytes.len() {
         let b = byte_at(line, n * 2);
         if b == 256 {
-            break;
+            return n;
         }
         bytes[n] = b as u8;
-        n += 1;
     }
-    n
+    bytes.len()
 }
 
 fn say_span(from: usize, to: usize) {
@@ -74,17 +64,16 @@ fn say_byte(b: u8) {
 }
 
 fn say_bytes(bytes: &[u8]) {
-    for i in 0..bytes.len() {
-        say_byte(bytes[i]);
+    for &b in bytes {
+        say_byte(b);
     }
 }
 
 // A read value: each unescaped backslash is dropped.
 fn say_read(raw: &[u8]) {
     let mut escaped = false;
-    for i in 0..raw.len() {
-        let b = raw[i];
-        escaped = !escaped & (b == 92);
+    for &b in raw {
+        escaped = !escaped & (b == b'\\');
         if !escaped {
             say_byte(b);
         }
@@ -204,14 +193,12 @@ fn line_end(s: &[u8], at: usize) -> usize
     requires { at ≤ length s.now }
     ensures { (at ≤ result) × (result ≤ length s.now) }
 {
-    let mut i = at;
-    while i < s.len() {
-        if s[i] == 10 {
-            break;
+    for i in at..s.len() {
+        if s[i] == b'\n' {
+            return i;
         }
-        i += 1;
     }
-    i
+    s.len()
 }
 
 fn run(s: &[u8]) {

@@ -1,8 +1,0 @@
-use Rattle.lists.proofs.Prelude.{◌≡◌, ◌-◌, ◌≤◌, length}
-use Rattle.cases_tokens.proofs.decode.Given as goal
-
-abbrev pub invariant-loop-n : goal.invariant-loop-n
-invariant-loop-n l = (l.n ≤ length l.bytes) × (length l.bytes ≡ length l.initial.bytes)
-
-abbrev pub decreases-loop-n : goal.decreases-loop-n
-decreases-loop-n l = length l.bytes - l.n
