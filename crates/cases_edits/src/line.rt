@@ -8,42 +8,18 @@ pub struct Decimal {
     pub end: usize,
 }
 
-// The number that a digit stands for; 10 for any other byte.
-fn digit_of(b: u8) -> usize
-    ensures { result ≤ 10 }
-{
-    if b < 48 {
-        return 10;
-    }
-    if 57 < b {
-        return 10;
-    }
-    (b - 48) as usize
-}
-
 pub fn number_at(line: &[u8], from: usize) -> Decimal {
     let mut value: usize = 0;
-    let mut i = from;
-    while i < line.len() {
-        let digit = digit_of(line[i]);
-        if digit == 10 {
-            return Decimal {
-                value: value,
-                end: i,
-            };
+    for i in from..line.len() {
+        let b = line[i];
+        if !b.is_ascii_digit() | (99999 < value) {
+            return Decimal { value, end: i };
         }
-        if 99999 < value {
-            return Decimal {
-                value: value,
-                end: i,
-            };
-        }
-        value = value * 10 + digit;
-        i += 1;
+        value = value * 10 + (b - b'0') as usize;
     }
     Decimal {
-        value: value,
-        end: i,
+        value,
+        end: from.max(line.len()),
     }
 }
 
@@ -52,30 +28,20 @@ pub fn line_end(s: &[u8], at: usize) -> usize
     requires { at ≤ length s.now }
     ensures { (at ≤ result) × (result ≤ length s.now) }
 {
-    let mut i = at;
-    while i < s.len() {
-        if s[i] == 10 {
-            break;
+    for i in at..s.len() {
+        if s[i] == b'\n' {
+            return i;
         }
-        i += 1;
     }
-    i
+    s.len()
 }
 
 // The line copied from `from` on, as far as there is room.
 pub fn load(line: &[u8], from: usize, text: &mut [u8]) -> usize
     ensures { result ≤ length text.new }
 {
-    let mut n: usize = 0;
-    while n < text.len() {
-        if line.len() <= from {
-            return n;
-        }
-        if line.len() - from <= n {
-            return n;
-        }
-        text[n] = line[from + n];
-        n += 1;
-    }
+    let rest = &line[from.min(line.len())..];
+    let n = rest.len().min(text.len());
+    text[..n].copy_from_slice(&rest[..n]);
     n
 }

@@ -262,6 +262,7 @@ fn run(s: &[u8]) {
     let mut heads = [0usize; 32];
     let mut used = nothing();
     let mut at: usize = 0;
+    // A while: at moves on by a line.
     while at < s.len() {
         let end = line_end(s, at);
         used = on_line(

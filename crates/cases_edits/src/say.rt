@@ -1,4 +1,6 @@
 // The output.
+ghost use Rattle.std.specs.Prelude.{◌≤◌};
+
 use crate::Used;
 
 pub fn say_refused(number: u32, place: usize) {
@@ -15,20 +17,11 @@ fn say_span(from: u32, to: u32) {
 }
 
 // The spans that the first two numbers of each row are.
-fn say_rows(rows: &[u32], stride: usize) {
-    let mut at: usize = 0;
-    while at < rows.len() {
-        if rows.len() - at < 2 {
-            return;
-        }
-        if stride < 2 {
-            return;
-        }
-        say_span(rows[at], rows[at + 1]);
-        if rows.len() - at < stride {
-            return;
-        }
-        at += stride;
+fn say_rows(rows: &[u32], stride: usize)
+    requires { 2 ≤ stride }
+{
+    for row in rows.chunks_exact(stride) {
+        say_span(row[0], row[1]);
     }
 }
 
