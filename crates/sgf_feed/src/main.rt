@@ -83,45 +83,39 @@ fn say_line(n: u64, words: &[u8]) {
     io::write_all(1, words);
 }
 
-// How many lines there are, each a correction of a greater number than the one before; or that is said.
-#[derive(Clone, Copy)]
-enum Lines {
-    Good(usize),
-    Said,
-}
-
-fn checked(text: &[u8]) -> Lines {
+// How many lines there are, each a correction of a greater number than the one before. Where one is not, that is said.
+fn checked(text: &[u8]) -> Option<usize> {
     let mut at: usize = 0;
     let mut low: usize = 0;
     let mut count: usize = 0;
     for _ in 0..text.len() {
         if text.len() <= at {
-            return Lines::Good(count);
+            return Some(count);
         }
         if 1000000 <= count {
-            return Lines::Said;
+            return None;
         }
         if !is_line(text, at) {
             say_line(count as u64 + 1, b" is not a number, a space and bytes\n");
-            return Lines::Said;
+            return None;
         }
         let value = number_at(text, at);
         if 268435456 <= value {
             say_line(count as u64 + 1, b" has a number too large for a feed\n");
-            return Lines::Said;
+            return None;
         }
         if value < low {
             say_line(
                 count as u64 + 1,
                 b" does not have a greater number than the line before\n",
             );
-            return Lines::Said;
+            return None;
         }
         low = value + 1;
         at = line_next(text, at);
         count += 1;
     }
-    Lines::Good(count)
+    Some(count)
 }
 
 fn write_made(out: &[u8], made: Result<usize, MakeFault>) {
@@ -155,10 +149,9 @@ fn make(text: &[u8], count: usize) {
 }
 
 fn make_lines(text: &[u8]) {
-    let Lines::Good(count) = checked(text) else {
-        return;
-    };
-    make(text, count);
+    if let Some(count) = checked(text) {
+        make(text, count);
+    }
 }
 
 fn main() {
