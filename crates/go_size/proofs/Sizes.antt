@@ -1,5 +1,5 @@
 -- The search for SZ among rows, and what it says of a root. Assumes nothing.
-use Rattle.lists.proofs.Prelude.{ℕ, zero, suc, ◌+◌, ◌-◌, ◌≤◌, ◌<◌, ◌≡◌, refl, sym, ap, ◌∙◌, Bool, true, false, List, [], ◌∷◌, arith, pick}
+use Rattle.lists.proofs.Prelude.{ℕ, zero, suc, ◌+◌, ◌-◌, ◌≤◌, ◌<◌, ◌≡◌, refl, sym, ap, ◌∙◌, Bool, true, false, List, [], ◌∷◌, arith, pick, max}
 use Rattle.values.specs.Read.{read_value}
 use Rattle.tables.specs.Columns.{first_val_at, val_count_at}
 use Rattle.tables.specs.Each.{tabulate}
@@ -81,5 +81,10 @@ module _ (text pr : List ℕ) (from to p : ℕ) (x : Searched text pr from to p)
   pub searched-found : named_at text pr SZ p ≡ true → NextSize text pr from to p
   searched-found e = record { here = λ l. e; start = x.start; rest = x.rest }
 
-  pub searched-end : to ≤ p → NextSize text pr from to p
-  searched-end h = record { here = λ l. absurd (omega arith); start = x.start; rest = x.rest }
+  pub searched-end : to ≤ p → {r : ℕ} → r ≡ max from to → NextSize text pr from to r
+  searched-end h {r} e =
+      record {
+        here = λ l. absurd (omega arith);
+        start = omega arith;
+        rest = λ vl. x.rest vl ∙ sizes-end text pr vl p to h ∙ sym (sizes-end text pr vl r to (omega arith));
+      }

@@ -84,7 +84,6 @@ fn is_size(text: &[u8], properties: &[u32], p: usize) -> bool
 
 // The first SZ of the properties from `from` up to `to`, or `to`.
 fn next_size(text: &[u8], properties: &[u32], from: usize, to: usize) -> usize
-    requires { from ≤ to }
     ensures { NextSize text.now properties.now from to result }
 {
     for p in from..to {
@@ -92,7 +91,7 @@ fn next_size(text: &[u8], properties: &[u32], from: usize, to: usize) -> usize
             return p;
         }
     }
-    to
+    from.max(to)
 }
 
 // The size that the properties of `count` rows from `first` on say.

@@ -1,5 +1,4 @@
-use Rattle.lists.proofs.Prelude.{◌≡◌, arith, subst, sym, ◌∙◌}
-use Rattle.go_size.specs.Locals.{NextSize}
+use Rattle.lists.proofs.Prelude.{sym, ◌∙◌}
 use Rattle.go_size.proofs.Sizes.{searched-first, searched-next, searched-found, searched-end}
 use Rattle.go_size.proofs.next_size.Goals as goal
 
@@ -19,6 +18,4 @@ loop-p-preserved c = let a = c.args in
 pub returns : goal.returns
 returns c = let a = c.args in
     let l = c.loop-p in
-    let end : l.p ≡ a.to = omega (arith, c.loop-p.auto.p-end) in
-    subst (NextSize a.text.now a.properties.now a.from a.to) end
-    (searched-end a.text.now a.properties.now a.from a.to l.p l.invariant c.loop-p-test.false)
+    searched-end a.text.now a.properties.now a.from a.to l.p l.invariant c.loop-p-test.false c.max.ensures

@@ -9,8 +9,7 @@ loop-n-init c = let a = c.args in gather-first (values-all a.text.now a.vals.now
 pub returns-then-not-mark_value : goal.returns-then-not-mark_value
 returns-then-not-mark_value c = let a = c.args in
     let next = values-next a.text.now a.vals.now a.first a.count c.loop-n.n c.loop-n-test.true in
-    c.unmarked_value.ensures
-    ∙ gather-bad c.loop-n.invariant next c.value_at-value.ensures (sym c.mark_value.ensures.0 ∙ c.if-not-mark_value.true)
+    gather-bad c.loop-n.invariant next c.value_at-value.ensures (sym c.mark_value.ensures.0 ∙ c.if-not-mark_value.true)
 
 pub loop-n-preserved : goal.loop-n-preserved
 loop-n-preserved c = let a = c.args in
