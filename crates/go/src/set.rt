@@ -50,7 +50,6 @@ pub fn read_points(text: &[u8], vals: &[u32], first: usize, count: usize) -> GoV
     for n in 0..count {
         let value = parts::value_at(text, vals, first, n);
         if !mark_value(&mut marks, value) {
-            // Stays: made here and not by `unmarked_value`, which puts two arrays more on the stack of `sgf_write`.
             let none = [false; 2704];
             return GoValue {
                 value: Value::Invalid,

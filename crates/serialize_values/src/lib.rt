@@ -171,10 +171,13 @@ fn put_set(
         out.old at out.new result }
 {
     let set = go::set::read_points(text, values, first, count);
-    let Value::Points = set.value else {
+    let value = set.value;
+    let Value::Points = value else {
         return put_raw(out, at, text, values, first, count);
     };
-    put_points(out, at, &set.marks)
+    // Stays: moved out, since what is only borrowed is dropped here, by two arrays more on the stack of `sgf_write`.
+    let marks = set.marks;
+    put_points(out, at, &marks)
 }
 
 // A move under a rule or a number of handicap stones, or the raw values of what is neither.
