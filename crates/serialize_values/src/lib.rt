@@ -175,7 +175,7 @@ fn put_set(
     let Value::Points = value else {
         return put_raw(out, at, text, values, first, count);
     };
-    // Stays: moved out, since what is only borrowed is dropped here, by two arrays more on the stack of `sgf_write`.
+    // Stays: moved out, since what is only borrowed is dropped here, by one array more on the stack of `sgf_write`.
     let marks = set.marks;
     put_points(out, at, &marks)
 }
