@@ -73,7 +73,8 @@ module _ (t : List ℕ) (rs : List PropRow) (total : ℕ) (w : List ℕ) where
   refused-first [] f p h = not-both f p (sym h)
   refused-first (x ∷ xs) f p h = go (correction_judged t rs total w x) refl (refused-first xs f p)
     where
-      go : (y : Result ⊤ (Refusal FeedRefusal)) → correction_judged t rs total w x ≡ y → (corrections_judged t rs total w xs ≡ Err (refusal f p) → FirstRefused xs f p) → FirstRefused (x ∷ xs) f p
+      go : (y : Result ⊤ (Refusal FeedRefusal)) → correction_judged t rs total w x ≡ y
+          → (corrections_judged t rs total w xs ≡ Err (refusal f p) → FirstRefused xs f p) → FirstRefused (x ∷ xs) f p
       go (Ok tt) e k =
           let z = k (sym (ap (λ (v : Result ⊤ (Refusal FeedRefusal)). first_refusal v (corrections_judged t rs total w xs)) e) ∙ h) in
           record {

@@ -58,7 +58,8 @@ module _ (m m' : Memory) (w : List ℕ) (r : SgfEdit) (s : CorrectInC m m' w r) 
   number_is : (o : Applying) → feed_applied m w ≡ o → r.number ≡ (applied_in_c m.counts (applied_for o)).number
   number_is o e = ap (λ (x : SgfEdit). x.number) (s.is ∙ ap (λ (y : Applying). applied_in_c m.counts (applied_for y)) e)
 
-  by-check : (x : Result ⊤ (Refusal FeedRefusal)) → feed_checked m w ≡ x → feed_applied m w ≡ once_checked x (on_length room (corrected_text m w) (corrected_rows m w))
+  by-check : (x : Result ⊤ (Refusal FeedRefusal)) → feed_checked m w ≡ x
+      → feed_applied m w ≡ once_checked x (on_length room (corrected_text m w) (corrected_rows m w))
   unfolding feed_applied
   by-check x e = ap (λ (y : Result ⊤ (Refusal FeedRefusal)). once_checked y (on_length room (corrected_text m w) (corrected_rows m w))) e
 
@@ -83,7 +84,8 @@ module _ (m m' : Memory) (w : List ℕ) (r : SgfEdit) (s : CorrectInC m m' w r) 
     one_of : (f : FeedRefusal) (p : ℕ) → feed_checked m w ≡ Err (refusal f p) → (r.number ≡ 1 → A) × (r.number ≡ 14 → A)
     one_of f p e =
         let o = of-check {A = A} m w in
-        let q : (check_in_c (feed_checked m w)).number ≡ r.number = ap (λ (x : Result ⊤ (Refusal FeedRefusal)). (check_in_c x).number) e ∙ sym (refused f p e) in
+        let q : (check_in_c (feed_checked m w)).number ≡ r.number = ap (λ (x : Result ⊤ (Refusal FeedRefusal)). (check_in_c x).number) e
+        ∙ sym (refused f p e) in
         ((λ h. o.0 (q ∙ h)), (λ h. o.1 (q ∙ h)))
 
   -- 1 exactly when the feed passes and the final length is above the text limit

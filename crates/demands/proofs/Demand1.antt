@@ -181,7 +181,8 @@ property-numbers g r e = ap (λ (z : SgfGoValue). z.number) e
 -- ---- what a refusal leaves, of the functions below these
 
 -- a refused reading leaves every number of the four tables
-pub reading-refused : (len : Bool) (t : List ℕ) (before after : Lent) (r : Reason) (p : ℕ) → ReadIs (read len t) before after (Err (refusal r p)) → after ≡ before
+pub reading-refused : (len : Bool) (t : List ℕ) (before after : Lent) (r : Reason) (p : ℕ) → ReadIs (read len t) before after (Err (refusal r p))
+    → after ≡ before
 reading-refused len t before after r p x = reading-leaves (read len t) before after r p x.answer x.tables
 
 -- a refused edit leaves every byte of the buffer and every number of the tables

@@ -64,7 +64,8 @@ module _ (m : Memory) where
     edits-fresh xs m' = again.calls-fresh m m' xs f
 
     -- a strict reading of the used bytes into tables with room is accepted, with the same counts, and leaves the same cells
-    pub fresh-reading : (before after : Lent) (r : Result Counts (Refusal Reason)) → has_room m.counts before ≡ true → ReadIs (read_strict (text_in m)) before after r
+    pub fresh-reading : (before after : Lent) (r : Result Counts (Refusal Reason)) → has_room m.counts before ≡ true
+        → ReadIs (read_strict (text_in m)) before after r
         → (r ≡ Ok m.counts) × SameCells m.counts after (tables_in m)
     fresh-reading = again.reread m f
 

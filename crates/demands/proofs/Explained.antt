@@ -60,9 +60,11 @@ module _ (len : Bool) (t : List ℕ) (r : SgfWhy) (s : r ≡ why_in_c (explained
       counted-as : (a : Answer) → read len t ≡ a → q ≡ reading_in_c 0 (rows_counted a)
       counted-as a e = u ∙ ap (λ (z : Answer). reading_in_c 0 (rows_counted z)) e
 
-      go : (a : Answer) → read len t ≡ a → (w : Result (Counts × ℕ) (Refusal Fact)) → explained len t ≡ w → SameVerdict a w → (r.number ≡ q.number) × (r.counts ≡ counts_read q)
+      go : (a : Answer) → read len t ≡ a → (w : Result (Counts × ℕ) (Refusal Fact)) → explained len t ≡ w → SameVerdict a w
+          → (r.number ≡ q.number) × (r.counts ≡ counts_read q)
       go (refused x p) e (Err r) d v = (
-        ap (λ (z : SgfWhy). z.number) (shown (Err (refusal r.reason r.place)) d) ∙ fact-number r.reason ∙ ap number_of v ∙ sym (ap (λ (z : SgfReading). z.number) (counted-as (refused x p) e)),
+        ap (λ (z : SgfWhy). z.number) (shown (Err (refusal r.reason r.place)) d) ∙ fact-number r.reason ∙ ap number_of v
+            ∙ sym (ap (λ (z : SgfReading). z.number) (counted-as (refused x p) e)),
         ap counts_why (shown (Err (refusal r.reason r.place)) d) ∙ sym (ap counts_read (counted-as (refused x p) e)),
       )
       go (refused x p) e (Ok (c, o)) d v = absurd v

@@ -25,7 +25,8 @@ use Rattle.tables.specs.declared.Reason.{Reason}
 use Rattle.tables.specs.declared.Refusal.{Refusal}
 
 -- an exported reading with number 0 is one that is accepted, with the counts that it shows
-pub shown-accepted : {i : ℕ} (a : Answer) (before after : Lent) (r : SgfReading) → ReadInC i a before after r → r.number ≡ 0 → ReadIs a before after (Ok (counts_read r))
+pub shown-accepted : {i : ℕ} (a : Answer) (before after : Lent) (r : SgfReading) → ReadInC i a before after r → r.number ≡ 0
+    → ReadIs a before after (Ok (counts_read r))
 shown-accepted {i} a before after r x z = go (answers a before) refl x.is
   where
     go : (v : Result Counts (Refusal Reason)) → answers a before ≡ v → r ≡ reading_in_c i v → ReadIs a before after (Ok (counts_read r))
@@ -47,11 +48,13 @@ pub more-shown : {i i' : ℕ} (t : List ℕ) (before after after' : Lent) (r r' 
     → ReadInC i' (read_lenient t) before after' r' → (r'.number ≡ 0) × (counts_read r' ≡ counts_read r) × (after' ≡ after)
 more-shown {i} {i'} t before after after' r r' x z y = go (read_strict t) refl (shown-accepted (read_strict t) before after r x z)
   where
-    go : (a : Answer) → read_strict t ≡ a → ReadIs (read_strict t) before after (Ok (counts_read r)) → (r'.number ≡ 0) × (counts_read r' ≡ counts_read r) × (after' ≡ after)
+    go : (a : Answer) → read_strict t ≡ a → ReadIs (read_strict t) before after (Ok (counts_read r))
+        → (r'.number ≡ 0) × (counts_read r' ≡ counts_read r) × (after' ≡ after)
     go (refused q p) e h = let w : Ok (counts_read r) ≡ Err (refusal q p) = h.answer ∙ ap (λ (a : Answer). answers a before) e in never cc
     go (accepted ts) e h =
         let m : read_lenient t ≡ read_strict t = lenient-accepts-more t ts e ∙ sym e in
-        let f : r' ≡ reading_in_c i' (Ok (counts_read r)) = y.is ∙ ap (λ (a : Answer). reading_in_c i' (answers a before)) m ∙ ap (reading_in_c i') (sym h.answer) in
+        let f : r' ≡ reading_in_c i' (Ok (counts_read r)) = y.is ∙ ap (λ (a : Answer). reading_in_c i' (answers a before)) m
+        ∙ ap (reading_in_c i') (sym h.answer) in
         (ap (λ (v : SgfReading). v.number) f, ap counts_read f, y.tables ∙ ap (λ (a : Answer). leaves a before) m ∙ sym h.tables)
 
 -- one record, one writing

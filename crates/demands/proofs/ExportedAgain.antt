@@ -49,7 +49,8 @@ module _ {i i₂ : ℕ} (t : List ℕ) (before after : Lent) (a : SgfReading) (x
           out out' r.length (shown-wrote (holding t (counts_read a) after) out out' r w v) l d before₂ after₂
           (answers (read_strict (take r.length out')) before₂) (is (answers (read_strict (take r.length out')) before₂) refl)
 
-      go : (y : Result Counts (Refusal Reason)) → answers (read_strict (take r.length out')) before₂ ≡ y → a₂.number ≡ 9 → depth_limit < depth_of (take r.length out')
+      go : (y : Result Counts (Refusal Reason)) → answers (read_strict (take r.length out')) before₂ ≡ y → a₂.number ≡ 9
+          → depth_limit < depth_of (take r.length out')
       go (Ok c) h n = absurd (omega (arith, n, shows, ap (λ (y : Result Counts (Refusal Reason)). (reading_in_c i₂ y).number) h))
       go (Err e) h n =
           let m : number_of e.reason ≡ 9 = sym (ap (λ (y : Result Counts (Refusal Reason)). (reading_in_c i₂ y).number) h) ∙ sym shows ∙ n in

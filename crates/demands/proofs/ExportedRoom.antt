@@ -78,7 +78,8 @@ module _ {i : ℕ} (t : List ℕ) (before after : Lent) (a : SgfReading) (x : Re
             before₂ after₂ (answers (read_strict U) before₂) (record { answer = refl; tables = x₂.tables })
 
         second-zero : has_room (counts_of (tables again)) before₂ ≡ true → (a₂.number ≡ 0) × (counts_read a₂ ≡ counts_of (tables again))
-        second-zero q = let f : a₂ ≡ reading_in_c i₂ (Ok (counts_of (tables again))) = x₂.is ∙ ap (reading_in_c i₂) (is.0 q) in (ap (λ (y : SgfReading). y.number) f, ap counts_read f)
+        second-zero q = let f : a₂ ≡ reading_in_c i₂ (Ok (counts_of (tables again))) = x₂.is
+            ∙ ap (reading_in_c i₂) (is.0 q) in (ap (λ (y : SgfReading). y.number) f, ap counts_read f)
 
         second-full : has_room (counts_of (tables again)) before₂ ≡ false → a₂.number ≡ 14
         second-full q = ap (λ (y : SgfReading). y.number) (x₂.is ∙ ap (reading_in_c i₂) (is.1 q))

@@ -21,7 +21,8 @@ pub reading-leaves : (a : Answer) (before after : Lent) (r : Reason) (p : ℕ) �
 reading-leaves (refused s q) before after r p e l = l
 reading-leaves (accepted ts) before after r p e l = go (roomy (tables ts) before) e l
   where
-    go : (b : Bool) → Err (refusal r p) ≡ pick b (Ok (counts_of (tables ts))) (Err (refusal reason.NoRoom 0)) → after ≡ pick b (stored (tables ts) before) before → after ≡ before
+    go : (b : Bool) → Err (refusal r p) ≡ pick b (Ok (counts_of (tables ts))) (Err (refusal reason.NoRoom 0))
+        → after ≡ pick b (stored (tables ts) before) before → after ≡ before
     go true e l = never cc
     go false e l = l
 
@@ -29,7 +30,8 @@ pub edit-leaves : (o : Outcome) (before after : Memory) (r : Reason) (p : ℕ) �
 edit-leaves (refuses s q) before after r p e l = l
 edit-leaves (gives t T) before after r p e l = never cc
 
-pub display-leaves : (t : List ℕ) (a : Result (ℕ × ℕ) Reason) (kind : Kind) (out out' : List ℕ) (r : Reason) → Err r ≡ display t a kind out → out' ≡ display_in t a kind out → out' ≡ out
+pub display-leaves : (t : List ℕ) (a : Result (ℕ × ℕ) Reason) (kind : Kind) (out out' : List ℕ) (r : Reason) → Err r ≡ display t a kind out
+    → out' ≡ display_in t a kind out → out' ≡ out
 unfolding displayed displayed_in
 display-leaves t (Ok (x, y)) kind out out' r e l = go (leb (length w) (length out)) e l
   where

@@ -136,7 +136,8 @@ module _ (m : Memory) (f : Fresh m) where
       (x.answer ∙ answer-again before h, subst (λ (l : Lent). SameCells m.counts l (tables_in m)) (sym (x.tables ∙ leaves-again before h)) (stored-cells before))
 
   -- into its own tables: every number stays
-  pub reread-own : (after : Lent) (r : Result Counts (Refusal Reason)) → ReadIs (read_strict (text_in m)) (tables_in m) after r → (r ≡ Ok m.counts) × (after ≡ tables_in m)
+  pub reread-own : (after : Lent) (r : Result Counts (Refusal Reason)) → ReadIs (read_strict (text_in m)) (tables_in m) after r
+      → (r ≡ Ok m.counts) × (after ≡ tables_in m)
   reread-own after r x = (x.answer ∙ answer-again (tables_in m) own_room, x.tables ∙ leaves-again (tables_in m) own_room ∙ stored-own)
 
   -- as sgf_read_strict says it

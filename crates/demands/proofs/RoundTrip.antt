@@ -55,7 +55,8 @@ go_same m m' f g n a p =
     ∙ ap₂ (λ (k : ℕ) (v : GoValue). pick (Fit m) (pick (ltb p k) (given v) (refuses reason.NoSuchNumber)) (refuses reason.NotFitting)) n (alike-go (record_in m) (record_in m') a p)
 
 -- a text beyond the limit
-pub long-one : (len : Bool) (t : List ℕ) (before after : Lent) (r : Result Counts (Refusal Reason)) → text_limit < length t → ReadIs (read len t) before after r → r ≡ Err (refusal TextTooLong 0)
+pub long-one : (len : Bool) (t : List ℕ) (before after : Lent) (r : Result Counts (Refusal Reason)) → text_limit < length t
+    → ReadIs (read len t) before after r → r ≡ Err (refusal TextTooLong 0)
 long-one len t before after r h y =
     y.answer
     ∙ ap (λ (b : Bool). answers (pick b (refused TextTooLong 0) (parse_utf8 len (utfs (whole blank) 0 t) t)) before) (lt-ltb text_limit (length t) h)
@@ -87,7 +88,8 @@ module _ (t : List ℕ) (before after : Lent) (k : Counts) (x : ReadIs (read_str
     short : length (writing (record_in (holding t k after))) ≤ text_limit
     short = omega (arith, l, long)
 
-    pub deep-nine : depth_limit < depth_of (take n out') → (before₂ after₂ : Lent) (r : Result Counts (Refusal Reason)) → ReadIs (read_strict (take n out')) before₂ after₂ r → r ≡ Err (refusal TooDeep 0)
+    pub deep-nine : depth_limit < depth_of (take n out') → (before₂ after₂ : Lent) (r : Result Counts (Refusal Reason))
+        → ReadIs (read_strict (take n out')) before₂ after₂ r → r ≡ Err (refusal TooDeep 0)
     deep-nine h before₂ after₂ r y =
         y.answer
         ∙ ap (λ (a : Answer). answers a before₂)
@@ -112,7 +114,8 @@ module _ (t : List ℕ) (before after : Lent) (k : Counts) (x : ReadIs (read_str
               ∙ ap (λ (g : Bool). pick g (Ok (counts_of (tables back.again))) (Err (refusal NoRoom 0))) h
 
       -- tables for n bytes have room
-      pub room-enough : (before₂ after₂ : Lent) (r : Result Counts (Refusal Reason)) → ReadIs (read_strict (take n out')) before₂ after₂ r → Lends (strict_rows n) before₂
+      pub room-enough : (before₂ after₂ : Lent) (r : Result Counts (Refusal Reason)) → ReadIs (read_strict (take n out')) before₂ after₂ r
+          → Lends (strict_rows n) before₂
           → r ≡ Ok (counts_of (tables back.again))
       room-enough before₂ after₂ r y h =
           y.answer
@@ -147,7 +150,8 @@ module _ (t : List ℕ) (before after : Lent) (k : Counts) (x : ReadIs (read_str
             ∙ alike-properties (record_in (holding t k after)) (record_in (holding (take n out') k₂ after₂)) alike
             ∙ sym (properties-read t before after k x)) alike
 
-        pub writes_again : (out₂ out₂' : List ℕ) (r : Result ℕ Reason) → WriteIs (holding (take n out') k₂ after₂) out₂ out₂' r → n ≤ length out₂ → (r ≡ Ok n) × (take n out₂' ≡ take n out')
+        pub writes_again : (out₂ out₂' : List ℕ) (r : Result ℕ Reason) → WriteIs (holding (take n out') k₂ after₂) out₂ out₂' r → n ≤ length out₂
+            → (r ≡ Ok n) × (take n out₂' ≡ take n out')
         writes_again out₂ out₂' r v m =
             let M₂ : Memory = holding (take n out') k₂ after₂ in
             let e : writing (record_in M) ≡ writing (record_in M₂) = same-written (record_in M) (record_in M₂) alike in
@@ -158,7 +162,8 @@ module _ (t : List ℕ) (before after : Lent) (k : Counts) (x : ReadIs (read_str
             (q, (wrote-bytes M₂ out₂ out₂' n (subst (WriteIs M₂ out₂ out₂') q v)).1 ∙ sym e ∙ sym is)
 
     -- 9, and 9 only, where it is too deep
-    pub nine-deep : (before₂ after₂ : Lent) (p : ℕ) → ReadIs (read_strict (take n out')) before₂ after₂ (Err (refusal TooDeep p)) → depth_limit < depth_of (take n out')
+    pub nine-deep : (before₂ after₂ : Lent) (p : ℕ) → ReadIs (read_strict (take n out')) before₂ after₂ (Err (refusal TooDeep p))
+        → depth_limit < depth_of (take n out')
     nine-deep before₂ after₂ p y =
         below_or depth_limit (depth_of (take n out')) (λ h. h)
         (λ h. go (roomy (tables (back h).again) before₂) (counts_of (tables (back h).again)) (y.answer ∙ ap (λ (a : Answer). answers a before₂) (reads-again h)))

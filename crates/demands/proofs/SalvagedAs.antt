@@ -38,7 +38,8 @@ module _ (t : List ℕ) (before after : Lent) (list list' out out' : List ℕ) (
   given : (a : Answer) → read_lenient t ≡ a → salvage_at t before list out ≡ salvage_gives a (text_changes t) before (length list) (length out)
   given a e = ap (λ (z : Answer). salvage_gives z (text_changes t) before (length list) (length out)) e
 
-  answer-is : (n p : ℕ) → SalvageBecause t before list out n p → (x : Result (Counts × ℕ × ℕ) (Refusal Reason)) × (salvage_at t before list out ≡ x) × ((salvage_in_c x).number ≡ n) × ((salvage_in_c x).place ≡ p)
+  answer-is : (n p : ℕ) → SalvageBecause t before list out n p
+      → (x : Result (Counts × ℕ × ℕ) (Refusal Reason)) × (salvage_at t before list out ≡ x) × ((salvage_in_c x).number ≡ n) × ((salvage_in_c x).place ≡ p)
   unfolding salvage_gives
   answer-is n p (unread {x = x} {p = q} e) = (Err (refusal x q), given (refused x q) e, refl, refl)
   answer-is n p (long ts e l) = (Err (refusal TextTooLong 0), given (accepted ts) e ∙ rw (lt-ltb text_limit (length (w ts)) l), refl, refl)
@@ -70,7 +71,8 @@ module _ (t : List ℕ) (before after : Lent) (list list' out out' : List ℕ) (
   pub salvage-stays : 0 < r.number → (after ≡ before) × (list' ≡ list) × (out' ≡ out)
   salvage-stays l = go (salvage_at t before list out) s.is s.tables s.changes s.bytes
     where
-      go : (x : Result (Counts × ℕ × ℕ) (Refusal Reason)) → r ≡ salvage_in_c x → after ≡ tables_left x (read_lenient t) before → list' ≡ list_left x (text_changes t) list
+      go : (x : Result (Counts × ℕ × ℕ) (Refusal Reason)) → r ≡ salvage_in_c x → after ≡ tables_left x (read_lenient t) before
+          → list' ≡ list_left x (text_changes t) list
           → out' ≡ bytes_left x (salvage_of (read_lenient t)) out → (after ≡ before) × (list' ≡ list) × (out' ≡ out)
       go (Ok (c, n, k)) e a b d = absurd (omega (arith, l, ap (λ (z : SgfSalvage). z.number) e))
       go (Err r) e a b d = (a, b, d)

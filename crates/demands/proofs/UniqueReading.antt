@@ -73,7 +73,8 @@ walk-tree-once len u from base p0 v0 before x y r s p q = (p.answer ∙ sym q.an
 
 -- reader
 
-pub read-strict-once : (t : List ℕ) (before x y : Lent) (r s : Result Counts (Refusal Reason)) → ReadIs (read_strict t) before x r → ReadIs (read_strict t) before y s → (r ≡ s) × (x ≡ y)
+pub read-strict-once : (t : List ℕ) (before x y : Lent) (r s : Result Counts (Refusal Reason)) → ReadIs (read_strict t) before x r
+    → ReadIs (read_strict t) before y s → (r ≡ s) × (x ≡ y)
 read-strict-once t before x y r s p q = (p.answer ∙ sym q.answer, p.tables ∙ sym q.tables)
 
 -- a reading as a case of the lenient answer, by its number
@@ -92,5 +93,6 @@ as-reading-back (Err lenient.NoRoom) = refl
 pub as-reading-once : (r s : Result Counts LenientRefusal) → as_reading r ≡ as_reading s → r ≡ s
 as-reading-once r s e = sym (as-reading-back r) ∙ ap back e ∙ as-reading-back s
 
-pub read-lenient-once : (t : List ℕ) (before x y : Lent) (r s : Result Counts LenientRefusal) → LenientIs (read_lenient t) before x r → LenientIs (read_lenient t) before y s → (r ≡ s) × (x ≡ y)
+pub read-lenient-once : (t : List ℕ) (before x y : Lent) (r s : Result Counts LenientRefusal) → LenientIs (read_lenient t) before x r
+    → LenientIs (read_lenient t) before y s → (r ≡ s) × (x ≡ y)
 read-lenient-once t before x y r s p q = (as-reading-once r s (p.answer ∙ sym q.answer), p.tables ∙ sym q.tables)

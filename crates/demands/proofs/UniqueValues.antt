@@ -118,7 +118,8 @@ decimal-once most s = once_is (decimal_of most (read_value s))
 -- value_display
 
 -- the answer, and all of the memory
-pub display-once : (text out : List ℕ) (r s : Option ℕ) (x y : List ℕ) → (r ≡ displayed text out) × (x ≡ displayed_in text out) → (s ≡ displayed text out) × (y ≡ displayed_in text out) → (r ≡ s) × (x ≡ y)
+pub display-once : (text out : List ℕ) (r s : Option ℕ) (x y : List ℕ) → (r ≡ displayed text out) × (x ≡ displayed_in text out)
+    → (s ≡ displayed text out) × (y ≡ displayed_in text out) → (r ≡ s) × (x ≡ y)
 display-once text out r s x y p q = (p.0 ∙ sym q.0, p.1 ∙ sym q.1)
 
 -- go_points

@@ -58,7 +58,8 @@ flat-reader before after c x = go three-deep
     go : (ts : List Tree) × (read strict (bytes "(;;;)") ≡ accepted ts) × ((l : Lent) → depth_at (stored (tables ts) l).nodes 2 ≡ 2) → depth_at after.nodes 2 ≡ 2
     go (ts, e, d) = roomed (roomy (tables ts) before) (x.answer ∙ ap (λ (a : Answer). answers a before) e) (x.tables ∙ ap (λ (a : Answer). leaves a before) e)
       where
-        roomed : (f : Bool) → Ok c ≡ pick f (Ok (counts_of (tables ts))) (Err (refusal NoRoom 0)) → after ≡ pick f (stored (tables ts) before) before → depth_at after.nodes 2 ≡ 2
+        roomed : (f : Bool) → Ok c ≡ pick f (Ok (counts_of (tables ts))) (Err (refusal NoRoom 0)) → after ≡ pick f (stored (tables ts) before) before
+            → depth_at after.nodes 2 ≡ 2
         roomed true w s = ap (λ (l : Lent). depth_at l.nodes 2) s ∙ d before
         roomed false w s = never cc
 

@@ -23,14 +23,16 @@ use Rattle.std.specs.Prelude.{Result, Ok, Err}
 use Rattle.tables.specs.declared.Reason.{Reason}
 
 -- what is written is the writing of the record in memory
-pub wrote-bytes : (m : Memory) (out out' : List ℕ) (n : ℕ) → WriteIs m out out' (Ok n) → (n ≡ length (writing (record_in m))) × (take n out' ≡ writing (record_in m))
+pub wrote-bytes : (m : Memory) (out out' : List ℕ) (n : ℕ) → WriteIs m out out' (Ok n)
+    → (n ≡ length (writing (record_in m))) × (take n out' ≡ writing (record_in m))
 wrote-bytes m out out' n w =
     let W : List ℕ = writing (record_in m) in
     let l : n ≡ length W = answer-length (Fit m) (nameless (all_props (all_nodes (record_in m)))) (ltb (length out) (length W)) n W w.is in
     (l, ap (take n) w.bytes ∙ take_at W (drop n out) n (sym l))
 
 -- tables that fit and have no identifier that reads as empty: they are written where there is room, and only 14 refuses them
-pub fit-writes : (m : Memory) → Fit m ≡ true → nameless (all_props (all_nodes (record_in m))) ≡ false → (out out' : List ℕ) (r : Result ℕ Reason) → WriteIs m out out' r
+pub fit-writes : (m : Memory) → Fit m ≡ true → nameless (all_props (all_nodes (record_in m))) ≡ false → (out out' : List ℕ) (r : Result ℕ Reason)
+    → WriteIs m out out' r
     → (length (writing (record_in m)) ≤ length out → (r ≡ Ok (length (writing (record_in m)))) × (out' ≡ writing (record_in m) ++ drop (length (writing (record_in m))) out))
     × (length out < length (writing (record_in m)) → (r ≡ Err NoRoom) × (out' ≡ out))
 fit-writes m f e out out' r w = (
@@ -52,7 +54,8 @@ fit-writes m f e out out' r w = (
 
 -- two memories that hold one record
 module _ (m m' : Memory) (a : Alike (record_in m) (record_in m')) where
-  pub one-writing : (out out₁ out' out₁' : List ℕ) (n n' : ℕ) → WriteIs m out out₁ (Ok n) → WriteIs m' out' out₁' (Ok n') → (n ≡ n') × (take n out₁ ≡ take n' out₁')
+  pub one-writing : (out out₁ out' out₁' : List ℕ) (n n' : ℕ) → WriteIs m out out₁ (Ok n) → WriteIs m' out' out₁' (Ok n')
+      → (n ≡ n') × (take n out₁ ≡ take n' out₁')
   one-writing out out₁ out' out₁' n n' w w' =
       let p = wrote-bytes m out out₁ n w in
       let q = wrote-bytes m' out' out₁' n' w' in
@@ -81,7 +84,8 @@ module _ (len : Bool) (t : List ℕ) (before after : Lent) (c : Counts) (x : Rea
   pub left-fits : Fit (holding t c after) ≡ true
   left-fits = read_fits len t before after c x
 
-  pub bytes-written : (out out' : List ℕ) (n : ℕ) → WriteIs (holding t c after) out out' (Ok n) → (ts : List Tree) × (read len t ≡ accepted ts) × (take n out' ≡ writing ts)
+  pub bytes-written : (out out' : List ℕ) (n : ℕ) → WriteIs (holding t c after) out out' (Ok n)
+      → (ts : List Tree) × (read len t ≡ accepted ts) × (take n out' ≡ writing ts)
   bytes-written out out' n w = (left-record.0, left-record.1, (wrote-bytes (holding t c after) out out' n w).1 ∙ ap writing left-record.3)
 
 -- two readings of texts that are read as records that are alike
@@ -93,7 +97,8 @@ module _ (len : Bool) (t : List ℕ) (before after : Lent) (c : Counts) (x : Rea
       subst (Alike (record_in (holding t c after))) (trees-once (sym e' ∙ left-reads len' u before' after' c' y))
       (subst (λ (z : List Tree). Alike z us) (trees-once (sym e ∙ left-reads len t before after c x)) a)
 
-  pub readings-written : (out out₁ out' out₁' : List ℕ) (n n' : ℕ) → WriteIs (holding t c after) out out₁ (Ok n) → WriteIs (holding u c' after') out' out₁' (Ok n')
+  pub readings-written : (out out₁ out' out₁' : List ℕ) (n n' : ℕ) → WriteIs (holding t c after) out out₁ (Ok n)
+      → WriteIs (holding u c' after') out' out₁' (Ok n')
       → (n ≡ n') × (take n out₁ ≡ take n' out₁')
   readings-written = one-writing (holding t c after) (holding u c' after') left-alike
 

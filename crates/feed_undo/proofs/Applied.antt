@@ -58,18 +58,21 @@ module _ (m : Memory) (w : List ℕ) where
       short true x c y = absurd (false≢true y)
       short false x c y = roomy (ltb (length m.text) (length U)) refl c (ltb-false text_limit (length U) x) y
 
-      checked : (c : Result ⊤ (Refusal FeedRefusal)) → feed_checked m w ≡ c → Says (applied_for (once_checked c (on_length (length m.text) U T))) ≡ true → TakesFeed m w
+      checked : (c : Result ⊤ (Refusal FeedRefusal)) → feed_checked m w ≡ c → Says (applied_for (once_checked c (on_length (length m.text) U T))) ≡ true
+          → TakesFeed m w
       checked (Err e) x y = absurd (false≢true y)
       checked (Ok tt) x y = short (ltb text_limit (length U)) refl x y
 
   -- what the caller then has
-  applied-is : (m' : Memory) (r : Result ℕ (Refusal FeedRefusal)) → TakesFeed m w → ApplyIs m m' w r → (r ≡ Ok (length U)) × (memory_next m' (Ok (length U)) ≡ memory_corrected m w)
+  applied-is : (m' : Memory) (r : Result ℕ (Refusal FeedRefusal)) → TakesFeed m w → ApplyIs m m' w r
+      → (r ≡ Ok (length U)) × (memory_next m' (Ok (length U)) ≡ memory_corrected m w)
   applied-is m' r t h =
       let e = takes-applied t in
       (h.answer ∙ ap applied_for e, ap (λ (q : Memory). memory_next q (Ok (length U))) (h.memory ∙ ap (λ (o : Applying). memory_applied o m) e))
 
   -- each correction accepted alone: the feed is accepted, and does what these edits do
-  pub applied-as-edits : (m' : Memory) (r : Result ℕ (Refusal FeedRefusal)) → Fit m ≡ true → (listing w).whole ≡ true → AllGranted (length m.text) (text_rows m) (feed_edits w) → ApplyIs m m' w r
+  pub applied-as-edits : (m' : Memory) (r : Result ℕ (Refusal FeedRefusal)) → Fit m ≡ true → (listing w).whole ≡ true
+      → AllGranted (length m.text) (text_rows m) (feed_edits w) → ApplyIs m m' w r
       → (r ≡ Ok (length U)) × (text_rows (memory_next m' (Ok (length U))) ≡ run_edits (length m.text) (text_rows m) (feed_edits w))
   applied-as-edits m' r fit h a x =
       let z = applied-is m' r (alone-taken m fit w h a) x in (

@@ -75,10 +75,12 @@ module _ (t : List ℕ) (rs : List PropRow) (total : ℕ) (w : List ℕ) where
   pub good-judged : (es : List Entry) → All (Good t rs total) (map (correction_at w) es) → corrections_judged t rs total w es ≡ Ok tt
   unfolding corrections_judged
   good-judged [] g = refl
-  good-judged (x ∷ es) g = ap (λ (c : Result ⊤ (Refusal FeedRefusal)). first_refusal c (corrections_judged t rs total w es)) (good-one x g.0) ∙ good-judged es g.1
+  good-judged (x ∷ es) g = ap (λ (c : Result ⊤ (Refusal FeedRefusal)). first_refusal c (corrections_judged t rs total w es)) (good-one x g.0)
+      ∙ good-judged es g.1
 
 -- the whole check
-three : (a b : Bool) (c : Result ⊤ (Refusal FeedRefusal)) → pick a (pick b c (Err (refusal Malformed 0))) (Err (refusal NotFitting 0)) ≡ Ok tt → (a ≡ true) × (b ≡ true) × (c ≡ Ok tt)
+three : (a b : Bool) (c : Result ⊤ (Refusal FeedRefusal)) → pick a (pick b c (Err (refusal Malformed 0))) (Err (refusal NotFitting 0)) ≡ Ok tt
+    → (a ≡ true) × (b ≡ true) × (c ≡ Ok tt)
 three true true c e = (refl, refl, e)
 three true false c e = never cc
 three false b c e = never cc
@@ -90,6 +92,7 @@ module _ (m : Memory) (w : List ℕ) where
       let z = three (Fit m) (listing w).whole (corrections_judged (text_in m) (rows_in m).props m.counts.values w (listing w).entries) e in
       (z.0, z.1, judged-good (text_in m) (rows_in m).props m.counts.values w (listing w).entries z.2)
 
-  pub good-passed : Fit m ≡ true → (listing w).whole ≡ true → All (Good (text_in m) (rows_in m).props m.counts.values) (corrections w) → feed_checked m w ≡ Ok tt
+  pub good-passed : Fit m ≡ true → (listing w).whole ≡ true → All (Good (text_in m) (rows_in m).props m.counts.values) (corrections w)
+      → feed_checked m w ≡ Ok tt
   unfolding feed_checked
   good-passed f h g = rw (f, h) (good-judged (text_in m) (rows_in m).props m.counts.values w (listing w).entries g)

@@ -27,7 +27,8 @@ pub kind-simple : {k : ℕ} → (k ≡ 0 → ⊥) → SimpleText ≡ display_kin
 kind-simple {k} e = rw (ne_eqb k 0 e)
 
 -- what is shown of a display's answer, with the kind that a caller gives
-pub display-shown : {m : Memory} {k : ℕ} {kind kind' : Kind} {out out' : List ℕ} {r : Result ℕ Reason} {d : SgfDisplay} → kind ≡ kind' → DisplayIs m k kind out out' r → d ≡ display_in_c r
+pub display-shown : {m : Memory} {k : ℕ} {kind kind' : Kind} {out out' : List ℕ} {r : Result ℕ Reason} {d : SgfDisplay} → kind ≡ kind'
+    → DisplayIs m k kind out out' r → d ≡ display_in_c r
     → DisplayInC m k kind' out out' d
 display-shown {m} {k} {kind} {kind'} {out} e x d =
     record {
@@ -36,7 +37,8 @@ display-shown {m} {k} {kind} {kind'} {out} e x d =
     }
 
 -- of a raw value's
-pub raw-shown : {kind kind' : Kind} {raw out out' : List ℕ} {x : Option ℕ} {d : SgfDisplay} → kind ≡ kind' → x ≡ displayed (display_text kind (read_value raw)) out
+pub raw-shown : {kind kind' : Kind} {raw out out' : List ℕ} {x : Option ℕ} {d : SgfDisplay} → kind ≡ kind'
+    → x ≡ displayed (display_text kind (read_value raw)) out
     → out' ≡ displayed_in (display_text kind (read_value raw)) out → d ≡ display_in_c (display_for x) → RawInC kind' raw out out' d
 raw-shown {kind} {kind'} {raw} {out} e x b d =
     record {
@@ -58,5 +60,6 @@ pub write-shown : {m : Memory} {out out' : List ℕ} {r : Result ℕ Reason} {w 
 write-shown {m} {out} x h = record { is = h ∙ ap writing_in_c x.is; bytes = x.bytes ∙ ap (λ (z : Result ℕ Reason). output z (writing (record_in m)) out) x.is }
 
 -- of an edit's
-pub edit-shown : {m m' : Memory} {k : ℕ} {new : List ℕ} {r : Result ℕ (Refusal Reason)} {w : SgfEdit} → EditIs m m' k new r → w ≡ edit_in_c m.counts r → EditInC m m' k new w
+pub edit-shown : {m m' : Memory} {k : ℕ} {new : List ℕ} {r : Result ℕ (Refusal Reason)} {w : SgfEdit} → EditIs m m' k new r → w ≡ edit_in_c m.counts r
+    → EditInC m m' k new w
 edit-shown {m} x h = record { is = h ∙ ap (edit_in_c m.counts) x.answer; memory = x.memory }

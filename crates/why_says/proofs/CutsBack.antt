@@ -164,7 +164,8 @@ module _ (n : ℕ) (l : Lexed) where
       ap (cutting true n l) (whole true x)
       ∙ go (split true (then true x) x.behind) (counts true x.behind _ _ _ _) (some-sliced true x.behind (then true x) (λ z _. absurd (omega arith)))
     where
-      go : (y : Splitting) → Counts true (suc (c true x).d) (max (c true x).m (suc (c true x).d)) x.behind y → Sliced y → cutting true n l y ≡ Err (refusal TooDeep p)
+      go : (y : Splitting) → Counts true (suc (c true x).d) (max (c true x).m (suc (c true x).d)) x.behind y → Sliced y
+          → cutting true n l y ≡ Err (refusal TooDeep p)
       go (splitting zero m cur ss) k h = cut-slices true x m ss k.low (h refl)
       go (splitting (suc d) m cur ss) k h = cut-deep true x m (reverse (reverse cur ∷ ss)) k.low
       go (over m ss) k h = cut-slices true x m ss k.1 h

@@ -96,9 +96,11 @@ module _ (t : List ℕ) where
   pub says-blamed : (f : Fact) (p : ℕ) → FactSays t f p → Clear t f → text_blame false t ≡ Some (refusal f p)
   says-blamed (Length n) p x c = long-blamed false x
   says-blamed BadSequence p x c = bad-blamed false c x
-  says-blamed (NoBracket e) p (x, h, y) c = let z = missing-fails t x h y in fault-blamed c z ∙ ap (λ (k : ℕ). Some (refusal (NoBracket k) p)) (last-is c z ∙ sym h)
+  says-blamed (NoBracket e) p (x, h, y) c = let z = missing-fails t x h y in fault-blamed c z
+      ∙ ap (λ (k : ℕ). Some (refusal (NoBracket k) p)) (last-is c z ∙ sym h)
   says-blamed (Foreign e) p (x, y) c = fault-blamed c (foreign-fails t x y) ∙ ap (λ (k : ℕ). Some (refusal (Foreign k) p)) (sym (foreign-met (take x.last t) y))
-  says-blamed (NotClosed e) p (x, h, y) c = let z = unclosed-fails t x h y in fault-blamed c z ∙ ap (λ (k : ℕ). Some (refusal (NotClosed k) p)) (last-is c z ∙ sym h)
+  says-blamed (NotClosed e) p (x, h, y) c = let z = unclosed-fails t x h y in fault-blamed c z
+      ∙ ap (λ (k : ℕ). Some (refusal (NotClosed k) p)) (last-is c z ∙ sym h)
   says-blamed EndBeyond p x c = cut-blamed c (exceeds-cut (length t) L x)
   says-blamed (StaysOpen d) p x c = cut-blamed c.0 (open-cut (length t) L c.1 x)
   says-blamed (NoNode n) p (x, e) c =

@@ -81,7 +81,8 @@ module _ (n : ℕ) (l : Lexed) where
   deep-stands : (len : Bool) (m : ℕ) (us : List (List Tok)) {k q : ℕ} → cut_deep len n l m us ≡ Ok (k, q) → q ≡ loose n us l
   deep-stands len m us {k} {q} e = go (ltb depth_limit m) e
     where
-      go : (b : Bool) → pick {A = Result (ℕ × ℕ) (Refusal Fact)} b (Err (refusal TooDeep (deep_at len l.toks))) (Ok (length us, loose n us l)) ≡ Ok (k, q) → q ≡ loose n us l
+      go : (b : Bool) → pick {A = Result (ℕ × ℕ) (Refusal Fact)} b (Err (refusal TooDeep (deep_at len l.toks))) (Ok (length us, loose n us l)) ≡ Ok (k, q)
+          → q ≡ loose n us l
       go true e = never cc
       go false e = sym (ok-two e).1
 
@@ -98,7 +99,8 @@ module _ (n : ℕ) (l : Lexed) where
   cut_stands len (wrong r) e = never cc
 
   -- the rest behind the slices begins there
-  cut-rest : (len : Bool) {k q : ℕ} → cut_tokens len n l ≡ Ok (k, q) → (rest : List Tok) × (l.toks ≡ sliced_tokens (slices_from 0 l.toks) ++ rest) × (q ≡ first_place n rest l.end)
+  cut-rest : (len : Bool) {k q : ℕ} → cut_tokens len n l ≡ Ok (k, q)
+      → (rest : List Tok) × (l.toks ≡ sliced_tokens (slices_from 0 l.toks) ++ rest) × (q ≡ first_place n rest l.end)
   cut-rest len {k} {q} e =
       let x = cut_stands len (split len begun l.toks) e in
       let y = slices-front l.toks 0 in
@@ -116,7 +118,8 @@ module _ (n : ℕ) (l : Lexed) where
   cut-unblamed len (Err r) e = never cc
   cut-unblamed len (Ok (k, q)) e = (k, refl)
 
-  tokens-unblamed : (len : Bool) (u : List ℕ) (e : End) → tokens_blame len n u l e ≡ None → (k : ℕ) × (cut_tokens len n l ≡ Ok (k, cut_loose n (cut_tokens len n l)))
+  tokens-unblamed : (len : Bool) (u : List ℕ) (e : End) → tokens_blame len n u l e ≡ None
+      → (k : ℕ) × (cut_tokens len n l ≡ Ok (k, cut_loose n (cut_tokens len n l)))
   tokens-unblamed true u e h = cut-unblamed true (cut_tokens true n l) h
   tokens-unblamed false u done h = cut-unblamed false (cut_tokens false n l) h
   tokens-unblamed false u (broken f s) h = never cc
@@ -154,7 +157,8 @@ module _ (len : Bool) (t : List ℕ) where
   pub why-loose : (c : Counts) (q : ℕ) → explained len t ≡ Ok (c, q) → LooseAt t q
   why-loose c q e = go (read len t) (text_blame len t) refl (text-agrees len t) e
     where
-      go : (a : Answer) (b : Option (Refusal Fact)) → text_blame len t ≡ b → Agree a b → explained_by (rows_counted a) b (trim_loose len t (trimmed t)) ≡ Ok (c, q) → LooseAt t q
+      go : (a : Answer) (b : Option (Refusal Fact)) → text_blame len t ≡ b → Agree a b
+          → explained_by (rows_counted a) b (trim_loose len t (trimmed t)) ≡ Ok (c, q) → LooseAt t q
       go (refused r o) None w h x = absurd h
       go (refused r o) (Some e) w h x = never cc
       go (accepted ts) None w h x = let z : trim_loose len t (trimmed t) ≡ q = (ok-two x).1 in subst (LooseAt t) z (text-loose w)
@@ -173,7 +177,8 @@ loose-once t p q x y = place_is x ∙ ap (λ (z : List Tok). first_place (length
         (then-sliced (slices_from 0 (tokens_of t).toks) z.rest (tokens_of t).toks z.are) ∙ drop-front (sliced_tokens (slices_from 0 (tokens_of t).toks)) z.rest)
 
 -- a text is explained by counts and a place exactly when it is accepted with them, and that is the place
-pub accepted-exactly : (len : Bool) (t : List ℕ) (c : Counts) (q : ℕ) → Iff (explained len t ≡ Ok (c, q)) ((ts : List Tree) × (read len t ≡ accepted ts) × (c ≡ counts_of (tables ts)) × LooseAt t q)
+pub accepted-exactly : (len : Bool) (t : List ℕ) (c : Counts) (q : ℕ)
+    → Iff (explained len t ≡ Ok (c, q)) ((ts : List Tree) × (read len t ≡ accepted ts) × (c ≡ counts_of (tables ts)) × LooseAt t q)
 accepted-exactly len t c q = ((λ e. let x = why-accepted len t e in (x.0, x.1, x.2, why-loose len t c q e)), λ h. back h.0 h.1 h.2 h.3)
   where
     back : (ts : List Tree) → read len t ≡ accepted ts → c ≡ counts_of (tables ts) → LooseAt t q → explained len t ≡ Ok (c, q)

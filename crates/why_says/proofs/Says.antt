@@ -47,7 +47,8 @@ module _ (t : List ℕ) where
   abbrev at-fault : (a l : ℕ) → trimmed t ≡ Kept a l → (f : Fault) (s : ℕ) → (lex_at (take l t) a).end ≡ broken f s → FailsAt t f s
   at-fault a l k f s q = let r = fault-only (take l t) a f s q in record { first = a; last = l; at = r.0; kept = k; reached = r.1; fails = r.2 }
 
-  fault-holds : Valid t → (a l : ℕ) → trimmed t ≡ Kept a l → (f : Fault) (s : ℕ) → (lex_at (take l t) a).end ≡ broken f s → Held false t (Some (refusal (fault_fact (take l t) f s) s))
+  fault-holds : Valid t → (a l : ℕ) → trimmed t ≡ Kept a l → (f : Fault) (s : ℕ) → (lex_at (take l t) a).end ≡ broken f s
+      → Held false t (Some (refusal (fault_fact (take l t) f s) s))
   fault-holds v a l k f s q = go f q
     where
       kept : length (take l t) ≡ l
@@ -121,7 +122,8 @@ module _ (t : List ℕ) where
   -- ---- the tokens
 
   module _ (v : Valid t) (u : List ℕ) where
-    tokens-hold : (len : Bool) → ((f : Fault) (s : ℕ) → L.end ≡ broken f s → Held false t (Some (refusal (fault_fact u f s) s))) → Held len t (tokens_blame len (length t) u L L.end)
+    tokens-hold : (len : Bool) → ((f : Fault) (s : ℕ) → L.end ≡ broken f s → Held false t (Some (refusal (fault_fact u f s) s)))
+        → Held len t (tokens_blame len (length t) u L L.end)
     tokens-hold true h = cut-lenient (length t) v (split true begun L.toks) refl
     tokens-hold false h = go L.end refl
       where
@@ -129,7 +131,8 @@ module _ (t : List ℕ) where
         go done q = cut-strict (length t) (record { valid = v; faultless = q }) (split false begun L.toks) refl
         go (broken f s) q = h f s q
 
-    lexed-hold : (len : Bool) (x : Lexed) → L ≡ x → ((f : Fault) (s : ℕ) → x.end ≡ broken f s → Held false t (Some (refusal (fault_fact u f s) s))) → Held len t (tokens_blame len (length t) u x x.end)
+    lexed-hold : (len : Bool) (x : Lexed) → L ≡ x → ((f : Fault) (s : ℕ) → x.end ≡ broken f s → Held false t (Some (refusal (fault_fact u f s) s)))
+        → Held len t (tokens_blame len (length t) u x x.end)
     lexed-hold len x e h = subst (λ (z : Lexed). Held len t (tokens_blame len (length t) u z z.end)) e (tokens-hold len (λ f s q. h f s (ap (λ (z : Lexed). z.end) (sym e) ∙ q)))
 
   blank-holds : (len : Bool) → Valid t → trimmed t ≡ Blank → Held len t (kept_blame len t 0 0)
@@ -165,7 +168,8 @@ module _ (t : List ℕ) where
     pub why-blamed : {f : Fact} {p : ℕ} → explained len t ≡ Err (refusal f p) → text_blame len t ≡ Some (refusal f p)
     why-blamed {f} {p} e = go (read len t) (text_blame len t) (text-agrees len t) e
       where
-        go : (a : Answer) (b : Option (Refusal Fact)) → Agree a b → explained_by (rows_counted a) b (trim_loose len t (trimmed t)) ≡ Err (refusal f p) → b ≡ Some (refusal f p)
+        go : (a : Answer) (b : Option (Refusal Fact)) → Agree a b → explained_by (rows_counted a) b (trim_loose len t (trimmed t)) ≡ Err (refusal f p)
+            → b ≡ Some (refusal f p)
         go (refused r o) None h q = absurd h
         go (refused r o) (Some e) h w = let z = err-refusal w in ap₂ (λ (x : Fact) (y : ℕ). Some (refusal x y)) z.0 z.1
         go (accepted ts) b h q = never cc

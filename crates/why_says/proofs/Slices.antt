@@ -164,7 +164,8 @@ module _ (n base : ℕ) (s : List Tok) where
     grown : (ts : List Tree) (w : Walk) → W ≡ w → parse_gametree false (trees_so_far base ts) s ≡ tree_of_walk false base k w ts
     grown ts w e = ap (λ (g : Game). tree_of_game false base g s ts) typed ∙ ap (λ (z : Walk). tree_of_walk false base k z ts) e
 
-    walked-out : (ts : List Tree) → HasToken s → (w : Walk) → W ≡ w → is_stopped w ≡ false → WalkWhy base s k typed w → Out ts (empty_blame n (length (nodes_of w)) s)
+    walked-out : (ts : List Tree) → HasToken s → (w : Walk) → W ≡ w → is_stopped w ≡ false → WalkWhy base s k typed w
+        → Out ts (empty_blame n (length (nodes_of w)) s)
     walked-out ts so (walk c st g []) e f h =
         (refl, (record { type = k; typed = typed; cur = c; stack = st; gate = g; made = []; ends_so = e; none_in = sym h }, head_at s s so))
     walked-out ts so (walk c st g (m ∷ ms)) e f h =
@@ -179,13 +180,15 @@ module _ (n base : ℕ) (s : List Tok) where
         x : Says (walks false base) is_stopped new s B
         x = blame-says (walks false base) is_stopped new s refl
 
-        go : (b : Option (Refusal Fact)) → SliceSays n base s b → (b ≡ None → Out ts (empty_blame n (nodes_in base s) s)) → Out ts (or_blame b (empty_blame n (nodes_in base s) s))
+        go : (b : Option (Refusal Fact)) → SliceSays n base s b → (b ≡ None → Out ts (empty_blame n (nodes_in base s) s))
+            → Out ts (or_blame b (empty_blame n (nodes_in base s) s))
         go None h g = g refl
         go (Some e) h g = h
 
   pub slice_out : Covered 0 s → HasToken s → (ts : List Tree) → Out ts (slice_blame n base s)
   slice_out cv so ts = go (game_blame n (games s)) refl (game-says (games s) refl)
     where
-      go : (b : Option (Refusal Fact)) → game_blame n (games s) ≡ b → SliceSays n base s b → Out ts (or_blame b (or_blame (tree_blame base s) (empty_blame n (nodes_in base s) s)))
+      go : (b : Option (Refusal Fact)) → game_blame n (games s) ≡ b → SliceSays n base s b
+          → Out ts (or_blame b (or_blame (tree_blame base s) (empty_blame n (nodes_in base s) s)))
       go None e h = let y = game-typed (games s) e in tree-out y.0 y.1 cv ts so
       go (Some r) e h = h

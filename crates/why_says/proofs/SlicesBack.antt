@@ -113,7 +113,8 @@ module _ (n base : ℕ) (s : List Tok) where
 
   -- ---- a slice that is said to be refused is, so one that is a tree is not blamed
 
-  pub says-fails : Covered 0 s → (f : Fact) (p : ℕ) → SliceSays n base s (Some (refusal f p)) → (ts : List Tree) → (r : Reason) × (parse_gametree false (trees_so_far base ts) s ≡ no_trees r)
+  pub says-fails : Covered 0 s → (f : Fact) (p : ℕ) → SliceSays n base s (Some (refusal f p)) → (ts : List Tree)
+      → (r : Reason) × (parse_gametree false (trees_so_far base ts) s ≡ no_trees r)
   says-fails cv (Length k) p x ts = absurd x
   says-fails cv BadSequence p x ts = absurd x
   says-fails cv (NoBracket e) p x ts = absurd x
@@ -131,7 +132,8 @@ module _ (n base : ℕ) (s : List Tok) where
   says-fails cv GmNumber p (a, v, e, f, h, q) ts =
       (InvalidGameType, wrong-fails base s (a, e, λ x. let z : v ∷ [] ≡ x.0 ∷ [] = sym f ∙ x.1 in let y : v ≡ x.0 = cc in false≢true (sym h ∙ ap valid y ∙ x.2)) ts)
 
-  pub tree-unblamed : Covered 0 s → HasToken s → (ts : List Tree) (m : ℕ) (us : List Tree) → parse_gametree false (trees_so_far base ts) s ≡ trees_so_far m us → (slice_blame n base s ≡ None) × (m ≡ base + nodes_in base s)
+  pub tree-unblamed : Covered 0 s → HasToken s → (ts : List Tree) (m : ℕ) (us : List Tree)
+      → parse_gametree false (trees_so_far base ts) s ≡ trees_so_far m us → (slice_blame n base s ≡ None) × (m ≡ base + nodes_in base s)
   tree-unblamed cv so ts m us e = go (slice_blame n base s) refl (slice_out n base s cv so ts)
     where
       go : (b : Option (Refusal Fact)) → slice_blame n base s ≡ b → Out n base s ts b → (slice_blame n base s ≡ None) × (m ≡ base + nodes_in base s)

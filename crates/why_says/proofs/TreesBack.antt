@@ -26,10 +26,12 @@ use Rattle.tables.specs.declared.Refusal.{Refusal}
 
 -- where splitting gives slices, none of them is too deep
 module _ (n : ℕ) (l : Lexed) where
-  deep-sliced : (m : ℕ) (us ss : List (List Tok)) → pick (ltb depth_limit m) (no too_deep) (slices us) ≡ slices ss → (k q : ℕ) × (cut_deep false n l m us ≡ Ok (k, q))
+  deep-sliced : (m : ℕ) (us ss : List (List Tok)) → pick (ltb depth_limit m) (no too_deep) (slices us) ≡ slices ss
+      → (k q : ℕ) × (cut_deep false n l m us ≡ Ok (k, q))
   deep-sliced m us ss e = go (ltb depth_limit m) e
     where
-      go : (b : Bool) → pick b (no too_deep) (slices us) ≡ slices ss → (k q : ℕ) × (pick {A = Result (ℕ × ℕ) (Refusal Fact)} b (Err (refusal TooDeep (deep_at false l.toks))) (Ok (length us, loose n us l)) ≡ Ok (k, q))
+      go : (b : Bool) → pick b (no too_deep) (slices us) ≡ slices ss
+          → (k q : ℕ) × (pick {A = Result (ℕ × ℕ) (Refusal Fact)} b (Err (refusal TooDeep (deep_at false l.toks))) (Ok (length us, loose n us l)) ≡ Ok (k, q))
       go true e = never cc
       go false e = (_, _, refl)
 

@@ -6,4 +6,5 @@ pub returns-in-Ok : goal.returns-in-Ok
 returns-in-Ok c = ap (edit_in_c c.args.c) (sym c.in-Ok.is)
 
 pub returns-in-Err : goal.returns-in-Err
-returns-in-Err c = ap (λ (n : ℕ). record { number = n; reserved = 0; place = c.in-Err.refused.place; used = 0; counts = no_counts }) c.from.ensures ∙ ap (edit_in_c c.args.c) (sym c.in-Err.is)
+returns-in-Err c = ap (λ (n : ℕ). record { number = n; reserved = 0; place = c.in-Err.refused.place; used = 0; counts = no_counts }) c.from.ensures
+    ∙ ap (edit_in_c c.args.c) (sym c.in-Err.is)

@@ -6,4 +6,5 @@ pub returns-in-Ok : goal.returns-in-Ok
 returns-in-Ok c = ap (reading_in_c c.args.ignored) (sym c.in-Ok.is)
 
 pub returns-in-Err : goal.returns-in-Err
-returns-in-Err c = ap (λ (n : ℕ). record { number = n; ignored = c.args.ignored; place = c.in-Err.refused.place; counts = no_counts }) c.from.ensures ∙ ap (reading_in_c c.args.ignored) (sym c.in-Err.is)
+returns-in-Err c = ap (λ (n : ℕ). record { number = n; ignored = c.args.ignored; place = c.in-Err.refused.place; counts = no_counts }) c.from.ensures
+    ∙ ap (reading_in_c c.args.ignored) (sym c.in-Err.is)
