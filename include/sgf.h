@@ -25,8 +25,8 @@
  * One exception. Rows lent to sgf_block and sgf_close are working room until the close. After a close that is accepted
  * the rows behind its count are 0, after one that is refused all rows; only number 20 leaves them as they were.
  *
- * Stack, in bytes, on x86-64: sgf_salvage 44,224, sgf_board 25,792, sgf_board_next 22,528, sgf_go_value 13,952,
- * sgf_go_by_rule 8,320, sgf_line 8,960, sgf_write 8,832, sgf_write_length 8,704, sgf_read_strict and sgf_read_lenient
+ * Stack, in bytes, on x86-64: sgf_salvage 41,664, sgf_board 25,792, sgf_board_next 22,528, sgf_go_value 11,264,
+ * sgf_line 6,400, sgf_write 6,336, sgf_write_length 6,144, sgf_go_by_rule 5,632, sgf_read_strict and sgf_read_lenient
  * 5,120, those that count rows or say why at most 4,800, each other below 1,024. docs/MEMORY.md has each function's bound,
  * which examples/c/stack.c tests.
  */

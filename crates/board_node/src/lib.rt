@@ -127,8 +127,8 @@ fn set_places(
         seen.new stones.new result.state result.refused }
 {
     let mut then = state;
-    for (p, &marked) in marks.iter().enumerate() {
-        if !marked {
+    for p in 0..2704usize {
+        if !marks[p] {
             continue;
         }
         let turn = set_place(stones, seen, then, columns, rows, p, colour);

@@ -10,6 +10,39 @@ ghost use Rattle.edit_splice.specs.Splice.{pasted, cleared, fits_in, replaced};
 // Stores go on in steps of so many bytes where lent memory begins at one, as it mostly does.
 const STEP: usize = 16;
 
+// `new` copied to `at` and on.
+fn copy_in(buffer: &mut [u8], at: usize, new: &[u8])
+    requires { at + length new.now ≤ length buffer.old }
+    ensures { buffer.new ≡ paste buffer.old at new.now (length new.now) }
+{
+    // Stays: 4: with copy_from_slice the archive would want memmove.
+    for i in 0..new.len() {
+        buffer[at + i] = new[i];
+    }
+}
+
+// `n` bytes moved to the left, the first one first.
+fn move_left(buffer: &mut [u8], from: usize, to: usize, n: usize)
+    requires { (to ≤ from) × (from + n ≤ length buffer.old) }
+    ensures { buffer.new ≡ paste buffer.old to (drop from buffer.old) n }
+{
+    // Stays: 4: with copy_within the archive would want memmove.
+    for i in 0..n {
+        buffer[to + i] = buffer[from + i];
+    }
+}
+
+// `n` bytes moved to the right, the last one first.
+fn move_right(buffer: &mut [u8], from: usize, to: usize, n: usize)
+    requires { (from ≤ to) × (to + n ≤ length buffer.old) }
+    ensures { buffer.new ≡ paste buffer.old to (drop from buffer.old) n }
+{
+    // Stays: 4: with copy_within the archive would want memmove.
+    for k in (0..n).rev() {
+        buffer[to + k] = buffer[from + k];
+    }
+}
+
 // How many of `n` bytes from `at` on come before the next step.
 fn before_step(at: usize, n: usize) -> usize
     ensures { result ≤ n }
@@ -33,8 +66,8 @@ fn close_up(buffer: &mut [u8], from: usize, to: usize, n: usize)
         return;
     }
     let head = before_step(to, n);
-    buffer.copy_within(from..from + head, to);
-    buffer.copy_within(from + head..from + n, to + head);
+    move_left(buffer, from, to, head);
+    move_left(buffer, from + head, to + head, n - head);
 }
 
 // `n` bytes moved to the right: those behind the last step, then the rest in steps.
@@ -44,8 +77,8 @@ fn open_up(buffer: &mut [u8], from: usize, to: usize, n: usize)
 {
     let tail = behind_step(to + n, n);
     let rest = n - tail;
-    buffer.copy_within(from + rest..from + n, to + rest);
-    buffer.copy_within(from..from + rest, to);
+    move_right(buffer, from + rest, to + rest, tail);
+    move_right(buffer, from, to, rest);
 }
 
 // The bytes from `start` to `end` of the first `used` replaced by `new`; bytes that this frees become 0.
@@ -59,11 +92,11 @@ fn swap_in(buffer: &mut [u8], used: usize, start: usize, end: usize, new: &[u8])
     if to <= end {
         close_up(buffer, end, to, n);
         buffer[to + n..used].fill(0);
-        buffer[start..to].copy_from_slice(new);
+        copy_in(buffer, start, new);
         return;
     }
     open_up(buffer, end, to, n);
-    buffer[start..to].copy_from_slice(new);
+    copy_in(buffer, start, new);
 }
 
 // Whether `m` bytes may stand for a part of the first `used` of so many bytes. No sum is made: it could wrap.

@@ -43,6 +43,8 @@ fn play(rule: u32, v: Value) -> Value
 }
 
 // What the values of a property of this shape stand for under a rule, without the marks of a set: a move or a number where there is exactly one.
+// Inlined, so that a caller that has no set takes no stack for its marks.
+#[inline(always)]
 pub fn value_by(
     rule: u32,
     shape: Shape,

@@ -1,7 +1,7 @@
 // Runs of bytes that a scan for a closing bracket may step over, a block at a time.
 ghost use Rattle.std.specs.Prelude.{◌≡◌, true, ℕ, ◌+◌, ◌≤◌, ◌<◌, length, get_or, Some};
 ghost use Rattle.lexer_close.specs.Close.{close_at};
-ghost use Rattle.lexer_close.specs.LocalsRun.{closes_nothing, LeadsTo};
+ghost use Rattle.lexer_close.specs.LocalsRun.{closes_nothing, pair_at, LeadsTo};
 
 // Neither `]` nor a backslash.
 fn is_plain(b: u8) -> bool
@@ -37,7 +37,7 @@ pub fn past_short(s: &[u8], from: usize) -> usize
 
 // Do two plain bytes and a `]` stand there.
 pub fn is_pair(s: &[u8], i: usize) -> bool
-    ensures { result ≡ true → close_at s.now i ≡ Some (i + 2) }
+    ensures { (result ≡ pair_at s.now i) × (result ≡ true → close_at s.now i ≡ Some (i + 2)) }
 {
     if s.len() <= i {
         return false;
@@ -63,13 +63,19 @@ fn past_blocks<const N: usize>(s: &[u8], from: usize, stop: usize) -> usize
     i
 }
 
-// Past plain blocks of 16 bytes; after four of them, of 64.
+// Past plain blocks of 16 bytes; after four of them, of 64. The first is asked apart: where escapes are many, most runs end in it.
 pub fn past_plain(s: &[u8], from: usize) -> usize
     requires { from ≤ length s.now }
     ensures { LeadsTo s.now from result }
 {
+    if s.len() - from < 16 {
+        return from;
+    }
+    if !all_plain(&s[from..from + 16]) {
+        return from;
+    }
     let stop = s.len().min(from + 64);
-    let i = past_blocks::<16>(s, from, stop);
+    let i = past_blocks::<16>(s, from + 16, stop);
     if i - from < 64 {
         return i;
     }

@@ -6,10 +6,10 @@ ghost use Rattle.std.proofs.Math.Seq.{slice};
 ghost use Rattle.lists.specs.Same.{same};
 ghost use Rattle.values.specs.Read.{read_value};
 ghost use Rattle.lexer.specs.Token.{lex_at};
-ghost use Rattle.lexer.specs.Step.{vals_at};
+ghost use Rattle.lexer.specs.Step.{next_at, vals_at};
 ghost use Rattle.parser.specs.Game.{GM, game_of, game_vals, find_gametype};
 ghost use Rattle.parser.specs.LocalsSlice.{slice_from};
-ghost use Rattle.parser_game.specs.LocalsGame.{type_of, behind_of, concluded};
+ghost use Rattle.parser_game.specs.LocalsGame.{type_of, behind_of, goes_on_at, concluded};
 
 use lexer::Step;
 use lexer_scan::ValueStep;
@@ -80,7 +80,8 @@ pub fn is_gm(s: &[u8], i: usize, k: usize) -> bool
 
 // Behind the token at a place; where the slice or the text ends there, the text's end.
 pub fn behind(s: &[u8], from: usize) -> usize
-    ensures { (lex_at s.now result).toks ≡ behind_of (lex_at s.now from).toks }
+    ensures { (result ≡ goes_on_at (length s.now) (next_at s.now from))
+        × ((lex_at s.now result).toks ≡ behind_of (lex_at s.now from).toks) }
 {
     match lexer::next_token(s, from) {
         Step::Start(i) => i + 1,

@@ -1,5 +1,5 @@
 -- Digits, letters and marks, counted. Assumes nothing.
-use Rattle.lists.proofs.Prelude.{ℕ, zero, suc, ◌+◌, ◌*◌, ◌/◌, ◌%◌, ◌≤◌, ◌≡◌, refl, sym, ap, ◌∙◌, Bool, true, false, ◌&&◌, List, [], ◌∷◌, arith, length, leb, ltb, pick}
+use Rattle.lists.proofs.Prelude.{ℕ, zero, suc, ◌+◌, ◌*◌, ◌/◌, ◌%◌, ◌≤◌, ◌<◌, ◌≡◌, refl, sym, ap, ◌∙◌, Bool, true, false, ◌&&◌, List, [], ◌∷◌, arith, length, get_or, add-one, drop, drop-cons, drop_of_length-le, leb, ltb, pick}
 use Rattle.std.specs.Prelude.{cond, count_by}
 use Rattle.std.specs.Char.{is_ascii_uppercase}
 use Rattle.std.proofs.lemmas.List.Recursion.{is_count_by}
@@ -49,3 +49,19 @@ marks-counted i [] = refl
 marks-counted i (m ∷ ms) =
     mark-step m i (points_from (suc i) ms) (count_by (λ b. b) ms) (marks-counted (suc i) ms)
     ∙ ap (λ (n : ℕ). n * 4) (sym (sum_by-cons (λ (b : Bool). cond b 1 0) m ms))
+
+-- one place more, marked or not
+pub marks-turn : (marks : List Bool) (i n x : ℕ) (b : Bool) → i < length marks → get_or marks i false ≡ b → n + count_by (λ m. m) (drop i marks) ≡ x
+    → n + cond b 1 0 + count_by (λ m. m) (drop (i + 1) marks) ≡ x
+marks-turn marks i n x b h e p =
+    let rest : List Bool = drop (suc i) marks in
+    let d : count_by (λ (m : Bool). m) (drop i marks) ≡ cond (get_or marks i false) 1 0 + count_by (λ (m : Bool). m) rest =
+    ap (count_by (λ (m : Bool). m)) (drop-cons marks i false h) ∙ sum_by-cons (λ (m : Bool). cond m 1 0) (get_or marks i false) rest in
+    turn n x (count_by (λ (m : Bool). m) (drop i marks)) (cond (get_or marks i false) 1 0) (cond b 1 0) (count_by (λ (m : Bool). m) rest)
+    (count_by (λ (m : Bool). m) (drop (i + 1) marks)) d (ap (λ (m : Bool). cond m 1 0) e) (ap (λ (k : ℕ). count_by (λ (m : Bool). m) (drop k marks)) (add-one i)) p
+  where
+    turn : (n x all one new rest next : ℕ) → all ≡ one + rest → one ≡ new → next ≡ rest → n + all ≡ x → n + new + next ≡ x
+    turn n x all one new rest next d c a p = omega (arith, d, c, a, p)
+
+pub marks-end : (marks : List Bool) (i n x : ℕ) → length marks ≤ i → n + count_by (λ m. m) (drop i marks) ≡ x → n ≡ x
+marks-end marks i n x h p = let d : count_by (λ (m : Bool). m) (drop i marks) ≡ 0 = ap (count_by (λ (m : Bool). m)) (drop_of_length-le marks h) in omega arith

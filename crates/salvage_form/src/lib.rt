@@ -46,7 +46,13 @@ fn count_marks(marks: &[bool; 2704]) -> usize
     requires { length marks.now ≡ 2704 }
     ensures { (result * 4 ≡ length (raws_text (points_from 0 marks.now))) × (result ≤ 2704) }
 {
-    marks.iter().filter(|marked| **marked).count()
+    let mut n: usize = 0;
+    for marked in marks {
+        if *marked {
+            n += 1;
+        }
+    }
+    n
 }
 
 // The length of a set whose values stand from k on: of its points, or of the raw values of what is none.

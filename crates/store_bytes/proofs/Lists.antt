@@ -1,7 +1,5 @@
 -- Elements stored one by one from a place on: joined, and beyond the end. Assumes nothing.
-use Rattle.lists.proofs.Prelude.{ℕ, suc, ◌+◌, ◌-◌, ◌≤◌, min, ◌≡◌, refl, sym, ap, ◌∙◌, Bool, true, false, List, [], ◌∷◌, ◌++◌, add-zero, add-suc, suc-add, arith, leb, length, take, drop, set, take-append-drop, sets, set_out, take_all, length-take-le, length-sets, sets-eq, leb-true, leb-false}
-use Rattle.std.proofs.lemmas.Slice.{put_mid-paste}
-use borrow.Rule.Slice.PartMut.{put_mid}
+use Rattle.lists.proofs.Prelude.{ℕ, suc, ◌+◌, ◌-◌, ◌≤◌, ◌<◌, min, ◌≡◌, refl, sym, ap, ◌∙◌, Bool, true, false, List, [], ◌∷◌, ◌++◌, add-zero, add-suc, suc-add, add-one, arith, leb, length, take, drop, get_or, set, take-append-drop, sets, set_out, take-suc, take_all, length-take-le, length-sets, leb-true, leb-false}
 
 module _ {A : Type 0} where
   pub sets-append : (l : List A) (i : ℕ) (vs ws : List A) → sets l i (vs ++ ws) ≡ sets (sets l i vs) (i + length vs) ws
@@ -11,6 +9,12 @@ module _ {A : Type 0} where
   pub sets-out : (l : List A) (i : ℕ) (vs : List A) → length l ≤ i → sets l i vs ≡ l
   sets-out l i [] h = refl
   sets-out l i (v ∷ vs) h = rw (set_out l i v) (sets-out l (suc i) vs (omega arith))
+
+  -- one element more of those that are stored
+  pub sets-next : (l : List A) (i : ℕ) (vs : List A) (k : ℕ) (d : A) → k < length vs → set (sets l i (take k vs)) (i + k) (get_or vs k d) ≡ sets l i (take (k + 1) vs)
+  sets-next l i vs k d h =
+      let e : length (take k vs) ≡ k = length-take-le k vs (omega arith) in
+      sym (rw (add-one, take-suc vs k d h) (sets-append l i (take k vs) (get_or vs k d ∷ []) ∙ ap (λ (n : ℕ). set (sets l i (take k vs)) (i + n) (get_or vs k d)) e))
 
   -- what has no room is not stored
   pub sets-room : (l : List A) (i : ℕ) (vs : List A) (k : ℕ) → i ≤ length l → k ≡ min (length vs) (length l - i) → sets l i (take k vs) ≡ sets l i vs
@@ -23,12 +27,3 @@ module _ {A : Type 0} where
           let n : length (take k vs) ≡ k = length-take-le k vs (omega arith) in
           let m : length (sets l i (take k vs)) ≡ length l = length-sets l i (take k vs) in
           sym (ap (sets l i) (sym (take-append-drop k vs)) ∙ sets-append l i (take k vs) (drop k vs) ∙ sets-out (sets l i (take k vs)) (i + length (take k vs)) (drop k vs) (omega arith))
-
--- a part copied to a place that has room for it
-pub put-part : (l new vs : List ℕ) (i k n : ℕ) → k ≡ n → new ≡ take n vs → n ≤ length vs → i + n ≤ length l → put_mid i k l new ≡ sets l i (take n vs)
-put-part l new vs i k n e f h r =
-    let m : length (take n vs) ≡ n = length-take-le n vs h in
-    put_mid-paste i k l new (take n vs) n f (sym e) (sym m)
-    ∙ ap (λ (x : List ℕ). take i l ++ x ++ drop (i + n) l) (take_all n (take n vs) (omega arith))
-    ∙ ap (λ (j : ℕ). take i l ++ take n vs ++ drop (i + j) l) (sym m)
-    ∙ sym (sets-eq (take n vs) l i (omega arith))

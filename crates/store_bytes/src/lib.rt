@@ -1,8 +1,20 @@
 // Bytes put into lent memory as far as it has room. A walk over an empty part puts nothing and measures.
 #![tactic(auto)]
 
-ghost use Rattle.std.specs.Prelude.{[], ◌∷◌};
+ghost use Rattle.std.specs.Prelude.{◌≡◌, [], ◌∷◌, ◌+◌, ◌≤◌, length};
+ghost use Rattle.std.proofs.lemmas.List.Edits.{sets};
 ghost use Rattle.store_bytes.specs.LocalsWrote.{Wrote};
+
+// Bytes copied to a place that has room for them.
+fn copy(out: &mut [u8], at: usize, s: &[u8])
+    requires { at + length s.now ≤ length out.old }
+    ensures { out.new ≡ sets out.old at s.now }
+{
+    // Stays: 4: most are one to four bytes, for which copy_from_slice calls memmove.
+    for i in 0..s.len() {
+        out[at + i] = s[i];
+    }
+}
 
 // One byte, and the place after it.
 pub fn put_byte(out: &mut [u8], at: usize, b: u8) -> usize
@@ -24,6 +36,6 @@ pub fn put_bytes(out: &mut [u8], at: usize, s: &[u8]) -> usize
         return next;
     }
     let n = s.len().min(out.len() - at);
-    out[at..at + n].copy_from_slice(&s[..n]);
+    copy(out, at, &s[..n]);
     next
 }

@@ -111,7 +111,8 @@ fn past(s: &[u8], at: usize, other: u8) -> usize
     at
 }
 
-// The next byte that `format_text` shows.
+// The next byte that `format_text` shows. Inlined, so that what it gives goes through no memory: a byte and a place make an Option of 24 bytes.
+#[inline(always)]
 fn next_text(s: &[u8], from: usize) -> Option<(u8, usize)>
     ensures { DisplaysAt format_text s.now from result }
 {

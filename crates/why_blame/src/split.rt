@@ -113,11 +113,9 @@ pub fn first_place(s: &[u8], from: usize, none: usize) -> usize
     ensures { result ≡ first_place none (lex_at s.now from).toks (lex_at s.now from).end }
 {
     match lexer::next_token(s, from) {
-        Step::Start(i)
-        | Step::End(i)
-        | Step::Node(i)
-        | Step::Property(i, _, _)
-        | Step::Refused(_, i) => i,
+        Step::Start(i) | Step::End(i) | Step::Node(i) => i,
+        Step::Property(i, _, _) => i,
+        Step::Refused(_, i) => i,
         Step::Done => none,
     }
 }

@@ -1,4 +1,4 @@
-use Rattle.lists.proofs.Prelude.{◌+◌, ◌-◌, ◌≡◌, ap, ◌∙◌, arith, drop, paste}
+use Rattle.lists.proofs.Prelude.{ℕ, ◌+◌, ◌-◌, ◌≡◌, ap, ◌∙◌, arith, drop, paste}
 use Rattle.edit_splice.proofs.Parted.{copy-own, left-parted}
 use Rattle.edit_splice.proofs.close_up.Goals as goal
 
@@ -10,10 +10,5 @@ returns c = let a = c.args in
     let p = c.requires in
     let h = c.before_step-head.result in
     let e : h + (a.n - h) ≡ a.n = omega (arith, c.before_step-head.ensures) in
-    let e1 : a.from + h - a.from ≡ h = omega arith in
-    let e2 : a.from + a.n - (a.from + h) ≡ a.n - h = omega arith in
-    let b1 = c.copy_within.new.self in
-    left-parted a.buffer.now _ _ a.from a.to h (a.n - h) p.0 (omega (arith, e, p.1))
-    (c.copy_within.ensures.after ∙ ap (paste a.buffer.now a.to (drop a.from a.buffer.now)) e1)
-    (c.copy_within-2.ensures.after ∙ ap (paste b1 (a.to + h) (drop (a.from + h) b1)) e2)
-    ∙ ap (paste a.buffer.now a.to (drop a.from a.buffer.now)) e
+    left-parted a.buffer.now _ _ a.from a.to h (a.n - h) p.0 (omega (arith, e, p.1)) c.move_left.ensures c.move_left-2.ensures
+    ∙ ap (λ (k : ℕ). paste a.buffer.now a.to (drop a.from a.buffer.now) k) e

@@ -14,9 +14,8 @@ returns-then-to-end c = let g = c.args in
     let z : c.fill.new.self ≡ replicate m 0 = c.fill.ensures.after (λ y h. h) ∙ ap (λ (n : ℕ). replicate n 0) l in
     replaced-left g.buffer.now g.new.now g.used g.start g.end w _ _ _ c.if-to-end.true c.close_up.ensures
     (put_mid-paste u m b1 c.fill.new.self (replicate m 0) m z refl (sym (length-replicate m 0)))
-    (put_mid-paste g.start (g.start + length g.new.now - g.start) _ _ g.new.now (length g.new.now) c.copy_from_slice.ensures.after (omega arith) refl)
+    c.copy_in.ensures
 
 pub returns : goal.returns
 returns c = let g = c.args in
-    replaced-right g.buffer.now g.new.now g.used g.start g.end c.requires.within _ _ c.requires.room c.if-to-end.false c.open_up.ensures
-    (put_mid-paste g.start (g.start + length g.new.now - g.start) _ _ g.new.now (length g.new.now) c.copy_from_slice-2.ensures.after (omega arith) refl)
+    replaced-right g.buffer.now g.new.now g.used g.start g.end c.requires.within _ _ c.requires.room c.if-to-end.false c.open_up.ensures c.copy_in-2.ensures

@@ -14,7 +14,7 @@ returns-then-is_pair c = let a = c.args in
     let e : a.start + 2 ≡ a.end = omega arith in
     sym (eq-eqb a.end a.end refl)
     ∙ boxed-is a.text.now a.start a.end c.requires.0 c.requires.1 c.if-start-eq0.false c.if-text-start-ne91.false (Some a.end)
-    (sym (c.is_pair.ensures c.if-is_pair.true ∙ ap Some e))
+    (sym (c.is_pair.ensures.1 c.if-is_pair.true ∙ ap Some e))
 
 pub returns-in-Some : goal.returns-in-Some
 returns-in-Some c = let a = c.args in boxed-is a.text.now _ _ c.requires.0 c.requires.1 c.if-start-eq0.false c.if-text-start-ne91.false _ (sym c.in-Some.is ∙ c.value_end.ensures)

@@ -15,7 +15,7 @@ is_gm-requires c = let w = (found_within c.args.s.now _ _ _ c.next_token.ensures
 
 pub returns-then-found : goal.returns-then-found
 unfolding prop_at
-returns-then-found c = game-slice c.args.s.now c.args.from c.behind-second.result c.behind-at.result c.behind-second.ensures c.behind-at.ensures (gather-two c.loop-i.invariant _ _ _ _ (ap (λ (z : Lexed). z.toks) (meets c.args.s.now c.loop-i.at c.next_token.ensures c.in-Property.is)) c.is_gm.ensures c.if-is_gm.true c.if-found.true)
+returns-then-found c = game-slice c.args.s.now c.args.from c.behind-second.result c.behind-at.result c.behind-second.ensures.1 c.behind-at.ensures.1 (gather-two c.loop-i.invariant _ _ _ _ (ap (λ (z : Lexed). z.toks) (meets c.args.s.now c.loop-i.at c.next_token.ensures c.in-Property.is)) c.is_gm.ensures c.if-is_gm.true c.if-found.true)
 
 pub loop-i-smaller-then-is_gm : goal.loop-i-smaller-then-is_gm
 loop-i-smaller-then-is_gm c = let w = (found_within c.args.s.now _ _ _ c.next_token.ensures c.in-Property.is) in omega arith
@@ -32,4 +32,4 @@ unfolding prop_at
 loop-i-preserved c = gather-other c.loop-i.invariant _ _ _ _ (ap (λ (z : Lexed). z.toks) (meets c.args.s.now c.loop-i.at c.next_token.ensures c.in-Property.is)) c.is_gm.ensures c.if-is_gm.false
 
 pub returns : goal.returns
-returns c = game-slice c.args.s.now c.args.from c.behind-second.result c.behind-at.result c.behind-second.ensures c.behind-at.ensures (gather-end c.loop-i.invariant (no-property c.args.s.now _ c.next_token.ensures (opened c.in_default.in_default-own.keys2)) c.conclude.ensures)
+returns c = game-slice c.args.s.now c.args.from c.behind-second.result c.behind-at.result c.behind-second.ensures.1 c.behind-at.ensures.1 (gather-end c.loop-i.invariant (no-property c.args.s.now _ c.next_token.ensures (opened c.in_default.in_default-own.keys2)) c.conclude.ensures)

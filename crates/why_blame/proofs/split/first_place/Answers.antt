@@ -14,12 +14,12 @@ returns-in-Start-2 c = sym (ap (λ (z : Lexed). first_place c.args.none z.toks z
 pub returns-in-Start-3 : goal.returns-in-Start-3
 returns-in-Start-3 c = sym (ap (λ (z : Lexed). first_place c.args.none z.toks z.end) (meets c.args.s.now c.args.from c.in-Start.ensures refl))
 
-pub returns-in-Start-4 : goal.returns-in-Start-4
+pub returns-in-Property : goal.returns-in-Property
 unfolding prop_at
-returns-in-Start-4 c = sym (ap (λ (z : Lexed). first_place c.args.none z.toks z.end) (meets c.args.s.now c.args.from c.in-Start.ensures refl))
+returns-in-Property c = sym (ap (λ (z : Lexed). first_place c.args.none z.toks z.end) (meets c.args.s.now c.args.from c.next_token.ensures c.in-Property.is))
 
-pub returns-in-Start-5 : goal.returns-in-Start-5
-returns-in-Start-5 c = sym (ap (λ (z : Lexed). first_place c.args.none z.toks z.end) (meets c.args.s.now c.args.from c.in-Start.ensures refl))
+pub returns-in-Refused : goal.returns-in-Refused
+returns-in-Refused c = sym (ap (λ (z : Lexed). first_place c.args.none z.toks z.end) (meets c.args.s.now c.args.from c.next_token.ensures c.in-Refused.is))
 
 pub returns-in-Done : goal.returns-in-Done
 returns-in-Done c = sym (ap (λ (z : Lexed). first_place c.args.none z.toks z.end) (meets c.args.s.now c.args.from c.next_token.ensures c.in-Done.is))
